@@ -1,0 +1,10 @@
+//! The frames of Cyphal/CAN: a record of a log with its identifier and its tail byte taken apart.
+#![tactic(auto)]
+
+pub mod frame;
+pub mod logged;
+pub mod tail;
+
+pub use frame::{Frame, frame_of};
+pub use logged::Record;
+pub use tail::Tail;
