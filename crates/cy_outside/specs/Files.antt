@@ -1,0 +1,93 @@
+-- Files under paths: which paths are folders, and what a tree answers at a path.
+use Rattle.std.specs.Prelude.{◌≡◌, ◌≢◌, ◌↔◌, ◌==◌, ◌∷◌, ◌-◌, ℕ, Bool, true, false, cond, List, [], Option, Some, None, length, take, drop, min, is_some, option_map, ⊤}
+use Rattle.std.specs.List.{list_any, filter_map, AllPairs, Contains}
+use Rattle.std.specs.Ordering.{nat_cmp}
+use Rattle.std.specs.Cmp.Lexicographic.{slice_cmp}
+use Rattle.std.specs.FinMap as map
+use Rattle.cy_outside.specs.declared.tree.Entry.{Entry}
+use Rattle.cy_outside.specs.declared.tree.Listing.{Listing}
+use Rattle.cy_outside.specs.declared.tree.Listing.TheVariants.{Entries, Absent as NoListing, NotFolder}
+use Rattle.cy_outside.specs.declared.tree.Got.{Got}
+use Rattle.cy_outside.specs.declared.tree.Got.TheVariants.{Bytes, Absent as NoBytes, Folder as FolderGot}
+use Rattle.cy_outside.specs.declared.tree.Size.{Size}
+use Rattle.cy_outside.specs.declared.tree.Size.TheVariants.{File, Folder, Absent}
+
+-- the bytes of the file at each path
+abbrev pub Files : Type 0
+Files = map.FinMap (slice_cmp nat_cmp) (List ℕ)
+
+-- what stands in a path behind a folder's path and `/`
+abbrev pub rest_in : List ℕ → List ℕ → Option (List ℕ)
+rest_in [] [] = None
+rest_in [] (b ∷ path) = cond (b == 47) (Some path) None
+rest_in (a ∷ folder) [] = None
+rest_in (a ∷ folder) (b ∷ path) = cond (a == b) (rest_in folder path) None
+
+-- a path is a folder exactly where some file's path begins with it and `/`
+abbrev pub is_folder : Files → List ℕ → Bool
+is_folder files path = list_any (λ file. is_some (rest_in path file)) (map.keys files)
+
+-- there is a file at the path
+abbrev pub is_file : Files → List ℕ → Bool
+is_file files path = is_some (map.get files path)
+
+-- the first name of a path, and whether another follows
+abbrev pub first_name : List ℕ → Entry
+first_name [] = record { name = []; folder = false }
+first_name (b ∷ path) = cond (b == 47) (record { name = []; folder = true })
+    (let first = first_name path in record { name = b ∷ first.name; folder = first.folder })
+
+-- the direct member of a folder at which or below which a file stands
+abbrev pub member_of : List ℕ → List ℕ → Option Entry
+member_of folder file = option_map first_name (rest_in folder file)
+
+-- an entry is a direct member of a folder
+abbrev pub IsMember : Files → List ℕ → Entry → Type 0
+IsMember files folder entry = Contains (filter_map (member_of folder) (map.keys files)) entry
+
+-- each direct member of a folder once, in any order
+pub record ListsMembers (files : Files) (folder : List ℕ) (entries : List Entry) : Type 0 where
+  pub once : AllPairs (λ (a b : Entry). a.name ≢ b.name) entries
+  pub each : (entry : Entry) → Contains entries entry ↔ IsMember files folder entry
+
+-- what a path lists, where the files are told
+abbrev pub Lists : Option Files → List ℕ → Listing → Type 0
+Lists None path listing = ⊤
+Lists (Some files) path (Entries entries) = (is_folder files path ≡ true) × ListsMembers files path entries
+Lists (Some files) path NotFolder = (is_folder files path ≡ false) × (is_file files path ≡ true)
+Lists (Some files) path NoListing = (is_folder files path ≡ false) × (is_file files path ≡ false)
+
+-- what stands at a path without a file
+abbrev pub without_file : {X : Type 0} → Files → List ℕ → X → X → X
+without_file files path folder absent = cond (is_folder files path) folder absent
+
+-- what a read gives, and the bytes that it puts at the front of a buffer with this room
+abbrev pub got_at : Files → List ℕ → ℕ → ℕ → Got
+got_at files path offset room = elim (map.get files path) [
+  | Some bytes ↦ Bytes (min room (length bytes - offset))
+  | None ↦ without_file files path FolderGot NoBytes
+]
+
+-- the bytes of a file from an offset on
+abbrev pub bytes_from : Files → List ℕ → ℕ → List ℕ
+bytes_from files path offset = elim (map.get files path) [ Some bytes ↦ drop offset bytes | None ↦ [] ]
+
+-- as many bytes of a file, from an offset on, as it has and the buffer takes
+abbrev pub Reads : Option Files → List ℕ → ℕ → List ℕ → Got → Type 0
+Reads None path offset buf got = ⊤
+Reads (Some files) path offset buf (Bytes n) = (got_at files path offset (length buf) ≡ Bytes n)
+    × (take n buf ≡ take n (bytes_from files path offset))
+Reads (Some files) path offset buf FolderGot = got_at files path offset (length buf) ≡ FolderGot
+Reads (Some files) path offset buf NoBytes = got_at files path offset (length buf) ≡ NoBytes
+
+-- what stands at a path
+abbrev pub size_at : Files → List ℕ → Size
+size_at files path = elim (map.get files path) [
+  | Some bytes ↦ File (length bytes)
+  | None ↦ without_file files path Folder Absent
+]
+
+-- the same, where the files are told
+abbrev pub Sizes : Option Files → List ℕ → Size → Type 0
+Sizes None path size = ⊤
+Sizes (Some files) path size = size ≡ size_at files path

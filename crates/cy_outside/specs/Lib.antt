@@ -1,0 +1,4 @@
+pub mod Outside
+pub mod Written
+pub mod Files
+pub mod Causes
