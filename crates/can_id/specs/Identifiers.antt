@@ -22,7 +22,6 @@ use Rattle.std.specs.Prelude.{nat_lt, not, ◌||◌}
 use Rattle.can_id.specs.declared.ident.Ident.{Ident}
 use Rattle.can_id.specs.declared.ident.Ident.TheVariants.{Message, Anonymous, Service}
 use Rattle.can_id.specs.declared.key.Key.{Key}
-use Rattle.can_id.specs.declared.key.Kind.{Kind}
 use Rattle.can_id.specs.declared.key.Kind.TheVariants.{Message as message, Request as request, Response as response}
 
 -- the number that `count` bits of n make, from bit `at` on

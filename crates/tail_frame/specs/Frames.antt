@@ -1,8 +1,6 @@
 -- The frames that records are.
-use Rattle.std.specs.Prelude.{
-    ◌≡◌, ◌<◌, ◌+◌, ◌-◌, ◌*◌, ◌/◌, ◌%◌, ◌==◌, ◌&&◌, ◌||◌, not, nat_lt, ℕ, Bool, true, false, if◌then◌else◌, Option, Some, None,
-}
-use Rattle.std.specs.Prelude.{List, [], ◌∷◌, ◌++◌, length, take, slice_get}
+use Rattle.std.specs.Prelude.{◌+◌, ◌-◌, ◌*◌, ◌^◌, ◌==◌, ◌&&◌, ◌||◌, not, nat_lt, ℕ, Bool, true, false, if◌then◌else◌, Option, Some, None}
+use Rattle.std.specs.Prelude.{List, length, take, slice_get}
 use Rattle.std.specs.Option.{option_and_then}
 use Rattle.can_id.specs.Identifiers.{field, flag, is_set, ident_of, priority_of}
 use Rattle.can_id.specs.declared.ident.Ident.{Ident}
@@ -56,12 +54,12 @@ is_discarded ident tail size =
 abbrev pub framed : Record → Ident → ℕ → Option FrameOf
 framed rec ident byte = let size = length rec.bytes - 1 in
     if is_discarded ident (tail_of byte) size then None else Some (record {
-        line = rec.line;
-        moment = rec.moment;
-        bus = rec.bus;
-        ident = ident;
-        tail = tail_of byte;
-        body = take size rec.bytes;
+      line = rec.line;
+      moment = rec.moment;
+      bus = rec.bus;
+      ident = ident;
+      tail = tail_of byte;
+      body = take size rec.bytes;
     })
 
 -- the last data byte
@@ -75,13 +73,13 @@ frame_of rec = option_and_then (λ ident. option_and_then (framed rec ident) (la
 -- the record of its key that a frame is
 abbrev pub key_record : FrameOf → KeyRecord
 key_record f = record {
-    line = f.line;
-    moment = f.moment;
-    bus = f.bus;
-    priority = priority_of f.ident;
-    start = f.tail.start;
-    end = f.tail.end;
-    toggle = f.tail.toggle;
-    tid = f.tail.tid;
-    body = f.body;
-  }
+  line = f.line;
+  moment = f.moment;
+  bus = f.bus;
+  priority = priority_of f.ident;
+  start = f.tail.start;
+  end = f.tail.end;
+  toggle = f.tail.toggle;
+  tid = f.tail.tid;
+  body = f.body;
+}

@@ -57,7 +57,11 @@ fn ident_of(bits: u32) -> Option<Ident>
     ensures value { result ≡ ident_of bits }
     ensures ranges { IfSome result IsIdent }
 {
-    if bits < 0x2000_0000 { parse(bits) } else { None }
+    if bits < 0x2000_0000 {
+        parse(bits)
+    } else {
+        None
+    }
 }
 
 /// Whether a frame with so many bytes before the tail is discarded.
