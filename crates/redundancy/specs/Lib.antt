@@ -1,0 +1,3 @@
+pub mod Force
+pub mod Hear
+pub mod Laws

@@ -1,0 +1,8 @@
+//! Which of several redundant buses is in force for a session, and which frames are heard.
+#![tactic(auto)]
+
+pub mod force;
+pub mod laws;
+
+pub use force::{Force, Heard};
+pub use laws::{force_laws, hearing};
