@@ -1,0 +1,2 @@
+//! Sessions of many sources on many ports, and what they deliver.
+#![tactic(auto)]
