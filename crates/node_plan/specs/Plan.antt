@@ -1,0 +1,54 @@
+-- The plan of a text.
+use Rattle.std.specs.Prelude.{ℕ, List, [], ◌∷◌, ◌+◌, ◌^◌, ◌&&◌, Option, None, Some, Result, Ok, Err, if◌then◌else◌, length, nat_lt, take, unwrap_or}
+use Rattle.node_plan.specs.declared.draft.Draft.{Draft}
+use Rattle.node_plan.specs.declared.plan.Plan.{Plan}
+use Rattle.node_plan.specs.declared.plan.PlanWhy.{PlanWhy}
+use Rattle.node_plan.specs.declared.plan.PlanWhy.TheVariants as why
+use Rattle.node_plan.specs.Words.{parts_of}
+use Rattle.node_plan.specs.Line.{said_of}
+use Rattle.node_plan.specs.Draft.{start, step}
+
+-- a plan, or the number of the line that is refused and why
+pub data PlanIs : Type 0 where
+  Good : Plan → PlanIs
+  Bad : ℕ → PlanWhy → PlanIs
+
+-- the plan of all lines, where n is the number of the line that would follow: none is missing
+abbrev pub finished : Draft → ℕ → PlanIs
+finished d n = of_node d.node
+  where
+    of_node : Option ℕ → PlanIs
+    of_node None = Bad n why.Line
+    of_node (Some node) = if d.has_version && d.silent && nat_lt 0 (length d.buses)
+        then Good (record { node = node; buses = d.buses; timeout = unwrap_or d.timeout 2_000_000; silent = d.silent; subs = d.subs })
+        else Bad n why.Line
+
+-- a line with the number n, and then the others
+abbrev pub followed : Result Draft PlanWhy → ℕ → (Draft → PlanIs) → PlanIs
+followed (Err e) n others = Bad n e
+followed (Ok d) n others = others d
+
+-- what stands behind the last newline is a line where it isn't empty
+abbrev pub last_line : Draft → ℕ → List ℕ → PlanIs
+last_line d n [] = finished d n
+last_line d n (b ∷ s) = followed (step d (said_of (b ∷ s))) n (λ new. finished new (n + 1))
+
+-- a line that reaches past the greatest number of bytes
+abbrev pub long_line : Draft → ℕ → List ℕ → PlanIs
+long_line d n part = Bad n why.Line
+
+-- the parts between newlines are lines from the number n on, and `last` says what is made of the part behind them
+abbrev pub plan_of_parts : (Draft → ℕ → List ℕ → PlanIs) → Draft → ℕ → List (List ℕ) → PlanIs
+plan_of_parts last d n [] = last d n []
+plan_of_parts last d n (part ∷ []) = last d n part
+plan_of_parts last d n (line ∷ part ∷ parts) =
+    followed (step d (said_of line)) n (λ new. plan_of_parts last new (n + 1) (part ∷ parts))
+
+-- the plan of a text of which so many bytes count
+abbrev pub plan_within : ℕ → List ℕ → PlanIs
+plan_within most text =
+    plan_of_parts (if nat_lt most (length text) then long_line else last_line) start 1 (parts_of 10 (take most text))
+
+-- the plan of a text
+abbrev pub plan_of : List ℕ → PlanIs
+plan_of text = plan_within (2 ^ 20) text

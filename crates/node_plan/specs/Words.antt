@@ -1,0 +1,42 @@
+-- Lines, words and numbers of a text.
+use Rattle.std.specs.Prelude.{ℕ, List, [], ◌∷◌, ◌+◌, ◌*◌, ◌-◌, ◌≤◌, ◌==◌, ◌||◌, Option, Some, None, if◌then◌else◌, nat_lt}
+use Rattle.node_plan.specs.declared.words.Number.{Number}
+use Rattle.node_plan.specs.declared.words.Number.TheVariants as number
+
+-- a byte in front of the first part
+abbrev pub with_first : ℕ → List (List ℕ) → List (List ℕ)
+with_first b [] = (b ∷ []) ∷ []
+with_first b (p ∷ ps) = (b ∷ p) ∷ ps
+
+-- the parts of a text before, between and behind its bytes c
+abbrev pub parts_of : ℕ → List ℕ → List (List ℕ)
+parts_of c [] = [] ∷ []
+parts_of c (b ∷ s) = if b == c then [] ∷ parts_of c s else with_first b (parts_of c s)
+
+-- the words of a line, with one space between them
+abbrev pub words_of : List ℕ → List (List ℕ)
+words_of line = parts_of 32 line
+
+-- the number whose decimal digits are those of n and then these
+abbrev pub decimal_from : ℕ → List ℕ → Option ℕ
+decimal_from n [] = Some n
+decimal_from n (b ∷ s) = if nat_lt b 48 || nat_lt 57 b then None else decimal_from (n * 10 + (b - 48)) s
+
+-- the number of a word of decimal digits without leading zeros
+abbrev pub number_of : List ℕ → Option ℕ
+number_of [] = None
+number_of (b ∷ []) = decimal_from 0 (b ∷ [])
+number_of (b ∷ c ∷ s) = if b == 48 then None else decimal_from 0 (b ∷ c ∷ s)
+
+-- a number, where one from low to high stands
+abbrev pub ranged : ℕ → ℕ → Option ℕ → Number
+ranged low high None = number.NoNumber
+ranged low high (Some n) = if nat_lt n low || nat_lt high n then number.Outside else number.Within n
+
+-- a word, where a number from low to high stands
+abbrev pub number_in : ℕ → ℕ → List ℕ → Number
+number_in low high word = ranged low high (number_of word)
+
+abbrev pub IsWithin : ℕ → ℕ → Number → Type 0
+IsWithin low high (number.Within n) = (low ≤ n) × (n ≤ high)
+IsWithin low high other = Unit {0}

@@ -1,0 +1,11 @@
+//! The plan of a node: which node it is, its buses, and the subjects it subscribes to.
+#![tactic(auto)]
+
+mod draft;
+mod line;
+pub mod plan;
+mod read;
+mod words;
+
+pub use plan::{BusPlan, Plan, PlanError, PlanWhy, Sub, SubShape, bound};
+pub use read::{MAX_TEXT, read_plan};

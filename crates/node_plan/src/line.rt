@@ -1,0 +1,227 @@
+//! What a line of a plan says.
+ghost use Rattle.std.specs.Prelude.{◌≡◌, ◌↔◌, IsTrue, MatchOption, true, false};
+ghost use Rattle.node_plan.specs.Line.{said_of, said_of_one, said_of_two, said_of_four, said_of_five, said_of_version, said_of_node, said_of_bus, said_of_timeout, said_of_sub, said_of_raw, said_of_words, IsSaid};
+ghost use Rattle.node_plan.specs.Names.{is_bus_name, is_name_byte};
+ghost use Rattle.node_plan.specs.Words.{IsWithin, words_of};
+
+use crate::plan::{Sub, SubShape};
+use crate::words::{Number, cut, number_in};
+use cy_bits::BusName;
+
+/// What a line of a plan says.
+#[derive(Drop)]
+pub enum Said {
+    /// It is no line of a plan.
+    NoForm,
+    /// It is a line of a plan with a part outside its range.
+    Outside,
+    /// Nothing: it is empty or a comment.
+    Nothing,
+    /// `plan 1`.
+    Version,
+    /// `node N`.
+    Node(u8),
+    /// `bus NAME`.
+    Bus(BusName),
+    /// `timeout N`.
+    Timeout(u64),
+    /// `silent`.
+    Silent,
+    /// `sub PORT SOURCES raw N`.
+    Sub(Sub),
+    /// `sub PORT SOURCES TYPE`; there are no types yet.
+    UnknownType { port: u16 },
+}
+
+fn version(word: &[u8]) -> Said
+    ensures value { result ≡ said_of_version word.now }
+    ensures sound { IsSaid result }
+{
+    if word == b"1".as_slice() {
+        Said::Version
+    } else {
+        Said::NoForm
+    }
+}
+
+fn node(number: Number) -> Said
+    requires { IsWithin 0 127 number }
+    ensures value { result ≡ said_of_node number }
+    ensures sound { IsSaid result }
+{
+    match number {
+        Number::NoNumber => Said::NoForm,
+        Number::Outside => Said::Outside,
+        Number::Within(n) => Said::Node(n as u8),
+    }
+}
+
+fn is_name_byte(b: u8) -> bool
+    ensures { result ≡ is_name_byte b }
+{
+    b.is_ascii_alphanumeric() || b == b'_'
+}
+
+fn bus_name(name: &[u8]) -> Option<BusName>
+    ensures { MatchOption result (is_bus_name name.now ≡ false) (λ n. (n ≡ name.now) × (is_bus_name name.now ≡ true)) }
+{
+    if name.len() > 15 {
+        return None;
+    }
+    if !name.iter().all(|b| is_name_byte(*b)) {
+        return None;
+    }
+    match str::from_utf8(name) {
+        Ok(text) => BusName::new(text),
+        Err(_) => None,
+    }
+}
+
+fn bus(name: &[u8]) -> Said
+    ensures value { result ≡ said_of_bus name.now }
+    ensures sound { IsSaid result }
+{
+    if name.is_empty() {
+        return Said::NoForm;
+    }
+    match bus_name(name) {
+        Some(name) => Said::Bus(name),
+        None => Said::Outside,
+    }
+}
+
+fn timeout(number: Number) -> Said
+    requires { IsWithin 1 60000000 number }
+    ensures value { result ≡ said_of_timeout number }
+    ensures sound { IsSaid result }
+{
+    match number {
+        Number::NoNumber => Said::NoForm,
+        Number::Outside => Said::Outside,
+        Number::Within(n) => Said::Timeout(n as u64),
+    }
+}
+
+fn sub_of_type(port: Number, sources: Number) -> Said
+    requires { IsWithin 0 8191 port }
+    ensures value { result ≡ said_of_sub port sources }
+    ensures sound { IsSaid result }
+{
+    match (port, sources) {
+        (Number::NoNumber, _) | (_, Number::NoNumber) => Said::NoForm,
+        (Number::Within(port), Number::Within(_)) => Said::UnknownType { port: port as u16 },
+        _ => Said::Outside,
+    }
+}
+
+fn raw_sub(port: Number, sources: Number, extent: Number) -> Said
+    requires port { IsWithin 0 8191 port }
+    requires sources { IsWithin 1 128 sources }
+    requires extent { IsWithin 0 65536 extent }
+    ensures value { result ≡ said_of_raw port sources extent }
+    ensures sound { IsSaid result }
+{
+    match (port, sources, extent) {
+        (Number::NoNumber, _, _) | (_, Number::NoNumber, _) | (_, _, Number::NoNumber) => {
+            Said::NoForm
+        }
+        (Number::Within(port), Number::Within(sources), Number::Within(extent)) => Said::Sub(Sub {
+            port: port as u16,
+            sources: sources as u16,
+            shape: SubShape::Raw(extent),
+        }),
+        _ => Said::Outside,
+    }
+}
+
+fn one_word(word: &[u8]) -> Said
+    ensures value { result ≡ said_of_one word.now }
+    ensures sound { IsSaid result }
+{
+    if word == b"silent".as_slice() {
+        Said::Silent
+    } else {
+        Said::NoForm
+    }
+}
+
+fn two_words(word: &[u8], value: &[u8]) -> Said
+    ensures value { result ≡ said_of_two word.now value.now }
+    ensures sound { IsSaid result }
+{
+    if word == b"plan".as_slice() {
+        version(value)
+    } else if word == b"node".as_slice() {
+        node(number_in(0, 127, value))
+    } else if word == b"bus".as_slice() {
+        bus(value)
+    } else if word == b"timeout".as_slice() {
+        timeout(number_in(1, 60_000_000, value))
+    } else {
+        Said::NoForm
+    }
+}
+
+fn four_words(word: &[u8], port: &[u8], sources: &[u8], name: &[u8]) -> Said
+    ensures value { result ≡ said_of_four word.now port.now sources.now name.now }
+    ensures sound { IsSaid result }
+{
+    if word != b"sub".as_slice() {
+        return Said::NoForm;
+    }
+    if name.is_empty() {
+        return Said::NoForm;
+    }
+    sub_of_type(number_in(0, 8191, port), number_in(1, 128, sources))
+}
+
+fn five_words(word: &[u8], port: &[u8], sources: &[u8], raw: &[u8], extent: &[u8]) -> Said
+    ensures value { result ≡ said_of_five word.now port.now sources.now raw.now extent.now }
+    ensures sound { IsSaid result }
+{
+    if word != b"sub".as_slice() {
+        return Said::NoForm;
+    }
+    if raw != b"raw".as_slice() {
+        return Said::NoForm;
+    }
+    raw_sub(
+        number_in(0, 8191, port),
+        number_in(1, 128, sources),
+        number_in(0, 65_536, extent),
+    )
+}
+
+fn words(line: &[u8]) -> Said
+    ensures value { result ≡ said_of_words (words_of line.now) }
+    ensures sound { IsSaid result }
+{
+    let Some((word, behind)) = cut(b' ', line) else {
+        return one_word(line);
+    };
+    let Some((second, behind)) = cut(b' ', behind) else {
+        return two_words(word, behind);
+    };
+    let Some((third, behind)) = cut(b' ', behind) else {
+        return Said::NoForm;
+    };
+    let Some((fourth, behind)) = cut(b' ', behind) else {
+        return four_words(word, second, third, behind);
+    };
+    if cut(b' ', behind).is_some() {
+        return Said::NoForm;
+    }
+    five_words(word, second, third, fourth, behind)
+}
+
+/// What a line says.
+pub fn read_line(line: &[u8]) -> Said
+    ensures value { result ≡ said_of line.now }
+    ensures sound { IsSaid result }
+{
+    match line {
+        [] => Said::Nothing,
+        [b'#', ..] => Said::Nothing,
+        _ => words(line),
+    }
+}

@@ -1,0 +1,62 @@
+//! A plan from its text.
+ghost use Rattle.std.specs.Prelude.{◌≡◌, ◌<◌, ◌+◌, ◌^◌, ℕ, List, Err, IfOk, take};
+ghost use Rattle.node_plan.specs.Answers.{IsPlanAnswer};
+ghost use Rattle.node_plan.specs.IsPlan.{IsDraft, IsPlan};
+ghost use Rattle.node_plan.specs.Plan.{Good, Bad, last_line, plan_of};
+ghost use Rattle.node_plan.specs.declared.plan.PlanWhy.{PlanWhy as Why};
+
+use crate::draft::Draft;
+use crate::line::read_line;
+use crate::plan::{Plan, PlanError, PlanWhy};
+use crate::words::cut;
+use std::alloc::Global;
+
+/// The greatest number of bytes of a plan's text. The line with the first byte behind them is refused.
+pub const MAX_TEXT: usize = 1 << 20;
+
+/// The plan, once what stands behind the last newline was read as line `n`, if it is one.
+fn read_last(mut draft: Draft, n: u32, line: &[u8]) -> Result<Plan, PlanError>
+    requires sound { IsDraft draft }
+    requires few { n < 2 ^ 31 }
+    ensures value { IsPlanAnswer (last_line draft n line.now) result }
+    ensures sound { IfOk result IsPlan }
+{
+    if line.is_empty() {
+        return draft.finish(n);
+    }
+    draft.take(n, read_line(line))?;
+    draft.finish(n + 1)
+}
+
+/// Reads a plan. Line `n` is refused as
+/// `Line` where it is no line of a plan, where it reaches past the first `MAX_TEXT` bytes, or where it would stand
+/// behind the last line of a text that lacks `plan 1`, `node`, `bus` or `silent`;
+/// `Range` where a number or a name is outside its range, or for a fourth bus and a 65th subscription;
+/// `Repeated` where it says again what may be said once, or names a bus or a subject again;
+/// `UnknownType` where it subscribes to a type that isn't there.
+/// The first line that is refused is told, and the first of these that holds of it.
+///
+/// The first `MAX_TEXT + 1` bytes of a text give the same answer as all of it.
+pub fn read_plan(alloc: Global, text: &[u8]) -> Result<Plan, PlanError>
+    ensures plan { IfOk result (λ p. plan_of text.now ≡ Good p) }
+    ensures refused { (n : ℕ) → (why : Why) → result ≡ Err (PlanError.Refused n why) → plan_of text.now ≡ Bad n why }
+    ensures sound { IfOk result IsPlan }
+    ensures enough { (all : List ℕ) → plan_of (take (MAX_TEXT + 1) all) ≡ plan_of all }
+{
+    let is_long = text.len() > MAX_TEXT;
+    let mut behind = &text[..text.len().min(MAX_TEXT)];
+    let mut draft = Draft::new(alloc);
+    let mut n = 1;
+    while let Some((line, rest)) = cut(b'\n', behind) {
+        draft.take(n, read_line(line))?;
+        n += 1;
+        behind = rest;
+    }
+    if is_long {
+        return Err(PlanError::Refused {
+            n,
+            why: PlanWhy::Line,
+        });
+    }
+    read_last(draft, n, behind)
+}
