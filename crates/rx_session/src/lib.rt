@@ -1,2 +1,10 @@
 //! One session: the frames of one kind, port and source, put together into transfers.
 #![tactic(auto)]
+
+pub mod outcome;
+pub mod session;
+pub mod shape;
+
+pub use outcome::{Delivery, Front, Outcome, Step};
+pub use session::{Part, Session};
+pub use shape::Shape;

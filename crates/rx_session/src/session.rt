@@ -1,0 +1,188 @@
+ghost use Rattle.std.specs.Prelude.{◌≡◌, ◌≤◌, IfOk, length};
+ghost use Rattle.std.specs.Borrow.{sem};
+ghost use Rattle.std.specs.Io.BufRead.{Rests};
+ghost use Rattle.transfer_crc.specs.Crc.{crc_more};
+ghost use Rattle.rx_session.specs.Session.{begin, take_in};
+ghost use Rattle.rx_session.specs.Seen.{kept, part_of, fresh, record_of, answer_of, step_answer, accepted};
+ghost use Rattle.rx_session.specs.contracts.session.Session.{the_row};
+
+use crate::{Front, Outcome, Shape, Step};
+use cy_bits::{Bytes, NoMemory};
+use redundancy::{Force, Heard};
+use std::alloc::Global;
+use std::marker::PhantomData;
+use tail_frame::Frame;
+use transfer_crc::Crc;
+
+/// A transfer of several frames of which some were taken.
+#[derive(Clone, Copy, Debug, PartialEq, Eq)]
+pub struct Part {
+    /// Its transfer-ID, 0 to 31.
+    pub tid: u8,
+    /// The toggle that its next frame has.
+    pub toggle: bool,
+    /// The line of its first frame.
+    pub first: u64,
+    /// The moment of its first frame, in microseconds.
+    pub moment: u64,
+    /// The number of bytes taken, which stays at 2^64 - 1 once it is there.
+    pub taken: u64,
+    /// The CRC of these bytes.
+    pub crc: Crc,
+}
+
+/// The reception of the transfers of one kind, port and source, over all buses.
+#[derive(Drop)]
+pub struct Session<S: Shape> {
+    /// The bus in force, and when a frame was last heard on it.
+    pub force: Force,
+    /// The transfer-ID last delivered.
+    pub last: Option<u8>,
+    /// The transfer that is being put together.
+    pub part: Option<Part>,
+    /// The front of its bytes, as far as the extent reaches. The number of bytes here never changes.
+    pub buffer: Bytes,
+    shape: PhantomData<S>,
+}
+
+impl<S: Shape> Session<S> {
+    /// A session that has heard no frame, with a buffer of the shape's extent.
+    pub fn open(alloc: Global, shape: &S) -> Result<Session<S>, NoMemory>
+        ensures { IfOk result (λ s. kept s ≡ fresh (S.extent shape.now)) }
+    {
+        let buffer = Bytes::zeros(alloc, shape.extent_bytes())?;
+        Ok(Session {
+            force: Force::new(),
+            last: None,
+            part: None,
+            buffer,
+            shape: PhantomData,
+        })
+    }
+
+    /// Takes a frame of the session's kind, port and source, at a moment not before the last one heard.
+    /// A payload is lent from the buffer.
+    ///
+    /// A frame on a bus that isn't in force changes nothing. A start frame begins a transfer anew, unless
+    /// it isn't late and has the transfer-ID last delivered. Any other frame is taken where it has the
+    /// transfer-ID and the toggle that are expected. At an end the CRC over all bytes decides.
+    pub fn accept(&mut self, frame: &Frame, timeout: u64) -> Outcome<'_>
+        requires { self.old.force.heard ≤ frame.now.moment }
+        ensures* after { sem 𝓛 (Rests (the_row S.row) self.entry (λ new.
+            (kept new ≡ (accepted timeout (kept self.old) frame.now).0) × (length new.buffer ≡ length self.old.buffer))) }
+        ensures outcome { answer_of result ≡ (accepted timeout (kept self.old) frame.now).1 }
+    {
+        let step = self.step(frame, timeout);
+        self.lend(step)
+    }
+
+    /// What `accept` does, with an outcome that borrows nothing.
+    pub fn step(&mut self, frame: &Frame, timeout: u64) -> Step
+        requires { self.old.force.heard ≤ frame.now.moment }
+        ensures state { kept self.new ≡ (accepted timeout (kept self.old) frame.now).0 }
+        ensures size { length self.new.buffer ≡ length self.old.buffer }
+        ensures outcome { step_answer self.new.buffer result ≡ (accepted timeout (kept self.old) frame.now).1 }
+    {
+        let heard = self
+            .force
+            .hear(frame.bus, frame.moment, frame.tail.start, timeout);
+        let late = match heard {
+            Heard::Elsewhere => return Step::Ignored,
+            Heard::Here { late } => late,
+        };
+        if frame.tail.start {
+            if !late && self.last == Some(frame.tail.tid) {
+                return Step::Ignored;
+            }
+            return self.begin(frame);
+        }
+        match self.part {
+            None => Step::Ignored,
+            Some(part) => {
+                if frame.tail.tid == part.tid && frame.tail.toggle == part.toggle {
+                    self.take_in(part, frame)
+                } else {
+                    Step::Ignored
+                }
+            }
+        }
+    }
+
+    /// The outcome of the last step, with a payload lent from the buffer.
+    pub fn lend(&self, step: Step) -> Outcome<'_>
+        ensures { answer_of result ≡ step_answer self.now.buffer step }
+    {
+        step.lend(self.buffer.as_slice())
+    }
+
+    /// Begins a transfer at a start frame that is heard.
+    fn begin(&mut self, frame: &Frame) -> Step
+        ensures state { kept self.new ≡ (begin crc_more 0xFFFF 0 (kept self.old) (record_of frame.now)).0 }
+        ensures size { length self.new.buffer ≡ length self.old.buffer }
+        ensures outcome { step_answer self.new.buffer result ≡ (begin crc_more 0xFFFF 0 (kept self.old) (record_of frame.now)).1 }
+    {
+        self.buffer.put_at(0, frame.body);
+        let taken = frame.body.len() as u64;
+        if frame.tail.end {
+            self.last = Some(frame.tail.tid);
+            self.part = None;
+            return Step::Delivered(Front {
+                bus: frame.bus,
+                priority: frame.ident.priority(),
+                tid: frame.tail.tid,
+                first: frame.line,
+                last: frame.line,
+                moment: frame.moment,
+                count: taken,
+            });
+        }
+        let mut crc = Crc::new();
+        crc.add(frame.body);
+        self.part = Some(Part {
+            tid: frame.tail.tid,
+            toggle: !frame.tail.toggle,
+            first: frame.line,
+            moment: frame.moment,
+            taken,
+            crc,
+        });
+        Step::Held
+    }
+
+    /// Takes the frame that the running transfer expects.
+    fn take_in(&mut self, part: Part, frame: &Frame) -> Step
+        ensures state { kept self.new ≡ (take_in crc_more 0xFFFF 0 (kept self.old) (part_of part) (record_of frame.now)).0 }
+        ensures size { length self.new.buffer ≡ length self.old.buffer }
+        ensures outcome { step_answer self.new.buffer result ≡ (take_in crc_more 0xFFFF 0 (kept self.old) (part_of part) (record_of frame.now)).1 }
+    {
+        self.buffer.put_at(part.taken as usize, frame.body);
+        let mut crc = part.crc;
+        crc.add(frame.body);
+        let taken = part.taken.saturating_add(frame.body.len() as u64);
+        if !frame.tail.end {
+            self.part = Some(Part {
+                tid: part.tid,
+                toggle: !frame.tail.toggle,
+                first: part.first,
+                moment: part.moment,
+                taken,
+                crc,
+            });
+            return Step::Held;
+        }
+        self.part = None;
+        if crc.value() != 0 {
+            return Step::BadCrc;
+        }
+        self.last = Some(part.tid);
+        Step::Delivered(Front {
+            bus: frame.bus,
+            priority: frame.ident.priority(),
+            tid: part.tid,
+            first: part.first,
+            last: frame.line,
+            moment: part.moment,
+            count: taken.saturating_sub(2),
+        })
+    }
+}
