@@ -1,5 +1,5 @@
 -- What was written after more of the bytes are.
-use Rattle.std.proofs.Common.{◌≡◌, ◌∙◌, ℕ, ◌+◌, List, ◌++◌, Option, Some, None, refl, sym, ap, subst, take, drop, append_assoc, take-append-drop}
+use Rattle.std.proofs.Common.{◌≡◌, ◌∙◌, ℕ, ◌+◌, List, ◌++◌, Option, Some, None, sym, ap, subst, take, drop, append_assoc, take-append-drop}
 use Rattle.std.proofs.Math.Seq.{take-add}
 use Rattle.cy_outside.specs.Outside.{Adds}
 use Rattle.cy_outside.specs.Written.{behind, Begins}

@@ -1,5 +1,5 @@
 -- Files under paths: which paths are folders, and what a tree answers at a path.
-use Rattle.std.specs.Prelude.{◌≡◌, ◌≢◌, ◌↔◌, ◌==◌, ◌∷◌, ◌-◌, ℕ, Bool, true, false, cond, List, [], Option, Some, None, length, take, drop, min, is_some, option_map, ⊤}
+use Rattle.std.specs.Prelude.{◌≡◌, ◌≢◌, ◌↔◌, ◌==◌, ◌∷◌, ◌-◌, ℕ, Bool, true, false, cond, List, [], Option, Some, None, length, take, drop, min, is_some, option_map, unwrap_or, ⊤}
 use Rattle.std.specs.List.{list_any, filter_map, AllPairs, Contains}
 use Rattle.std.specs.Ordering.{nat_cmp}
 use Rattle.std.specs.Cmp.Lexicographic.{slice_cmp}
@@ -57,37 +57,42 @@ Lists (Some files) path (Entries entries) = (is_folder files path ≡ true) × L
 Lists (Some files) path NotFolder = (is_folder files path ≡ false) × (is_file files path ≡ true)
 Lists (Some files) path NoListing = (is_folder files path ≡ false) × (is_file files path ≡ false)
 
--- what stands at a path without a file
-abbrev pub without_file : {X : Type 0} → Files → List ℕ → X → X → X
-without_file files path folder absent = cond (is_folder files path) folder absent
+-- the bytes of a file, and none where there is no file
+abbrev pub bytes_at : Files → List ℕ → List ℕ
+bytes_at files path = unwrap_or (map.get files path) []
 
--- what a read gives, and the bytes that it puts at the front of a buffer with this room
+-- what a read from an offset on gives, into a buffer with this room: of a file's bytes, or of none
+abbrev pub got_of : Option (List ℕ) → Bool → ℕ → ℕ → Got
+got_of (Some bytes) folder offset room = Bytes (min room (length bytes - offset))
+got_of None true offset room = FolderGot
+got_of None false offset room = NoBytes
+
 abbrev pub got_at : Files → List ℕ → ℕ → ℕ → Got
-got_at files path offset room = elim (map.get files path) [
-  | Some bytes ↦ Bytes (min room (length bytes - offset))
-  | None ↦ without_file files path FolderGot NoBytes
-]
-
--- the bytes of a file from an offset on
-abbrev pub bytes_from : Files → List ℕ → ℕ → List ℕ
-bytes_from files path offset = elim (map.get files path) [ Some bytes ↦ drop offset bytes | None ↦ [] ]
+got_at files path offset room = got_of (map.get files path) (is_folder files path) offset room
 
 -- as many bytes of a file, from an offset on, as it has and the buffer takes
 abbrev pub Reads : Option Files → List ℕ → ℕ → List ℕ → Got → Type 0
 Reads None path offset buf got = ⊤
 Reads (Some files) path offset buf (Bytes n) = (got_at files path offset (length buf) ≡ Bytes n)
-    × (take n buf ≡ take n (bytes_from files path offset))
+    × (take n buf ≡ take n (drop offset (bytes_at files path)))
 Reads (Some files) path offset buf FolderGot = got_at files path offset (length buf) ≡ FolderGot
 Reads (Some files) path offset buf NoBytes = got_at files path offset (length buf) ≡ NoBytes
 
--- what stands at a path
+-- what stands at a path: a file with these bytes, or none
+abbrev pub size_of : Option (List ℕ) → Bool → Size
+size_of (Some bytes) folder = File (length bytes)
+size_of None true = Folder
+size_of None false = Absent
+
 abbrev pub size_at : Files → List ℕ → Size
-size_at files path = elim (map.get files path) [
-  | Some bytes ↦ File (length bytes)
-  | None ↦ without_file files path Folder Absent
-]
+size_at files path = size_of (map.get files path) (is_folder files path)
 
 -- the same, where the files are told
 abbrev pub Sizes : Option Files → List ℕ → Size → Type 0
 Sizes None path size = ⊤
 Sizes (Some files) path size = size ≡ size_at files path
+
+-- the first bytes of a file, where there is one and the files are told
+abbrev pub ReadsFront : Option Files → List ℕ → ℕ → Option (List ℕ) → Type 0
+ReadsFront None path most file = ⊤
+ReadsFront (Some files) path most file = file ≡ option_map (take most) (map.get files path)

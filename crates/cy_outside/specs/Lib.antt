@@ -2,3 +2,4 @@ pub mod Outside
 pub mod Written
 pub mod Files
 pub mod Causes
+pub mod Calls

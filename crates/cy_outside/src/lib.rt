@@ -2,13 +2,23 @@
 //! how often it failed, so that every fault that a caller answers has its cause.
 #![tactic(auto)]
 
+pub mod calls;
 pub mod failed;
+pub mod memory;
+pub mod never;
+pub mod reading;
+pub mod real;
 pub mod sink;
 pub mod source;
 pub mod tree;
 pub mod writing;
 
+pub use calls::Calls;
 pub use failed::Failed;
+pub use memory::{MemSink, MemSource};
+pub use never::{NeverSink, NeverSource};
+pub use reading::read_file;
+pub use real::{PIECE, RealSink, RealSource};
 pub use sink::Sink;
 pub use source::Source;
 pub use tree::{Entry, Got, Listing, Size, Tree, TreeError};

@@ -1,4 +1,4 @@
-use Rattle.std.proofs.Common.{arith, rules, ◌∙◌, ◌≡◌, ◌-◌, ◌≤◌, ◌+◌, length, take, drop, subst, List, ℕ, refl}
+use Rattle.std.proofs.Common.{arith, ◌∙◌, ◌≡◌, ◌-◌, ◌≤◌, length, take, drop, subst, List, ℕ}
 use Rattle.std.proofs.lemmas.Grind.{common_steps}
 use Rattle.cy_outside.specs.Outside.{Adds}
 use Rattle.cy_outside.proofs.Writes.{adds_more, begins_take}

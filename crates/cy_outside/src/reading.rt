@@ -1,0 +1,42 @@
+ghost use Rattle.std.specs.Prelude.{◌≡◌, ◌≤◌, length, IfOk, IfSome};
+ghost use Rattle.cy_outside.specs.Causes.{HasTreeCause};
+ghost use Rattle.cy_outside.specs.Files.{ReadsFront};
+
+use crate::{Got, PIECE, Tree, TreeError};
+use cy_bits::Bytes;
+use std::alloc::Global;
+
+/// The first `most` bytes of a file, or all that it has; `None` where there is no file.
+///
+/// `Failed` comes only where a read of the tree failed.
+pub fn read_file<T: Tree>(
+    alloc: Global,
+    tree: &mut T,
+    path: &str,
+    most: usize,
+) -> Result<Option<Bytes>, TreeError>
+    ensures files { T.files tree.new ≡ T.files tree.old }
+    ensures file { IfOk result (λ file. ReadsFront (T.files tree.old) path.now most file) }
+    ensures most { IfOk result (λ file. IfSome file (λ bytes. length bytes ≤ most)) }
+    ensures cause { HasTreeCause (T.faults tree.old) (T.faults tree.new) result }
+    ensures count { T.faults tree.old ≤ T.faults tree.new }
+{
+    let mut piece = [0u8; PIECE];
+    let mut bytes = Vec::new(alloc);
+    'pieces: loop {
+        let offset = bytes.len();
+        let room = PIECE.min(most - offset);
+        match tree.read_at(path, offset as u64, &mut piece[..room]) {
+            Err(error) => return Err(error),
+            Ok(Got::Absent | Got::Folder) => return Ok(None),
+            Ok(Got::Bytes(n)) => {
+                let Ok(()) = bytes.extend_from_slice(&piece[..n]) else {
+                    return Err(TreeError::NoMemory);
+                };
+                if n == 0 || bytes.len() == most {
+                    return Ok(Some(Bytes::new(bytes)));
+                }
+            }
+        }
+    }
+}
