@@ -1,2 +1,4 @@
 //! Sessions of many sources on many ports, and what they deliver.
 #![tactic(auto)]
+
+pub mod laws;

@@ -1,0 +1,11 @@
+pub mod Runs
+pub mod Buffers
+pub mod Simulation
+pub mod Sentences
+pub mod Endings
+pub mod Moments
+pub mod Sources
+pub mod Admissions
+pub mod Entries
+pub mod Tables
+pub mod Lengths
