@@ -1,0 +1,69 @@
+-- The ports of a node, and the frames that it hears.
+use Rattle.std.specs.Prelude.{ℕ, Bool, true, not, ◌&&◌, ◌==◌, if◌then◌else◌, List, [], ◌∷◌, map, Option, Some, None}
+use Rattle.std.specs.Option.{option_and_then}
+use Rattle.can_id.specs.Identifiers.{key_of}
+use Rattle.can_id.specs.declared.ident.Ident.{Ident}
+use Rattle.can_id.specs.declared.ident.Ident.TheVariants.{Message, Anonymous, Service}
+use Rattle.can_id.specs.declared.key.Key.{Key}
+use Rattle.can_id.specs.declared.key.Kind.{Kind}
+use Rattle.can_id.specs.declared.key.Kind.TheVariants.{Message as message}
+use Rattle.tail_frame.specs.Frames.{FrameOf, frame_of, key_record}
+use Rattle.tail_frame.specs.declared.logged.Record.{Record}
+use Rattle.rx_table.specs.Keys.{KeyedFrame, same_kind}
+use Rattle.node_plan.specs.Bound.{extent_of}
+use Rattle.node_plan.specs.declared.plan.Plan.{Plan}
+use Rattle.node_plan.specs.declared.plan.Sub.{Sub}
+
+-- a port: what is received there, from how many sources, and to how many bytes payloads are cut
+pub record Port : Type 0 where
+  pub kind : Kind
+  pub port : ℕ
+  pub sources : ℕ
+  pub extent : ℕ
+
+abbrev pub port_of_sub : Sub → Port
+port_of_sub sub = record { kind = message; port = sub.port; sources = sub.sources; extent = extent_of sub.shape }
+
+-- the ports of a plan, in its order
+abbrev pub ports_of : Plan → List Port
+ports_of plan = map port_of_sub plan.subs
+
+-- the port of a kind and a number
+abbrev pub port_of : List Port → Kind → ℕ → Option Port
+port_of [] kind port = None
+port_of (p ∷ ps) kind port = if same_kind p.kind kind && (p.port == port) then Some p else port_of ps kind port
+
+-- whether a frame is for the node: it isn't the node's own, and where it is of a service it is sent to the node
+abbrev pub is_for : ℕ → Ident → Bool
+is_for node (Message priority subject source) = not (source == node)
+is_for node (Anonymous priority subject pseudo) = true
+is_for node (Service priority is_request service destination source) = not (source == node) && (destination == node)
+
+abbrev pub if_for : ℕ → Option FrameOf → Option FrameOf
+if_for node None = None
+if_for node (Some f) = if is_for node f.ident then Some f else None
+
+-- the frame that a record is, where it isn't discarded and is for the node
+abbrev pub frame_for : ℕ → Record → Option FrameOf
+frame_for node rec = if_for node (frame_of rec)
+
+abbrev pub keyed_by : Key → Option ℕ → FrameOf → Option KeyedFrame
+keyed_by key None f = None
+keyed_by key (Some source) f = Some (record { key = record { kind = key.kind; port = key.port; source = source }; rec = key_record f })
+
+-- a frame with the key of its session, where it has a source
+abbrev pub keyed : FrameOf → Option KeyedFrame
+keyed f = keyed_by (key_of f.ident) (key_of f.ident).source f
+
+abbrev pub keyed_in : Option FrameOf → Option KeyedFrame
+keyed_in None = None
+keyed_in (Some f) = keyed f
+
+abbrev pub onto : Option KeyedFrame → List KeyedFrame → List KeyedFrame
+onto None log = log
+onto (Some f) log = f ∷ log
+
+-- the frames for the node that belong to sessions, of records with the newest first
+abbrev pub frames : ℕ → List Record → List KeyedFrame
+frames node [] = []
+frames node (rec ∷ past) = onto (keyed_in (frame_for node rec)) (frames node past)

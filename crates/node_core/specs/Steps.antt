@@ -1,0 +1,157 @@
+-- The steps of a node, and the lines that each gives.
+use Rattle.std.specs.Prelude.{ℕ, Bool, true, false, ◌&&◌, ◌+◌, ◌*◌, if◌then◌else◌, List, [], ◌∷◌, ◌++◌, length, take, count_by, Option, Some, None}
+use Rattle.can_id.specs.Identifiers.{key_of, priority_of}
+use Rattle.can_id.specs.declared.key.Key.{Key}
+use Rattle.tail_frame.specs.Frames.{FrameOf}
+use Rattle.tail_frame.specs.declared.logged.Record.{Record}
+use Rattle.transfer_crc.specs.Crc.{crc_of}
+use Rattle.rx_table.specs.Admitted.{has, admitted}
+use Rattle.rx_table.specs.Keys.{SessionKey, KeyedFrame, history}
+use Rattle.rx_table.specs.Received.{Delivery}
+use Rattle.rx_table.specs.Steps.{delivery_at, is_bad}
+use Rattle.node_plan.specs.Bound.{bound_of}
+use Rattle.node_plan.specs.declared.plan.Plan.{Plan}
+use Rattle.node_core.specs.Heard.{Port, ports_of, port_of, frame_for, keyed, keyed_in, frames}
+use Rattle.node_core.specs.declared.line.Line.{Line}
+use Rattle.node_core.specs.declared.line.Line.TheVariants.{Rx, NoSession}
+use Rattle.node_core.specs.declared.line.Reading.TheVariants.{Raw}
+use Rattle.node_core.specs.declared.numbers.Numbers.{Numbers}
+
+-- whether the source of a key has a session on a port
+abbrev pub is_admitted : Port → SessionKey → List KeyedFrame → Bool
+is_admitted p key log = has key.source (admitted key.kind key.port p.sources log)
+
+-- the line of a delivery
+abbrev pub rx_line : ℕ → Key → Delivery → Line
+rx_line extent key d = Rx (record {
+    moment = d.first.moment;
+    bus = d.first.bus;
+    key = key;
+    priority = d.last.priority;
+    tid = d.first.tid;
+    first = d.first.line;
+    last = d.last.line;
+    payload = take extent d.content;
+    reading = Raw;
+  })
+
+abbrev pub of_delivery : ℕ → Key → Option Delivery → List Line
+of_delivery extent key None = []
+of_delivery extent key (Some d) = rx_line extent key d ∷ []
+
+-- the line of an anonymous message, which is one frame
+abbrev pub anonymous_line : ℕ → FrameOf → Line
+anonymous_line extent f = Rx (record {
+    moment = f.moment;
+    bus = f.bus;
+    key = key_of f.ident;
+    priority = priority_of f.ident;
+    tid = f.tail.tid;
+    first = f.line;
+    last = f.line;
+    payload = take extent f.body;
+    reading = Raw;
+  })
+
+-- the line of a start frame whose source has no session
+abbrev pub refused_line : FrameOf → Line
+refused_line f = NoSession (record { moment = f.moment; bus = f.bus; key = key_of f.ident; line = f.line })
+
+-- what a frame on a port gives, after the frames of this log: an anonymous message, what its session delivers, or
+-- that it has none
+abbrev pub of_source : ℕ → Port → FrameOf → List KeyedFrame → Option KeyedFrame → List Line
+of_source timeout p f log None = anonymous_line p.extent f ∷ []
+of_source timeout p f log (Some k) =
+    if is_admitted p k.key (k ∷ log)
+    then of_delivery p.extent (key_of f.ident) (delivery_at crc_of timeout k.rec (history k.key log))
+    else (if k.rec.start then refused_line f ∷ [] else [])
+
+abbrev pub on_port : ℕ → FrameOf → List KeyedFrame → Option Port → List Line
+on_port timeout f log None = []
+on_port timeout f log (Some p) = of_source timeout p f log (keyed f)
+
+abbrev pub of_frame : Plan → List KeyedFrame → Option FrameOf → List Line
+of_frame plan log None = []
+of_frame plan log (Some f) = on_port plan.timeout f log (port_of (ports_of plan) (key_of f.ident).kind (key_of f.ident).port)
+
+-- the lines on what a record gives, where these came before it, the newest first
+abbrev pub got : Plan → Record → List Record → List Line
+got plan rec past = of_frame plan (frames plan.node past) (frame_for plan.node rec)
+
+abbrev pub bad_of_source : ℕ → Port → List KeyedFrame → Option KeyedFrame → Bool
+bad_of_source timeout p log None = false
+bad_of_source timeout p log (Some k) = is_admitted p k.key (k ∷ log) && is_bad crc_of timeout k.rec (history k.key log)
+
+abbrev pub bad_on_port : ℕ → FrameOf → List KeyedFrame → Option Port → Bool
+bad_on_port timeout f log None = false
+bad_on_port timeout f log (Some p) = bad_of_source timeout p log (keyed f)
+
+abbrev pub bad_of_frame : Plan → List KeyedFrame → Option FrameOf → Bool
+bad_of_frame plan log None = false
+bad_of_frame plan log (Some f) = bad_on_port plan.timeout f log (port_of (ports_of plan) (key_of f.ident).kind (key_of f.ident).port)
+
+-- whether a record ends a transfer whose bytes don't fit their CRC
+abbrev pub is_bad_at : Plan → Record → List Record → Bool
+is_bad_at plan rec past = bad_of_frame plan (frames plan.node past) (frame_for plan.node rec)
+
+-- a step of a node
+pub data Step : Type 0 where
+  Heard : Record → Step
+
+-- the records of steps
+abbrev pub records : List Step → List Record
+records [] = []
+records (Heard rec ∷ past) = rec ∷ records past
+
+-- the steps of a log, both with the newest first
+abbrev pub steps : Plan → List Record → List Step
+steps plan [] = []
+steps plan (rec ∷ past) = Heard rec ∷ steps plan past
+
+-- the lines of a step, where these came before it
+abbrev pub lines_at : Plan → Step → List Step → List Line
+lines_at plan (Heard rec) past = got plan rec (records past)
+
+-- the lines of steps, of which the newest comes first
+abbrev pub lines : Plan → List Step → List Line
+lines plan [] = []
+lines plan (step ∷ past) = lines plan past ++ lines_at plan step past
+
+-- the bytes of the buffers of all sessions
+abbrev pub held_on : List Port → List KeyedFrame → ℕ
+held_on [] log = 0
+held_on (p ∷ ps) log = length (admitted p.kind p.port p.sources log) * p.extent + held_on ps log
+
+abbrev pub held_at : Plan → List Record → ℕ
+held_at plan past = held_on (ports_of plan) (frames plan.node past)
+
+abbrev pub bad_at : Plan → Step → List Step → Bool
+bad_at plan (Heard rec) past = is_bad_at plan rec (records past)
+
+abbrev pub one_if : Bool → ℕ
+one_if b = if b then 1 else 0
+
+-- how many transfers had bytes that don't fit their CRC
+abbrev pub badcrcs : Plan → List Step → ℕ
+badcrcs plan [] = 0
+badcrcs plan (step ∷ past) = badcrcs plan past + one_if (bad_at plan step past)
+
+abbrev pub is_rx : Line → Bool
+is_rx (Rx rx) = true
+is_rx (NoSession refused) = false
+
+abbrev pub is_nosession : Line → Bool
+is_nosession (Rx rx) = false
+is_nosession (NoSession refused) = true
+
+-- the numbers of a report on these steps
+abbrev pub numbers : Plan → List Step → Numbers
+numbers plan steps = record {
+    records = length (records steps);
+    delivered = count_by is_rx (lines plan steps);
+    badcrc = badcrcs plan steps;
+    nosession = count_by is_nosession (lines plan steps);
+    sent = 0;
+    held = held_at plan (records steps);
+    bound = bound_of plan;
+  }
