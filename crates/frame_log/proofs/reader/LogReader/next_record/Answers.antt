@@ -1,0 +1,97 @@
+use Rattle.std.proofs.Common.{◌≡◌, ◌++◌, List, [], ℕ, arith, Bool, true, false, refl, inl, inr, ◌∙◌, subst}
+use Rattle.frame_log.specs.declared.reader.turn.Turn.{Turn}
+use Rattle.frame_log.specs.declared.reader.turn.Turn.TheVariants as turn
+use Rattle.frame_log.specs.Log.{with_record}
+use Rattle.frame_log.specs.Steps.{IsTurn}
+use Rattle.frame_log.specs.Reader.{log_behind, place_of, buses_of, held_of, bytes_left}
+use Rattle.frame_log.proofs.LogLemmas.{came-turn}
+use Rattle.frame_log.proofs.OrderLemmas.{ahead-first, ahead-from}
+use Rattle.frame_log.proofs.FitLemmas.{fit-first, fit-from}
+use Rattle.frame_log.proofs.reader.LogReader.next_record.Goals as goal
+
+-- a reader that isn't at the end
+open_rest : (b : Bool) (rest : List ℕ) → b ≡ false → b ≡ true → rest ≡ []
+open_rest b rest f t = absurd cc
+
+pub loop-written-preserved : goal.loop-written-preserved
+loop-written-preserved g c =
+    let s = g.L.Source in
+    let old = log_behind c.args.self.now in
+    let new = log_behind c.turn.new.self in
+    let w = c.turn.new.written in
+    let again = c.turn.ensures.again c.in-Again.is in
+    let m = came-turn (s.left c.args.input.now) (s.left c.loop-written.input) (s.left c.turn.new.input) old (log_behind c.loop-written.self) new (λ rest. c.turn.new.self.is_ended ≡ true → rest ≡ []) c.turn.result w
+    c.loop-written.invariant.next c.turn.ensures.next in record {
+      next = (m.0, m.1, λ rest. subst (λ (t : Turn). IsTurn (old (m.0 ++ rest)) t w (new rest)) c.in-Again.is (m.2 rest (open_rest c.turn.new.self.is_ended rest again.1)));
+      reading = λ _. again.1;
+      faults = c.turn.ensures.count (λ e. absurd (differ c.in-Again.is e)) ∙ c.loop-written.invariant.faults;
+      done = c.turn.ensures.same.1 ∙ c.loop-written.invariant.done;
+      buses = c.turn.ensures.same.0 ∙ c.loop-written.invariant.buses;
+      within = omega (arith, c.turn.ensures.within, c.loop-written.invariant.within);
+    }
+  where
+    differ : {t : Turn} → t ≡ turn.Again → t ≡ turn.Failed → ⊥
+    differ e f = cc
+
+pub returns-in-Record-clause-next : goal.returns-in-Record-clause-next
+returns-in-Record-clause-next g c _ =
+    let s = g.L.Source in
+    let old = log_behind c.args.self.now in
+    let new = log_behind c.turn.new.self in
+    let w = c.turn.new.written in
+    let m = came-turn (s.left c.args.input.now) (s.left c.loop-written.input) (s.left c.turn.new.input) old (log_behind c.loop-written.self) new (λ rest. c.turn.new.self.is_ended ≡ true → rest ≡ []) c.turn.result w
+    c.loop-written.invariant.next c.turn.ensures.next in (m.0, m.1, λ rest e. subst (λ (t : Turn). IsTurn (old (m.0 ++ rest)) t w (new rest)) c.in-Record.is (m.2 rest e))
+
+pub returns-in-Whole-turn-clause-next : goal.returns-in-Whole-turn-clause-next
+returns-in-Whole-turn-clause-next g c _ =
+    let s = g.L.Source in
+    let old = log_behind c.args.self.now in
+    let new = log_behind c.turn.new.self in
+    let w = c.turn.new.written in
+    let m = came-turn (s.left c.args.input.now) (s.left c.loop-written.input) (s.left c.turn.new.input) old (log_behind c.loop-written.self) new (λ rest. c.turn.new.self.is_ended ≡ true → rest ≡ []) c.turn.result w
+    c.loop-written.invariant.next c.turn.ensures.next in (m.0, m.1, λ rest e. subst (λ (t : Turn). IsTurn (old (m.0 ++ rest)) t w (new rest)) c.in-Whole-turn.is (m.2 rest e))
+
+pub returns-in-Refused-turn-clause-next : goal.returns-in-Refused-turn-clause-next
+returns-in-Refused-turn-clause-next g c _ =
+    let s = g.L.Source in
+    let old = log_behind c.args.self.now in
+    let new = log_behind c.turn.new.self in
+    let w = c.turn.new.written in
+    let m = came-turn (s.left c.args.input.now) (s.left c.loop-written.input) (s.left c.turn.new.input) old (log_behind c.loop-written.self) new (λ rest. c.turn.new.self.is_ended ≡ true → rest ≡ []) c.turn.result w
+    c.loop-written.invariant.next c.turn.ensures.next in (m.0, m.1, λ rest e. inl (subst (λ (t : Turn). IsTurn (old (m.0 ++ rest)) t w (new rest)) c.in-Refused-turn.is (m.2 rest e)))
+
+pub returns-in-Failed-clause-next : goal.returns-in-Failed-clause-next
+returns-in-Failed-clause-next g c _ =
+    let s = g.L.Source in
+    let old = log_behind c.args.self.now in
+    let new = log_behind c.turn.new.self in
+    let w = c.turn.new.written in
+    let m = came-turn (s.left c.args.input.now) (s.left c.loop-written.input) (s.left c.turn.new.input) old (log_behind c.loop-written.self) new (λ rest. c.turn.new.self.is_ended ≡ true → rest ≡ []) c.turn.result w
+    c.loop-written.invariant.next c.turn.ensures.next in (m.0, m.1, λ rest e. inr (refl, subst (λ (t : Turn). IsTurn (old (m.0 ++ rest)) t w (new rest)) c.in-Failed.is (m.2 rest e)))
+
+pub returns-in-Record-clause-order : goal.returns-in-Record-clause-order
+returns-in-Record-clause-order g c =
+    let s = g.L.Source in
+    let self = c.args.self.now in
+    let old = log_behind self in
+    let new = log_behind c.turn.new.self in
+    let w = c.turn.new.written in
+    let m = came-turn (s.left c.args.input.now) (s.left c.loop-written.input) (s.left c.turn.new.input) old (log_behind c.loop-written.self) new (λ rest. c.turn.new.self.is_ended ≡ true → rest ≡ []) c.turn.result w
+    c.loop-written.invariant.next c.turn.ensures.next in
+    let is : old (m.0 ++ []) ≡ with_record w (new []) = subst (λ (t : Turn). IsTurn (old (m.0 ++ [])) t w (new [])) c.in-Record.is (m.2 [] (λ _. refl)) in
+    ahead-first self.last self.lines (old (m.0 ++ [])) (new []) w (ahead-from (buses_of self) (bytes_left self) (held_of self ++ (m.0 ++ [])) (place_of self)) is
+
+pub returns-in-Record-clause-fit : goal.returns-in-Record-clause-fit
+returns-in-Record-clause-fit g c =
+    let s = g.L.Source in
+    let self = c.args.self.now in
+    let old = log_behind self in
+    let new = log_behind c.turn.new.self in
+    let w = c.turn.new.written in
+    let m = came-turn (s.left c.args.input.now) (s.left c.loop-written.input) (s.left c.turn.new.input) old (log_behind c.loop-written.self) new (λ rest. c.turn.new.self.is_ended ≡ true → rest ≡ []) c.turn.result w
+    c.loop-written.invariant.next c.turn.ensures.next in
+    let is : old (m.0 ++ []) ≡ with_record w (new []) = subst (λ (t : Turn). IsTurn (old (m.0 ++ [])) t w (new [])) c.in-Record.is (m.2 [] (λ _. refl)) in
+    let at = c.turn.ensures.at c.in-Record.is in (
+      fit-first (buses_of self) (old (m.0 ++ [])) (new []) w (fit-from (buses_of self) (bytes_left self) (held_of self ++ (m.0 ++ [])) (place_of self)) is,
+      omega (arith, at.0, c.turn.new.self.within),
+    )

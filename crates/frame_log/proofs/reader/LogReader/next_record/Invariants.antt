@@ -1,0 +1,17 @@
+use Rattle.std.proofs.Common.{◌≡◌, ◌≤◌, ◌++◌, List, ℕ, None, false}
+use Rattle.frame_log.specs.Input.{Took}
+use Rattle.frame_log.specs.Reader.{log_behind, buses_of, bytes_left}
+use Rattle.frame_log.proofs.reader.LogReader.next_record.Given as goal
+
+abbrev pub invariant-loop-written : goal.invariant-loop-written
+invariant-loop-written g l = let s = g.L.Source in record {
+  next : (came : List ℕ) × Took (s.left l.fn.input) (s.left l.input) came × ((rest : List ℕ) → log_behind l.fn.self (came ++ rest) ≡ log_behind l.self rest);
+  reading : l.fn.self.is_ended ≡ false → l.self.is_ended ≡ false;
+  faults : s.faults l.input ≡ s.faults l.fn.input;
+  done : l.self.done ≡ None;
+  buses : buses_of l.self ≡ buses_of l.fn.self;
+  within : bytes_left l.self ≤ bytes_left l.fn.self;
+}
+
+abbrev pub decreases-loop-written : goal.decreases-loop-written
+decreases-loop-written g l = l.self.room

@@ -1,0 +1,12 @@
+-- The order of a log's records, and what each can be.
+use Rattle.std.specs.Prelude.{◌≤◌, ◌<◌, ℕ, List, [], ◌∷◌, length, ⊤}
+use Rattle.tail_frame.specs.declared.logged.Record.{Record}
+
+-- behind this moment and this line the moments never fall, and the lines rise
+abbrev pub IsAhead : ℕ → ℕ → List Record → Type 0
+IsAhead moment line [] = ⊤
+IsAhead moment line (r ∷ rest) = (moment ≤ r.moment) × (line < r.line) × IsAhead r.moment r.line rest
+
+-- its bus is one of these, its identifier has 29 bits, and its data at most 64 bytes
+abbrev pub IsFit : List (List ℕ) → Record → Type 0
+IsFit buses r = (r.bus < length buses) × (r.ident ≤ 0x1FFF_FFFF) × (length r.bytes ≤ 64)

@@ -1,0 +1,65 @@
+-- What a reader gives.
+use Rattle.std.specs.Prelude.{◌≡◌, ◌+◌, ◌++◌, ◌⊎◌, ℕ, Bool, List, Option, Some, None, Result, Ok, Err, length}
+use Rattle.tail_frame.specs.declared.logged.Record.{Record}
+use Rattle.frame_log.specs.declared.reader.LogReader.{LogReader}
+use Rattle.frame_log.specs.declared.error.LogError.{LogError}
+use Rattle.frame_log.specs.declared.error.LogError.TheVariants as error
+use Rattle.frame_log.specs.declared.reader.Answer.{Answer}
+use Rattle.frame_log.specs.declared.reader.Answer.TheVariants.{Whole, Refused}
+use Rattle.frame_log.specs.Log.{Log, Place, ended, with_record, log_from}
+
+-- the names of its buses
+abbrev pub buses_of : LogReader → List (List ℕ)
+buses_of r = r.buses
+
+-- where it stands: the lines before, and the moments of the first and the last record
+abbrev pub place_of : LogReader → Place
+place_of r = record { lines = r.lines; first = r.first; last = r.last }
+
+-- the bytes that were taken and not yet used
+abbrev pub held_of : LogReader → List ℕ
+held_of r = r.held
+
+-- how many bytes count, from those that it holds on
+abbrev pub bytes_left : LogReader → ℕ
+bytes_left r = r.room + length r.held
+
+-- whether a read gave the end of the input
+abbrev pub saw_end : LogReader → Bool
+saw_end r = r.is_ended
+
+-- what it answers from now on, where it has answered its end or an error
+abbrev pub answer_of : LogReader → Option Answer
+answer_of r = r.done
+
+-- the log that it gives, where these bytes come behind those that it holds
+abbrev pub log_behind : LogReader → List ℕ → Log
+log_behind r rest = log_from (buses_of r) (bytes_left r) (held_of r ++ rest) (place_of r)
+
+-- an answer leads from one log to the next: where the input failed, nothing is lost
+abbrev pub IsNext : Log → Result (Option Record) LogError → Log → Type 0
+IsNext before (Ok None) after = before ≡ ended None
+IsNext before (Ok (Some r)) after = before ≡ with_record r after
+IsNext before (Err e) after = (before ≡ ended (Some e)) ⊎ ((e ≡ error.Failed) × (before ≡ after))
+
+-- the same, of the lines that are held: where no line is left, the log is as before
+abbrev pub IsNextHeld : Log → Result (Option Record) LogError → Log → Type 0
+IsNextHeld before (Ok None) after = before ≡ after
+IsNextHeld before (Ok (Some r)) after = before ≡ with_record r after
+IsNextHeld before (Err e) after = before ≡ ended (Some e)
+
+-- what a reader answers from then on
+abbrev pub kept : Result (Option Record) LogError → Option Answer
+kept (Ok None) = Some Whole
+kept (Ok (Some r)) = None
+kept (Err e) = Some (Refused e)
+
+-- the same, of the lines that are held: a refusal alone
+abbrev pub kept_held : Result (Option Record) LogError → Option Answer
+kept_held (Ok answer) = None
+kept_held (Err e) = Some (Refused e)
+
+-- an answer that is given again
+abbrev pub answered : Answer → Result (Option Record) LogError
+answered Whole = Ok None
+answered (Refused e) = Err e

@@ -1,0 +1,39 @@
+-- What the steps of a reader do.
+use Rattle.std.specs.Prelude.{◌≡◌, ◌<◌, ◌+◌, ℕ, List, Some, None, length, take, drop}
+use Rattle.tail_frame.specs.declared.logged.Record.{Record}
+use Rattle.frame_log.specs.declared.reader.step.Step.{Step}
+use Rattle.frame_log.specs.declared.reader.step.Step.TheVariants as step
+use Rattle.frame_log.specs.declared.reader.turn.Turn.{Turn}
+use Rattle.frame_log.specs.declared.reader.turn.Turn.TheVariants as turn
+use Rattle.frame_log.specs.Line.{cut}
+use Rattle.frame_log.specs.Log.{Log, Place, Given, Skip, Take, Refuse, ended, with_record}
+
+-- the first line of s has i bytes
+abbrev pub IsLine : List ℕ → ℕ → Type 0
+IsLine s i = (i < length s) × (cut 10 s ≡ Some (take i s, drop (i + 1) s))
+
+-- a step, with the record that it wrote, is what a line gives, and leads to a place
+abbrev pub IsGiven : Given → Step → Record → Place → Type 0
+IsGiven (Skip at) step.Skipped written new = new ≡ at
+IsGiven (Take r at) step.Record written new = (written ≡ r) × (new ≡ at)
+IsGiven (Refuse e) (step.Refused f) written new = f ≡ e
+IsGiven _ _ written new = ⊥
+
+-- a step leads from one log to the next
+abbrev pub IsStep : Log → Step → Record → Log → Type 0
+IsStep before step.NoLine written after = before ≡ after
+IsStep before step.Skipped written after = before ≡ after
+IsStep before step.Record written after = before ≡ with_record written after
+IsStep before (step.Refused e) written after = before ≡ ended (Some e)
+
+-- a turn leads from one log to the next
+abbrev pub IsTurn : Log → Turn → Record → Log → Type 0
+IsTurn before turn.Again written after = before ≡ after
+IsTurn before turn.Record written after = before ≡ with_record written after
+IsTurn before turn.Whole written after = before ≡ ended None
+IsTurn before (turn.Refused e) written after = before ≡ ended (Some e)
+IsTurn before turn.Failed written after = before ≡ after
+
+-- a record that was written stands at a place: it has its line, and its moment is the last
+abbrev pub IsAt : Record → Place → Type 0
+IsAt r at = (at.lines ≡ r.line) × (at.last ≡ r.moment)

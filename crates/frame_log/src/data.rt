@@ -1,0 +1,125 @@
+//! The data of a frame, which stands behind `#`.
+ghost use Rattle.std.specs.Prelude.{◌≡◌, ◌≤◌, ◌+◌, ◌*◌, ◌-◌, option_map, length, take, drop, Some, None, ◌++◌, []};
+ghost use Rattle.frame_log.specs.Line.{pairs_of, is_length, bytes_of, is_at_most_digit, fd_bytes_of, data_of, unflagged};
+ghost use Rattle.frame_log.specs.Found.{bytes_if};
+
+use crate::digits::{after, front, hex_digit, hexadecimal};
+use cy_bits::ShortList;
+
+/// The bytes of a frame.
+pub type Data = ShortList<u8, 64>;
+
+/// Puts the bytes of pairs of hex digits.
+#[inline(always)]
+fn pairs(s: &[u8], bytes: &mut Data) -> bool
+    requires short { length s.now ≤ 128 }
+    requires empty { bytes.old ≡ [] }
+    ensures { pairs_of s.now ≡ bytes_if result bytes.new }
+{
+    let n = s.len() / 2;
+    if s.len() != 2 * n {
+        return false;
+    }
+    for i in 0..n {
+        let high = hex_digit(s[2 * i]);
+        let low = hex_digit(s[2 * i + 1]);
+        if high > 15 || low > 15 {
+            return false;
+        }
+        bytes.push(high * 16 + low);
+    }
+    true
+}
+
+/// Whether a frame, of CAN FD or not, can have `n` bytes of data.
+#[inline(always)]
+fn is_length(fd: bool, n: usize) -> bool
+    ensures { result ≡ is_length fd n }
+{
+    if fd {
+        matches!(n, 0..=8 | 12 | 16 | 20 | 24 | 32 | 48 | 64)
+    } else {
+        n <= 8
+    }
+}
+
+/// HEX of a valid length: puts its bytes.
+#[inline(always)]
+fn bytes(fd: bool, s: &[u8], bytes: &mut Data) -> bool
+    requires { bytes.old ≡ [] }
+    ensures { bytes_of fd s.now ≡ bytes_if result bytes.new }
+{
+    if s.len() > 128 {
+        return false;
+    }
+    if !is_length(fd, s.len() / 2) {
+        return false;
+    }
+    pairs(s, bytes)
+}
+
+/// Whether this is nothing, or one digit.
+fn is_at_most_digit(s: &[u8]) -> bool
+    ensures { result ≡ is_at_most_digit s.now }
+{
+    match s {
+        [] => true,
+        [b] => matches!(*b, b'0'..=b'9'),
+        _ => false,
+    }
+}
+
+/// `F` and HEX.
+#[inline(always)]
+fn fd_bytes(s: &[u8], data: &mut Data) -> bool
+    requires { «data».old ≡ [] }
+    ensures { fd_bytes_of s.now ≡ bytes_if result «data».new }
+{
+    let Some((digits, rest)) = front(1, s) else {
+        return false;
+    };
+    let Some(_flags) = hexadecimal(digits) else {
+        return false;
+    };
+    bytes(true, rest, data)
+}
+
+/// DATA, to the end of the line: whether it has bytes.
+#[inline(always)]
+pub fn data(s: &[u8], found: &mut Data) -> Option<bool>
+    requires { found.old ≡ [] }
+    ensures { option_map (λ has. bytes_if has found.new) result ≡ data_of s.now }
+{
+    if let Some(rest) = after(b'R', s) {
+        return if is_at_most_digit(rest) {
+            Some(false)
+        } else {
+            None
+        };
+    }
+    if let Some(rest) = after(b'#', s) {
+        return if fd_bytes(rest, found) {
+            Some(true)
+        } else {
+            None
+        };
+    }
+    if bytes(false, s, found) {
+        Some(true)
+    } else {
+        None
+    }
+}
+
+/// The text without ` R` or ` T` at its end.
+#[inline(always)]
+pub fn unflagged(s: &[u8]) -> &[u8]
+    ensures { result.now ≡ unflagged s.now }
+{
+    let n = s.len();
+    if n >= 2 && s[n - 2] == b' ' && (s[n - 1] == b'R' || s[n - 1] == b'T') {
+        &s[..n - 2]
+    } else {
+        s
+    }
+}

@@ -1,0 +1,14 @@
+ghost use Rattle.std.specs.Prelude.{ℕ, List, All};
+ghost use Rattle.frame_log.specs.Log.{Place, log_of, log_from};
+ghost use Rattle.frame_log.specs.Order.{IsAhead, IsFit};
+
+/// The records of a log are in order: their moments never fall and their lines rise, from 1 on.
+/// Each has one of the buses, an identifier of 29 bits and at most 64 bytes.
+pub fn ordered()
+    ensures order { (buses : List (List ℕ)) (bytes : List ℕ) → IsAhead 0 0 (log_of buses bytes).records }
+    ensures fit { (buses : List (List ℕ)) (bytes : List ℕ) → All (IsFit buses) (log_of buses bytes).records }
+
+    // The same from any place between two lines.
+    ensures order_from { (buses : List (List ℕ)) (room : ℕ) (bytes : List ℕ) (at : Place) → IsAhead at.last at.lines (log_from buses room bytes at).records }
+    ensures fit_from { (buses : List (List ℕ)) (room : ℕ) (bytes : List ℕ) (at : Place) → All (IsFit buses) (log_from buses room bytes at).records }
+{}

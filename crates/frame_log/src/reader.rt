@@ -1,0 +1,188 @@
+//! A log, record by record.
+ghost use Rattle.std.specs.Prelude.{◌≤◌, ◌+◌, length};
+
+use crate::data::Data;
+use crate::error::LogError;
+use crate::held::Held;
+use cy_bits::{BusName, NoMemory, ShortList};
+use cy_outside::Source;
+use std::alloc::Global;
+use step::Step;
+use tail_frame::Record;
+use turn::Turn;
+
+mod step;
+mod turn;
+
+/// What a reader answers from then on.
+#[derive(Clone, Copy, Debug, PartialEq, Eq)]
+pub enum Answer {
+    /// The log's end.
+    Whole,
+    /// A refusal.
+    Refused(LogError),
+}
+
+/// A reader of a log, to which each call hands the same input. It holds at most 8,192 bytes.
+#[derive(Drop)]
+pub struct LogReader {
+    buses: ShortList<BusName, 3>,
+    /// The bytes that were taken and not yet used.
+    held: Held,
+    /// How many bytes may still be taken.
+    room: usize,
+    /// The lines before.
+    lines: u64,
+    /// The moment of the first record.
+    first: Option<u64>,
+    /// The moment of the last record, at first 0.
+    last: u64,
+    /// Whether a read gave the end of the input.
+    is_ended: bool,
+    /// What is answered from now on.
+    done: Option<Answer>,
+    ghost near: { length held ≤ 8192 },
+    ghost within: { lines + (room + length held) ≤ 268435456 },
+}
+
+impl LogReader {
+    ghost use Rattle.std.specs.Prelude.{◌≡◌, ◌≤◌, ◌<◌, ◌+◌, ◌++◌, ◌^◌, ℕ, List, [], None, Some, Ok, Err, length, IfOk, IfSome, true, false};
+    ghost use Rattle.cy_outside.specs.Outside.{Rose};
+    ghost use Rattle.frame_log.specs.Input.{Took, IsAtEnd};
+    ghost use Rattle.frame_log.specs.Line.{cut};
+    ghost use Rattle.frame_log.specs.Log.{log_of, start};
+    ghost use Rattle.frame_log.specs.Order.{IsFit};
+    ghost use Rattle.frame_log.specs.Reader.{buses_of, place_of, held_of, bytes_left, saw_end, answer_of, log_behind, IsNext, IsNextHeld, kept, kept_held, answered};
+    ghost use Rattle.frame_log.specs.declared.error.LogError.TheVariants as error;
+    ghost use Rattle.frame_log.specs.declared.reader.turn.Turn.TheVariants as turn;
+    ghost use Rattle.frame_log.specs.declared.reader.step.Step.TheVariants as step;
+
+    /// A reader at a log's start, which knows these buses.
+    pub fn new(alloc: Global, buses: ShortList<BusName, 3>) -> Result<LogReader, NoMemory>
+        ensures log { IfOk result (λ r. (rest : List ℕ) → log_behind r rest ≡ log_of buses rest) }
+        ensures start { IfOk result (λ r. (buses_of r ≡ buses) × (place_of r ≡ start) × (held_of r ≡ []) × (bytes_left r ≡ 2 ^ 28)) }
+        ensures reading { IfOk result (λ r. (answer_of r ≡ None) × (saw_end r ≡ false)) }
+    {
+        Ok(LogReader {
+            buses,
+            held: Held::new(alloc)?,
+            room: 1 << 28,
+            lines: 0,
+            first: None,
+            last: 0,
+            is_ended: false,
+            done: None,
+        })
+    }
+
+    /// The next record, or None at the log's end. It reads only where no whole line is held. After
+    /// None or an error each later call answers the same and reads nothing.
+    #[inline(always)]
+    pub fn next_record<L: Source>(&mut self, input: &mut L) -> Result<Option<Record>, LogError>
+        // What the log gives that is left: the bytes held, those that came in this call, and any rest.
+        ensures next { answer_of self.old ≡ None → (came : List ℕ) × Took (L.left input.old) (L.left input.new) came
+            × ((rest : List ℕ) → (saw_end self.new ≡ true → rest ≡ []) → IsNext (log_behind self.old (came ++ rest)) result (log_behind self.new rest)) }
+
+        // It has ended only where the input has.
+        ensures end { saw_end self.old ≡ false → saw_end self.new ≡ true → IsAtEnd (L.left input.new) }
+        ensures whole { answer_of self.old ≡ None → result ≡ Ok None → saw_end self.new ≡ true }
+
+        // The answer stays.
+        ensures done { answer_of self.old ≡ None → answer_of self.new ≡ kept result }
+        ensures again { IfSome (answer_of self.old) (λ a. (result ≡ answered a) × (self.new ≡ self.old) × (input.new ≡ input.old)) }
+
+        // The input failed, and no line that was taken is left.
+        ensures failed { answer_of self.old ≡ None → result ≡ Err error.Failed → Rose (L.faults input.old) (L.faults input.new) × (cut 10 (held_of self.new) ≡ None) × (length (held_of self.new) ≤ 4096) }
+        ensures count { ¬ (result ≡ Err error.Failed) → L.faults input.new ≡ L.faults input.old }
+
+        // A record is behind those before it, and has one of the buses.
+        ensures order { IfOk result (λ o. IfSome o (λ r. ((place_of self.old).last ≤ r.moment) × ((place_of self.old).lines < r.line))) }
+        ensures place { IfOk result (λ o. IfSome o (λ r. ((place_of self.new).last ≡ r.moment) × ((place_of self.new).lines ≡ r.line))) }
+        ensures fit { IfOk result (λ o. IfSome o (λ r. IsFit (buses_of self.old) r × (r.line ≤ 2 ^ 28))) }
+
+        // Each record leaves fewer bytes, and no more were taken than stand in the buffer.
+        ensures less { IfOk result (λ o. IfSome o (λ _. bytes_left self.new < bytes_left self.old)) }
+        ensures near { length (held_of self.new) ≤ 8192 }
+        ensures same { buses_of self.new ≡ buses_of self.old }
+    {
+        if let Some(answer) = self.done {
+            return match answer {
+                Answer::Whole => Ok(None),
+                Answer::Refused(e) => Err(e),
+            };
+        }
+        let mut written = Record {
+            line: 0,
+            moment: 0,
+            bus: 0,
+            ident: 0,
+            bytes: Data::new(),
+        };
+        loop {
+            match self.turn(input, &mut written) {
+                Turn::Again => {}
+                Turn::Record => return Ok(Some(written)),
+                Turn::Whole => {
+                    self.done = Some(Answer::Whole);
+                    return Ok(None);
+                }
+                Turn::Refused(e) => {
+                    self.done = Some(Answer::Refused(e));
+                    return Err(e);
+                }
+                Turn::Failed => {
+                    self.done = Some(Answer::Refused(LogError::Failed));
+                    return Err(LogError::Failed);
+                }
+            }
+        }
+    }
+
+    /// The next record of the lines that are held whole, without reading. None where no such line is
+    /// left: `next_record` goes on from there. A refusal is the answer of each later call, and a
+    /// reader that has answered its end or an error answers the same again.
+    #[inline(always)]
+    pub fn next_held(&mut self) -> Result<Option<Record>, LogError>
+        // What the log gives that is left, whatever comes behind the bytes held.
+        ensures next { answer_of self.old ≡ None → (rest : List ℕ) → IsNextHeld (log_behind self.old rest) result (log_behind self.new rest) }
+        ensures none { answer_of self.old ≡ None → result ≡ Ok None → cut 10 (held_of self.new) ≡ None }
+        ensures input { answer_of self.old ≡ None → ¬ (result ≡ Err error.Failed) }
+
+        // A refusal stays.
+        ensures done { answer_of self.old ≡ None → answer_of self.new ≡ kept_held result }
+        ensures again { IfSome (answer_of self.old) (λ a. (result ≡ answered a) × (self.new ≡ self.old)) }
+        ensures end { saw_end self.new ≡ saw_end self.old }
+
+        // A record is behind those before it, and has one of the buses.
+        ensures order { IfOk result (λ o. IfSome o (λ r. ((place_of self.old).last ≤ r.moment) × ((place_of self.old).lines < r.line))) }
+        ensures place { IfOk result (λ o. IfSome o (λ r. ((place_of self.new).last ≡ r.moment) × ((place_of self.new).lines ≡ r.line))) }
+        ensures fit { IfOk result (λ o. IfSome o (λ r. IsFit (buses_of self.old) r × (r.line ≤ 2 ^ 28))) }
+
+        // Each record leaves fewer bytes.
+        ensures less { IfOk result (λ o. IfSome o (λ _. bytes_left self.new < bytes_left self.old)) }
+        ensures near { length (held_of self.new) ≤ 8192 }
+        ensures same { buses_of self.new ≡ buses_of self.old }
+    {
+        if let Some(answer) = self.done {
+            return match answer {
+                Answer::Whole => Ok(None),
+                Answer::Refused(e) => Err(e),
+            };
+        }
+        let mut written = Record {
+            line: 0,
+            moment: 0,
+            bus: 0,
+            ident: 0,
+            bytes: Data::new(),
+        };
+        match self.from_held(&mut written) {
+            Step::Record => Ok(Some(written)),
+            Step::Refused(e) => {
+                self.done = Some(Answer::Refused(e));
+                Err(e)
+            }
+            Step::NoLine | Step::Skipped => Ok(None),
+        }
+    }
+}

@@ -1,0 +1,149 @@
+//! One line of those that are held.
+ghost use Rattle.std.specs.Prelude.{◌≡◌, ◌≤◌, ◌<◌, ◌+◌, ◌++◌, ℕ, List, [], None, Some, length, take, drop, MatchOption, true, false};
+ghost use Rattle.frame_log.specs.Line.{cut};
+ghost use Rattle.frame_log.specs.Found.{said_by};
+ghost use Rattle.frame_log.specs.Log.{given_by, ended};
+ghost use Rattle.frame_log.specs.Steps.{IsLine, IsGiven, IsStep, IsAt};
+ghost use Rattle.frame_log.specs.Reader.{place_of, log_behind, bytes_left};
+ghost use Rattle.frame_log.specs.declared.error.LogError.TheVariants as error;
+ghost use Rattle.frame_log.specs.declared.reader.step.Step.TheVariants as step;
+
+use crate::data::Data;
+use crate::error::LogError;
+use crate::line::{Found, read_line};
+use crate::reader::LogReader;
+use memchr::memchr;
+use tail_frame::Record;
+
+/// What the next line gives.
+#[derive(Clone, Copy, Debug, PartialEq, Eq)]
+pub enum Step {
+    /// No whole line is held.
+    NoLine,
+    /// The line is skipped.
+    Skipped,
+    /// The line is a record, which was written.
+    Record,
+    /// The line is refused.
+    Refused(LogError),
+}
+
+impl LogReader {
+    /// The end of the first line that is held.
+    #[inline(always)]
+    fn line_end(&self) -> Option<usize>
+        ensures { MatchOption result (cut 10 self.now.held ≡ None) (λ i. IsLine self.now.held i) }
+    {
+        memchr(b'\n', self.held.as_slice())
+    }
+
+    /// Takes what a line says, with the next number, and writes its record.
+    #[inline(always)]
+    fn accept(&mut self, found: Found, written: &mut Record) -> Step
+        requires { self.old.lines + bytes_left self.old < 268435456 }
+        ensures input { ¬ (result ≡ step.Refused error.Failed) }
+        ensures given { IsGiven (given_by (place_of self.old) (self.old.lines + 1) (said_by found written.old.bytes)) result written.new (place_of self.new) }
+        ensures at { result ≡ step.Record → IsAt written.new (place_of self.new) }
+        ensures same { (self.new.buses ≡ self.old.buses) × (self.new.held ≡ self.old.held) × (self.new.room ≡ self.old.room) × (self.new.is_ended ≡ self.old.is_ended) × (self.new.done ≡ self.old.done) }
+    {
+        let n = self.lines + 1;
+        match found {
+            Found::NoForm => Step::Refused(LogError::BadLine { n }),
+            Found::Nothing => {
+                self.lines = n;
+                Step::Skipped
+            }
+            Found::UnknownBus => Step::Refused(LogError::UnknownBus { n }),
+            Found::Frame { moment, bus, ident } => {
+                if moment < self.last {
+                    return Step::Refused(LogError::TimeBack { n });
+                }
+                let first = self.first.unwrap_or(moment);
+                if moment.saturating_sub(first) > 100_000_000_000 {
+                    return Step::Refused(LogError::TooFar { n });
+                }
+                self.lines = n;
+                self.first = Some(first);
+                self.last = moment;
+                written.line = n;
+                written.moment = moment;
+                written.bus = bus;
+                written.ident = ident;
+                Step::Record
+            }
+        }
+    }
+
+    /// What the first line that is held gives.
+    #[inline(always)]
+    fn step_line(&mut self, written: &mut Record) -> Step
+        ensures next { (rest : List ℕ) → IsStep (log_behind self.old rest) result written.new (log_behind self.new rest) }
+        ensures none { result ≡ step.NoLine → (cut 10 self.new.held ≡ None) × (place_of self.new ≡ place_of self.old) × (self.new.held ≡ self.old.held) }
+        ensures less { result ≡ step.Record → length self.new.held < length self.old.held }
+        ensures skipped { result ≡ step.Skipped → length self.new.held < length self.old.held }
+        ensures within { length self.new.held ≤ length self.old.held }
+        ensures input { ¬ (result ≡ step.Refused error.Failed) }
+        ensures at { result ≡ step.Record → IsAt written.new (place_of self.new) }
+        ensures same { (self.new.buses ≡ self.old.buses) × (self.new.room ≡ self.old.room) × (self.new.is_ended ≡ self.old.is_ended) × (self.new.done ≡ self.old.done) }
+    {
+        let Some(i) = self.line_end() else {
+            return Step::NoLine;
+        };
+        written.bytes = Data::new();
+        let found = read_line(
+            self.buses.as_slice(),
+            &self.held.as_slice()[..i],
+            &mut written.bytes,
+        );
+        self.held.skip(i + 1);
+        self.accept(found, written)
+    }
+
+    /// What the lines that are held give.
+    #[inline(always)]
+    pub fn from_held(&mut self, written: &mut Record) -> Step
+        ensures next { (rest : List ℕ) → IsStep (log_behind self.old rest) result written.new (log_behind self.new rest) }
+        ensures none { result ≡ step.NoLine → cut 10 self.new.held ≡ None }
+        ensures whole { ¬ (result ≡ step.Skipped) }
+        ensures less { result ≡ step.Record → length self.new.held < length self.old.held }
+        ensures within { length self.new.held ≤ length self.old.held }
+        ensures input { ¬ (result ≡ step.Refused error.Failed) }
+        ensures at { result ≡ step.Record → IsAt written.new (place_of self.new) }
+        ensures same { (self.new.buses ≡ self.old.buses) × (self.new.room ≡ self.old.room) × (self.new.is_ended ≡ self.old.is_ended) × (self.new.done ≡ self.old.done) }
+    {
+        loop {
+            match self.step_line(written) {
+                Step::Skipped => {}
+                step => return step,
+            }
+        }
+    }
+
+    /// What is held is the last line, without a newline.
+    #[cold]
+    #[inline(never)]
+    pub fn last_line(&mut self, written: &mut Record) -> Step
+        requires { cut 10 self.old.held ≡ None }
+        ensures next { IsStep (log_behind self.old []) result written.new (log_behind self.new []) }
+        ensures none { result ≡ step.NoLine → log_behind self.old [] ≡ ended None }
+        ensures skipped { result ≡ step.Skipped → log_behind self.old [] ≡ ended None }
+        ensures less { result ≡ step.Record → length self.new.held < length self.old.held }
+        ensures within { length self.new.held ≤ length self.old.held }
+        ensures input { ¬ (result ≡ step.Refused error.Failed) }
+        ensures at { result ≡ step.Record → IsAt written.new (place_of self.new) }
+        ensures same { (self.new.buses ≡ self.old.buses) × (self.new.room ≡ self.old.room) × (self.new.is_ended ≡ self.old.is_ended) × (self.new.done ≡ self.old.done) }
+    {
+        let n = self.held.as_slice().len();
+        if n == 0 {
+            return Step::NoLine;
+        }
+        written.bytes = Data::new();
+        let found = read_line(
+            self.buses.as_slice(),
+            self.held.as_slice(),
+            &mut written.bytes,
+        );
+        self.held.skip(n);
+        self.accept(found, written)
+    }
+}
