@@ -1,25 +1,17 @@
 -- The ports of a node, and the frames that it hears.
 use Rattle.std.specs.Prelude.{ℕ, Bool, true, not, ◌&&◌, ◌==◌, if◌then◌else◌, List, [], ◌∷◌, map, Option, Some, None}
-use Rattle.std.specs.Option.{option_and_then}
 use Rattle.can_id.specs.Identifiers.{key_of}
 use Rattle.can_id.specs.declared.ident.Ident.{Ident}
 use Rattle.can_id.specs.declared.ident.Ident.TheVariants.{Message, Anonymous, Service}
 use Rattle.can_id.specs.declared.key.Key.{Key}
-use Rattle.can_id.specs.declared.key.Kind.{Kind}
 use Rattle.can_id.specs.declared.key.Kind.TheVariants.{Message as message}
 use Rattle.tail_frame.specs.Frames.{FrameOf, frame_of, key_record}
 use Rattle.tail_frame.specs.declared.logged.Record.{Record}
-use Rattle.rx_table.specs.Keys.{KeyedFrame, same_kind}
+use Rattle.rx_table.specs.Keys.{KeyedFrame}
+use Rattle.rx_table.specs.Ports.{Port}
 use Rattle.node_plan.specs.Bound.{extent_of}
 use Rattle.node_plan.specs.declared.plan.Plan.{Plan}
 use Rattle.node_plan.specs.declared.plan.Sub.{Sub}
-
--- a port: what is received there, from how many sources, and to how many bytes payloads are cut
-pub record Port : Type 0 where
-  pub kind : Kind
-  pub port : ℕ
-  pub sources : ℕ
-  pub extent : ℕ
 
 abbrev pub port_of_sub : Sub → Port
 port_of_sub sub = record { kind = message; port = sub.port; sources = sub.sources; extent = extent_of sub.shape }
@@ -27,11 +19,6 @@ port_of_sub sub = record { kind = message; port = sub.port; sources = sub.source
 -- the ports of a plan, in its order
 abbrev pub ports_of : Plan → List Port
 ports_of plan = map port_of_sub plan.subs
-
--- the port of a kind and a number
-abbrev pub port_of : List Port → Kind → ℕ → Option Port
-port_of [] kind port = None
-port_of (p ∷ ps) kind port = if same_kind p.kind kind && (p.port == port) then Some p else port_of ps kind port
 
 -- whether a frame is for the node: it isn't the node's own, and where it is of a service it is sent to the node
 abbrev pub is_for : ℕ → Ident → Bool

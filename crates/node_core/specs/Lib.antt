@@ -1,3 +1,4 @@
 pub mod Heard
+pub mod Reported
 pub mod Steps
 pub mod Text

@@ -2,24 +2,21 @@
 use Rattle.std.specs.Prelude.{ℕ, Bool, true, false, ◌&&◌, ◌+◌, ◌*◌, if◌then◌else◌, List, [], ◌∷◌, ◌++◌, length, take, count_by, Option, Some, None}
 use Rattle.can_id.specs.Identifiers.{key_of, priority_of}
 use Rattle.can_id.specs.declared.key.Key.{Key}
+use Rattle.tail_frame.specs.Chains.{KeyRecord}
 use Rattle.tail_frame.specs.Frames.{FrameOf}
 use Rattle.tail_frame.specs.declared.logged.Record.{Record}
 use Rattle.transfer_crc.specs.Crc.{crc_of}
-use Rattle.rx_table.specs.Admitted.{has, admitted}
-use Rattle.rx_table.specs.Keys.{SessionKey, KeyedFrame, history}
+use Rattle.rx_table.specs.Keys.{KeyedFrame, history}
+use Rattle.rx_table.specs.Ports.{Port, port_at, is_admitted, held}
 use Rattle.rx_table.specs.Received.{Delivery}
 use Rattle.rx_table.specs.Steps.{delivery_at, is_bad}
 use Rattle.node_plan.specs.Bound.{bound_of}
 use Rattle.node_plan.specs.declared.plan.Plan.{Plan}
-use Rattle.node_core.specs.Heard.{Port, ports_of, port_of, frame_for, keyed, keyed_in, frames}
+use Rattle.node_core.specs.Heard.{ports_of, frame_for, keyed, frames}
 use Rattle.node_core.specs.declared.line.Line.{Line}
 use Rattle.node_core.specs.declared.line.Line.TheVariants.{Rx, NoSession}
 use Rattle.node_core.specs.declared.line.Reading.TheVariants.{Raw}
 use Rattle.node_core.specs.declared.numbers.Numbers.{Numbers}
-
--- whether the source of a key has a session on a port
-abbrev pub is_admitted : Port → SessionKey → List KeyedFrame → Bool
-is_admitted p key log = has key.source (admitted key.kind key.port p.sources log)
 
 -- the line of a delivery
 abbrev pub rx_line : ℕ → Key → Delivery → Line
@@ -54,25 +51,32 @@ anonymous_line extent f = Rx (record {
   })
 
 -- the line of a start frame whose source has no session
-abbrev pub refused_line : FrameOf → Line
-refused_line f = NoSession (record { moment = f.moment; bus = f.bus; key = key_of f.ident; line = f.line })
+abbrev pub refused_line : Key → KeyRecord → Line
+refused_line key rec = NoSession (record { moment = rec.moment; bus = rec.bus; key = key; line = rec.line })
 
--- what a frame on a port gives, after the frames of this log: an anonymous message, what its session delivers, or
--- that it has none
+-- what a frame with a source gives on a port, after these: what its session delivers, or that there is none for it
+abbrev pub of_session : ℕ → Port → Key → KeyedFrame → List KeyedFrame → List Line
+of_session timeout p key k log =
+    if is_admitted p k log
+    then of_delivery p.extent key (delivery_at crc_of timeout k.rec (history k.key log))
+    else (if k.rec.start then refused_line key k.rec ∷ [] else [])
+
+-- an anonymous message is delivered at once
 abbrev pub of_source : ℕ → Port → FrameOf → List KeyedFrame → Option KeyedFrame → List Line
 of_source timeout p f log None = anonymous_line p.extent f ∷ []
-of_source timeout p f log (Some k) =
-    if is_admitted p k.key (k ∷ log)
-    then of_delivery p.extent (key_of f.ident) (delivery_at crc_of timeout k.rec (history k.key log))
-    else (if k.rec.start then refused_line f ∷ [] else [])
+of_source timeout p f log (Some k) = of_session timeout p (key_of f.ident) k log
 
 abbrev pub on_port : ℕ → FrameOf → List KeyedFrame → Option Port → List Line
 on_port timeout f log None = []
 on_port timeout f log (Some p) = of_source timeout p f log (keyed f)
 
+-- the port of a plan that a frame is on
+abbrev pub port_of : Plan → FrameOf → Option Port
+port_of plan f = port_at (key_of f.ident).kind (key_of f.ident).port (ports_of plan)
+
 abbrev pub of_frame : Plan → List KeyedFrame → Option FrameOf → List Line
 of_frame plan log None = []
-of_frame plan log (Some f) = on_port plan.timeout f log (port_of (ports_of plan) (key_of f.ident).kind (key_of f.ident).port)
+of_frame plan log (Some f) = on_port plan.timeout f log (port_of plan f)
 
 -- the lines on what a record gives, where these came before it, the newest first
 abbrev pub got : Plan → Record → List Record → List Line
@@ -80,7 +84,7 @@ got plan rec past = of_frame plan (frames plan.node past) (frame_for plan.node r
 
 abbrev pub bad_of_source : ℕ → Port → List KeyedFrame → Option KeyedFrame → Bool
 bad_of_source timeout p log None = false
-bad_of_source timeout p log (Some k) = is_admitted p k.key (k ∷ log) && is_bad crc_of timeout k.rec (history k.key log)
+bad_of_source timeout p log (Some k) = is_admitted p k log && is_bad crc_of timeout k.rec (history k.key log)
 
 abbrev pub bad_on_port : ℕ → FrameOf → List KeyedFrame → Option Port → Bool
 bad_on_port timeout f log None = false
@@ -88,7 +92,7 @@ bad_on_port timeout f log (Some p) = bad_of_source timeout p log (keyed f)
 
 abbrev pub bad_of_frame : Plan → List KeyedFrame → Option FrameOf → Bool
 bad_of_frame plan log None = false
-bad_of_frame plan log (Some f) = bad_on_port plan.timeout f log (port_of (ports_of plan) (key_of f.ident).kind (key_of f.ident).port)
+bad_of_frame plan log (Some f) = bad_on_port plan.timeout f log (port_of plan f)
 
 -- whether a record ends a transfer whose bytes don't fit their CRC
 abbrev pub is_bad_at : Plan → Record → List Record → Bool
@@ -118,12 +122,8 @@ lines plan [] = []
 lines plan (step ∷ past) = lines plan past ++ lines_at plan step past
 
 -- the bytes of the buffers of all sessions
-abbrev pub held_on : List Port → List KeyedFrame → ℕ
-held_on [] log = 0
-held_on (p ∷ ps) log = length (admitted p.kind p.port p.sources log) * p.extent + held_on ps log
-
 abbrev pub held_at : Plan → List Record → ℕ
-held_at plan past = held_on (ports_of plan) (frames plan.node past)
+held_at plan past = held (ports_of plan) (frames plan.node past)
 
 abbrev pub bad_at : Plan → Step → List Step → Bool
 bad_at plan (Heard rec) past = is_bad_at plan rec (records past)

@@ -1,0 +1,81 @@
+-- What a report says of one session.
+use Rattle.std.specs.Prelude.{◌≡◌, ℕ, Bool, true, false, ◌&&◌, ◌==◌, if◌then◌else◌, List, [], ◌∷◌, ◌++◌, take, map, reverse, Option, Some, None}
+use Rattle.can_id.specs.declared.key.Key.{Key}
+use Rattle.tail_frame.specs.Chains.{KeyRecord}
+use Rattle.tail_frame.specs.declared.logged.Record.{Record}
+use Rattle.transfer_crc.specs.Crc.{crc_of}
+use Rattle.rx_table.specs.Admitted.{has, admitted}
+use Rattle.rx_table.specs.Keys.{SessionKey, KeyedFrame, same_kind, history}
+use Rattle.rx_table.specs.Ports.{Port, port_at}
+use Rattle.rx_table.specs.Received.{Delivery, received}
+use Rattle.node_plan.specs.declared.plan.Plan.{Plan}
+use Rattle.node_core.specs.declared.line.Line.{Line}
+use Rattle.node_core.specs.declared.line.Line.TheVariants.{Rx, NoSession}
+use Rattle.node_core.specs.declared.line.Rx.{Rx as RxLine}
+use Rattle.node_core.specs.Heard.{ports_of, frames}
+use Rattle.node_core.specs.Steps.{Step, records, lines}
+
+-- a transfer that is reported of a key
+pub record RxOf : Type 0 where
+  pub moment : ℕ
+  pub bus : ℕ
+  pub priority : ℕ
+  pub tid : ℕ
+  pub first : ℕ
+  pub last : ℕ
+  pub payload : List ℕ
+
+abbrev pub rx_of : ℕ → Delivery → RxOf
+rx_of extent d = record {
+    moment = d.first.moment;
+    bus = d.first.bus;
+    priority = d.last.priority;
+    tid = d.first.tid;
+    first = d.first.line;
+    last = d.last.line;
+    payload = take extent d.content;
+  }
+
+-- what the records of a key deliver, in order, cut to the extent
+abbrev pub reported : (List ℕ → ℕ) → ℕ → ℕ → List KeyRecord → List RxOf
+reported crc timeout extent records = map (rx_of extent) (reverse (received crc timeout records).delivered)
+
+abbrev pub is_source : Option ℕ → ℕ → Bool
+is_source None source = false
+is_source (Some s) source = s == source
+
+-- whether a line's key is that of a session; an anonymous message is of none
+abbrev pub is_key : SessionKey → Key → Bool
+is_key key k = same_kind k.kind key.kind && ((k.port == key.port) && is_source k.source key.source)
+
+abbrev pub without_key : RxLine → RxOf
+without_key rx = record { moment = rx.moment; bus = rx.bus; priority = rx.priority; tid = rx.tid; first = rx.first; last = rx.last; payload = rx.payload }
+
+-- what a line reports of a key
+abbrev pub of_line : SessionKey → Line → List RxOf
+of_line key (Rx rx) = if is_key key rx.key then without_key rx ∷ [] else []
+of_line key (NoSession refused) = []
+
+-- the transfers of a key in a report
+abbrev pub rxs : SessionKey → List Line → List RxOf
+rxs key [] = []
+rxs key (line ∷ lines) = of_line key line ++ rxs key lines
+
+-- the records of a key
+abbrev pub of_key : Plan → SessionKey → List Record → List KeyRecord
+of_key plan key past = history key (frames plan.node past)
+
+-- whether a source has a session on a port
+abbrev pub has_session : Port → ℕ → List KeyedFrame → Bool
+has_session p source log = has source (admitted p.kind p.port p.sources log)
+
+-- the port of a key is the plan's, and the source is admitted on it
+pub record IsSession (plan : Plan) (key : SessionKey) (past : List Record) (p : Port) : Type 0 where
+  pub port : port_at key.kind key.port (ports_of plan) ≡ Some p
+  pub admitted_there : has_session p key.source (frames plan.node past) ≡ true
+
+-- the lines of each session are what its records deliver
+abbrev pub Reported : Type 0
+Reported =
+    (plan : Plan) (key : SessionKey) (steps : List Step) (p : Port) → IsSession plan key (records steps) p
+    → rxs key (lines plan steps) ≡ reported crc_of plan.timeout p.extent (of_key plan key (records steps))
