@@ -1,5 +1,5 @@
 -- What a `Force` answers at one frame, and the records that it stands for.
-use Rattle.std.specs.Prelude.{◌≡◌, ℕ, Bool, true, false, ◌&&◌, ◌==◌, ◌+◌, nat_lt, unwrap_or, if◌then◌else◌, List, ◌∷◌, Option, Some, None}
+use Rattle.std.specs.Prelude.{◌≡◌, ℕ, Bool, true, false, ◌&&◌, ◌==◌, ◌+◌, nat_lt, unwrap_or, if◌then◌else◌, List, Option, Some, None}
 use Rattle.tail_frame.specs.Chains.{KeyRecord}
 use Rattle.redundancy.specs.Force.{force, heard, last_heard, late}
 use Rattle.redundancy.specs.declared.force.Force.{Force}
