@@ -1,5 +1,5 @@
 -- What holds of each plan that a text gives.
-use Rattle.std.specs.Prelude.{◌≡◌, ◌≢◌, ◌≤◌, ◌<◌, ℕ, true, length, All, AllPairs, IsTrue}
+use Rattle.std.specs.Prelude.{◌≡◌, ◌≢◌, ◌≤◌, ◌<◌, true, length, All, AllPairs, IsTrue}
 use Rattle.std.specs.Option.{ForSome}
 use Rattle.node_plan.specs.declared.draft.Draft.{Draft}
 use Rattle.node_plan.specs.declared.plan.BusPlan.{BusPlan}

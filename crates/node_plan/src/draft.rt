@@ -24,7 +24,7 @@ pub struct Draft {
 }
 
 impl Draft {
-    ghost use Rattle.std.specs.Prelude.{◌≡◌, ◌<◌, ◌≤◌, IsTrue, IfOk, is_some, length};
+    ghost use Rattle.std.specs.Prelude.{◌≡◌, ◌<◌, ◌≤◌, IsTrue, IfOk, is_some, length, true};
     ghost use Rattle.node_plan.specs.Names.{is_bus_name};
     ghost use Rattle.node_plan.specs.Answers.{IsStep, IsPlanAnswer};
     ghost use Rattle.node_plan.specs.Draft.{start, once, with_bus, with_sub, without_type, with_line, step};

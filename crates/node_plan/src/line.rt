@@ -1,5 +1,6 @@
 //! What a line of a plan says.
 ghost use Rattle.std.specs.Prelude.{◌≡◌, ◌↔◌, IsTrue, MatchOption, true, false};
+ghost use Rattle.std.specs.List.{list_all};
 ghost use Rattle.node_plan.specs.Line.{said_of, said_of_one, said_of_two, said_of_four, said_of_five, said_of_version, said_of_node, said_of_bus, said_of_timeout, said_of_sub, said_of_raw, said_of_words, IsSaid};
 ghost use Rattle.node_plan.specs.Names.{is_bus_name, is_name_byte};
 ghost use Rattle.node_plan.specs.Words.{IsWithin, words_of};
@@ -62,13 +63,19 @@ fn is_name_byte(b: u8) -> bool
     b.is_ascii_alphanumeric() || b == b'_'
 }
 
+fn has_name_bytes(name: &[u8]) -> bool
+    ensures { result ≡ list_all is_name_byte name.now }
+{
+    name.iter().all(|b| is_name_byte(*b))
+}
+
 fn bus_name(name: &[u8]) -> Option<BusName>
     ensures { MatchOption result (is_bus_name name.now ≡ false) (λ n. (n ≡ name.now) × (is_bus_name name.now ≡ true)) }
 {
     if name.len() > 15 {
         return None;
     }
-    if !name.iter().all(|b| is_name_byte(*b)) {
+    if !has_name_bytes(name) {
         return None;
     }
     match str::from_utf8(name) {
@@ -208,10 +215,10 @@ fn words(line: &[u8]) -> Said
     let Some((fourth, behind)) = cut(b' ', behind) else {
         return four_words(word, second, third, behind);
     };
-    if cut(b' ', behind).is_some() {
-        return Said::NoForm;
+    match cut(b' ', behind) {
+        Some(_) => Said::NoForm,
+        None => five_words(word, second, third, fourth, behind),
     }
-    five_words(word, second, third, fourth, behind)
 }
 
 /// What a line says.

@@ -1,8 +1,10 @@
 //! A plan from its text.
-ghost use Rattle.std.specs.Prelude.{◌≡◌, ◌<◌, ◌+◌, ◌^◌, ℕ, List, Err, IfOk, take};
+ghost use Rattle.std.specs.Prelude.{◌≡◌, ◌<◌, ◌≤◌, ◌+◌, ◌^◌, ℕ, List, Err, IfOk, if◌then◌else◌, length, take};
 ghost use Rattle.node_plan.specs.Answers.{IsPlanAnswer};
+ghost use Rattle.node_plan.specs.Draft.{start};
 ghost use Rattle.node_plan.specs.IsPlan.{IsDraft, IsPlan};
-ghost use Rattle.node_plan.specs.Plan.{Good, Bad, last_line, plan_of};
+ghost use Rattle.node_plan.specs.Plan.{Good, Bad, last_line, long_line, plan_of, plan_of_parts};
+ghost use Rattle.node_plan.specs.Words.{parts_of};
 ghost use Rattle.node_plan.specs.declared.plan.PlanWhy.{PlanWhy as Why};
 
 use crate::draft::Draft;
@@ -28,6 +30,29 @@ fn read_last(mut draft: Draft, n: u32, line: &[u8]) -> Result<Plan, PlanError>
     draft.finish(n + 1)
 }
 
+/// The plan of lines, with what stands behind the last newline, which is refused where it is long.
+fn read_lines(alloc: Global, text: &[u8], is_long: bool) -> Result<Plan, PlanError>
+    requires { length text.now ≤ 2 ^ 20 }
+    ensures value { IsPlanAnswer (plan_of_parts (if is_long then long_line else last_line) start 1 (parts_of 10 text.now)) result }
+    ensures sound { IfOk result IsPlan }
+{
+    let mut behind = text;
+    let mut draft = Draft::new(alloc);
+    let mut n = 1;
+    while let Some((line, rest)) = cut(b'\n', behind) {
+        draft.take(n, read_line(line))?;
+        n += 1;
+        behind = rest;
+    }
+    if is_long {
+        return Err(PlanError::Refused {
+            n,
+            why: PlanWhy::Line,
+        });
+    }
+    read_last(draft, n, behind)
+}
+
 /// Reads a plan. Line `n` is refused as
 /// `Line` where it is no line of a plan, where it reaches past the first `MAX_TEXT` bytes, or where it would stand
 /// behind the last line of a text that lacks `plan 1`, `node`, `bus` or `silent`;
@@ -43,20 +68,6 @@ pub fn read_plan(alloc: Global, text: &[u8]) -> Result<Plan, PlanError>
     ensures sound { IfOk result IsPlan }
     ensures enough { (all : List ℕ) → plan_of (take (MAX_TEXT + 1) all) ≡ plan_of all }
 {
-    let is_long = text.len() > MAX_TEXT;
-    let mut behind = &text[..text.len().min(MAX_TEXT)];
-    let mut draft = Draft::new(alloc);
-    let mut n = 1;
-    while let Some((line, rest)) = cut(b'\n', behind) {
-        draft.take(n, read_line(line))?;
-        n += 1;
-        behind = rest;
-    }
-    if is_long {
-        return Err(PlanError::Refused {
-            n,
-            why: PlanWhy::Line,
-        });
-    }
-    read_last(draft, n, behind)
+    let first = &text[..text.len().min(MAX_TEXT)];
+    read_lines(alloc, first, text.len() > MAX_TEXT)
 }
