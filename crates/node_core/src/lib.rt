@@ -1,6 +1,7 @@
 //! The node: what one record gives, line by line, and the text of these lines.
 #![tactic(auto)]
 
+pub mod laws;
 pub mod line;
 pub mod numbers;
 pub mod text;
