@@ -8,6 +8,8 @@ mod held;
 mod laws;
 mod line;
 mod reader;
+#[cfg(test)]
+mod tests;
 
 pub use error::LogError;
 pub use laws::ordered;

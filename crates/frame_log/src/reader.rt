@@ -102,6 +102,7 @@ impl LogReader {
 
         // Each record leaves fewer bytes, and no more were taken than stand in the buffer.
         ensures less { IfOk result (λ o. IfSome o (λ _. bytes_left self.new < bytes_left self.old)) }
+        ensures within { bytes_left self.new ≤ bytes_left self.old }
         ensures near { length (held_of self.new) ≤ 8192 }
         ensures same { buses_of self.new ≡ buses_of self.old }
     {
@@ -160,6 +161,7 @@ impl LogReader {
 
         // Each record leaves fewer bytes.
         ensures less { IfOk result (λ o. IfSome o (λ _. bytes_left self.new < bytes_left self.old)) }
+        ensures within { bytes_left self.new ≤ bytes_left self.old }
         ensures near { length (held_of self.new) ≤ 8192 }
         ensures same { buses_of self.new ≡ buses_of self.old }
     {
