@@ -1,10 +1,11 @@
--- The deliveries are those that the sentence over places names.
-use Rattle.std.proofs.Common.{◌≡◌, ℕ, ◌⊎◌, ◌&&◌, eqb, List, [], ◌∷◌, ◌++◌, length, Option, Some, None, refl, sym, ap, ◌∙◌, subst, inl, inr}
-use Rattle.std.specs.Prelude.{⊤}
-use Rattle.std.proofs.lemmas.Bool.{eqb-true, eq-eqb, and_parts, and_from, cond-true, cond-false, cond_both}
+-- The deliveries and the bad CRCs are those that the sentences over places name.
+use Rattle.std.proofs.Common.{◌≡◌, ℕ, ◌⊎◌, true, not, ◌&&◌, eqb, List, [], ◌∷◌, ◌++◌, length, Option, Some, None, refl, sym, ap, ◌∙◌, subst, inl, inr}
+use Rattle.std.specs.Prelude.{◌≢◌, ⊤}
+use Rattle.std.proofs.lemmas.Bool.{eqb-true, eqb-false, eq-eqb, ne_eqb, and_parts, and_from, cond-true, cond-false, cond_both, not-true, not_from_false, true≢false}
 use Rattle.tail_frame.specs.Chains.{KeyRecord, chain_bytes, closes_at}
 use Rattle.rx_table.specs.Received.{Delivery, Run, Got, begins, without_crc, alone, not_begun, received}
-use Rattle.rx_table.specs.Meaning.{Since, IsBegun, IsNotBegun, Closes, IsDelivery, DeliveriesAre}
+use Rattle.rx_table.specs.Meaning.{Since, IsBegun, IsNotBegun, Closes, IsDelivery, DeliveriesAre, IsBadCrc, BadCrcsAre}
+use Rattle.rx_table.specs.Steps.{fails_at, is_bad}
 use Rattle.rx_table.proofs.Runs.{begun_state}
 
 module _ (crc : List ℕ → ℕ) (timeout : ℕ) where
@@ -93,8 +94,42 @@ module _ (crc : List ℕ → ℕ) (timeout : ℕ) where
       (λ y. inr (d, record { since = []; older = past; split = refl; begun = b; no_other = tt; closes = (y, refl); last = refl; place = refl }, refl)) (λ _. inl refl))
       (λ n. none_or q past g.begun (begun_at past) n)
 
+  -- a chain that fails is that of the last begun start frame
+  is_bad_of : (q : KeyRecord) (past : List KeyRecord) (begun : Option Run) → IfBegun past begun → IsNotBegun crc timeout q past → fails_at crc timeout q begun ≡ true → IsBadCrc crc timeout q past
+  is_bad_of q past None i n f = absurd (true≢false (sym f))
+  is_bad_of q past (Some run) i n f =
+      let bytes = chain_bytes run.first (q ∷ run.since) in
+      let p = and_parts (closes_at run.first run.since q) (not (eqb (crc bytes) 0)) f in
+      record {
+        first = run.first;
+        since = run.since;
+        older = i.older;
+        split = i.split;
+        begun = i.begun;
+        no_other = (subst (IsNotBegun crc timeout q) i.split n, i.no_other);
+        closes = p.0;
+        unfit = eqb-false (crc bytes) 0 (not-true (eqb (crc bytes) 0) p.1);
+      }
+
+  fails : (q p : KeyRecord) (older since : List KeyRecord) → IsBegun crc timeout p older → Since (IsNotBegun crc timeout) (q ∷ since) p older → closes_at p since q ≡ true → crc (chain_bytes p (q ∷ since)) ≢ 0 → is_bad crc timeout q (since ++ p ∷ older) ≡ true
+  fails q p older since b n c u =
+      let past = since ++ p ∷ older in
+      let g = received crc timeout past in
+      let bytes = chain_bytes p (q ∷ since) in
+      and_from (not (begins timeout q past g.delivered)) (fails_at crc timeout q g.begun) (not_from_false (begins timeout q past g.delivered) n.0)
+      (ap (fails_at crc timeout q) (last_begun p older b since n.1) ∙ and_from (closes_at p since q) (not (eqb (crc bytes) 0)) c (not_from_false (eqb (crc bytes) 0) (ne_eqb (crc bytes) 0 u)))
+
 pub deliveries_are : (crc : List ℕ → ℕ) (timeout : ℕ) → DeliveriesAre crc timeout
 deliveries_are crc timeout q past = (
   λ d x. (subst (Gives crc timeout d) (sym x.split) (gives crc timeout d x.older x.since x.begun x.no_other x.closes)) x.last x.place,
   one_or_none crc timeout q past,
+)
+
+pub bad_crcs_are : (crc : List ℕ → ℕ) (timeout : ℕ) → BadCrcsAre crc timeout
+bad_crcs_are crc timeout q past = (
+  λ b.
+      let g = received crc timeout past in
+      let p = and_parts (not (begins timeout q past g.delivered)) (fails_at crc timeout q g.begun) b in
+      is_bad_of crc timeout q past g.begun (begun_at crc timeout past) (not-true (begins timeout q past g.delivered) p.0) p.1,
+  λ x. subst (λ h. is_bad crc timeout q h ≡ true) (sym x.split) (fails crc timeout q x.first x.older x.since x.begun x.no_other x.closes x.unfit),
 )

@@ -1,7 +1,8 @@
 -- A delivery in words of places alone.
-use Rattle.std.specs.Prelude.{◌≡◌, ℕ, true, false, ◌⊎◌, List, [], ◌∷◌, ◌++◌, length, ⊤}
+use Rattle.std.specs.Prelude.{◌≡◌, ◌≢◌, ℕ, true, false, ◌⊎◌, List, [], ◌∷◌, ◌++◌, length, ⊤}
 use Rattle.tail_frame.specs.Chains.{KeyRecord, chain_bytes, closes_at}
 use Rattle.rx_table.specs.Received.{Delivery, begins, without_crc, received}
+use Rattle.rx_table.specs.Steps.{is_bad}
 
 -- P of each record after p, and of what came before it
 abbrev pub Since : (KeyRecord → List KeyRecord → Type 0) → List KeyRecord → KeyRecord → List KeyRecord → Type 0
@@ -9,6 +10,7 @@ Since P [] p older = ⊤
 Since P (r ∷ since) p older = P r (since ++ p ∷ older) × Since P since p older
 
 module _ (crc : List ℕ → ℕ) (timeout : ℕ) where
+  -- r is begun, after what was delivered before it
   abbrev pub IsBegun : KeyRecord → List KeyRecord → Type 0
   IsBegun r past = begins timeout r past (received crc timeout past).delivered ≡ true
 
@@ -30,6 +32,22 @@ module _ (crc : List ℕ → ℕ) (timeout : ℕ) where
     pub closes : Closes d.first since d.content
     pub last : d.last ≡ q
     pub place : d.place ≡ length past
+
+  -- a begun start frame whose chain closes at q, with no begun record after it and up to q, and whose bytes have
+  -- another CRC than 0
+  pub record IsBadCrc (q : KeyRecord) (past : List KeyRecord) : Type 0 where
+    pub first : KeyRecord
+    pub since : List KeyRecord
+    pub older : List KeyRecord
+    pub split : past ≡ since ++ first ∷ older
+    pub begun : IsBegun first older
+    pub no_other : Since IsNotBegun (q ∷ since) first older
+    pub closes : closes_at first since q ≡ true
+    pub unfit : crc (chain_bytes first (q ∷ since)) ≢ 0
+
+  -- these are all bad CRCs
+  abbrev pub BadCrcsAre : Type 0
+  BadCrcsAre = (q : KeyRecord) (past : List KeyRecord) → (is_bad crc timeout q past ≡ true → IsBadCrc q past) × (IsBadCrc q past → is_bad crc timeout q past ≡ true)
 
   -- at each record at most one delivery ends, and these are all
   abbrev pub DeliveriesAre : Type 0

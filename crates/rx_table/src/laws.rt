@@ -1,7 +1,7 @@
 //! Laws of reception, each the contract of a call that does nothing.
 
 ghost use Rattle.std.specs.Prelude.{ℕ, List};
-ghost use Rattle.rx_table.specs.Meaning.{DeliveriesAre};
+ghost use Rattle.rx_table.specs.Meaning.{DeliveriesAre, BadCrcsAre};
 ghost use Rattle.rx_table.specs.Laws.{
   Simulates,
   DeliveredStep,
@@ -20,6 +20,11 @@ ghost use Rattle.rx_table.specs.Laws.{
 /// record after it and up to its last frame, alone or with the CRC 0.
 pub fn deliveries()
     ensures { (crc : List ℕ → ℕ) (timeout : ℕ) → DeliveriesAre crc timeout }
+{}
+
+/// The bad CRCs of a key are exactly these: such a frame whose chain closes, with another CRC than 0.
+pub fn bad_crcs()
+    ensures { (crc : List ℕ → ℕ) (timeout : ℕ) → BadCrcsAre crc timeout }
 {}
 
 /// What is delivered grows by what ends at each record.
