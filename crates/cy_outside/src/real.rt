@@ -1,7 +1,7 @@
-ghost use Rattle.std.specs.Prelude.{◌≡◌, None};
+ghost use Rattle.std.specs.Prelude.{◌≡◌, ◌≤◌, None, length, drop, IfOk};
 
 use crate::{Failed, Sink, Source};
-use std::io::{Read, Write};
+use std::io::{self, Read, Write};
 
 /// The most bytes that one read of a real input or file takes.
 pub const PIECE: usize = 8192;
@@ -30,21 +30,28 @@ impl<R: Read> Source for RealSource<R> {
 
     ghost faults = { λ s. s.faults };
 
-    // Nobody says what a reader leaves behind the bytes that it gave, so it reads into an array first.
     fn read(&mut self, buf: &mut [u8]) -> Result<usize, Failed> {
-        let mut piece = [0u8; PIECE];
-        let room = buf.len().min(PIECE);
-        match self.reader.read(&mut piece[..room]) {
-            Ok(n) => {
-                buf[..n].copy_from_slice(&piece[..n]);
-                Ok(n)
-            }
+        match read_piece(&mut self.reader, buf) {
+            Ok(n) => Ok(n),
             Err(_) => {
                 self.faults = self.faults.saturating_add(1);
                 Err(Failed)
             }
         }
     }
+}
+
+/// Reads once, at most a piece. Nobody says what a reader leaves behind the bytes that it gave, so it
+/// reads into an array, and the rest of the buffer stays.
+pub(crate) fn read_piece<R: Read>(reader: &mut R, buf: &mut [u8]) -> io::Result<usize>
+    ensures within { IfOk result (λ n. n ≤ length buf.old) }
+    ensures behind { IfOk result (λ n. drop n buf.new ≡ drop n buf.old) }
+{
+    let mut piece = [0u8; PIECE];
+    let room = buf.len().min(PIECE);
+    let n = reader.read(&mut piece[..room])?;
+    buf[..n].copy_from_slice(&piece[..n]);
+    Ok(n)
 }
 
 /// A real output. It tells nothing of its bytes. Each error of a write counts as a fault, and so does

@@ -1,0 +1,12 @@
+use Rattle.std.proofs.Common.{◌≡◌, ◌≤◌, ◌-◌, length, drop}
+use Rattle.cy_outside.proofs.real_tree.fill.Given as goal
+
+abbrev pub invariant-pieces : goal.invariant-pieces
+invariant-pieces g l = record {
+  within : l.done ≤ length l.buf;
+  room : length l.buf ≡ length l.fn.buf;
+  behind : drop l.done l.buf ≡ drop l.done l.fn.buf;
+}
+
+abbrev pub decreases-pieces : goal.decreases-pieces
+decreases-pieces g l = length l.buf - l.done
