@@ -1,2 +1,5 @@
+mod Below
 mod Fronts
+mod Listed
+mod Stored
 mod Writes

@@ -1,6 +1,6 @@
 -- Files under paths: which paths are folders, and what a tree answers at a path.
-use Rattle.std.specs.Prelude.{◌≡◌, ◌≢◌, ◌↔◌, ◌==◌, ◌∷◌, ◌-◌, ℕ, Bool, true, false, cond, List, [], Option, Some, None, length, take, drop, min, is_some, option_map, unwrap_or, ⊤}
-use Rattle.std.specs.List.{list_any, filter_map, AllPairs, Contains}
+use Rattle.std.specs.Prelude.{◌≡◌, ◌≢◌, ◌==◌, ◌∷◌, ◌-◌, ℕ, Bool, true, false, cond, List, [], Option, Some, None, length, take, drop, min, is_some, option_map, unwrap_or, ⊤}
+use Rattle.std.specs.List.{list_any, before_first, All, AllPairs, Contains}
 use Rattle.std.specs.Ordering.{nat_cmp}
 use Rattle.std.specs.Cmp.Lexicographic.{slice_cmp}
 use Rattle.std.specs.FinMap as map
@@ -31,24 +31,27 @@ is_folder files path = list_any (λ file. is_some (rest_in path file)) (map.keys
 abbrev pub is_file : Files → List ℕ → Bool
 is_file files path = is_some (map.get files path)
 
+-- some file's path is a folder
+abbrev pub has_clash : Files → Bool
+has_clash files = list_any (is_folder files) (map.keys files)
+
 -- the first name of a path, and whether another follows
 abbrev pub first_name : List ℕ → Entry
-first_name [] = record { name = []; folder = false }
-first_name (b ∷ path) = cond (b == 47) (record { name = []; folder = true })
-    (let first = first_name path in record { name = b ∷ first.name; folder = first.folder })
+first_name path = record { name = before_first (λ b. b == 47) path; folder = list_any (λ b. b == 47) path }
 
 -- the direct member of a folder at which or below which a file stands
 abbrev pub member_of : List ℕ → List ℕ → Option Entry
 member_of folder file = option_map first_name (rest_in folder file)
 
--- an entry is a direct member of a folder
+-- an entry is a direct member of a folder: some file stands at it or below it
 abbrev pub IsMember : Files → List ℕ → Entry → Type 0
-IsMember files folder entry = Contains (filter_map (member_of folder) (map.keys files)) entry
+IsMember files folder entry = (file : List ℕ) × (is_file files file ≡ true) × (member_of folder file ≡ Some entry)
 
 -- each direct member of a folder once, in any order
 pub record ListsMembers (files : Files) (folder : List ℕ) (entries : List Entry) : Type 0 where
   pub once : AllPairs (λ (a b : Entry). a.name ≢ b.name) entries
-  pub each : (entry : Entry) → Contains entries entry ↔ IsMember files folder entry
+  pub sound : All (λ (entry : Entry). IsMember files folder entry) entries
+  pub complete : (entry : Entry) → IsMember files folder entry → Contains entries entry
 
 -- what a path lists, where the files are told
 abbrev pub Lists : Option Files → List ℕ → Listing → Type 0

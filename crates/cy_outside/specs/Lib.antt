@@ -3,3 +3,4 @@ pub mod Written
 pub mod Files
 pub mod Causes
 pub mod Calls
+pub mod Memory

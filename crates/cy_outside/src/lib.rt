@@ -4,8 +4,12 @@
 
 pub mod calls;
 pub mod failed;
+pub mod file;
 pub mod memory;
+pub mod memory_tree;
 pub mod never;
+pub mod never_tree;
+pub mod paths;
 pub mod reading;
 pub mod real;
 pub mod real_tree;
@@ -16,8 +20,11 @@ pub mod writing;
 
 pub use calls::Calls;
 pub use failed::Failed;
+pub use file::File;
 pub use memory::{MemSink, MemSource};
+pub use memory_tree::MemTree;
 pub use never::{NeverSink, NeverSource};
+pub use never_tree::NeverTree;
 pub use reading::read_file;
 pub use real::{PIECE, RealSink, RealSource};
 pub use real_tree::RealTree;
