@@ -1,0 +1,10 @@
+//! Transfers as they are sent: a payload cut into the data bytes of its frames.
+#![tactic(auto)]
+
+pub mod frames;
+pub mod sent;
+pub mod size;
+
+pub use frames::Frames;
+pub use sent::{Sent, Transfer};
+pub use size::count;
