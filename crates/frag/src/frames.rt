@@ -154,19 +154,18 @@ mod tests {
             (0, 8, (1, 1)),
             (7, 8, (1, 8)),
             (8, 8, (2, 4)),
-            (12, 8, (3, 1)),
+            (12, 8, (2, 8)),
+            (13, 8, (3, 2)),
             (8, 64, (1, 12)),
             (63, 64, (1, 64)),
             (70, 64, (2, 12)),
         ] {
             assert!(rt; size <= 70 && (mtu == 8 || mtu == 64));
-            let mut count = 0;
             let mut last = 0;
             for frame in Frames::new(&bytes[..size], 5, mtu) {
-                count += 1;
                 last = frame.len();
             }
-            assert_eq!(rt; (count, last), want, "at {size}");
+            assert_eq!(rt; (size::count(size as u64, mtu), last), want, "at {size}");
         }
     }
 
