@@ -3,8 +3,6 @@ use Rattle.std.specs.Prelude.{◌≡◌, ℕ, Bool, true, false, ◌&&◌, ◌==
 use Rattle.can_id.specs.declared.key.Kind.{Kind}
 use Rattle.tail_frame.specs.Chains.{KeyRecord}
 use Rattle.rx_session.specs.Session.{Session, Outcome, Ignored, accept}
-use Rattle.rx_table.specs.Received.{Delivery}
-use Rattle.rx_table.specs.Steps.{delivery_at}
 use Rattle.rx_table.specs.Keys.{KeyedFrame, same_kind, history}
 use Rattle.rx_table.specs.Admitted.{has, is_on, admitted, key_of}
 use Rattle.rx_table.specs.Stands.{Stands, OutcomeIs}
@@ -121,10 +119,6 @@ module _ (crc : List ℕ → ℕ) (timeout : ℕ) where
   abbrev pub AnswerAt : Option Port → KeyedFrame → List KeyedFrame → Answer → Type 0
   AnswerAt None f log answer = answer ≡ NoPort
   AnswerAt (Some p) f log answer = AnswerIs p f log answer
-
-  -- the delivery that ends at a frame on a port
-  abbrev pub delivery_on : Port → KeyedFrame → List KeyedFrame → Option Delivery
-  delivery_on p f log = if is_admitted p f log then delivery_at crc timeout f.rec (history f.key log) else None
 
 -- the length of all buffers of a port
 abbrev pub buffered : List Entry → ℕ
