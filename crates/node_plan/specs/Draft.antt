@@ -1,11 +1,12 @@
 -- The plan as far as its lines were read, and what a line makes of it.
-use Rattle.std.specs.Prelude.{ℕ, Bool, true, false, List, [], ◌∷◌, ◌++◌, ◌==◌, None, Some, Result, Ok, Err, if◌then◌else◌, is_some, length, nat_le}
+use Rattle.std.specs.Prelude.{ℕ, Bool, true, false, List, [], ◌∷◌, ◌++◌, ◌==◌, ◌&&◌, Option, None, Some, Result, Ok, Err, if◌then◌else◌, is_some, length, nat_le, nat_lt, unwrap_or}
 use Rattle.std.specs.List.{list_any}
 use Rattle.std.specs.Str.{bytes_eq}
 use Rattle.node_plan.specs.declared.draft.Draft.{Draft}
 use Rattle.node_plan.specs.declared.line.Said.{Said}
 use Rattle.node_plan.specs.declared.line.Said.TheVariants as said
 use Rattle.node_plan.specs.declared.plan.BusPlan.{BusPlan}
+use Rattle.node_plan.specs.declared.plan.Plan.{Plan}
 use Rattle.node_plan.specs.declared.plan.PlanWhy.{PlanWhy}
 use Rattle.node_plan.specs.declared.plan.PlanWhy.TheVariants as why
 use Rattle.node_plan.specs.declared.plan.Sub.{Sub}
@@ -54,3 +55,13 @@ step d said.NoForm = Err why.Line
 step d said.Nothing = Ok d
 step d said.Version = once d.has_version (record d { has_version = true })
 step d says = if d.has_version then with_line d says else Err why.Line
+
+-- the plan, where no line is missing that must be there
+abbrev pub complete : Draft → Option Plan
+complete d = of_node d.node
+  where
+    of_node : Option ℕ → Option Plan
+    of_node None = None
+    of_node (Some node) = if d.has_version && d.silent && nat_lt 0 (length d.buses)
+        then Some (record { node = node; buses = d.buses; timeout = unwrap_or d.timeout 2_000_000; silent = d.silent; subs = d.subs })
+        else None

@@ -1,12 +1,12 @@
 -- The plan of a text.
-use Rattle.std.specs.Prelude.{ℕ, List, [], ◌∷◌, ◌+◌, ◌^◌, ◌&&◌, Option, None, Some, Result, Ok, Err, if◌then◌else◌, length, nat_lt, take, unwrap_or}
+use Rattle.std.specs.Prelude.{ℕ, List, [], ◌∷◌, ◌+◌, ◌^◌, Option, None, Some, Result, Ok, Err, if◌then◌else◌, length, nat_lt, take}
 use Rattle.node_plan.specs.declared.draft.Draft.{Draft}
 use Rattle.node_plan.specs.declared.plan.Plan.{Plan}
 use Rattle.node_plan.specs.declared.plan.PlanWhy.{PlanWhy}
 use Rattle.node_plan.specs.declared.plan.PlanWhy.TheVariants as why
 use Rattle.node_plan.specs.Words.{parts_of}
 use Rattle.node_plan.specs.Line.{said_of}
-use Rattle.node_plan.specs.Draft.{start, step}
+use Rattle.node_plan.specs.Draft.{start, step, complete}
 
 -- a plan, or the number of the line that is refused and why
 pub data PlanIs : Type 0 where
@@ -15,13 +15,11 @@ pub data PlanIs : Type 0 where
 
 -- the plan of all lines, where n is the number of the line that would follow: none is missing
 abbrev pub finished : Draft → ℕ → PlanIs
-finished d n = of_node d.node
+finished d n = of_plan (complete d)
   where
-    of_node : Option ℕ → PlanIs
-    of_node None = Bad n why.Line
-    of_node (Some node) = if d.has_version && d.silent && nat_lt 0 (length d.buses)
-        then Good (record { node = node; buses = d.buses; timeout = unwrap_or d.timeout 2_000_000; silent = d.silent; subs = d.subs })
-        else Bad n why.Line
+    of_plan : Option Plan → PlanIs
+    of_plan None = Bad n why.Line
+    of_plan (Some plan) = Good plan
 
 -- a line with the number n, and then the others
 abbrev pub followed : Result Draft PlanWhy → ℕ → (Draft → PlanIs) → PlanIs

@@ -24,13 +24,12 @@ pub struct Draft {
 }
 
 impl Draft {
-    ghost use Rattle.std.specs.Prelude.{◌≡◌, ◌<◌, ◌≤◌, IsTrue, IfOk, is_some, length, true};
+    ghost use Rattle.std.specs.Prelude.{◌≡◌, ◌<◌, ◌≤◌, IsTrue, IfSome, is_some, length, true};
     ghost use Rattle.node_plan.specs.Names.{is_bus_name};
-    ghost use Rattle.node_plan.specs.Answers.{IsStep, IsPlanAnswer};
-    ghost use Rattle.node_plan.specs.Draft.{start, once, with_bus, with_sub, without_type, with_line, step};
+    ghost use Rattle.node_plan.specs.Answers.{IsStep};
+    ghost use Rattle.node_plan.specs.Draft.{start, complete, once, with_bus, with_sub, without_type, with_line, step};
     ghost use Rattle.node_plan.specs.IsPlan.{IsDraft, IsPlan, IsSub};
     ghost use Rattle.node_plan.specs.Line.{IsSaid};
-    ghost use Rattle.node_plan.specs.Plan.{finished};
 
     /// Nothing was said yet.
     pub fn new(alloc: Global) -> Draft
@@ -224,11 +223,11 @@ impl Draft {
         }
     }
 
-    /// The plan, where nothing is missing; else line `n`, behind the last, is refused.
-    pub fn finish(self, n: u32) -> Result<Plan, PlanError>
+    /// The plan, where no line is missing that must be there.
+    pub fn finish(self) -> Option<Plan>
         requires { IsDraft self }
-        ensures value { IsPlanAnswer (finished self n) result }
-        ensures sound { IfOk result IsPlan }
+        ensures value { result ≡ complete self }
+        ensures sound { IfSome result IsPlan }
     {
         let Draft {
             has_version,
@@ -238,19 +237,11 @@ impl Draft {
             silent,
             subs,
         } = self;
-        let Some(node) = node else {
-            return Err(PlanError::Refused {
-                n,
-                why: PlanWhy::Line,
-            });
-        };
+        let node = node?;
         if !has_version || !silent || buses.is_empty() {
-            return Err(PlanError::Refused {
-                n,
-                why: PlanWhy::Line,
-            });
+            return None;
         }
-        Ok(Plan {
+        Some(Plan {
             node,
             buses,
             timeout: timeout.unwrap_or(2_000_000),

@@ -3,7 +3,7 @@ ghost use Rattle.std.specs.Prelude.{◌≡◌, ◌<◌, ◌≤◌, ◌+◌, ◌^
 ghost use Rattle.node_plan.specs.Answers.{IsPlanAnswer};
 ghost use Rattle.node_plan.specs.Draft.{start};
 ghost use Rattle.node_plan.specs.IsPlan.{IsDraft, IsPlan};
-ghost use Rattle.node_plan.specs.Plan.{Good, Bad, last_line, long_line, plan_of, plan_of_parts};
+ghost use Rattle.node_plan.specs.Plan.{Good, Bad, finished, last_line, long_line, plan_of, plan_of_parts};
 ghost use Rattle.node_plan.specs.Words.{parts_of};
 ghost use Rattle.node_plan.specs.declared.plan.PlanWhy.{PlanWhy as Why};
 
@@ -16,6 +16,18 @@ use std::alloc::Global;
 /// The greatest number of bytes of a plan's text. The line with the first byte behind them is refused.
 pub const MAX_TEXT: usize = 1 << 20;
 
+/// The plan of all lines, where `n` is the number of the line that would follow.
+fn finished(draft: Draft, n: u32) -> Result<Plan, PlanError>
+    requires { IsDraft draft }
+    ensures value { IsPlanAnswer (finished draft n) result }
+    ensures sound { IfOk result IsPlan }
+{
+    draft.finish().ok_or(PlanError::Refused {
+        n,
+        why: PlanWhy::Line,
+    })
+}
+
 /// The plan, once what stands behind the last newline was read as line `n`, if it is one.
 fn read_last(mut draft: Draft, n: u32, line: &[u8]) -> Result<Plan, PlanError>
     requires sound { IsDraft draft }
@@ -24,10 +36,10 @@ fn read_last(mut draft: Draft, n: u32, line: &[u8]) -> Result<Plan, PlanError>
     ensures sound { IfOk result IsPlan }
 {
     if line.is_empty() {
-        return draft.finish(n);
+        return finished(draft, n);
     }
     draft.take(n, read_line(line))?;
-    draft.finish(n + 1)
+    finished(draft, n + 1)
 }
 
 /// The plan of lines, with what stands behind the last newline, which is refused where it is long.
