@@ -1,0 +1,96 @@
+use Rattle.std.proofs.Common.{◌≡◌, ◌≤◌, ◌++◌, ◌∷◌, List, ℕ, sym, subst, ◌∙◌, arith, inl, inr, rules}
+use Rattle.node_plan.specs.Bound.{bound_of}
+use Rattle.node_plan.specs.declared.plan.Plan.{Plan}
+use Rattle.node_core.specs.Steps.{steps, got}
+use Rattle.node_core.specs.Text.{text}
+use Rattle.node_run.specs.declared.status.Status.{Status}
+use Rattle.node_run.specs.declared.status.Status.TheVariants as status
+use Rattle.node_run.specs.Ran.{names_of, At, Broke, HasRun}
+use Rattle.node_run.proofs.Came.{reads_more, has_log, has_next}
+use Rattle.node_run.proofs.Written.{gathered_less}
+use Rattle.node_run.proofs.Runs.{has_stopped, has_begun, has_finished, next_order, gathered_step, begins_step}
+use Rattle.node_run.proofs.run.run_records.Goals as goal
+
+pub returns-in-Err-clause-ran : goal.returns-in-Err-clause-ran
+returns-in-Err-clause-ran g c =
+    let i = c.records.invariant in
+    let plan = c.args.node.now.plan in
+    let left = g.L.Source.left in
+    let written = g.O.Sink.written in
+    subst (λ (s : Status). HasRun plan (left c.args.input.now) s c.records.report (written c.args.out.now) (written c.next.new.out)) (sym c.stopped.ensures)
+    (has_stopped plan (left c.args.input.now) (left c.records.input) (left c.next.new.input) c.records.reader c.next.new.reader i.past c.in-Err.stop c.records.report c.records.gathered.items c.next.new.gathered.items
+      (written c.args.out.now) (written c.records.out) (written c.next.new.out) i.reads c.in-Err.ensures.log c.in-Err.ensures.end i.at i.gathered c.in-Err.ensures.text)
+
+pub record_step-requires-clause-order : goal.record_step-requires-clause-order
+record_step-requires-clause-order g c =
+    let i = c.records.invariant in
+    let plan = c.args.node.now.plan in
+    let left = g.L.Source.left in
+    let more = reads_more (names_of plan) (left c.args.input.now) (left c.records.input) (left c.next.new.input) c.records.reader c.next.new.reader i.past c.in-Ok-Some.rec i.reads (rw c.in-Ok-Some.field-0-is at c.in-Ok-Some.ensures.log) c.in-Ok-Some.ensures.end in
+    let order = next_order c.ordered.ensures.order plan (left c.args.input.now) (left c.next.new.input) c.next.new.reader i.past c.in-Ok-Some.rec c.records.report more i.at in
+    omega (arith, order.0, i.latest)
+
+pub record_step-requires-clause-records : goal.record_step-requires-clause-records
+record_step-requires-clause-records g c =
+    let i = c.records.invariant in
+    let plan = c.args.node.now.plan in
+    let left = g.L.Source.left in
+    let more = reads_more (names_of plan) (left c.args.input.now) (left c.records.input) (left c.next.new.input) c.records.reader c.next.new.reader i.past c.in-Ok-Some.rec i.reads (rw c.in-Ok-Some.field-0-is at c.in-Ok-Some.ensures.log) c.in-Ok-Some.ensures.end in
+    (next_order c.ordered.ensures.order plan (left c.args.input.now) (left c.next.new.input) c.next.new.reader i.past c.in-Ok-Some.rec c.records.report more i.at).1
+
+pub records-preserved : goal.records-preserved
+records-preserved g c =
+    let i = c.records.invariant in
+    let plan = c.args.node.now.plan in
+    let rec = c.in-Ok-Some.rec in
+    let left = g.L.Source.left in
+    let written = g.O.Sink.written in
+    let step = c.in-Ok.ensures in
+    let more = reads_more (names_of plan) (left c.args.input.now) (left c.records.input) (left c.next.new.input) c.records.reader c.next.new.reader i.past rec i.reads (rw c.in-Ok-Some.field-0-is at c.in-Ok-Some.ensures.log) c.in-Ok-Some.ensures.end in
+    let at = subst (λ (p : Plan). At p (steps p i.past) c.records.report) (sym i.same) i.at in
+    let text_is = subst (λ (p : Plan). c.record_step.new.gathered.items ≡ c.next.new.gathered.items ++ text p.buses (got p rec i.past)) i.same (step.text i.past i.stands) in
+    let less = gathered_less _ _ _ (written c.args.out.now) (written c.records.out) (written c.next.new.out) i.gathered (rw c.in-Ok-Some.field-0-is at c.in-Ok-Some.ensures.text) in record {
+      past = rec ∷ i.past;
+      same = c.record_step.ensures.plan ∙ i.same;
+      reads = more;
+      reading = (rw c.in-Ok-Some.field-0-is at c.in-Ok-Some.ensures.reader).1;
+      stands = step.stands i.past i.stands;
+      latest = c.record_step.ensures.latest;
+      at = subst (λ (p : Plan). At p (steps p (rec ∷ i.past)) c.record_step.new.report) i.same (step.at i.past i.stands at);
+      counted = step.counted;
+      gathered = gathered_step plan i.past rec _ _ _ _ less text_is;
+      held = elim c.record_step.ensures.held [
+        | inl same ↦ omega (arith, same, i.held)
+        | inr most ↦ subst (λ (p : Plan). c.record_step.new.report.held ≤ bound_of p) i.same most
+      ];
+      bound = c.record_step.ensures.bound ∙ i.bound;
+      read = c.in-Ok-Some.ensures.cause.0 ∙ i.read;
+      write = c.in-Ok-Some.ensures.cause.1 ∙ i.write;
+    }
+
+pub returns-in_default-clause-ran : goal.returns-in_default-clause-ran
+returns-in_default-clause-ran g c =
+    let i = c.records.invariant in
+    let plan = c.args.node.now.plan in
+    let rec = c.in-Ok-Some.rec in
+    let left = g.L.Source.left in
+    let written = g.O.Sink.written in
+    let more = reads_more (names_of plan) (left c.args.input.now) (left c.records.input) (left c.next.new.input) c.records.reader c.next.new.reader i.past rec i.reads (rw c.in-Ok-Some.field-0-is at c.in-Ok-Some.ensures.log) c.in-Ok-Some.ensures.end in
+    let at = subst (λ (p : Plan). At p (steps p i.past) c.records.report) (sym i.same) i.at in
+    let broke = subst (λ (p : Plan). Broke p (steps p (rec ∷ i.past)) c.record_step.new.report) i.same (c.in_default.ensures.broke i.past i.stands at) in
+    let less = gathered_less _ _ _ (written c.args.out.now) (written c.records.out) (written c.next.new.out) i.gathered (rw c.in-Ok-Some.field-0-is at c.in-Ok-Some.ensures.text) in
+    has_begun plan (left c.args.input.now) (rec ∷ i.past) _ status.NoMemory c.record_step.new.report (written c.args.out.now) (written c.next.new.out)
+    (has_log (names_of plan) (left c.args.input.now) (left c.next.new.input) c.next.new.reader (rec ∷ i.past) more) broke
+    (begins_step plan i.past rec c.next.new.gathered.items (written c.args.out.now) (written c.next.new.out) less) (λ log b. b)
+
+pub returns-clause-ran : goal.returns-clause-ran
+returns-clause-ran g c =
+    let i = c.records.invariant in
+    let plan = c.args.node.now.plan in
+    let left = g.L.Source.left in
+    let written = g.O.Sink.written in
+    let w = rw c.in-Ok-None.field-0-is at c.in-Ok-None.ensures.text in
+    has_finished plan (left c.args.input.now) i.past c.records.report (written c.args.out.now) (written c.finish.new.out) c.finish.result
+    (has_next (names_of plan) (left c.args.input.now) (left c.records.input) (left c.next.new.input) c.records.reader c.next.new.reader i.past _ i.reads (rw c.in-Ok-None.field-0-is at c.in-Ok-None.ensures.log) c.in-Ok-None.ensures.end)
+    c.finish.ensures.only i.at (written c.next.new.out) c.next.new.gathered.items (gathered_less _ _ _ (written c.args.out.now) (written c.records.out) (written c.next.new.out) i.gathered w.0)
+    (λ e. (c.finish.ensures.ok e).0) (λ e. (c.finish.ensures.write e).0) c.finish.ensures.memory

@@ -1,0 +1,46 @@
+-- What a call for the next record does to the reader, the input, and what is gathered and written.
+use Rattle.std.specs.Prelude.{◌≡◌, ◌<◌, ◌++◌, ℕ, true, List, [], Option, Some, None, Result, Ok, Err, ⊤}
+use Rattle.tail_frame.specs.declared.logged.Record.{Record}
+use Rattle.cy_outside.specs.Outside.{Rose}
+use Rattle.cy_outside.specs.Written.{Begins}
+use Rattle.frame_log.specs.Input.{Took}
+use Rattle.frame_log.specs.Reader.{bytes_left, saw_end, answer_of, log_behind, IsNext}
+use Rattle.frame_log.specs.declared.error.LogError.{LogError}
+use Rattle.frame_log.specs.declared.error.LogError.TheVariants as error
+use Rattle.frame_log.specs.declared.reader.LogReader.{LogReader}
+use Rattle.node_run.specs.Gathered.{Gathered}
+use Rattle.node_run.specs.declared.next.Stop.{Stop}
+use Rattle.node_run.specs.declared.next.Stop.TheVariants as stop
+
+-- some bytes came, and for every rest the log behind the reader goes on by this answer
+pub record Goes (old new : LogReader) (before after : Option (List ℕ)) (answer : Result (Option Record) LogError) : Type 0 where
+  pub came : List ℕ
+  pub took : Took before after came
+  pub ended : saw_end old ≡ true → (came ≡ []) × (saw_end new ≡ true)
+  pub next : (rest : List ℕ) → (saw_end new ≡ true → rest ≡ []) → IsNext (log_behind old (came ++ rest)) answer (log_behind new rest)
+
+-- the log goes on
+abbrev pub GoesOn : LogReader → LogReader → Option (List ℕ) → Option (List ℕ) → Result (Option Record) Stop → Type 0
+GoesOn old new before after (Ok answer) = Goes old new before after (Ok answer)
+GoesOn old new before after (Err (stop.Log error)) = Goes old new before after (Err error)
+GoesOn old new before after (Err stop.Write) = ⊤
+
+-- behind a record the reader goes on, with fewer bytes
+abbrev pub ReadsOn : LogReader → LogReader → Result (Option Record) Stop → Type 0
+ReadsOn old new (Ok (Some rec)) = (bytes_left new < bytes_left old) × (answer_of new ≡ None)
+ReadsOn old new (Ok None) = ⊤
+ReadsOn old new (Err stop) = ⊤
+
+-- nothing stays gathered where the log has no further record
+abbrev pub Writes : List ℕ → List ℕ → Option (List ℕ) → Option (List ℕ) → Result (Option Record) Stop → Type 0
+Writes old new before after (Ok (Some rec)) = Gathered old new before after
+Writes old new before after (Ok None) = Gathered old new before after × (new ≡ [])
+Writes old new before after (Err (stop.Log error)) = Gathered old new before after × (new ≡ [])
+Writes old new before after (Err stop.Write) = Begins old before after
+
+-- the input failed only where its count rose, and the output only where its own did
+abbrev pub HasStopCause : ℕ → ℕ → ℕ → ℕ → Result (Option Record) Stop → Type 0
+HasStopCause read read_new write write_new (Ok answer) = (read_new ≡ read) × (write_new ≡ write)
+HasStopCause read read_new write write_new (Err (stop.Log error.Failed)) = Rose read read_new
+HasStopCause read read_new write write_new (Err (stop.Log error)) = ⊤
+HasStopCause read read_new write write_new (Err stop.Write) = Rose write write_new

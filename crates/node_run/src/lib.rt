@@ -1,0 +1,13 @@
+//! A run of a node over a log: which lines are reported, what is written and when, and how it ended.
+#![tactic(auto)]
+
+mod gather;
+pub mod next;
+pub mod report;
+mod run;
+pub mod status;
+mod step;
+
+pub use report::Report;
+pub use run::run_log;
+pub use status::{LogWhy, Status};

@@ -1,0 +1,38 @@
+use cy_bits::Text;
+use node_plan::PlanWhy;
+
+/// How a command ended.
+#[derive(Drop)]
+pub enum Status {
+    /// All is done.
+    Ok,
+    /// The words are no command.
+    Usage,
+    /// A line of the plan, counted from 1, is refused.
+    Plan { line: u32, why: PlanWhy },
+    /// A line of the log, counted from 1, is refused.
+    Log { line: u64, why: LogWhy },
+    /// The input has more than 2^28 bytes.
+    LogLong,
+    /// There is no such file.
+    NoFile { path: Text },
+    /// The tree or the input failed.
+    ReadFault,
+    /// The output failed.
+    WriteFault,
+    /// Memory was wanted and not given.
+    NoMemory,
+}
+
+/// Why a line of a log is refused.
+#[derive(Clone, Copy, Debug, PartialEq, Eq)]
+pub enum LogWhy {
+    /// It has no form of a log line, or more than 4,096 bytes.
+    BadLine,
+    /// Its moment is below that of the record before.
+    TimeBack,
+    /// The plan has no such bus.
+    UnknownBus,
+    /// Its moment is more than 100,000 seconds after that of the first record.
+    TooFar,
+}

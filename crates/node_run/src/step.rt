@@ -1,0 +1,87 @@
+//! One step of a run: what a record gives is reported, and its text gathered.
+ghost use Rattle.std.specs.Prelude.{◌≡◌, ◌++◌, ◌∷◌, ◌<◌, ◌≤◌, ◌+◌, ◌⊎◌, ℕ, List, OnOk, OnErr, count_by};
+ghost use Rattle.tail_frame.specs.declared.logged.Record.{Record};
+ghost use Rattle.node_plan.specs.Bound.{bound_of};
+ghost use Rattle.node_core.specs.Steps.{Stands, steps, got, is_rx, is_nosession, one_if};
+ghost use Rattle.node_core.specs.Text.{text};
+ghost use Rattle.node_run.specs.Ran.{At, Broke, IsCounted};
+
+use crate::gather::gather;
+use crate::report::Report;
+use cy_bits::NoMemory;
+use node_core::{Got, Line, Node};
+use tail_frame::Record;
+
+/// Takes a record: its lines are reported, their text is gathered, and then they are counted.
+pub fn record_step(
+    node: &mut Node,
+    rec: &Record,
+    gathered: &mut Vec<u8>,
+    report: &mut Report,
+) -> Result<(), NoMemory>
+    requires order { node.old.latest ≤ rec.now.moment }
+    requires records { report.old.records < rec.now.line }
+    requires counted { IsCounted report.old }
+    ensures plan { node.new.plan ≡ node.old.plan }
+    ensures latest { node.new.latest ≤ rec.now.moment }
+    ensures stands { OnOk result ((past : List Record) → Stands node.old past → Stands node.new (rec.now ∷ past)) }
+    ensures text { OnOk result ((past : List Record) → Stands node.old past → gathered.new.items ≡ gathered.old.items ++ text node.old.plan.buses (got node.old.plan rec.now past)) }
+    ensures at { OnOk result ((past : List Record) → Stands node.old past → At node.old.plan (steps node.old.plan past) report.old → At node.old.plan (steps node.old.plan (rec.now ∷ past)) report.new) }
+    ensures broke { OnErr result ((past : List Record) → Stands node.old past → At node.old.plan (steps node.old.plan past) report.old → Broke node.old.plan (steps node.old.plan (rec.now ∷ past)) report.new) }
+    ensures counted { OnOk result (IsCounted report.new) }
+    ensures records { OnOk result (report.new.records ≡ report.old.records + 1) }
+    ensures held { (report.new.held ≡ report.old.held) ⊎ (report.new.held ≤ bound_of node.old.plan) }
+    ensures bound { report.new.bound ≡ report.old.bound }
+{
+    let Ok(got) = node.frame(rec) else {
+        return Err(NoMemory);
+    };
+    let Got { lines, badcrc } = got;
+    let delivered = count_rx(lines.as_slice());
+    let nosession = count_nosession(lines.as_slice());
+    let Ok(()) = gather(
+        gathered,
+        node.plan.buses.as_slice(),
+        &mut report.lines,
+        lines,
+    ) else {
+        return Err(NoMemory);
+    };
+    // No count passes the number of lines, and no number of records the line of the last one.
+    let _most = report.lines.len();
+    let _line = rec.line;
+    report.records += 1;
+    report.delivered += delivered;
+    report.nosession += nosession;
+    report.badcrc += one_if(badcrc);
+    report.held = node.held();
+    Ok(())
+}
+
+/// How many deliveries these lines report.
+fn count_rx(lines: &[Line]) -> u64
+    ensures { result ≡ count_by is_rx lines.now }
+{
+    lines
+        .iter()
+        .filter(|line| matches!(line, Line::Rx(_)))
+        .count() as u64
+}
+
+/// How many transfers without a session these lines report.
+fn count_nosession(lines: &[Line]) -> u64
+    ensures { result ≡ count_by is_nosession lines.now }
+{
+    lines
+        .iter()
+        .filter(|line| matches!(line, Line::NoSession(_)))
+        .count() as u64
+}
+
+/// 1 for a yes.
+fn one_if(yes: bool) -> u64
+    ensures value { result ≡ one_if yes }
+    ensures small { result ≤ 1 }
+{
+    if yes { 1 } else { 0 }
+}
