@@ -86,6 +86,7 @@ impl LogReader {
         // It has ended only where the input has.
         ensures end { saw_end self.old ≡ false → saw_end self.new ≡ true → IsAtEnd (L.left input.new) }
         ensures whole { answer_of self.old ≡ None → result ≡ Ok None → saw_end self.new ≡ true }
+        ensures ended { answer_of self.old ≡ None → saw_end self.old ≡ true → (input.new ≡ input.old) × (saw_end self.new ≡ true) × IsNext (log_behind self.old []) result (log_behind self.new []) }
 
         // The answer stays.
         ensures done { answer_of self.old ≡ None → answer_of self.new ≡ kept result }
@@ -93,6 +94,7 @@ impl LogReader {
 
         // The input failed, and no line that was taken is left.
         ensures failed { answer_of self.old ≡ None → result ≡ Err error.Failed → Rose (L.faults input.old) (L.faults input.new) × (cut 10 (held_of self.new) ≡ None) × (length (held_of self.new) ≤ 4096) }
+        ensures open { answer_of self.old ≡ None → result ≡ Err error.Failed → saw_end self.new ≡ false }
         ensures count { ¬ (result ≡ Err error.Failed) → L.faults input.new ≡ L.faults input.old }
 
         // A record is behind those before it, and has one of the buses.

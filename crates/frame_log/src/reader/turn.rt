@@ -86,6 +86,7 @@ impl LogReader {
         ensures input { ¬ (result ≡ turn.Refused error.Failed) }
         ensures end { self.new.is_ended ≡ true → IsAtEnd (L.left input.new) }
         ensures failed { result ≡ turn.Failed → Rose (L.faults input.old) (L.faults input.new) × (self.new.held ≡ self.old.held) }
+        ensures open { result ≡ turn.Failed → self.new.is_ended ≡ false }
         ensures count { ¬ (result ≡ turn.Failed) → L.faults input.new ≡ L.faults input.old }
         ensures less { result ≡ turn.Record → bytes_left self.new < bytes_left self.old }
         ensures within { bytes_left self.new ≤ bytes_left self.old }
@@ -122,6 +123,8 @@ impl LogReader {
         ensures input { ¬ (result ≡ turn.Refused error.Failed) }
         ensures end { self.old.is_ended ≡ false → self.new.is_ended ≡ true → IsAtEnd (L.left input.new) }
         ensures failed { result ≡ turn.Failed → Rose (L.faults input.old) (L.faults input.new) × (cut 10 self.new.held ≡ None) × (length self.new.held ≤ 4096) }
+        ensures open { result ≡ turn.Failed → self.new.is_ended ≡ false }
+        ensures ended { self.old.is_ended ≡ true → (input.new ≡ input.old) × (self.new.is_ended ≡ true) × IsTurn (log_behind self.old []) result written.new (log_behind self.new []) }
         ensures count { ¬ (result ≡ turn.Failed) → L.faults input.new ≡ L.faults input.old }
         ensures less { result ≡ turn.Record → bytes_left self.new < bytes_left self.old }
         ensures within { bytes_left self.new ≤ bytes_left self.old }

@@ -1,4 +1,5 @@
-use Rattle.std.proofs.Common.{◌≡◌, ◌++◌, List, [], ℕ, arith, Bool, true, false, refl, inl, inr, ◌∙◌, subst}
+use Rattle.std.proofs.Common.{◌≡◌, ◌++◌, List, [], ℕ, arith, Bool, true, false, refl, inl, inr, ◌∙◌, ap, sym, subst}
+use Rattle.frame_log.specs.declared.reader.LogReader.{LogReader}
 use Rattle.frame_log.specs.declared.reader.turn.Turn.{Turn}
 use Rattle.frame_log.specs.declared.reader.turn.Turn.TheVariants as turn
 use Rattle.frame_log.specs.Log.{with_record}
@@ -23,6 +24,9 @@ loop-written-preserved g c =
     let m = came-turn (s.left c.args.input.now) (s.left c.loop-written.input) (s.left c.turn.new.input) old (log_behind c.loop-written.self) new (λ rest. c.turn.new.self.is_ended ≡ true → rest ≡ []) c.turn.result w
     c.loop-written.invariant.next c.turn.ensures.next in record {
       next = (m.0, m.1, λ rest. subst (λ (t : Turn). IsTurn (old (m.0 ++ rest)) t w (new rest)) c.in-Again.is (m.2 rest (open_rest c.turn.new.self.is_ended rest again.1)));
+      ended = λ is_ended. let fixed = c.loop-written.invariant.ended is_ended in
+          let here : c.loop-written.self.is_ended ≡ true = ap (λ (r : LogReader). r.is_ended) fixed.0 ∙ is_ended in
+          let bad : true ≡ false = sym (c.turn.ensures.ended here).1 ∙ again.1 in absurd cc;
       reading = λ _. again.1;
       faults = c.turn.ensures.count (λ e. absurd (differ c.in-Again.is e)) ∙ c.loop-written.invariant.faults;
       done = c.turn.ensures.same.1 ∙ c.loop-written.invariant.done;

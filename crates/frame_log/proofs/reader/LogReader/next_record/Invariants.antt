@@ -1,4 +1,4 @@
-use Rattle.std.proofs.Common.{◌≡◌, ◌≤◌, ◌++◌, List, ℕ, None, false}
+use Rattle.std.proofs.Common.{◌≡◌, ◌≤◌, ◌++◌, List, ℕ, None, true, false}
 use Rattle.frame_log.specs.Input.{Took}
 use Rattle.frame_log.specs.Reader.{log_behind, buses_of, bytes_left}
 use Rattle.frame_log.proofs.reader.LogReader.next_record.Given as goal
@@ -6,6 +6,7 @@ use Rattle.frame_log.proofs.reader.LogReader.next_record.Given as goal
 abbrev pub invariant-loop-written : goal.invariant-loop-written
 invariant-loop-written g l = let s = g.L.Source in record {
   next : (came : List ℕ) × Took (s.left l.fn.input) (s.left l.input) came × ((rest : List ℕ) → log_behind l.fn.self (came ++ rest) ≡ log_behind l.self rest);
+  ended : l.fn.self.is_ended ≡ true → (l.self ≡ l.fn.self) × (l.input ≡ l.fn.input);
   reading : l.fn.self.is_ended ≡ false → l.self.is_ended ≡ false;
   faults : s.faults l.input ≡ s.faults l.fn.input;
   done : l.self.done ≡ None;

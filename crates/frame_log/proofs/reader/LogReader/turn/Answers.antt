@@ -1,4 +1,4 @@
-use Rattle.std.proofs.Common.{◌≡◌, ◌∙◌, ◌<◌, List, [], ℕ, None, subst, sym, length}
+use Rattle.std.proofs.Common.{◌≡◌, ◌∙◌, ◌<◌, List, [], ℕ, None, refl, subst, sym, length}
 use Rattle.frame_log.specs.Line.{cut}
 use Rattle.frame_log.specs.Log.{Log}
 use Rattle.frame_log.specs.Reader.{place_of, log_behind}
@@ -30,3 +30,8 @@ returns-then-self-clause-next g c =
       Took-none (g.L.Source.left c.args.input.now),
       λ rest e. subst (λ (r : List ℕ). IsTurn (log_behind old r) c.at_end.result c.at_end.new.written (log_behind new r)) (sym (e (c.at_end.ensures.same.1 ∙ c.if-self.true))) last,
     )
+
+pub returns-then-as_slice-gt4096-clause-ended : goal.returns-then-as_slice-gt4096-clause-ended
+unfolding returns-then-as_slice-gt4096-clause-next
+returns-then-as_slice-gt4096-clause-ended g c is_ended =
+    (refl, c.from_held.ensures.same.2 ∙ is_ended, (returns-then-as_slice-gt4096-clause-next g c).2 [] (λ _. refl))
