@@ -9,7 +9,7 @@ pub mod memory;
 pub mod memory_tree;
 pub mod never;
 pub mod never_tree;
-pub mod paths;
+mod paths;
 pub mod reading;
 pub mod real;
 pub mod real_tree;
@@ -32,3 +32,6 @@ pub use sink::Sink;
 pub use source::Source;
 pub use tree::{Entry, Got, Listing, Size, Tree, TreeError};
 pub use writing::put_all;
+
+#[cfg(test)]
+mod tests;

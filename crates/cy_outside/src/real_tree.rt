@@ -24,7 +24,8 @@ pub struct RealTree<'a, R> {
 impl<'a, R> RealTree<'a, R> {
     /// The files that this runtime reaches.
     pub fn new(rt: &'a R) -> RealTree<'a, R>
-        ensures { result.faults ≡ 0 }
+        ensures rt { result.rt.now ≡ rt.now }
+        ensures faults { result.faults ≡ 0 }
     {
         RealTree { rt, faults: 0 }
     }
