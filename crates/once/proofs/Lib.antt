@@ -1,0 +1,5 @@
+pub mod Gates
+pub mod Selection
+pub mod Dues
+pub mod Reports
+pub mod Headlines

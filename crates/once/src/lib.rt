@@ -1,0 +1,32 @@
+//! Of the transfers of a sender only those that were sent are delivered, in order and once, and each
+//! that is due is. The laws are over definitions alone: the functions do nothing.
+#![tactic(auto)]
+
+ghost use Rattle.once.specs.Selected.{Once};
+ghost use Rattle.once.specs.Due.{DueIsDelivered};
+ghost use Rattle.once.specs.Report.{OnceInReport, OnceInPart, DueInReport};
+
+/// Each delivery is a sent transfer, and these come in the order of the sent list, each at most once.
+pub fn once()
+    ensures { Once }
+{}
+
+/// Each due transfer is delivered.
+pub fn due()
+    ensures { DueIsDelivered }
+{}
+
+/// Once, of the lines of a report.
+pub fn once_in_report()
+    ensures { OnceInReport }
+{}
+
+/// Once, of the beginning of a report.
+pub fn once_in_part()
+    ensures { OnceInPart }
+{}
+
+/// Each due transfer is reported.
+pub fn due_in_report()
+    ensures { DueInReport }
+{}
