@@ -3,3 +3,5 @@ pub mod Selection
 pub mod Dues
 pub mod Reports
 pub mod Headlines
+pub mod Premises
+pub mod Rows

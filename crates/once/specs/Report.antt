@@ -113,3 +113,15 @@ DueInReport =
     (timeout extent : ℕ) (sent : Sent) (key : SessionKey) (origin : List Pair) (records : List KeyRecord) (q : KeyRecord)
     → Explains timeout sent key origin records → IsDue timeout sent origin records q
     → AnyRx (λ rx. rx.last ≡ q.line) (reported timeout extent records)
+
+-- a log and a sent list that meet all of these premises
+pub record Example : Type 0 where
+  pub timeout : ℕ
+  pub sent : Sent
+  pub key : SessionKey
+  pub origin : List Pair
+  pub log : List KeyedFrame
+  pub q : KeyRecord
+  pub is_log : IsLog log
+  pub explains : Explains timeout sent key origin (history key log)
+  pub is_due : IsDue timeout sent origin (history key log) q

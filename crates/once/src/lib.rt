@@ -4,7 +4,7 @@
 
 ghost use Rattle.once.specs.Selected.{Once};
 ghost use Rattle.once.specs.Due.{DueIsDelivered};
-ghost use Rattle.once.specs.Report.{OnceInReport, OnceInPart, DueInReport};
+ghost use Rattle.once.specs.Report.{OnceInReport, OnceInPart, DueInReport, Example};
 
 /// Each delivery is a sent transfer, and these come in the order of the sent list, each at most once.
 pub fn once()
@@ -29,4 +29,9 @@ pub fn once_in_part()
 /// Each due transfer is reported.
 pub fn due_in_report()
     ensures { DueInReport }
+{}
+
+/// The premises of these laws can be met.
+pub fn example()
+    ensures { Example }
 {}
