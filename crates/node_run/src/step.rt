@@ -1,5 +1,5 @@
 //! One step of a run: what a record gives is reported, and its text gathered.
-ghost use Rattle.std.specs.Prelude.{◌≡◌, ◌++◌, ◌∷◌, ◌<◌, ◌≤◌, ◌+◌, ◌⊎◌, ℕ, List, OnOk, OnErr, count_by};
+ghost use Rattle.std.specs.Prelude.{◌≡◌, ◌++◌, ◌∷◌, ◌<◌, ◌≤◌, ◌+◌, ℕ, List as ListOf, OnOk, OnErr, count_by};
 ghost use Rattle.tail_frame.specs.declared.logged.Record.{Record};
 ghost use Rattle.node_plan.specs.Bound.{bound_of};
 ghost use Rattle.node_core.specs.Steps.{Stands, steps, got, is_rx, is_nosession, one_if};
@@ -8,12 +8,14 @@ ghost use Rattle.node_run.specs.Ran.{At, Broke, IsCounted};
 
 use crate::gather::gather;
 use crate::report::Report;
-use cy_bits::NoMemory;
-use node_core::{Got, Line, Node};
+use cy_bits::{List, NoMemory};
+use node_core::{Line, Node};
+use std::alloc::Global;
 use tail_frame::Record;
 
 /// Takes a record: its lines are reported, their text is gathered, and then they are counted.
 pub fn record_step(
+    alloc: Global,
     node: &mut Node,
     rec: &Record,
     gathered: &mut Vec<u8>,
@@ -24,19 +26,20 @@ pub fn record_step(
     requires counted { IsCounted report.old }
     ensures plan { node.new.plan ≡ node.old.plan }
     ensures latest { node.new.latest ≤ rec.now.moment }
-    ensures stands { OnOk result ((past : List Record) → Stands node.old past → Stands node.new (rec.now ∷ past)) }
-    ensures text { OnOk result ((past : List Record) → Stands node.old past → gathered.new.items ≡ gathered.old.items ++ text node.old.plan.buses (got node.old.plan rec.now past)) }
-    ensures at { OnOk result ((past : List Record) → Stands node.old past → At node.old.plan (steps node.old.plan past) report.old → At node.old.plan (steps node.old.plan (rec.now ∷ past)) report.new) }
-    ensures broke { OnErr result ((past : List Record) → Stands node.old past → At node.old.plan (steps node.old.plan past) report.old → Broke node.old.plan (steps node.old.plan (rec.now ∷ past)) report.new) }
+    ensures stands { OnOk result ((past : ListOf Record) → Stands node.old past → Stands node.new (rec.now ∷ past)) }
+    ensures text { OnOk result ((past : ListOf Record) → Stands node.old past → gathered.new.items ≡ gathered.old.items ++ text node.old.plan.buses (got node.old.plan rec.now past)) }
+    ensures at { OnOk result ((past : ListOf Record) → Stands node.old past → At node.old.plan (steps node.old.plan past) report.old → At node.old.plan (steps node.old.plan (rec.now ∷ past)) report.new) }
+    ensures broke { OnErr result ((past : ListOf Record) → Stands node.old past → At node.old.plan (steps node.old.plan past) report.old → Broke node.old.plan (steps node.old.plan (rec.now ∷ past)) report.new) }
     ensures counted { OnOk result (IsCounted report.new) }
     ensures records { OnOk result (report.new.records ≡ report.old.records + 1) }
-    ensures held { (report.new.held ≡ report.old.held) ⊎ (report.new.held ≤ bound_of node.old.plan) }
+    ensures held { OnOk result ((past : ListOf Record) → Stands node.old past → report.new.held ≤ bound_of node.old.plan) }
+    ensures kept { OnErr result (report.new.held ≡ report.old.held) }
     ensures bound { report.new.bound ≡ report.old.bound }
 {
-    let Ok(got) = node.frame(rec) else {
+    let mut lines = List::empty(alloc);
+    let Ok(stepped) = node.frame(rec, &mut lines) else {
         return Err(NoMemory);
     };
-    let Got { lines, badcrc } = got;
     let delivered = count_rx(lines.as_slice());
     let nosession = count_nosession(lines.as_slice());
     let Ok(()) = gather(
@@ -53,7 +56,7 @@ pub fn record_step(
     report.records += 1;
     report.delivered += delivered;
     report.nosession += nosession;
-    report.badcrc += one_if(badcrc);
+    report.badcrc += one_if(stepped.badcrc);
     report.held = node.held();
     Ok(())
 }

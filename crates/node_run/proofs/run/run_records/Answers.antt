@@ -59,10 +59,7 @@ records-preserved g c =
       at = subst (λ (p : Plan). At p (steps p (rec ∷ i.past)) c.record_step.new.report) i.same (step.at i.past i.stands at);
       counted = step.counted;
       gathered = gathered_step plan i.past rec _ _ _ _ less text_is;
-      held = elim c.record_step.ensures.held [
-        | inl same ↦ omega (arith, same, i.held)
-        | inr most ↦ subst (λ (p : Plan). c.record_step.new.report.held ≤ bound_of p) i.same most
-      ];
+      held = subst (λ (p : Plan). c.record_step.new.report.held ≤ bound_of p) i.same (step.held i.past i.stands);
       bound = c.record_step.ensures.bound ∙ i.bound;
       read = c.in-Ok-Some.ensures.cause.0 ∙ i.read;
       write = c.in-Ok-Some.ensures.cause.1 ∙ i.write;
