@@ -103,13 +103,15 @@ lines_of-front : (s rest : List ℕ) → cut 10 s ≡ None → lines_of (s ++ re
 lines_of-front [] rest h = with_front-none (lines_of rest).0 (lines_of rest).1
 lines_of-front (x ∷ xs) rest h = go (λ k. lines_of-front xs rest k) (x == 10) refl
   where
+    not_none : (p : List ℕ × List ℕ) → Some p ≡ None → ⊥
+    not_none p h = cc
+
     none : (o : Option (List ℕ × List ℕ)) → (o >>= longer x) ≡ None → o ≡ None
     none None e = refl
     none (Some p) e = absurd cc
 
     go : (cut 10 xs ≡ None → lines_of (xs ++ rest) ≡ with_front xs (lines_of rest)) → (v : Bool) → (x == 10) ≡ v → lines_of ((x ∷ xs) ++ rest) ≡ with_front (x ∷ xs) (lines_of rest)
-    go more true e =
-        let k : Some (([], xs)) ≡ None = yes (x == 10) (Some (([], xs))) (cut 10 xs >>= longer x) e ∙ h in absurd cc
+    go more true e = absurd (not_none ([], xs) (yes (x == 10) (Some (([], xs))) (cut 10 xs >>= longer x) e ∙ h))
     go more false e =
         let k : (cut 10 xs >>= longer x) ≡ None = no (x == 10) (Some (([], xs))) (cut 10 xs >>= longer x) e ∙ h in
         lines_of-byte x (xs ++ rest) e ∙ ap (with_byte x) (more (none _ k)) ∙ with_byte-front x xs (lines_of rest).0 (lines_of rest).1
