@@ -15,13 +15,15 @@ use Rattle.node_plan.specs.declared.plan.Sub.{Sub}
 abbrev pub start : Draft
 start = record { has_version = false; node = None; buses = []; timeout = None; silent = false; subs = [] }
 
+-- whether a bus has this name
 abbrev pub has_bus : List ℕ → List BusPlan → Bool
 has_bus name buses = list_any (λ b. bytes_eq b.name name) buses
 
+-- whether there is a subscription to this subject
 abbrev pub has_subject : ℕ → List Sub → Bool
 has_subject port subs = list_any (λ s. s.port == port) subs
 
--- what stands there already may not be said again
+-- what may be said once, where it stands already or not
 abbrev pub once : Bool → Draft → Result Draft PlanWhy
 once stands new = if stands then Err why.Repeated else Ok new
 
@@ -35,11 +37,12 @@ abbrev pub with_sub : Draft → Sub → Result Draft PlanWhy
 with_sub d s = if nat_le 64 (length d.subs) then Err why.Range
     else once (has_subject s.port d.subs) (record d { subs = d.subs ++ s ∷ [] })
 
+-- a subscription to a type that isn't there
 abbrev pub without_type : Draft → ℕ → Result Draft PlanWhy
 without_type d port = if nat_le 64 (length d.subs) then Err why.Range
     else (if has_subject port d.subs then Err why.Repeated else Err why.UnknownType)
 
--- a line behind `plan 1`
+-- a line behind `plan 1`: range comes before repetition, and that before an unknown type
 abbrev pub with_line : Draft → Said → Result Draft PlanWhy
 with_line d (said.Node n) = once (is_some d.node) (record d { node = Some n })
 with_line d (said.Bus name) = with_bus d name

@@ -8,18 +8,21 @@ use Rattle.node_plan.specs.declared.plan.Sub.{Sub}
 use Rattle.node_plan.specs.Bound.{extent_of}
 use Rattle.node_plan.specs.Names.{is_bus_name}
 
+-- a bus of a plan, of which frames carry 8 bytes, and 4,096 frames are sent in a second
 pub record IsBus (bus : BusPlan) : Type 0 where
   pub some_byte : 1 ≤ length bus.name
   pub bytes : IsTrue (is_bus_name bus.name)
   pub mtu : bus.mtu ≡ 8
   pub rate : bus.rate ≡ 4096
 
+-- a subscription in its ranges
 pub record IsSub (sub : Sub) : Type 0 where
   pub port : sub.port < 8192
   pub some_source : 1 ≤ sub.sources
   pub few_sources : sub.sources ≤ 128
   pub extent : extent_of sub.shape ≤ 65536
 
+-- a plan in its ranges, which names no bus and no subject twice
 pub record IsPlan (plan : Plan) : Type 0 where
   pub node : plan.node < 128
   pub some_bus : 1 ≤ length plan.buses

@@ -20,7 +20,7 @@ said_of_node number.NoNumber = said.NoForm
 said_of_node number.Outside = said.Outside
 said_of_node (number.Within n) = said.Node n
 
--- `bus NAME`
+-- `bus NAME`; an empty word is none
 abbrev pub said_of_bus : List ℕ → Said
 said_of_bus [] = said.NoForm
 said_of_bus (b ∷ s) = if is_bus_name (b ∷ s) then said.Bus (b ∷ s) else said.Outside
@@ -47,10 +47,11 @@ said_of_raw (number.Within p) (number.Within s) (number.Within n) =
     said.Sub (record { port = p; sources = s; shape = shape.Raw n })
 said_of_raw port sources extent = said.Outside
 
--- a line of one word, of two, four and five
+-- `silent`
 abbrev pub said_of_one : List ℕ → Said
 said_of_one word = if bytes_eq word (codes "silent") then said.Silent else said.NoForm
 
+-- `plan`, `node`, `bus` and `timeout` with what they set
 abbrev pub said_of_two : List ℕ → List ℕ → Said
 said_of_two word value =
     if bytes_eq word (codes "plan") then said_of_version value
@@ -59,12 +60,14 @@ said_of_two word value =
     else (if bytes_eq word (codes "timeout") then said_of_timeout (number_in 1 60_000_000 value)
     else said.NoForm)))
 
+-- a subscription to a type, whose name is not empty
 abbrev pub said_of_four : List ℕ → List ℕ → List ℕ → List ℕ → Said
 said_of_four word port sources name =
     if bytes_eq word (codes "sub")
     then (if length name == 0 then said.NoForm else said_of_sub (number_in 0 8191 port) (number_in 1 128 sources))
     else said.NoForm
 
+-- a subscription to bytes
 abbrev pub said_of_five : List ℕ → List ℕ → List ℕ → List ℕ → List ℕ → Said
 said_of_five word port sources raw extent =
     if bytes_eq word (codes "sub")
@@ -73,6 +76,7 @@ said_of_five word port sources raw extent =
     else said.NoForm)
     else said.NoForm
 
+-- no line has three words, or more than five
 abbrev pub said_of_words : List (List ℕ) → Said
 said_of_words (a ∷ []) = said_of_one a
 said_of_words (a ∷ b ∷ []) = said_of_two a b

@@ -13,7 +13,7 @@ abbrev pub parts_of : ℕ → List ℕ → List (List ℕ)
 parts_of c [] = [] ∷ []
 parts_of c (b ∷ s) = if b == c then [] ∷ parts_of c s else with_first b (parts_of c s)
 
--- the words of a line, with one space between them
+-- the words of a line, with one space between them; where there are two in a row, an empty one stands between them
 abbrev pub words_of : List ℕ → List (List ℕ)
 words_of line = parts_of 32 line
 
@@ -37,6 +37,7 @@ ranged low high (Some n) = if nat_lt n low || nat_lt high n then number.Outside 
 abbrev pub number_in : ℕ → ℕ → List ℕ → Number
 number_in low high word = ranged low high (number_of word)
 
+-- a number that was found lies in its range
 abbrev pub IsWithin : ℕ → ℕ → Number → Type 0
 IsWithin low high (number.Within n) = (low ≤ n) × (n ≤ high)
 IsWithin low high other = Unit {0}
