@@ -1,3 +1,4 @@
 pub mod Cut
+pub mod Raw
 pub mod Sent
 pub mod Wire

@@ -35,9 +35,10 @@ size_on sent bus = get_or sent.sizes bus 8
 abbrev pub data_on : Sent → ℕ → ℕ → List ℕ
 data_on sent j bus = padded (size_on sent bus) (transfer_at sent j).payload
 
--- frame sizes are 8 or 64, and moments never fall
+-- frame sizes are 8 or 64, priorities 0 to 7, transfer-IDs 0 to 31, and moments never fall
 pub record IsSentList (sent : Sent) : Type 0 where
   pub sizes : (bus : ℕ) → IsFrameSize (size_on sent bus)
+  pub ranges : (j : ℕ) → j < length sent.transfers → ((transfer_at sent j).priority < 8) × ((transfer_at sent j).tid < 32)
   pub moments : (a b : ℕ) → a ≤ b → b < length sent.transfers → (transfer_at sent a).moment ≤ (transfer_at sent b).moment
 
 -- the identifier has the key, the priority and the destination of a transfer of a key

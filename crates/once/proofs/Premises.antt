@@ -52,8 +52,12 @@ moments (suc a) zero l k = absurd (omega arith)
 moments zero (suc b) l k = absurd (omega arith)
 moments (suc a) (suc b) l k = absurd (omega arith)
 
+ranges : (j : ℕ) → j < 1 → ((transfer_at sent j).priority < 8) × ((transfer_at sent j).tid < 32)
+ranges zero l = (omega arith, omega arith)
+ranges (suc j) l = absurd (omega arith)
+
 sent_list : IsSentList sent
-sent_list = record { sizes = sizes; moments = moments }
+sent_list = record { sizes = sizes; ranges = ranges; moments = moments }
 
 is_log : IsLog log
 is_log = (((omega arith, omega arith), ((omega arith, omega arith), tt)), ((((omega arith, omega arith), tt)), (tt, tt)))
