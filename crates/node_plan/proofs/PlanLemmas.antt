@@ -58,7 +58,7 @@ plan_of_answer is (Err e) h = tt
 pub refusal_of_answer : (is : PlanIs) (r : Result Plan PlanError) → IsPlanAnswer is r → (n : ℕ) (why : PlanWhy) → r ≡ Err (error.Refused n why) → is ≡ Bad n why
 refusal_of_answer is r h n why e = subst (IsPlanAnswer is) e h
 
-pub take-min : (most k : ℕ) (s : List ℕ) → k ≡ min (length s) most → take k s ≡ take most s
+take-min : (most k : ℕ) (s : List ℕ) → k ≡ min (length s) most → take k s ≡ take most s
 take-min most k s h = grind (arith, common_steps)
 
 take-take-more : (most : ℕ) (s : List ℕ) → take most (take (most + 1) s) ≡ take most s
@@ -72,3 +72,9 @@ pub plan_within-take : (most : ℕ) (s : List ℕ) → plan_within most (take (m
 plan_within-take most s =
     ap (λ t. plan_of_parts (if t then long_line else last_line) start 1 (parts_of 10 (take most (take (most + 1) s)))) (length-take-more most s)
     ∙ ap (λ t. plan_of_parts (if nat_lt most (length s) then long_line else last_line) start 1 (parts_of 10 t)) (take-take-more most s)
+
+-- the answer of the bytes that count is that of the text
+pub plan_within-answer : (most k : ℕ) (s : List ℕ) (r : Result Plan PlanError) → k ≡ min (length s) most
+    → IsPlanAnswer (plan_of_parts (if nat_lt most (length s) then long_line else last_line) start 1 (parts_of 10 (take k s))) r → IsPlanAnswer (plan_within most s) r
+plan_within-answer most k s r h =
+    subst (λ t. IsPlanAnswer (plan_of_parts (if nat_lt most (length s) then long_line else last_line) start 1 (parts_of 10 t)) r) (take-min most k s h)
