@@ -108,3 +108,22 @@ reads_none names left reader h e = record { came = []; took = took_none left; lo
     took_none : (o : Option (List ℕ)) → Took o o []
     took_none None = refl
     took_none (Some b) = refl
+
+-- what a call gives that may read, also behind the end of the input, where it doesn't
+pub goes_read : (old new : LogReader) (before after : Option (List ℕ)) (answer : Result (Option Record) LogError)
+    → ((came : List ℕ) × Took before after came × ((rest : List ℕ) → (saw_end new ≡ true → rest ≡ []) → IsNext (log_behind old (came ++ rest)) answer (log_behind new rest)))
+    → (saw_end old ≡ true → (after ≡ before) × (saw_end new ≡ true) × IsNext (log_behind old []) answer (log_behind new [])) → Goes old new before after answer
+goes_read old new before after answer n e = by_end (saw_end old) refl
+  where
+    took_same : (a b : Option (List ℕ)) → b ≡ a → Took a b []
+    took_same None b h = h
+    took_same (Some l) b h = subst (λ (o : Option (List ℕ)). Took (Some l) o []) (sym h) refl
+
+    by_end : (b : Bool) → saw_end old ≡ b → Goes old new before after answer
+    by_end true h = record {
+      came = [];
+      took = took_same before after (e h).0;
+      ended = λ _. (refl, (e h).1);
+      next = λ rest r. subst (λ (t : List ℕ). IsNext (log_behind old t) answer (log_behind new t)) (sym (r (e h).1)) (e h).2;
+    }
+    by_end false h = record { came = n.0; took = n.1; ended = λ t. let bad : true ≡ false = sym t ∙ h in absurd cc; next = n.2 }

@@ -1,13 +1,14 @@
-use Rattle.std.proofs.Common.{◌≡◌, ◌≤◌, ◌++◌, ◌∷◌, List, ℕ, sym, subst, ◌∙◌, arith, inl, inr, rules}
+use Rattle.std.proofs.Common.{◌≡◌, ◌≤◌, ◌++◌, ◌∷◌, [], List, ℕ, refl, sym, subst, ◌∙◌, arith, rules}
 use Rattle.node_plan.specs.Bound.{bound_of}
 use Rattle.node_plan.specs.declared.plan.Plan.{Plan}
 use Rattle.node_core.specs.Steps.{steps, got}
 use Rattle.node_core.specs.Text.{text}
 use Rattle.node_run.specs.declared.status.Status.{Status}
 use Rattle.node_run.specs.declared.status.Status.TheVariants as status
+use Rattle.node_run.specs.Gathered.{Gathered}
 use Rattle.node_run.specs.Ran.{names_of, At, Broke, HasRun}
-use Rattle.node_run.proofs.Came.{reads_more, has_log, has_next}
-use Rattle.node_run.proofs.Written.{gathered_less}
+use Rattle.node_run.proofs.Came.{reads_none, reads_more, has_log, has_next}
+use Rattle.node_run.proofs.Written.{gathered_all, gathered_less}
 use Rattle.node_run.proofs.Runs.{has_stopped, has_begun, has_finished, next_order, gathered_step, begins_step}
 use Rattle.node_run.proofs.run.run_records.Goals as goal
 
@@ -91,3 +92,21 @@ returns-clause-ran g c =
     (has_next (names_of plan) (left c.args.input.now) (left c.records.input) (left c.next.new.input) c.records.reader c.next.new.reader i.past _ i.reads (rw c.in-Ok-None.field-0-is at c.in-Ok-None.ensures.log) c.in-Ok-None.ensures.end)
     c.finish.ensures.only i.at (written c.next.new.out) c.next.new.gathered.items (gathered_less _ _ _ (written c.args.out.now) (written c.records.out) (written c.next.new.out) i.gathered w.0)
     (λ e. (c.finish.ensures.ok e).0) (λ e. (c.finish.ensures.write e).0) c.finish.ensures.memory
+
+pub records-init : goal.records-init
+records-init g c =
+    let w = g.O.Sink.written c.args.out.now in record {
+      past = [];
+      same = refl;
+      reads = reads_none (names_of c.args.node.now.plan) (g.L.Source.left c.args.input.now) c.args.reader.now c.requires.log c.requires.open;
+      reading = c.requires.reading;
+      stands = c.requires.stands;
+      latest = omega (arith, c.requires.latest);
+      at = c.requires.at;
+      counted = c.requires.counted;
+      gathered = subst (λ (t : List ℕ). Gathered [] t w w) (sym c.new-gathered.ensures.items) (gathered_all [] w);
+      held = c.requires.held;
+      bound = refl;
+      read = refl;
+      write = refl;
+    }
