@@ -91,11 +91,11 @@ mod tests {
     use cy_bits::ShortList;
 
     // A record of a frame with this identifier and this data.
-    fn record_of(ident: u32, data: &[u8]) -> Record
-        requires { length data.now ≤ 8 }
+    fn record_of(ident: u32, content: &[u8]) -> Record
+        requires { length content.now ≤ 8 }
     {
         let mut bytes = ShortList::new();
-        for byte in data {
+        for byte in content {
             bytes.push(*byte);
         }
         Record {
