@@ -6,3 +6,6 @@ pub mod Admitted
 pub mod Stands
 pub mod Ports
 pub mod Laws
+pub mod Table
+pub mod Places
+pub mod After

@@ -24,11 +24,13 @@ pub record PortState : Type 0 where
   pub port : Port
   pub entries : List Entry
 
--- what a table answers at a frame: its port isn't subscribed, its source gets no session, or what its session does
+-- what a table answers at a frame: its port isn't subscribed, its source gets no session, what its session does, or
+-- what an anonymous frame delivers
 pub data Answer : Type 0 where
   NoPort : Answer
   NoSession : Answer
   OfSession : Outcome → Answer
+  Anonymous : Outcome → Answer
 
 abbrev pub sources_of : List Entry → List ℕ
 sources_of [] = []

@@ -1,0 +1,55 @@
+use rx_session::{Delivery, Front, Outcome, Step};
+
+/// What a frame came to in a table.
+#[derive(Clone, Copy, Debug)]
+pub enum Fed<'a> {
+    /// Its kind and port aren't subscribed.
+    NoPort,
+    /// It is a start frame of a new source, and the port has as many sources as it takes.
+    NoSession,
+    /// It is anonymous, and is delivered at once. The payload is lent from the frame.
+    Anonymous(Delivery<'a>),
+    /// What its session made of it. The payload is lent from the session's buffer.
+    Session(Outcome<'a>),
+}
+
+/// What a frame came to in a table, without borrowing a payload.
+#[derive(Clone, Copy, Debug, PartialEq, Eq)]
+pub enum Met {
+    /// Its kind and port aren't subscribed.
+    NoPort,
+    /// It is anonymous, and its payload is the front of its body.
+    Anonymous(Front),
+    /// What it came to on the port at a place.
+    Port {
+        /// The place among the table's ports.
+        place: usize,
+        /// What it came to there.
+        met: PortMet,
+    },
+}
+
+/// What a frame that has a source came to on its port, without borrowing a payload.
+#[derive(Clone, Copy, Debug, PartialEq, Eq)]
+pub enum PortMet {
+    /// It is a start frame of a new source, and the port has as many sources as it takes.
+    NoSession,
+    /// It is a frame of a new source that isn't a start.
+    Ignored,
+    /// What its session made of it.
+    Session {
+        /// The place among the port's sources.
+        index: usize,
+        /// What the session made of it.
+        step: Step,
+    },
+}
+
+/// Why a subscription was refused. The table is then as before.
+#[derive(Clone, Copy, Debug, PartialEq, Eq)]
+pub enum SubscribeError {
+    /// That kind and port is there.
+    Taken,
+    /// Want of memory.
+    NoMemory,
+}

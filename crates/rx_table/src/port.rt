@@ -1,0 +1,164 @@
+ghost use Rattle.std.specs.Prelude.{◌≡◌, ◌<◌, IfOk, OnErr, OnOk, length, ◌==◌, ◌&&◌, nat_eq, None, true, ◌*◌, ◌-◌, ◌^◌, min, take};
+ghost use Rattle.rx_table.specs.Ports.{sources_of};
+ghost use Rattle.indexmap.specs.IndexMap.{get};
+ghost use Rattle.tail_frame.specs.Frames.{seen};
+ghost use Rattle.rx_session.specs.Seen.{record_of, step_answer};
+ghost use Rattle.rx_session.specs.declared.outcome.Step.TheVariants.{Delivered};
+ghost use Rattle.rx_table.specs.Keys.{same_kind};
+ghost use Rattle.rx_table.specs.Places.{step_nth, outcome_nth, buffer_nth, opened, opened_answer, fed_entries, fed_answer, Adds, met_answer};
+ghost use Rattle.rx_table.specs.Table.{entries_of, port_of, EntriesHeard, whole, answer_of};
+
+use crate::fed::{Fed, PortMet};
+use can_id::Kind;
+use cy_bits::{NoMemory, ShortList};
+use indexmap::IndexMap;
+use rx_session::{Front, Outcome, Session, Shape, Step};
+use std::alloc::Global;
+use tail_frame::Frame;
+
+/// A subscription with the sessions of its sources.
+#[derive(Drop)]
+pub struct Port<S: Shape> {
+    /// What its transfers are for.
+    pub kind: Kind,
+    /// The subject-ID or the service-ID.
+    pub port: u16,
+    /// How many sources get a session, 1 to 128.
+    pub sources: u16,
+    /// To whose extent payloads are cut.
+    pub shape: S,
+    /// The sessions by source, in the order of their first start frames.
+    pub sessions: IndexMap<u8, Session<S>>,
+}
+
+impl<S: Shape> Port<S> {
+    /// Whether it is the port of a kind with this number.
+    pub fn is(&self, kind: Kind, port: u16) -> bool
+        ensures { result ≡ (same_kind kind self.now.kind && (port == self.now.port)) }
+    {
+        kind == self.kind && port == self.port
+    }
+
+    /// What an anonymous frame delivers: its body, cut to the extent.
+    pub fn alone(&self, frame: &Frame) -> Front
+        ensures { step_answer frame.now.body.now (Delivered result) ≡ whole (seen frame.now) (S.extent self.now.shape) }
+    {
+        Front {
+            bus: frame.bus,
+            priority: frame.ident.priority(),
+            tid: frame.tail.tid,
+            first: frame.line,
+            last: frame.line,
+            moment: frame.moment,
+            count: self.shape.extent_bytes() as u64,
+        }
+    }
+
+    /// The bytes of its sessions' buffers, or 2^64 - 1 where they are more.
+    pub fn held(&self) -> u64
+        ensures { result ≡ min (length self.now.sessions.entries * S.extent self.now.shape) (2 ^ 64 - 1) }
+    {
+        (self.sessions.len() as u64).saturating_mul(self.shape.extent_bytes() as u64)
+    }
+
+    /// The first 128 sources that have a session.
+    pub fn first_sources(&self) -> ShortList<u8, 128>
+        ensures { result ≡ take 128 (sources_of (entries_of self.now.sessions.entries)) }
+    {
+        let mut list = ShortList::new();
+        for source in self.sessions.keys() {
+            if list.len() < 128 {
+                list.push(*source);
+            }
+        }
+        list
+    }
+
+    /// A frame of a source.
+    pub fn meet(
+        &mut self,
+        alloc: Global,
+        source: u8,
+        frame: &Frame,
+        timeout: u64,
+    ) -> Result<PortMet, NoMemory>
+        requires { EntriesHeard frame.now.moment (entries_of self.old.sessions.entries) }
+        ensures port { port_of S.extent self.new ≡ port_of S.extent self.old }
+        ensures shape { self.new.shape ≡ self.old.shape }
+        ensures entries { OnOk result (entries_of self.new.sessions.entries
+            ≡ fed_entries timeout (port_of S.extent self.old) (entries_of self.old.sessions.entries) source (record_of frame.now)) }
+        ensures answer { IfOk result (λ m. met_answer (entries_of self.new.sessions.entries) m
+            ≡ fed_answer timeout (port_of S.extent self.old) (entries_of self.old.sessions.entries) source (record_of frame.now)) }
+        ensures err { OnErr result (entries_of self.new.sessions.entries ≡ entries_of self.old.sessions.entries) }
+        ensures memory { OnErr result (Adds (port_of S.extent self.old) (entries_of self.old.sessions.entries) source (record_of frame.now)) }
+    {
+        match self.sessions.get_index_of(&source) {
+            Some(index) => {
+                let step = self.step_at(index, frame, timeout);
+                Ok(PortMet::Session { index, step })
+            }
+            None => self.meet_new(alloc, source, frame, timeout),
+        }
+    }
+
+    /// A frame of a source that has no session.
+    fn meet_new(
+        &mut self,
+        alloc: Global,
+        source: u8,
+        frame: &Frame,
+        timeout: u64,
+    ) -> Result<PortMet, NoMemory>
+        requires { get nat_eq self.old.sessions source ≡ None }
+        ensures port { port_of S.extent self.new ≡ port_of S.extent self.old }
+        ensures shape { self.new.shape ≡ self.old.shape }
+        ensures entries { OnOk result (entries_of self.new.sessions.entries
+            ≡ opened timeout (port_of S.extent self.old) (entries_of self.old.sessions.entries) source (record_of frame.now)) }
+        ensures answer { IfOk result (λ m. met_answer (entries_of self.new.sessions.entries) m
+            ≡ opened_answer timeout (port_of S.extent self.old) (entries_of self.old.sessions.entries) (record_of frame.now)) }
+        ensures err { OnErr result (entries_of self.new.sessions.entries ≡ entries_of self.old.sessions.entries) }
+        ensures start { OnErr result (frame.now.tail.start ≡ true) }
+        ensures room { OnErr result (length self.old.sessions.entries < self.old.sources) }
+    {
+        if !frame.tail.start {
+            return Ok(PortMet::Ignored);
+        }
+        let index = self.sessions.len();
+        if index >= self.sources as usize {
+            return Ok(PortMet::NoSession);
+        }
+        let mut session = Session::open(alloc, &self.shape)?;
+        let step = session.step(frame, timeout);
+        self.sessions.insert(source, session)?;
+        Ok(PortMet::Session { index, step })
+    }
+
+    /// The session at a place takes a frame.
+    fn step_at(&mut self, index: usize, frame: &Frame, timeout: u64) -> Step
+        requires within { index < length self.old.sessions.entries }
+        requires order { EntriesHeard frame.now.moment (entries_of self.old.sessions.entries) }
+        ensures port { port_of S.extent self.new ≡ port_of S.extent self.old }
+        ensures shape { self.new.shape ≡ self.old.shape }
+        ensures entries { entries_of self.new.sessions.entries
+            ≡ step_nth timeout (entries_of self.old.sessions.entries) index (record_of frame.now) }
+        ensures outcome { step_answer (buffer_nth (entries_of self.new.sessions.entries) index) result
+            ≡ outcome_nth timeout (entries_of self.old.sessions.entries) index (record_of frame.now) }
+    {
+        let session = self.sessions.get_index_mut(index).unwrap();
+        session.step(frame, timeout)
+    }
+
+    /// What a frame of a source came to, with the payload lent from its session.
+    pub fn lend(&self, met: PortMet) -> Fed<'_>
+        ensures { answer_of result ≡ met_answer (entries_of self.now.sessions.entries) met }
+    {
+        match met {
+            PortMet::NoSession => Fed::NoSession,
+            PortMet::Ignored => Fed::Session(Outcome::Ignored),
+            PortMet::Session { index, step } => match self.sessions.get_index(index) {
+                Some((_, session)) => Fed::Session(session.lend(step)),
+                None => Fed::Session(step.lend(&[])),
+            },
+        }
+    }
+}
