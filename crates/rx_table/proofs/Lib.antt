@@ -1,3 +1,15 @@
+pub mod FirstSources
+pub mod Subscribed
+pub mod Counted
+pub mod FoundPorts
+pub mod Heard
+pub mod Told
+pub mod NthPorts
+pub mod Answered
+pub mod Positions
+pub mod KnownSources
+pub mod NewSources
+pub mod NthEntries
 pub mod Runs
 pub mod Buffers
 pub mod Simulation

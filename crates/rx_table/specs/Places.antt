@@ -1,11 +1,8 @@
 -- What one session of a port does, by its place among the port's sources.
-use Rattle.std.specs.Prelude.{◌≡◌, ℕ, zero, suc, true, false, ◌<◌, nat_lt, ◌&&◌, List, [], ◌∷◌, ◌++◌, length, take, if◌then◌else◌}
-use Rattle.can_id.specs.declared.key.Kind.{Kind}
-use Rattle.can_id.specs.Identifiers.{priority_of}
+use Rattle.std.specs.Prelude.{◌≡◌, ℕ, zero, suc, true, false, ◌<◌, nat_lt, ◌&&◌, ◌+◌, ◌*◌, List, [], ◌∷◌, ◌++◌, length, take, if◌then◌else◌}
 use Rattle.tail_frame.specs.Chains.{KeyRecord}
-use Rattle.tail_frame.specs.Frames.{FrameOf}
 use Rattle.transfer_crc.specs.Crc.{crc_more}
-use Rattle.rx_session.specs.Session.{Session, Outcome, Ignored, Delivered, accept}
+use Rattle.rx_session.specs.Session.{Outcome, Ignored, Delivered, accept}
 use Rattle.rx_session.specs.Seen.{step_answer}
 use Rattle.rx_table.specs.Admitted.{has}
 use Rattle.rx_table.specs.Ports.{Port, Entry, PortState, Answer, NoPort, NoSession, OfSession, Anonymous, sources_of, open_session, accept_at, outcome_at}
@@ -27,11 +24,6 @@ abbrev pub buffer_nth : List Entry → ℕ → List ℕ
 buffer_nth [] i = []
 buffer_nth (e ∷ es) zero = e.session.buffer
 buffer_nth (e ∷ es) (suc i) = buffer_nth es i
-
-abbrev pub entries_nth : List PortState → ℕ → List Entry
-entries_nth [] i = []
-entries_nth (p ∷ ps) zero = p.entries
-entries_nth (p ∷ ps) (suc i) = entries_nth ps i
 
 -- a port's sources after a record of a source that has no session, and what is answered
 abbrev pub opened : ℕ → Port → List Entry → ℕ → KeyRecord → List Entry
@@ -58,13 +50,39 @@ pub record Adds (p : Port) (es : List Entry) (source : ℕ) (r : KeyRecord) : Ty
   pub start : r.start ≡ true
   pub room : length es < p.sources
 
+-- the ports after a record of a source on the one at a place, what is answered, and whether that opens a session
+abbrev pub feed_nth : ℕ → List PortState → ℕ → ℕ → KeyRecord → List PortState
+feed_nth timeout [] i source r = []
+feed_nth timeout (p ∷ ps) zero source r = record { port = p.port; entries = fed_entries timeout p.port p.entries source r } ∷ ps
+feed_nth timeout (p ∷ ps) (suc i) source r = p ∷ feed_nth timeout ps i source r
+
+abbrev pub answer_nth : ℕ → List PortState → ℕ → ℕ → KeyRecord → Answer
+answer_nth timeout [] i source r = NoPort
+answer_nth timeout (p ∷ ps) zero source r = fed_answer timeout p.port p.entries source r
+answer_nth timeout (p ∷ ps) (suc i) source r = answer_nth timeout ps i source r
+
+abbrev pub AddsNth : List PortState → ℕ → ℕ → KeyRecord → Type 0
+AddsNth [] i source r = ⊥
+AddsNth (p ∷ ps) zero source r = Adds p.port p.entries source r
+AddsNth (p ∷ ps) (suc i) source r = AddsNth ps i source r
+
 -- what is answered where a frame met these, its payload lent from these buffers
 abbrev pub met_answer : List Entry → code_port_met.PortMet → Answer
 met_answer es code_port_met.TheVariants.NoSession = NoSession
 met_answer es code_port_met.TheVariants.Ignored = OfSession Ignored
 met_answer es (code_port_met.TheVariants.Session index step) = OfSession (step_answer (buffer_nth es index) step)
 
+abbrev pub met_nth : List PortState → ℕ → code_port_met.PortMet → Answer
+met_nth [] i met = NoPort
+met_nth (p ∷ ps) zero met = met_answer p.entries met
+met_nth (p ∷ ps) (suc i) met = met_nth ps i met
+
 abbrev pub table_answer : List PortState → List ℕ → code_met.Met → Answer
 table_answer ps body code_met.TheVariants.NoPort = NoPort
 table_answer ps body (code_met.TheVariants.Anonymous d) = Anonymous (Delivered d.bus d.priority d.tid d.first d.last d.moment (take d.count body))
-table_answer ps body (code_met.TheVariants.Port place met) = met_answer (entries_nth ps place) met
+table_answer ps body (code_met.TheVariants.Port place met) = met_nth ps place met
+
+-- the extent of each port as many times as it has sessions
+abbrev pub counted : List PortState → ℕ
+counted [] = 0
+counted (p ∷ ps) = length p.entries * p.port.extent + counted ps

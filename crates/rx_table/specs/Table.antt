@@ -9,7 +9,7 @@ use Rattle.rx_session.specs.Session.{Outcome, Delivered}
 use Rattle.rx_session.specs.Seen.{kept, answer_of as outcome_of}
 use Rattle.rx_table.specs.Keys.{KeyedFrame, same_kind}
 use Rattle.rx_table.specs.Admitted.{has, admitted, key_of}
-use Rattle.rx_table.specs.Ports.{Port, Entry, PortState, Answer, NoPort, NoSession, OfSession, Anonymous, ports_of, port_at, sources_of, IsPortList, is_admitted, TableStands, AnswerAt}
+use Rattle.rx_table.specs.Ports.{Port, Entry, PortState, Answer, NoPort, NoSession, OfSession, Anonymous, ports_of, port_at, IsPortList, is_admitted, TableStands, AnswerAt}
 use Rattle.rx_table.specs.Laws.{EachPort}
 use Rattle.rx_table.specs.declared.port.Port as code_port
 use Rattle.rx_table.specs.declared.fed.Fed as code_fed

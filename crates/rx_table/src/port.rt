@@ -6,7 +6,7 @@ ghost use Rattle.rx_session.specs.Seen.{record_of, step_answer};
 ghost use Rattle.rx_session.specs.declared.outcome.Step.TheVariants.{Delivered};
 ghost use Rattle.rx_table.specs.Keys.{same_kind};
 ghost use Rattle.rx_table.specs.Places.{step_nth, outcome_nth, buffer_nth, opened, opened_answer, fed_entries, fed_answer, Adds, met_answer};
-ghost use Rattle.rx_table.specs.Table.{entries_of, port_of, EntriesHeard, whole, answer_of};
+ghost use Rattle.rx_table.specs.Table.{entries_of, port_of, EntriesHeard, whole, answer_of, state_of, subscribed};
 
 use crate::fed::{Fed, PortMet};
 use can_id::Kind;
@@ -32,6 +32,21 @@ pub struct Port<S: Shape> {
 }
 
 impl<S: Shape> Port<S> {
+    /// A subscription that has no source yet.
+    pub fn new(alloc: Global, kind: Kind, port: u16, sources: u16, shape: S) -> Port<S>
+        ensures state { state_of S.extent result
+            ≡ subscribed (record { kind = kind; port = port; sources = sources; extent = S.extent shape }) }
+        ensures shape { result.shape ≡ shape }
+    {
+        Port {
+            kind,
+            port,
+            sources,
+            shape,
+            sessions: IndexMap::new(alloc),
+        }
+    }
+
     /// Whether it is the port of a kind with this number.
     pub fn is(&self, kind: Kind, port: u16) -> bool
         ensures { result ≡ (same_kind kind self.now.kind && (port == self.now.port)) }
@@ -66,10 +81,10 @@ impl<S: Shape> Port<S> {
         ensures { result ≡ take 128 (sources_of (entries_of self.now.sessions.entries)) }
     {
         let mut list = ShortList::new();
-        for source in self.sessions.keys() {
-            if list.len() < 128 {
-                list.push(*source);
-            }
+        let count = self.sessions.len().min(128);
+        for index in 0..count {
+            let (source, _) = self.sessions.get_index(index).unwrap();
+            list.push(*source);
         }
         list
     }

@@ -1,13 +1,14 @@
-ghost use Rattle.std.specs.Prelude.{◌&&◌, ◌==◌, ◌≡◌, ◌↔◌, ◌<◌, ◌≤◌, ◌^◌, ◌++◌, ◌∷◌, [], IfOk, OnErr, OnOk, length, List, ℕ, Err, None, ◌≢◌, option_map, map};
+ghost use Rattle.std.specs.Prelude.{◌&&◌, ◌==◌, ◌≡◌, ◌↔◌, ◌<◌, ◌≤◌, ◌^◌, ◌++◌, ◌∷◌, [], IfOk, OnErr, OnOk, length, List, ℕ, Err, None, ◌≢◌, option_map, map, min, ◌-◌};
 ghost use Rattle.std.specs.Borrow.{sem};
 ghost use Rattle.std.specs.Io.BufRead.{Rests};
 ghost use Rattle.std.specs.List.{position};
 ghost use Rattle.tail_frame.specs.Frames.{seen};
+ghost use Rattle.rx_session.specs.Seen.{record_of};
 ghost use Rattle.rx_table.specs.Keys.{KeyedFrame, same_kind};
 ghost use Rattle.std.specs.Option.{option_copied};
 ghost use Rattle.rx_table.specs.Ports.{ports_of, port_at, held, bound};
 ghost use Rattle.rx_table.specs.After.{Keeps};
-ghost use Rattle.rx_table.specs.Places.{table_answer};
+ghost use Rattle.rx_table.specs.Places.{table_answer, feed_nth, answer_nth, AddsNth, counted};
 ghost use Rattle.rx_table.specs.Table.{states, StandsFor, HeardBy, logged, answer_of, Told, Opens, shape_at, admitted_on, subscribed};
 ghost use Rattle.rx_table.specs.declared.fed.SubscribeError.TheVariants.{Taken};
 ghost use Rattle.rx_table.specs.contracts.table.Table.{the_row};
@@ -16,7 +17,6 @@ use crate::fed::{Fed, Met, SubscribeError};
 use crate::port::Port;
 use can_id::Kind;
 use cy_bits::{NoMemory, ShortList};
-use indexmap::IndexMap;
 use rx_session::Shape;
 use std::alloc::Global;
 use tail_frame::Frame;
@@ -77,17 +77,22 @@ impl<S: Shape> Table<S> {
         if self.find(kind, port).is_some() {
             return Err(SubscribeError::Taken);
         }
-        let subscription = Port {
-            kind,
-            port,
-            sources,
-            shape,
-            sessions: IndexMap::new(self.alloc),
-        };
-        match self.ports.push(subscription) {
+        match self.append(Port::new(self.alloc, kind, port, sources, shape)) {
             Ok(()) => Ok(()),
             Err(_) => Err(SubscribeError::NoMemory),
         }
+    }
+
+    /// Puts a subscription behind the others.
+    fn append(&mut self, port: Port<S>) -> Result<(), NoMemory>
+    where
+        S: Drop,
+        ensures timeout { self.new.timeout ≡ self.old.timeout }
+        ensures ok { OnOk result (self.new.ports.items ≡ self.old.ports.items ++ port ∷ []) }
+        ensures err { OnErr result (self.new.ports.items ≡ self.old.ports.items) }
+    {
+        self.ports.push(port)?;
+        Ok(())
     }
 
     /// Takes a frame, at a moment in microseconds not before that of any frame taken earlier.
@@ -109,8 +114,10 @@ impl<S: Shape> Table<S> {
         ensures memory { (log : List KeyedFrame) → StandsFor self.old.timeout log (states S.extent self.old.ports.items)
             → OnErr result (Opens (ports_of (states S.extent self.old.ports.items)) (seen frame.now) log) }
     {
-        let met = self.step(frame)?;
-        Ok(self.lend(met, frame))
+        match self.step(frame) {
+            Ok(met) => Ok(self.lend(met, frame)),
+            Err(refused) => Err(refused),
+        }
     }
 
     /// What `feed` does, without borrowing a payload: `lend` tells it, with the same frame.
@@ -139,10 +146,21 @@ impl<S: Shape> Table<S> {
 
     /// A frame of a source, on the port at a place.
     fn step_at(&mut self, place: usize, source: u8, frame: &Frame) -> Result<Met, NoMemory>
-        requires { place < length self.old.ports.items }
+        requires within { place < length self.old.ports.items }
+        requires heard { HeardBy frame.now.moment (states S.extent self.old.ports.items) }
+        ensures keeps { Keeps S.extent self.old self.new }
+        ensures states { OnOk result (states S.extent self.new.ports.items
+            ≡ feed_nth self.old.timeout (states S.extent self.old.ports.items) place source (record_of frame.now)) }
+        ensures answer { IfOk result (λ met. table_answer (states S.extent self.new.ports.items) frame.now.body.now met
+            ≡ answer_nth self.old.timeout (states S.extent self.old.ports.items) place source (record_of frame.now)) }
+        ensures err { OnErr result (states S.extent self.new.ports.items ≡ states S.extent self.old.ports.items) }
+        ensures memory { OnErr result (AddsNth (states S.extent self.old.ports.items) place source (record_of frame.now)) }
     {
-        let met = self.ports[place].meet(self.alloc, source, frame, self.timeout)?;
-        Ok(Met::Port { place, met })
+        let port = &mut self.ports[place];
+        match port.meet(self.alloc, source, frame, self.timeout) {
+            Ok(met) => Ok(Met::Port { place, met }),
+            Err(refused) => Err(refused),
+        }
     }
 
     /// What a frame came to, with the payload lent from the frame or from a session's buffer.
@@ -152,10 +170,13 @@ impl<S: Shape> Table<S> {
         match met {
             Met::NoPort => Fed::NoPort,
             Met::Anonymous(front) => Fed::Anonymous(front.lend(frame.body)),
-            Met::Port { place, met } => match self.ports.get(place) {
-                Some(port) => port.lend(met),
-                None => Fed::NoPort,
-            },
+            Met::Port { place, met } => {
+                if place < self.ports.len() {
+                    self.ports[place].lend(met)
+                } else {
+                    Fed::NoPort
+                }
+            }
         }
     }
 
@@ -166,19 +187,17 @@ impl<S: Shape> Table<S> {
         ensures bound { (log : List KeyedFrame) → StandsFor self.now.timeout log (states S.extent self.now.ports.items)
             → result ≤ bound (ports_of (states S.extent self.now.ports.items)) }
     {
-        let mut sum: u64 = 0;
-        for port in &self.ports {
-            sum = sum.saturating_add(port.held());
-        }
-        sum
+        held_by(self.ports.as_slice())
     }
 
     /// The shape of a subscription, or `None` where that kind and port isn't subscribed.
     pub fn shape(&self, kind: Kind, port: u16) -> Option<&S>
         ensures { option_copied result ≡ shape_at kind port self.now.ports.items }
     {
-        let place = self.find(kind, port)?;
-        Some(&self.ports[place].shape)
+        match self.find(kind, port) {
+            Some(place) => Some(&self.ports[place].shape),
+            None => None,
+        }
     }
 
     /// The sources of a subscription that have a session, in the order of their first start frames. None
@@ -199,4 +218,15 @@ impl<S: Shape> Table<S> {
     {
         self.ports.iter().position(|p| p.is(kind, port))
     }
+}
+
+/// The bytes of these subscriptions' buffers, or 2^64 - 1 where they are more.
+fn held_by<S: Shape>(ports: &[Port<S>]) -> u64
+    ensures { result ≡ min (counted (states S.extent ports.now)) (2 ^ 64 - 1) }
+{
+    let mut sum: u64 = 0;
+    for port in ports {
+        sum = sum.saturating_add(port.held());
+    }
+    sum
 }

@@ -1,0 +1,23 @@
+-- Facts of a result that may be an error.
+use Rattle.std.proofs.Common.{OnOk, OnErr, IfOk}
+use Rattle.std.specs.Prelude.{Result, Ok, Err}
+
+pub on_err_both : {A E P Q R : Type 0} (r : Result A E) → OnErr r P → OnErr r Q → (P → Q → R) → OnErr r R
+on_err_both (Ok a) p q f = tt
+on_err_both (Err e) p q f = f p q
+
+pub on_err_then : {A E P Q : Type 0} (r : Result A E) → OnErr r P → (P → Q) → OnErr r Q
+on_err_then (Ok a) p f = tt
+on_err_then (Err e) p f = f p
+
+pub on_ok_then : {A E P Q : Type 0} (r : Result A E) → OnOk r P → (P → Q) → OnOk r Q
+on_ok_then (Ok a) p f = f p
+on_ok_then (Err e) p f = tt
+
+pub if_ok_then : {A E : Type 0} {P Q : A → Type 0} (r : Result A E) → IfOk r P → ((a : A) → P a → Q a) → IfOk r Q
+if_ok_then (Ok a) p f = f a p
+if_ok_then (Err e) p f = tt
+
+pub in_both : {A E P Q R : Type 0} (r : Result A E) → OnOk r P → OnErr r Q → (P → R) → (Q → R) → R
+in_both (Ok a) p q f g = f p
+in_both (Err e) p q f g = g q

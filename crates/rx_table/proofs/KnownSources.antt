@@ -1,0 +1,87 @@
+-- A source by its place among a port's sources.
+use Rattle.std.proofs.Common.{◌≡◌, ◌∙◌, ℕ, List, [], ◌∷◌, ◌||◌, Bool, true, false, eqb, Some, None, refl, sym, ap, map, position, nat_eq}
+use Rattle.std.specs.List.{IsDistinct, AllByRecursion}
+use Rattle.std.proofs.lemmas.Bool.{eqb-true, eq-eqb, eqb-false, ne_eqb, cond-true, cond-false, or_left, or_right}
+use Rattle.tail_frame.specs.Chains.{KeyRecord}
+use Rattle.transfer_crc.specs.Crc.{crc_more}
+use Rattle.rx_session.specs.declared.session.Session.{Session}
+use Rattle.rx_session.specs.Session.{accept}
+use Rattle.rx_table.specs.Admitted.{has}
+use Rattle.rx_table.specs.Ports.{Entry, sources_of, accept_at, outcome_at}
+use Rattle.rx_table.specs.Places.{step_nth, outcome_nth}
+use Rattle.rx_table.specs.Table.{entries_of}
+use Rattle.rx_table.proofs.Positions.{position-further, position-here, position-lowered, position-none_below}
+
+pub sources-keys : {S : Type 0} (es : List (ℕ × Session S)) → map (λ e. e.0) es ≡ sources_of (entries_of es)
+sources-keys [] = refl
+sources-keys (e ∷ es) = ap (λ ss. e.0 ∷ ss) (sources-keys es)
+
+swapped : (a b : ℕ) (v : Bool) → eqb a b ≡ v → eqb b a ≡ v
+swapped a b true e = eq-eqb b a (sym (eqb-true a b e))
+swapped a b false e = ne_eqb b a (λ h. eqb-false a b e (sym h))
+
+pub known-has : (source i : ℕ) (es : List Entry) → position (nat_eq source) (sources_of es) ≡ Some i → has source (sources_of es) ≡ true
+known-has source i [] h = absurd cc
+known-has source i (e ∷ es) h = go (λ j k. known-has source j es k) (nat_eq source e.source) refl
+  where
+    go : ((j : ℕ) → position (nat_eq source) (sources_of es) ≡ Some j → has source (sources_of es) ≡ true) → (b : Bool) → nat_eq source e.source ≡ b → has source (sources_of (e ∷ es)) ≡ true
+    go more true t = or_left (eqb e.source source) (has source (sources_of es)) (swapped source e.source true t)
+    go more false t =
+        let k = position-lowered (position (nat_eq source) (sources_of es)) i (sym (position-further (nat_eq source) e.source (sources_of es) t) ∙ h) in
+        or_right (eqb e.source source) (has source (sources_of es)) (more k.0 k.1)
+
+pub unknown-has : (source : ℕ) (es : List Entry) → position (nat_eq source) (sources_of es) ≡ None → has source (sources_of es) ≡ false
+unknown-has source [] h = refl
+unknown-has source (e ∷ es) h = go (λ k. unknown-has source es k) (nat_eq source e.source) refl
+  where
+    go : (position (nat_eq source) (sources_of es) ≡ None → has source (sources_of es) ≡ false) → (b : Bool) → nat_eq source e.source ≡ b → has source (sources_of (e ∷ es)) ≡ false
+    go more true t = absurd (let k : Some 0 ≡ None = sym (position-here (nat_eq source) e.source (sources_of es) t) ∙ h in cc)
+    go more false t =
+        let rest = more (position-none_below _ (sym (position-further (nat_eq source) e.source (sources_of es) t) ∙ h)) in
+        ap (λ b. b || has source (sources_of es)) (swapped source e.source false t) ∙ rest
+
+module _ (timeout source : ℕ) (r : KeyRecord) where
+  abbrev fed_at : List Entry → List Entry
+  fed_at es = accept_at crc_more 0xFFFF timeout source r es
+
+  abbrev fed : Entry → Entry
+  fed e = record { source = e.source; session = (accept crc_more 0xFFFF timeout e.session r).0 }
+
+  -- no session of another source steps
+  others : (x : ℕ) (es : List Entry) → x ≡ source → AllByRecursion (λ y. nat_eq x y ≡ false) (sources_of es) → fed_at es ≡ es
+  others x [] s h = refl
+  others x (e ∷ es) s h =
+      let no : eqb e.source source ≡ false = swapped source e.source false (ap (λ n. nat_eq n e.source) (sym s) ∙ h.0) in
+      ap (λ (d : Entry). d ∷ fed_at es) (cond-false (eqb e.source source) (fed e) e no) ∙ ap (λ (t : List Entry). e ∷ t) (others x es s h.1)
+
+  pub known-entries : (i : ℕ) (es : List Entry) → IsDistinct nat_eq (sources_of es) → position (nat_eq source) (sources_of es) ≡ Some i → step_nth timeout es i r ≡ fed_at es
+  unfolding IsDistinct
+  known-entries i [] u h = absurd cc
+  known-entries i (e ∷ es) u h = go (λ j k. known-entries j es u.1 k) (nat_eq source e.source) refl
+    where
+      go : ((j : ℕ) → position (nat_eq source) (sources_of es) ≡ Some j → step_nth timeout es j r ≡ fed_at es) → (b : Bool) → nat_eq source e.source ≡ b → step_nth timeout (e ∷ es) i r ≡ fed_at (e ∷ es)
+      go more true t =
+          let at : i ≡ 0 = let k : Some 0 ≡ Some i = sym (position-here (nat_eq source) e.source (sources_of es) t) ∙ h in cc in
+          ap (λ n. step_nth timeout (e ∷ es) n r) at
+          ∙ (ap (λ (t : List Entry). fed e ∷ t) (sym (others e.source es (sym (eqb-true source e.source t)) u.0))
+          ∙ ap (λ (d : Entry). d ∷ fed_at es) (sym (cond-true (eqb e.source source) (fed e) e (swapped source e.source true t))))
+      go more false t =
+          let k = position-lowered (position (nat_eq source) (sources_of es)) i (sym (position-further (nat_eq source) e.source (sources_of es) t) ∙ h) in
+          ap (λ n. step_nth timeout (e ∷ es) n r) k.2
+          ∙ (ap (λ (t : List Entry). e ∷ t) (more k.0 k.1)
+          ∙ ap (λ (d : Entry). d ∷ fed_at es) (sym (cond-false (eqb e.source source) (fed e) e (swapped source e.source false t))))
+
+  pub known-outcome : (i : ℕ) (es : List Entry) → position (nat_eq source) (sources_of es) ≡ Some i → outcome_nth timeout es i r ≡ outcome_at crc_more 0xFFFF timeout source r es
+  known-outcome i [] h = absurd cc
+  known-outcome i (e ∷ es) h = go (λ j k. known-outcome j es k) (nat_eq source e.source) refl
+    where
+      go : ((j : ℕ) → position (nat_eq source) (sources_of es) ≡ Some j → outcome_nth timeout es j r ≡ outcome_at crc_more 0xFFFF timeout source r es) → (b : Bool) → nat_eq source e.source ≡ b → outcome_nth timeout (e ∷ es) i r ≡ outcome_at crc_more 0xFFFF timeout source r (e ∷ es)
+      go more true t =
+          let at : i ≡ 0 = let k : Some 0 ≡ Some i = sym (position-here (nat_eq source) e.source (sources_of es) t) ∙ h in cc in
+          ap (λ n. outcome_nth timeout (e ∷ es) n r) at
+          ∙ sym (cond-true (eqb e.source source) (accept crc_more 0xFFFF timeout e.session r).1 (outcome_at crc_more 0xFFFF timeout source r es) (swapped source e.source true t))
+      go more false t =
+          let k = position-lowered (position (nat_eq source) (sources_of es)) i (sym (position-further (nat_eq source) e.source (sources_of es) t) ∙ h) in
+          ap (λ n. outcome_nth timeout (e ∷ es) n r) k.2
+          ∙ (more k.0 k.1
+          ∙ sym (cond-false (eqb e.source source) (accept crc_more 0xFFFF timeout e.session r).1 (outcome_at crc_more 0xFFFF timeout source r es) (swapped source e.source false t)))
