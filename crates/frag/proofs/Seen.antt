@@ -162,7 +162,7 @@ record_place rec r a =
     let place = place_of rec (ident_of rec.ident) (last_byte rec.bytes) a.frame a.is_frame in
     (ap (λ (q : KeyRecord). q.bus) a.taken_apart ∙ place.0, ap (λ (q : KeyRecord). q.moment) a.taken_apart ∙ place.1)
 
-same_length : (recs : List Record) (records : List KeyRecord) → AreRecordsOf recs records → length recs ≡ length records
+pub same_length : (recs : List Record) (records : List KeyRecord) → AreRecordsOf recs records → length recs ≡ length records
 same_length [] [] a = refl
 same_length [] (r ∷ records) a = absurd a
 same_length (rec ∷ recs) [] a = absurd a

@@ -3,11 +3,16 @@
 use Rattle.std.proofs.Common.{◌≡◌, ℕ, zero, suc, le_refl, zero-le, ◌≤◌, ◌<◌, true, false, Some, None, List, [], ◌∷◌, ◌++◌, refl, sym, ap, ◌∙◌, subst, inl, inr, arith}
 use Rattle.std.proofs.lemmas.Bool.{and_parts, both_ways}
 use Rattle.can_id.specs.declared.key.Kind.TheVariants.{Message}
+use Rattle.can_id.specs.declared.ident.Ident.{Ident}
+use Rattle.can_id.specs.declared.ident.Ident.TheVariants.{Message as Of}
+use Rattle.tail_frame.specs.declared.logged.Record.{Record}
+use Rattle.frag.specs.Raw.{WireExplained}
+use Rattle.once.specs.Raw.{WireExample}
 use Rattle.tail_frame.specs.Chains.{KeyRecord, follows, tip, chain_bytes, closes_at}
 use Rattle.frag.specs.Sent.{without_crc}
 use Rattle.rx_table.specs.Keys.{SessionKey, KeyedFrame, IsLog}
 use Rattle.frag.specs.Wire.{IsFrameSize, fitting, last_size, padding}
-use Rattle.frag.specs.Sent.{Pair, size_on, transfer_at, IsSentList, Explained, NoChanceAt, NoChance}
+use Rattle.frag.specs.Sent.{IsIdentOf, Pair, size_on, transfer_at, IsSentList, Explained, NoChanceAt, NoChance}
 use Rattle.frag.specs.declared.sent.Sent.{Sent}
 use Rattle.frag.specs.declared.sent.Transfer.{Transfer}
 use Rattle.once.specs.Due.{Due, Names, SomeFromTo}
@@ -151,4 +156,57 @@ example = record {
   is_log = is_log;
   explains = record { sent_list = sent_list; of_key = refl; one_each = refl; explained = explained; no_chance = no_chance };
   is_due = record { j = 0; p = r1; older = []; past = r2 ∷ r1 ∷ []; newer = []; split = refl; due = due };
+}
+
+-- the same log as it is received
+
+abbrev raw1 : Record
+raw1 = record { line = 1; moment = 1000000; bus = 0; ident = 0x10606401; bytes = 0 ∷ 1 ∷ 2 ∷ 3 ∷ 4 ∷ 5 ∷ 6 ∷ 0xA0 ∷ [] }
+
+abbrev raw2 : Record
+raw2 = record { line = 2; moment = 1000050; bus = 1; ident = 0x10606401; bytes = 0 ∷ 1 ∷ 2 ∷ 3 ∷ 4 ∷ 5 ∷ 6 ∷ 7 ∷ 0 ∷ 0 ∷ 0 ∷ 0xE0 ∷ [] }
+
+abbrev raw3 : Record
+raw3 = record { line = 3; moment = 1000100; bus = 0; ident = 0x10606401; bytes = 7 ∷ 0x17 ∷ 0x8D ∷ 0x40 ∷ [] }
+
+abbrev past : List Record
+past = raw3 ∷ raw2 ∷ raw1 ∷ []
+
+abbrev message : Ident
+message = Of 4 100 1
+
+ident_is : IsIdentOf sent.key x0 message
+ident_is = record { ranges = (omega arith, omega arith, omega arith); has_key = refl; has_priority = refl; has_destination = refl }
+
+wire_explained : WireExplained 2000000 sent (pair_at origin) past
+unfolding padding last_size fitting
+wire_explained = (
+  record {
+    is_sent = record { known = omega arith; frame = record { within = le_refl 1; ident = message; ident_of = ident_is; identifier = refl; bytes = refl }; since = omega arith; until = omega arith };
+    in_order = (λ e. absurd (omega arith), (λ _. inr (refl, omega arith), tt));
+  },
+  (
+    record {
+      is_sent = record { known = omega arith; frame = record { within = zero-le; ident = message; ident_of = ident_is; identifier = refl; bytes = refl }; since = omega arith; until = omega arith };
+      in_order = (λ e. absurd (omega arith), tt);
+    },
+    (
+      record {
+        is_sent = record { known = omega arith; frame = record { within = zero-le; ident = message; ident_of = ident_is; identifier = refl; bytes = refl }; since = omega arith; until = omega arith };
+        in_order = tt;
+      },
+      tt,
+    ),
+  ),
+)
+
+pub wire_example : WireExample
+wire_example = record {
+  timeout = 2000000;
+  sent = sent;
+  key = key;
+  origin = origin;
+  past = past;
+  explains = record { sent_list = sent_list; of_key = refl; one_each = refl; explained = wire_explained; no_chance = no_chance };
+  some_log = λ e. cc;
 }

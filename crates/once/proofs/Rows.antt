@@ -1,4 +1,4 @@
--- Worked logs, by computing
+-- Worked logs: the lines on which deliveries end, by computing
 use Rattle.std.proofs.Common.{◌≡◌, ℕ, Bool, true, false, List, [], ◌∷◌, map, refl}
 use Rattle.tail_frame.specs.Chains.{KeyRecord}
 use Rattle.rx_table.specs.Received.{Delivery, received}
@@ -13,20 +13,20 @@ one line moment bus tid = rec line moment bus true true true tid (line ∷ [])
 abbrev lasts : List KeyRecord → List ℕ
 lasts h = map (λ (d : Delivery). d.last.line) (received crc_of 2000000 h).delivered
 
-row10 : lasts (one 4 2000002 0 3 ∷ one 3 2000001 1 2 ∷ one 2 2000000 1 1 ∷ one 1 0 0 0 ∷ []) ≡ 3 ∷ 1 ∷ []
-row10 = refl
+hands_over_after_silence : lasts (one 4 2000002 0 3 ∷ one 3 2000001 1 2 ∷ one 2 2000000 1 1 ∷ one 1 0 0 0 ∷ []) ≡ 3 ∷ 1 ∷ []
+hands_over_after_silence = refl
 
-row11 : lasts (one 3 4000001 0 0 ∷ one 2 2000000 0 0 ∷ one 1 0 0 0 ∷ []) ≡ 3 ∷ 1 ∷ []
-row11 = refl
+equal_id_after_silence : lasts (one 3 4000001 0 0 ∷ one 2 2000000 0 0 ∷ one 1 0 0 0 ∷ []) ≡ 3 ∷ 1 ∷ []
+equal_id_after_silence = refl
 
-row10_1 : lasts (one 4 700000 1 1 ∷ one 3 600000 1 0 ∷ one 2 500000 0 1 ∷ one 1 0 0 0 ∷ []) ≡ 2 ∷ 1 ∷ []
-row10_1 = refl
+another_bus_repeats : lasts (one 4 700000 1 1 ∷ one 3 600000 1 0 ∷ one 2 500000 0 1 ∷ one 1 0 0 0 ∷ []) ≡ 2 ∷ 1 ∷ []
+another_bus_repeats = refl
 
-row3 : lasts (one 3 1100 1 0 ∷ one 2 100 0 0 ∷ one 1 0 0 0 ∷ []) ≡ 1 ∷ []
-row3 = refl
+copies_are_delivered_once : lasts (one 3 1100 1 0 ∷ one 2 100 0 0 ∷ one 1 0 0 0 ∷ []) ≡ 1 ∷ []
+copies_are_delivered_once = refl
 
-row5 : map (λ (d : Delivery). d.content) (received crc_of 2000000 (rec 2 1000100 0 false true false 0 (7 ∷ 0x17 ∷ 0x8D ∷ []) ∷ rec 1 1000000 0 true false true 0 (0 ∷ 1 ∷ 2 ∷ 3 ∷ 4 ∷ 5 ∷ 6 ∷ []) ∷ [])).delivered ≡ (0 ∷ 1 ∷ 2 ∷ 3 ∷ 4 ∷ 5 ∷ 6 ∷ 7 ∷ []) ∷ []
-row5 = refl
+two_frames : map (λ (d : Delivery). d.content) (received crc_of 2000000 (rec 2 1000100 0 false true false 0 (7 ∷ 0x17 ∷ 0x8D ∷ []) ∷ rec 1 1000000 0 true false true 0 (0 ∷ 1 ∷ 2 ∷ 3 ∷ 4 ∷ 5 ∷ 6 ∷ []) ∷ [])).delivered ≡ (0 ∷ 1 ∷ 2 ∷ 3 ∷ 4 ∷ 5 ∷ 6 ∷ 7 ∷ []) ∷ []
+two_frames = refl
 
-check : crc_of (0x31 ∷ 0x32 ∷ 0x33 ∷ 0x34 ∷ 0x35 ∷ 0x36 ∷ 0x37 ∷ 0x38 ∷ 0x39 ∷ []) ≡ 0x29B1
-check = refl
+check_value : crc_of (0x31 ∷ 0x32 ∷ 0x33 ∷ 0x34 ∷ 0x35 ∷ 0x36 ∷ 0x37 ∷ 0x38 ∷ 0x39 ∷ []) ≡ 0x29B1
+check_value = refl

@@ -1,3 +1,4 @@
 pub mod Due
+pub mod Raw
 pub mod Report
 pub mod Selected

@@ -4,6 +4,7 @@
 
 ghost use Rattle.once.specs.Selected.{Once};
 ghost use Rattle.once.specs.Due.{DueIsDelivered};
+ghost use Rattle.once.specs.Raw.{WireExplainsFields, WireExample};
 ghost use Rattle.once.specs.Report.{OnceInReport, OnceInPart, DueInReport, Example};
 
 /// Each delivery is a sent transfer, and these come in the order of the sent list, each at most once.
@@ -31,7 +32,17 @@ pub fn due_in_report()
     ensures { DueInReport }
 {}
 
+/// A sent list that explains a key's records by identifier and data explains them by their fields.
+pub fn wire_explains_fields()
+    ensures { WireExplainsFields }
+{}
+
 /// The premises of these laws can be met.
 pub fn example()
     ensures { Example }
+{}
+
+/// They can be met by identifiers and data too.
+pub fn wire_example()
+    ensures { WireExample }
 {}
