@@ -9,3 +9,6 @@ pub mod text;
 pub use line::{Line, Reading, Refused, Rx};
 pub use numbers::Numbers;
 pub use text::{push_end, push_text};
+
+#[cfg(test)]
+mod tests;
