@@ -24,8 +24,9 @@ use Rattle.rx_table.specs.Steps.{add, delivery_at}
 use Rattle.node_plan.specs.declared.plan.Plan.{Plan}
 use Rattle.node_core.specs.declared.line.Line.{Line}
 use Rattle.node_core.specs.declared.line.Line.TheVariants.{Rx, NoSession}
-use Rattle.node_core.specs.Heard.{ports_of, is_for, frame_for, keyed, keyed_in, onto, frames}
-use Rattle.node_core.specs.Steps.{of_delivery, anonymous_line, refused_line, of_session, of_source, on_port, port_of, of_frame, got, Step, Heard, records, lines}
+use Rattle.rx_table.specs.Table.{keyed, log_with, port_on}
+use Rattle.node_core.specs.Heard.{ports_of, frame_for, with_frame, frames}
+use Rattle.node_core.specs.Steps.{of_delivery, anonymous_line, refused_line, of_session, of_source, on_port, of_frame, got, Step, Heard, records, lines}
 use Rattle.node_core.specs.Reported.{RxOf, rx_of, reported, is_source, is_key, of_line, rxs, of_key, has_session, IsSession, Reported}
 
 -- one more source, another one
@@ -239,25 +240,25 @@ module _ (step : DeliveredStep) (quiet : Quiet) (plan : Plan) (p : Port) (source
 
   session_step : (f : FrameOf) (k : KeyedFrame) (log : List KeyedFrame) (l : List RxOf) → keyed f ≡ Some k
       → key_of_ident f.ident ≡ record { kind = k.key.kind; port = k.key.port; source = Some k.key.source }
-      → l ≡ seen log → l ++ rxs me (on_port plan.timeout f log (port_of plan f)) ≡ seen (onto (keyed f) log)
+      → l ≡ seen log → l ++ rxs me (on_port plan.timeout f log (port_on (ports_of plan) f)) ≡ seen (log_with (keyed f) log)
   session_step f k log l e is h =
-      let at : port_of plan f ≡ port_at k.key.kind k.key.port (ports_of plan) = ap (λ (t : Key). port_at t.kind t.port (ports_of plan)) is in
+      let at : port_on (ports_of plan) f ≡ port_at k.key.kind k.key.port (ports_of plan) = ap (λ (t : Key). port_at t.kind t.port (ports_of plan)) is in
       ap (λ (o : Option Port). l ++ rxs me (on_port plan.timeout f log o)) at
       ∙ (ap (λ (ls : List Line). l ++ rxs me ls) (over_port plan.timeout f k log (port_at k.key.kind k.key.port (ports_of plan)) e)
-      ∙ (keyed_step (key_of_ident f.ident) k log l is h ∙ ap (λ (o : Option KeyedFrame). seen (onto o log)) (sym e)))
+      ∙ (keyed_step (key_of_ident f.ident) k log l is h ∙ ap (λ (o : Option KeyedFrame). seen (log_with o log)) (sym e)))
 
   ident_step : (ident : Ident) (line moment bus : ℕ) (tail : Tail) (body : List ℕ) (log : List KeyedFrame) (l : List RxOf) → l ≡ seen log
       → let f : FrameOf = record { line = line; moment = moment; bus = bus; ident = ident; tail = tail; body = body } in
-      l ++ rxs me (on_port plan.timeout f log (port_of plan f)) ≡ seen (onto (keyed f) log)
+      l ++ rxs me (on_port plan.timeout f log (port_on (ports_of plan) f)) ≡ seen (log_with (keyed f) log)
   ident_step (Message priority subject s) line moment bus tail body log l h =
       session_step (record { line = line; moment = moment; bus = bus; ident = Message priority subject s; tail = tail; body = body }) _ log l refl refl h
   ident_step (Anonymous priority subject pseudo) line moment bus tail body log l h =
       let f : FrameOf = record { line = line; moment = moment; bus = bus; ident = Anonymous priority subject pseudo; tail = tail; body = body } in
-      ap (λ t. l ++ t) (anonymous plan.timeout me f log (port_of plan f) refl (and_no (same_kind kind.Message p.kind) (eqb subject p.port))) ∙ (append-nil l ∙ h)
+      ap (λ t. l ++ t) (anonymous plan.timeout me f log (port_on (ports_of plan) f) refl (and_no (same_kind kind.Message p.kind) (eqb subject p.port))) ∙ (append-nil l ∙ h)
   ident_step (Service priority is_request service destination s) line moment bus tail body log l h =
       session_step (record { line = line; moment = moment; bus = bus; ident = Service priority is_request service destination s; tail = tail; body = body }) _ log l refl refl h
 
-  frame_step : (o : Option FrameOf) (log : List KeyedFrame) (l : List RxOf) → l ≡ seen log → l ++ rxs me (of_frame plan log o) ≡ seen (onto (keyed_in o) log)
+  frame_step : (o : Option FrameOf) (log : List KeyedFrame) (l : List RxOf) → l ≡ seen log → l ++ rxs me (of_frame plan log o) ≡ seen (with_frame o log)
   frame_step None log l h = append-nil l ∙ h
   frame_step (Some f) log l h = ident_step f.ident f.line f.moment f.bus f.tail f.body log l h
 

@@ -1,14 +1,13 @@
 -- The ports of a node, and the frames that it hears.
 use Rattle.std.specs.Prelude.{ℕ, Bool, true, not, ◌&&◌, ◌==◌, if◌then◌else◌, List, [], ◌∷◌, map, Option, Some, None}
-use Rattle.can_id.specs.Identifiers.{key_of}
 use Rattle.can_id.specs.declared.ident.Ident.{Ident}
 use Rattle.can_id.specs.declared.ident.Ident.TheVariants.{Message, Anonymous, Service}
-use Rattle.can_id.specs.declared.key.Key.{Key}
 use Rattle.can_id.specs.declared.key.Kind.TheVariants.{Message as message}
-use Rattle.tail_frame.specs.Frames.{FrameOf, frame_of, key_record}
+use Rattle.tail_frame.specs.Frames.{FrameOf, frame_of}
 use Rattle.tail_frame.specs.declared.logged.Record.{Record}
 use Rattle.rx_table.specs.Keys.{KeyedFrame}
 use Rattle.rx_table.specs.Ports.{Port}
+use Rattle.rx_table.specs.Table.{logged}
 use Rattle.node_plan.specs.Bound.{extent_of}
 use Rattle.node_plan.specs.declared.plan.Plan.{Plan}
 use Rattle.node_plan.specs.declared.plan.Sub.{Sub}
@@ -34,23 +33,12 @@ if_for node (Some f) = if is_for node f.ident then Some f else None
 abbrev pub frame_for : ℕ → Record → Option FrameOf
 frame_for node rec = if_for node (frame_of rec)
 
-abbrev pub keyed_by : Key → Option ℕ → FrameOf → Option KeyedFrame
-keyed_by key None f = None
-keyed_by key (Some source) f = Some (record { key = record { kind = key.kind; port = key.port; source = source }; rec = key_record f })
-
--- a frame with the key of its session, where it has a source
-abbrev pub keyed : FrameOf → Option KeyedFrame
-keyed f = keyed_by (key_of f.ident) (key_of f.ident).source f
-
-abbrev pub keyed_in : Option FrameOf → Option KeyedFrame
-keyed_in None = None
-keyed_in (Some f) = keyed f
-
-abbrev pub onto : Option KeyedFrame → List KeyedFrame → List KeyedFrame
-onto None log = log
-onto (Some f) log = f ∷ log
+-- a log with a frame in front, if there is one
+abbrev pub with_frame : Option FrameOf → List KeyedFrame → List KeyedFrame
+with_frame None log = log
+with_frame (Some f) log = logged f log
 
 -- the frames for the node that belong to sessions, of records with the newest first
 abbrev pub frames : ℕ → List Record → List KeyedFrame
 frames node [] = []
-frames node (rec ∷ past) = onto (keyed_in (frame_for node rec)) (frames node past)
+frames node (rec ∷ past) = with_frame (frame_for node rec) (frames node past)

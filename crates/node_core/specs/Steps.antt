@@ -7,12 +7,13 @@ use Rattle.tail_frame.specs.Frames.{FrameOf}
 use Rattle.tail_frame.specs.declared.logged.Record.{Record}
 use Rattle.transfer_crc.specs.Crc.{crc_of}
 use Rattle.rx_table.specs.Keys.{KeyedFrame, history}
-use Rattle.rx_table.specs.Ports.{Port, port_at, is_admitted, held}
+use Rattle.rx_table.specs.Ports.{Port, is_admitted, held}
 use Rattle.rx_table.specs.Received.{Delivery}
 use Rattle.rx_table.specs.Steps.{delivery_at, is_bad}
+use Rattle.rx_table.specs.Table.{keyed, port_on}
 use Rattle.node_plan.specs.Bound.{bound_of}
 use Rattle.node_plan.specs.declared.plan.Plan.{Plan}
-use Rattle.node_core.specs.Heard.{ports_of, frame_for, keyed, frames}
+use Rattle.node_core.specs.Heard.{ports_of, frame_for, frames}
 use Rattle.node_core.specs.declared.line.Line.{Line}
 use Rattle.node_core.specs.declared.line.Line.TheVariants.{Rx, NoSession}
 use Rattle.node_core.specs.declared.line.Reading.TheVariants.{Raw}
@@ -70,13 +71,9 @@ abbrev pub on_port : ℕ → FrameOf → List KeyedFrame → Option Port → Lis
 on_port timeout f log None = []
 on_port timeout f log (Some p) = of_source timeout p f log (keyed f)
 
--- the port of a plan that a frame is on
-abbrev pub port_of : Plan → FrameOf → Option Port
-port_of plan f = port_at (key_of f.ident).kind (key_of f.ident).port (ports_of plan)
-
 abbrev pub of_frame : Plan → List KeyedFrame → Option FrameOf → List Line
 of_frame plan log None = []
-of_frame plan log (Some f) = on_port plan.timeout f log (port_of plan f)
+of_frame plan log (Some f) = on_port plan.timeout f log (port_on (ports_of plan) f)
 
 -- the lines on what a record gives, where these came before it, the newest first
 abbrev pub got : Plan → Record → List Record → List Line
@@ -92,7 +89,7 @@ bad_on_port timeout f log (Some p) = bad_of_source timeout p log (keyed f)
 
 abbrev pub bad_of_frame : Plan → List KeyedFrame → Option FrameOf → Bool
 bad_of_frame plan log None = false
-bad_of_frame plan log (Some f) = bad_on_port plan.timeout f log (port_of plan f)
+bad_of_frame plan log (Some f) = bad_on_port plan.timeout f log (port_on (ports_of plan) f)
 
 -- whether a record ends a transfer whose bytes don't fit their CRC
 abbrev pub is_bad_at : Plan → Record → List Record → Bool

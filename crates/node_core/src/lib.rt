@@ -1,13 +1,19 @@
 //! The node: what one record gives, line by line, and the text of these lines.
 #![tactic(auto)]
 
+mod fed;
+mod heard;
 pub mod laws;
 pub mod line;
+pub mod node;
 pub mod numbers;
+pub mod port_shape;
 pub mod text;
 
 pub use line::{Line, Reading, Refused, Rx};
+pub use node::Node;
 pub use numbers::Numbers;
+pub use port_shape::PortShape;
 pub use text::{push_end, push_text};
 
 #[cfg(test)]
