@@ -4,5 +4,6 @@ pub mod Reported
 pub mod Shapes
 pub mod Stands
 pub mod Steps
+pub mod Tables
 pub mod Text
 pub mod Told

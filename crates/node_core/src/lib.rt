@@ -8,10 +8,11 @@ pub mod line;
 pub mod node;
 pub mod numbers;
 pub mod port_shape;
+mod ports;
 pub mod text;
 
 pub use line::{Line, Reading, Refused, Rx};
-pub use node::Node;
+pub use node::{Node, Stepped};
 pub use numbers::Numbers;
 pub use port_shape::PortShape;
 pub use text::{push_end, push_text};

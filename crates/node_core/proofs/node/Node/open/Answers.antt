@@ -1,0 +1,15 @@
+use Rattle.std.proofs.Common.{◌∙◌, List, ap, sym, subst}
+use Rattle.rx_table.specs.Ports.{PortState, ports_of as ports_in}
+use Rattle.rx_table.specs.Table.{HeardBy}
+use Rattle.node_core.proofs.Tables.{nothing_heard, ports_in-subscribed}
+use Rattle.node_core.proofs.node.Node.open.Goals as goal
+
+pub invariant_of-result : goal.invariant_of-result
+invariant_of-result c = record { in_time = subst (HeardBy 0) (sym c.in_ok-table.ensures.ports_are) (nothing_heard 0 _) }
+
+pub returns-clause-stands : goal.returns-clause-stands
+returns-clause-stands c = record {
+  timeout = c.in_ok-table.ensures.waits;
+  ports = ap ports_in c.in_ok-table.ensures.ports_are ∙ ports_in-subscribed _;
+  sessions = c.in_ok-table.ensures.stands;
+}
