@@ -27,7 +27,8 @@ use Rattle.node_core.specs.declared.line.Line.TheVariants.{Rx, NoSession}
 use Rattle.rx_table.specs.Table.{keyed, log_with, port_on}
 use Rattle.node_core.specs.Heard.{ports_of, frame_for, with_frame, frames}
 use Rattle.node_core.specs.Steps.{of_delivery, anonymous_line, refused_line, of_session, of_source, on_port, of_frame, got, Step, Heard, records, lines}
-use Rattle.node_core.specs.Reported.{RxOf, rx_of, reported, is_source, is_key, of_line, rxs, of_key, has_session, IsSession, Reported}
+use Rattle.once.specs.Report.{Rx as RxOf, rx_of, reported}
+use Rattle.node_core.specs.Reported.{is_source, is_key, of_line, rxs, of_key, has_session, IsSession, Reported}
 
 -- one more source, another one
 has_other : (s x n : ℕ) (xs : List ℕ) → eqb x s ≡ false → has s (take n (xs ++ x ∷ [])) ≡ has s (take n xs)
@@ -105,7 +106,7 @@ module _ (step : DeliveredStep) (quiet : Quiet) (timeout : ℕ) (p : Port) (sour
   mine = key_of p.kind p.port source
 
   abbrev rep : List KeyedFrame → List RxOf
-  rep log = reported crc_of timeout p.extent (history mine log)
+  rep log = reported timeout p.extent (history mine log)
 
   abbrev adm : List KeyedFrame → Bool
   adm log = has_session p source log
@@ -128,7 +129,7 @@ module _ (step : DeliveredStep) (quiet : Quiet) (timeout : ℕ) (p : Port) (sour
       let on = and_parts (same_kind f.key.kind p.kind) (eqb f.key.port p.port) (and_parts (is_on p.kind p.port f) (f.rec.start && not (has f.key.source (ss log))) y).0 in
       let diff : eqb f.key.source source ≡ false = ne_eqb f.key.source source (λ q. both_ways (bears_on mine f) e (and_from (same_kind f.key.kind p.kind) (eqb f.key.port p.port && eqb f.key.source source) on.0 (and_from (eqb f.key.port p.port) (eqb f.key.source source) on.1 (eq-eqb f.key.source source q)))) in
       has_other source f.key.source p.sources (ss log) diff) (λ _. refl) in
-      ap (λ b. cond b (rep (f ∷ log)) []) a ∙ ap (λ (t : List KeyRecord). cond (adm log) (reported crc_of timeout p.extent t) []) h
+      ap (λ b. cond b (rep (f ∷ log)) []) a ∙ ap (λ (t : List KeyRecord). cond (adm log) (reported timeout p.extent t) []) h
 
   -- a frame of this key
   module _ (f : KeyedFrame) (log : List KeyedFrame) (here : bears_on mine f ≡ true) where
@@ -183,7 +184,7 @@ module _ (step : DeliveredStep) (quiet : Quiet) (timeout : ℕ) (p : Port) (sour
         let y' = sym ad ∙ y in
         let one = rxs_delivery p.extent k mine o of_it ∙ ap (opt p.extent) oe in
         let left = ap (λ t. l ++ t) one ∙ ap (λ t. t ++ opt p.extent o') (whole l e y') in
-        let right = cond-true (adm (f ∷ log)) (rep (f ∷ log)) [] y' ∙ (ap (reported crc_of timeout p.extent) h ∙ (ap (λ (ds : List Delivery). map (rx_of p.extent) (reverse ds)) (step crc_of timeout f.rec (history mine log)) ∙ rx_add p.extent o' (received crc_of timeout (history mine log)).delivered)) in
+        let right = cond-true (adm (f ∷ log)) (rep (f ∷ log)) [] y' ∙ (ap (reported timeout p.extent) h ∙ (ap (λ (ds : List Delivery). map (rx_of p.extent) (reverse ds)) (step crc_of timeout f.rec (history mine log)) ∙ rx_add p.extent o' (received crc_of timeout (history mine log)).delivered)) in
         left ∙ sym right)
         (λ m.
         let m' = sym ad ∙ m in
@@ -274,6 +275,6 @@ reported_is step quiet plan key steps p s =
     let at : port_at p.kind p.port (ports_of plan) ≡ Some p = ap (λ (k : Kind). port_at k p.port (ports_of plan)) (sym is.0) ∙ (ap (λ n. port_at key.kind n (ports_of plan)) (sym is.1) ∙ s.port) in
     let log = frames plan.node (records steps) in
     let same_key : key_of p.kind p.port key.source ≡ key = λ i. record { kind = sym is.0 i; port = sym is.1 i; source = key.source } in
-    let there : rxs (key_of p.kind p.port key.source) (lines plan steps) ≡ reported crc_of plan.timeout p.extent (history (key_of p.kind p.port key.source) log) =
-    all step quiet plan p key.source at steps ∙ cond-true (has_session p key.source log) (reported crc_of plan.timeout p.extent (history (key_of p.kind p.port key.source) log)) [] s.admitted_there in
-    subst (λ (t : SessionKey). rxs t (lines plan steps) ≡ reported crc_of plan.timeout p.extent (of_key plan t (records steps))) same_key there
+    let there : rxs (key_of p.kind p.port key.source) (lines plan steps) ≡ reported plan.timeout p.extent (history (key_of p.kind p.port key.source) log) =
+    all step quiet plan p key.source at steps ∙ cond-true (has_session p key.source log) (reported plan.timeout p.extent (history (key_of p.kind p.port key.source) log)) [] s.admitted_there in
+    subst (λ (t : SessionKey). rxs t (lines plan steps) ≡ reported plan.timeout p.extent (of_key plan t (records steps))) same_key there

@@ -1,44 +1,18 @@
 -- What a report says of one session.
-use Rattle.std.specs.Prelude.{◌≡◌, ℕ, Bool, true, false, ◌&&◌, ◌==◌, if◌then◌else◌, List, [], ◌∷◌, ◌++◌, take, map, reverse, Option, Some, None}
+use Rattle.std.specs.Prelude.{◌≡◌, ℕ, Bool, true, false, ◌&&◌, ◌==◌, if◌then◌else◌, List, [], ◌∷◌, ◌++◌, Option, Some, None}
 use Rattle.can_id.specs.declared.key.Key.{Key}
 use Rattle.tail_frame.specs.Chains.{KeyRecord}
 use Rattle.tail_frame.specs.declared.logged.Record.{Record}
-use Rattle.transfer_crc.specs.Crc.{crc_of}
 use Rattle.rx_table.specs.Admitted.{has, admitted}
 use Rattle.rx_table.specs.Keys.{SessionKey, KeyedFrame, same_kind, history}
 use Rattle.rx_table.specs.Ports.{Port, port_at}
-use Rattle.rx_table.specs.Received.{Delivery, received}
+use Rattle.once.specs.Report.{Rx as RxOf, reported}
 use Rattle.node_plan.specs.declared.plan.Plan.{Plan}
 use Rattle.node_core.specs.declared.line.Line.{Line}
 use Rattle.node_core.specs.declared.line.Line.TheVariants.{Rx, NoSession}
 use Rattle.node_core.specs.declared.line.Rx.{Rx as RxLine}
 use Rattle.node_core.specs.Heard.{ports_of, frames}
 use Rattle.node_core.specs.Steps.{Step, records, lines}
-
--- a transfer that is reported of a key
-pub record RxOf : Type 0 where
-  pub moment : ℕ
-  pub bus : ℕ
-  pub priority : ℕ
-  pub tid : ℕ
-  pub first : ℕ
-  pub last : ℕ
-  pub payload : List ℕ
-
-abbrev pub rx_of : ℕ → Delivery → RxOf
-rx_of extent d = record {
-    moment = d.first.moment;
-    bus = d.first.bus;
-    priority = d.last.priority;
-    tid = d.first.tid;
-    first = d.first.line;
-    last = d.last.line;
-    payload = take extent d.content;
-  }
-
--- what the records of a key deliver, in order, cut to the extent
-abbrev pub reported : (List ℕ → ℕ) → ℕ → ℕ → List KeyRecord → List RxOf
-reported crc timeout extent records = map (rx_of extent) (reverse (received crc timeout records).delivered)
 
 abbrev pub is_source : Option ℕ → ℕ → Bool
 is_source None source = false
@@ -78,4 +52,4 @@ pub record IsSession (plan : Plan) (key : SessionKey) (past : List Record) (p : 
 abbrev pub Reported : Type 0
 Reported =
     (plan : Plan) (key : SessionKey) (steps : List Step) (p : Port) → IsSession plan key (records steps) p
-    → rxs key (lines plan steps) ≡ reported crc_of plan.timeout p.extent (of_key plan key (records steps))
+    → rxs key (lines plan steps) ≡ reported plan.timeout p.extent (of_key plan key (records steps))
