@@ -1,5 +1,5 @@
 -- One step of a node.
-use Rattle.std.proofs.Common.{◌≡◌, ◌∙◌, ℕ, Bool, List, [], ◌∷◌, Option, Some, None, refl, sym, ap, subst}
+use Rattle.std.proofs.Common.{◌≡◌, ◌∙◌, ℕ, Bool, List, [], ◌∷◌, Option, Some, None, Result, Ok, Err, OnOk, refl, sym, ap, subst}
 use Rattle.tail_frame.specs.Frames.{FrameOf}
 use Rattle.tail_frame.specs.declared.logged.Record.{Record}
 use Rattle.rx_table.specs.Keys.{KeyedFrame}
@@ -14,6 +14,11 @@ use Rattle.node_core.specs.Stands.{StandsAt, Stands}
 use Rattle.node_core.specs.Steps.{on_port, bad_on_port}
 use Rattle.node_core.specs.Told.{answer_lines, answer_is_bad}
 use Rattle.node_core.proofs.Told.{told_lines, told_bad}
+
+-- what follows from what holds where a call answers Ok
+pub on_ok : {A E : Type 0} (P Q : Type 0) (r : Result A E) → (P → Q) → OnOk r P → OnOk r Q
+on_ok P Q (Ok a) f h = f h
+on_ok P Q (Err e) f h = h
 
 -- a table with the plan's timeout
 pub stands_again : (waits timeout : ℕ) (old new : List KeyedFrame) (ps qs : List PortState) → waits ≡ timeout → (StandsFor waits old ps → StandsFor waits new qs) → StandsFor timeout old ps → StandsFor timeout new qs

@@ -74,7 +74,7 @@ impl Node {
         ensures err { OnErr result (lines.new ≡ lines.old) }
     {
         match frame_for(self.plan.node, rec) {
-            Some(frame) => Ok(self.hear(&frame, lines)?),
+            Some(frame) => self.hear(&frame, lines),
             None => Ok(Stepped { badcrc: false }),
         }
     }

@@ -1,8 +1,10 @@
-use crate::{Line, Numbers, Reading, Refused, Rx, push_end, push_text};
+use crate::{Line, Node, Numbers, Reading, Refused, Rx, push_end, push_text};
 use can_id::{Key, Kind};
-use cy_bits::{BusName, Bytes, NoMemory};
-use node_plan::BusPlan;
+use cy_bits::{BusName, Bytes, List, NoMemory, ShortList};
+use node_plan::{BusPlan, read_plan};
 use std::alloc::Global;
+use std::process::Abort;
+use tail_frame::Record;
 
 /// The buses `can0` and `can1`.
 fn two_buses() -> [BusPlan; 2] {
@@ -85,5 +87,123 @@ fn last_line_has_its_text(rt: HostRuntime) -> Result<(), NoMemory> {
     push_end(&mut text, &numbers)?;
     let want = "end records 3 delivered 2 badcrc 0 nosession 1 sent 0 held 8 bound 8\n";
     assert!(rt; text.as_slice() == want.as_bytes());
+    Ok(())
+}
+
+/// A frame of a log: its moment, its bus, its identifier and its data.
+type Logged<'a> = (u64, u8, u32, &'a [u8]);
+
+/// The text of the lines that a node gives on a log, and then its badcrc and held.
+fn run(
+    rt: &impl Abort,
+    alloc: Global,
+    extent: &str,
+    log: &[Logged<'_>],
+) -> Result<String, NoMemory> {
+    let plan = format!(in alloc; "plan 1\nnode 10\nbus can0\nbus can1\nsilent\nsub 100 2 raw {extent}\n")?;
+    let Ok(plan) = read_plan(alloc, plan.as_bytes()) else {
+        panic!(rt; "no plan");
+    };
+    let mut node = Node::open(alloc, plan)?;
+    let mut lines = List::empty(alloc);
+    let mut line = 0;
+    let mut badcrc = 0u64;
+    for (moment, bus, ident, data) in log {
+        let mut bytes = ShortList::new();
+        for byte in data.iter().take(64) {
+            assert!(rt; bytes.len() < 64);
+            bytes.push(*byte);
+        }
+        assert!(rt; node.latest <= *moment && line < 100 && badcrc < 100);
+        line += 1;
+        let rec = Record {
+            line,
+            moment: *moment,
+            bus: *bus,
+            ident: *ident,
+            bytes,
+        };
+        let stepped = node.frame(&rec, &mut lines)?;
+        badcrc += stepped.badcrc as u64;
+    }
+    let mut text = Vec::new(alloc);
+    for line in lines.as_slice() {
+        push_text(&mut text, node.plan.buses.as_slice(), line)?;
+    }
+    let Ok(lines) = String::from_utf8(text) else {
+        panic!(rt; "no text");
+    };
+    Ok(format!(in alloc; "{lines}badcrc {badcrc} held {}", node.held())?)
+}
+
+#[test]
+fn records_give_their_lines(rt: HostRuntime) -> Result<(), NoMemory> {
+    let rows: [(&str, &[Logged], &str); 8] = [
+        (
+            "64",
+            &[
+                (1_000_000, 0, 0x1060_6401, &[0, 1, 2, 3, 4, 5, 6, 0xA0]),
+                (1_000_100, 0, 0x1060_6401, &[7, 0x17, 0x8D, 0x40]),
+            ],
+            "rx 1.000000 can0 msg 100 1 4 0 1 2 0001020304050607 raw\nbadcrc 0 held 64",
+        ),
+        (
+            "64",
+            &[
+                (1_000_000, 0, 0x1060_6401, &[0, 1, 2, 3, 4, 5, 6, 0xA5]),
+                (1_000_100, 0, 0x1060_6401, &[7, 0x17, 0x8E, 0x45]),
+            ],
+            "badcrc 1 held 64",
+        ),
+        (
+            "64",
+            &[
+                (0, 0, 0x1060_6401, &[1, 0xE0]),
+                (2_000_000, 1, 0x1060_6401, &[2, 0xE1]),
+                (2_000_001, 1, 0x1060_6401, &[3, 0xE2]),
+                (2_000_002, 0, 0x1060_6401, &[4, 0xE3]),
+            ],
+            "rx 0.000000 can0 msg 100 1 4 0 1 1 01 raw\nrx 2.000001 can1 msg 100 1 4 2 3 3 03 raw\nbadcrc 0 held 64",
+        ),
+        (
+            "4",
+            &[
+                (1_000_000, 0, 0x1060_6401, &[1, 0xE0]),
+                (1_000_001, 0, 0x1060_6402, &[2, 0xE0]),
+                (1_000_002, 0, 0x1060_6403, &[3, 0xE0]),
+            ],
+            "rx 1.000000 can0 msg 100 1 4 0 1 1 01 raw\nrx 1.000001 can0 msg 100 2 4 0 2 2 02 raw\nnosession 1.000002 can0 msg 100 3 3\nbadcrc 0 held 8",
+        ),
+        (
+            "4",
+            &[(1_000_000, 0, 0x1060_6401, &[1, 2, 3, 4, 5, 6, 0xE0])],
+            "rx 1.000000 can0 msg 100 1 4 0 1 1 01020304 raw\nbadcrc 0 held 4",
+        ),
+        (
+            "64",
+            &[(1_000_000, 0, 0x1160_6405, &[0xAA, 0xE7])],
+            "rx 1.000000 can0 msg 100 - 4 7 1 1 AA raw\nbadcrc 0 held 0",
+        ),
+        (
+            "64",
+            &[
+                (0, 0, 0x1060_640A, &[1, 0xE0]),
+                (0, 0, 0x1060_6501, &[1, 0xE0]),
+            ],
+            "badcrc 0 held 0",
+        ),
+        (
+            "64",
+            &[
+                (0, 0, 0x107D_552A, &[1, 0xE0]),
+                (0, 0, 0x1060_6401, &[1, 0xC0]),
+            ],
+            "badcrc 0 held 0",
+        ),
+    ];
+    for (extent, log, want) in rows {
+        let got = run(&rt, rt.alloc(), extent, log)?;
+        assert_eq!(rt; got.as_str(), want);
+    }
     Ok(())
 }

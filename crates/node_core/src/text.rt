@@ -1,4 +1,4 @@
-ghost use Rattle.std.specs.Prelude.{◌≡◌, ◌<◌, ◌++◌, ◌∷◌, [], OnOk, decimal, slice_index};
+ghost use Rattle.std.specs.Prelude.{◌≡◌, ◌<◌, ◌++◌, ◌∷◌, [], ◌*◌, OnOk, decimal, length, slice_index};
 ghost use Rattle.hex.specs.Hex.{encode_upper, upper_digits};
 ghost use Rattle.node_core.specs.Text.{line_text, end_text, moment_text, six_digits, bus_text, kind_text, payload_text, place_words, transfer_words, received_words, spaced};
 
@@ -197,18 +197,27 @@ fn push_payload(text: &mut Vec<u8>, payload: &[u8]) -> Result<(), NoMemory>
 fn push_hex(text: &mut Vec<u8>, bytes: &[u8]) -> Result<(), NoMemory>
     ensures { OnOk result (text.new.items ≡ text.old.items ++ encode_upper bytes.now) }
 {
-    text.reserve(bytes.len().saturating_mul(2))?;
-    for byte in bytes {
-        text.extend_from_slice(&hex_pair(*byte))?;
-    }
+    let len = text.len();
+    let Some(size) = bytes.len().checked_mul(2) else {
+        return Err(NoMemory);
+    };
+    let Some(end) = len.checked_add(size) else {
+        return Err(NoMemory);
+    };
+    text.resize(end, 0)?;
+    put_hex(&mut text[len..], bytes);
     Ok(())
 }
 
-/// The two hex digits of a byte.
-fn hex_pair(byte: u8) -> [u8; 2]
-    ensures { result ≡ encode_upper (byte ∷ []) }
+/// Writes two hex digits for each byte.
+fn put_hex(digits: &mut [u8], bytes: &[u8])
+    requires { length digits.old ≡ 2 * length bytes.now }
+    ensures { digits.new ≡ encode_upper bytes.now }
 {
-    [hex_digit(byte / 16), hex_digit(byte % 16)]
+    for i in 0..bytes.len() {
+        digits[2 * i] = hex_digit(bytes[i] / 16);
+        digits[2 * i + 1] = hex_digit(bytes[i] % 16);
+    }
 }
 
 /// A hex digit.
