@@ -93,7 +93,7 @@ fn last_line_has_its_text(rt: HostRuntime) -> Result<(), NoMemory> {
 /// A frame of a log: its moment, its bus, its identifier and its data.
 type Logged<'a> = (u64, u8, u32, &'a [u8]);
 
-/// The text of the lines that a node gives on a log, and then its badcrc and held.
+/// The text of the lines that a node gives on a log, and then whether a CRC was bad, and the bytes held.
 fn run(
     rt: &impl Abort,
     alloc: Global,
@@ -107,14 +107,14 @@ fn run(
     let mut node = Node::open(alloc, plan)?;
     let mut lines = List::empty(alloc);
     let mut line = 0;
-    let mut badcrc = 0u64;
+    let mut badcrc = false;
     for (moment, bus, ident, data) in log {
         let mut bytes = ShortList::new();
         for byte in data.iter().take(64) {
             assert!(rt; bytes.len() < 64);
             bytes.push(*byte);
         }
-        assert!(rt; node.latest <= *moment && line < 100 && badcrc < 100);
+        assert!(rt; node.latest <= *moment && line < 100);
         line += 1;
         let rec = Record {
             line,
@@ -124,7 +124,7 @@ fn run(
             bytes,
         };
         let stepped = node.frame(&rec, &mut lines)?;
-        badcrc += stepped.badcrc as u64;
+        badcrc |= stepped.badcrc;
     }
     let mut text = Vec::new(alloc);
     for line in lines.as_slice() {
@@ -145,7 +145,7 @@ fn records_give_their_lines(rt: HostRuntime) -> Result<(), NoMemory> {
                 (1_000_000, 0, 0x1060_6401, &[0, 1, 2, 3, 4, 5, 6, 0xA0]),
                 (1_000_100, 0, 0x1060_6401, &[7, 0x17, 0x8D, 0x40]),
             ],
-            "rx 1.000000 can0 msg 100 1 4 0 1 2 0001020304050607 raw\nbadcrc 0 held 64",
+            "rx 1.000000 can0 msg 100 1 4 0 1 2 0001020304050607 raw\nbadcrc false held 64",
         ),
         (
             "64",
@@ -153,7 +153,7 @@ fn records_give_their_lines(rt: HostRuntime) -> Result<(), NoMemory> {
                 (1_000_000, 0, 0x1060_6401, &[0, 1, 2, 3, 4, 5, 6, 0xA5]),
                 (1_000_100, 0, 0x1060_6401, &[7, 0x17, 0x8E, 0x45]),
             ],
-            "badcrc 1 held 64",
+            "badcrc true held 64",
         ),
         (
             "64",
@@ -163,7 +163,7 @@ fn records_give_their_lines(rt: HostRuntime) -> Result<(), NoMemory> {
                 (2_000_001, 1, 0x1060_6401, &[3, 0xE2]),
                 (2_000_002, 0, 0x1060_6401, &[4, 0xE3]),
             ],
-            "rx 0.000000 can0 msg 100 1 4 0 1 1 01 raw\nrx 2.000001 can1 msg 100 1 4 2 3 3 03 raw\nbadcrc 0 held 64",
+            "rx 0.000000 can0 msg 100 1 4 0 1 1 01 raw\nrx 2.000001 can1 msg 100 1 4 2 3 3 03 raw\nbadcrc false held 64",
         ),
         (
             "4",
@@ -172,17 +172,17 @@ fn records_give_their_lines(rt: HostRuntime) -> Result<(), NoMemory> {
                 (1_000_001, 0, 0x1060_6402, &[2, 0xE0]),
                 (1_000_002, 0, 0x1060_6403, &[3, 0xE0]),
             ],
-            "rx 1.000000 can0 msg 100 1 4 0 1 1 01 raw\nrx 1.000001 can0 msg 100 2 4 0 2 2 02 raw\nnosession 1.000002 can0 msg 100 3 3\nbadcrc 0 held 8",
+            "rx 1.000000 can0 msg 100 1 4 0 1 1 01 raw\nrx 1.000001 can0 msg 100 2 4 0 2 2 02 raw\nnosession 1.000002 can0 msg 100 3 3\nbadcrc false held 8",
         ),
         (
             "4",
             &[(1_000_000, 0, 0x1060_6401, &[1, 2, 3, 4, 5, 6, 0xE0])],
-            "rx 1.000000 can0 msg 100 1 4 0 1 1 01020304 raw\nbadcrc 0 held 4",
+            "rx 1.000000 can0 msg 100 1 4 0 1 1 01020304 raw\nbadcrc false held 4",
         ),
         (
             "64",
             &[(1_000_000, 0, 0x1160_6405, &[0xAA, 0xE7])],
-            "rx 1.000000 can0 msg 100 - 4 7 1 1 AA raw\nbadcrc 0 held 0",
+            "rx 1.000000 can0 msg 100 - 4 7 1 1 AA raw\nbadcrc false held 0",
         ),
         (
             "64",
@@ -190,7 +190,7 @@ fn records_give_their_lines(rt: HostRuntime) -> Result<(), NoMemory> {
                 (0, 0, 0x1060_640A, &[1, 0xE0]),
                 (0, 0, 0x1060_6501, &[1, 0xE0]),
             ],
-            "badcrc 0 held 0",
+            "badcrc false held 0",
         ),
         (
             "64",
@@ -198,7 +198,7 @@ fn records_give_their_lines(rt: HostRuntime) -> Result<(), NoMemory> {
                 (0, 0, 0x107D_552A, &[1, 0xE0]),
                 (0, 0, 0x1060_6401, &[1, 0xC0]),
             ],
-            "badcrc 0 held 0",
+            "badcrc false held 0",
         ),
     ];
     for (extent, log, want) in rows {
