@@ -2,13 +2,15 @@
 use Rattle.std.proofs.Common.{◌≡◌, ℕ, ◌≤◌, Bool, not, ◌&&◌, eqb, nat_lt, List, [], ◌∷◌, ◌++◌, zero, suc, length, Option, Some, None, refl, arith}
 use Rattle.std.proofs.lemmas.Bool.{cond_both}
 use Rattle.tail_frame.specs.Chains.{KeyRecord, differs}
-use Rattle.transfer_crc.specs.Crc.{crc_more}
+use Rattle.transfer_crc.specs.Crc.{crc_more, crc_of}
 use Rattle.redundancy.specs.Hear.{hear}
 use Rattle.rx_session.specs.Session.{Session, Part, Outcome, is_last, begin, finish, take_in, go_on, on_heard, after_hear, accept}
-use Rattle.rx_table.specs.Admitted.{has}
-use Rattle.rx_table.specs.Ports.{Port, Entry, PortState, sources_of, open_session, accept_at}
+use Rattle.rx_table.specs.Keys.{KeyedFrame, EachFrame}
+use Rattle.rx_table.specs.Admitted.{has, key_of}
+use Rattle.rx_table.specs.Ports.{Port, Entry, PortState, sources_of, open_session, accept_at, EachStands, TableStands}
 use Rattle.rx_table.specs.Places.{opened, fed_entries, feed_nth}
-use Rattle.rx_table.specs.Table.{EntriesHeard, HeardBy}
+use Rattle.rx_table.specs.Table.{EntriesHeard, HeardBy, StandsFor, TableHeard, subscribed}
+use Rattle.rx_table.proofs.Moments.{heard_in_time}
 
 pub entries-later : (m n : ℕ) (es : List Entry) → m ≤ n → EntriesHeard m es → EntriesHeard n es
 entries-later m n [] le x = tt
@@ -70,3 +72,19 @@ module _ (timeout : ℕ) (r : KeyRecord) where
   feed_nth-heard [] i source x = tt
   feed_nth-heard (p ∷ ps) zero source x = (fed-heard p.port source p.entries x.0, x.1)
   feed_nth-heard (p ∷ ps) (suc i) source x = (x.0, feed_nth-heard ps i source x.1)
+
+module _ (timeout now : ℕ) (log : List KeyedFrame) (x : EachFrame (λ f. f.rec.moment ≤ now) log) where
+  entries-in_time : (p : Port) (es : List Entry) → EachStands crc_of timeout p log es → EntriesHeard now es
+  entries-in_time p [] st = tt
+  entries-in_time p (e ∷ es) st = (heard_in_time crc_of timeout (key_of p.kind p.port e.source) log e.session now x st.0, entries-in_time p es st.2)
+
+  ports-in_time : (ps : List PortState) → TableStands crc_of timeout log ps → HeardBy now ps
+  ports-in_time [] st = tt
+  ports-in_time (p ∷ ps) st = (entries-in_time p.port p.entries st.0.sessions, ports-in_time ps st.1)
+
+pub table_in_time : TableHeard
+table_in_time timeout now log ps x st = ports-in_time timeout now log x ps st.sessions
+
+pub heard-subscribed : (now : ℕ) (ps : List PortState) (q : Port) → HeardBy now ps → HeardBy now (ps ++ subscribed q ∷ [])
+heard-subscribed now [] q x = (tt, tt)
+heard-subscribed now (p ∷ ps) q x = (x.0, heard-subscribed now ps q x.1)

@@ -7,7 +7,7 @@ use Rattle.transfer_crc.specs.Crc.{crc_of}
 use Rattle.rx_session.specs.declared.session.Session.{Session}
 use Rattle.rx_session.specs.Session.{Outcome, Delivered}
 use Rattle.rx_session.specs.Seen.{kept, answer_of as outcome_of}
-use Rattle.rx_table.specs.Keys.{KeyedFrame, same_kind}
+use Rattle.rx_table.specs.Keys.{KeyedFrame, same_kind, EachFrame}
 use Rattle.rx_table.specs.Admitted.{has, admitted, key_of}
 use Rattle.rx_table.specs.Ports.{Port, Entry, PortState, Answer, NoPort, NoSession, OfSession, Anonymous, ports_of, port_at, IsPortList, is_admitted, TableStands, AnswerAt}
 use Rattle.rx_table.specs.Laws.{EachPort}
@@ -69,6 +69,12 @@ EntriesHeard now (e ∷ es) = e.session.heard ≤ now × EntriesHeard now es
 abbrev pub HeardBy : ℕ → List PortState → Type 0
 HeardBy now [] = ⊤
 HeardBy now (p ∷ ps) = EntriesHeard now p.entries × HeardBy now ps
+
+-- a table has heard nothing later than the frames of its log
+abbrev pub TableHeard : Type 0
+TableHeard =
+    (timeout now : ℕ) (log : List KeyedFrame) (ps : List PortState)
+    → EachFrame (λ f. f.rec.moment ≤ now) log → StandsFor timeout log ps → HeardBy now ps
 
 -- what a table tells of a frame
 abbrev pub answer_of : code_fed.Fed → Answer

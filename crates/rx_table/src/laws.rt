@@ -1,5 +1,6 @@
 //! Laws of reception, each the contract of a call that does nothing.
 
+ghost use Rattle.rx_table.specs.Table.{TableHeard};
 ghost use Rattle.std.specs.Prelude.{ℕ, List};
 ghost use Rattle.rx_table.specs.Meaning.{DeliveriesAre, BadCrcsAre};
 ghost use Rattle.rx_table.specs.Laws.{
@@ -81,4 +82,9 @@ pub fn admitted_lasts()
 /// What a table holds is what its log says, and at most the bound.
 pub fn held_within()
     ensures { HeldWithin }
+{}
+
+/// A table has heard nothing later than the frames of its log.
+pub fn table_heard()
+    ensures { TableHeard }
 {}

@@ -5,6 +5,8 @@ pub mod fed;
 pub mod laws;
 pub mod port;
 pub mod table;
+#[cfg(test)]
+mod tests;
 
 pub use fed::{Fed, Met, PortMet, SubscribeError};
 pub use port::Port;

@@ -33,7 +33,7 @@ pub struct Port<S: Shape> {
 
 impl<S: Shape> Port<S> {
     /// A subscription that has no source yet.
-    pub fn new(alloc: Global, kind: Kind, port: u16, sources: u16, shape: S) -> Port<S>
+    pub(crate) fn new(alloc: Global, kind: Kind, port: u16, sources: u16, shape: S) -> Port<S>
         ensures state { state_of S.extent result
             ≡ subscribed (record { kind = kind; port = port; sources = sources; extent = S.extent shape }) }
         ensures shape { result.shape ≡ shape }
@@ -48,14 +48,14 @@ impl<S: Shape> Port<S> {
     }
 
     /// Whether it is the port of a kind with this number.
-    pub fn is(&self, kind: Kind, port: u16) -> bool
+    pub(crate) fn is(&self, kind: Kind, port: u16) -> bool
         ensures { result ≡ (same_kind kind self.now.kind && (port == self.now.port)) }
     {
         kind == self.kind && port == self.port
     }
 
     /// What an anonymous frame delivers: its body, cut to the extent.
-    pub fn alone(&self, frame: &Frame) -> Front
+    pub(crate) fn alone(&self, frame: &Frame) -> Front
         ensures { step_answer frame.now.body.now (Delivered result) ≡ whole (seen frame.now) (S.extent self.now.shape) }
     {
         Front {
@@ -70,14 +70,14 @@ impl<S: Shape> Port<S> {
     }
 
     /// The bytes of its sessions' buffers, or 2^64 - 1 where they are more.
-    pub fn held(&self) -> u64
+    pub(crate) fn held(&self) -> u64
         ensures { result ≡ min (length self.now.sessions.entries * S.extent self.now.shape) (2 ^ 64 - 1) }
     {
         (self.sessions.len() as u64).saturating_mul(self.shape.extent_bytes() as u64)
     }
 
     /// The first 128 sources that have a session.
-    pub fn first_sources(&self) -> ShortList<u8, 128>
+    pub(crate) fn first_sources(&self) -> ShortList<u8, 128>
         ensures { result ≡ take 128 (sources_of (entries_of self.now.sessions.entries)) }
     {
         let mut list = ShortList::new();
@@ -90,7 +90,7 @@ impl<S: Shape> Port<S> {
     }
 
     /// A frame of a source.
-    pub fn meet(
+    pub(crate) fn meet(
         &mut self,
         alloc: Global,
         source: u8,
@@ -164,7 +164,7 @@ impl<S: Shape> Port<S> {
     }
 
     /// What a frame of a source came to, with the payload lent from its session.
-    pub fn lend(&self, met: PortMet) -> Fed<'_>
+    pub(crate) fn lend(&self, met: PortMet) -> Fed<'_>
         ensures { answer_of result ≡ met_answer (entries_of self.now.sessions.entries) met }
     {
         match met {

@@ -1,4 +1,4 @@
-ghost use Rattle.std.specs.Prelude.{◌&&◌, ◌==◌, ◌≡◌, ◌↔◌, ◌<◌, ◌≤◌, ◌^◌, ◌++◌, ◌∷◌, [], IfOk, OnErr, OnOk, length, List, ℕ, Err, None, ◌≢◌, option_map, map, min, ◌-◌};
+ghost use Rattle.std.specs.Prelude.{◌&&◌, ◌==◌, ◌≡◌, ◌↔◌, ◌<◌, ◌≤◌, ◌^◌, ◌++◌, ◌∷◌, [], IfOk, OnErr, OnOk, length, List, ℕ, Err, None, ◌≢◌, option_map, map, min, ◌-◌, ◌+◌};
 ghost use Rattle.std.specs.Borrow.{sem};
 ghost use Rattle.std.specs.Io.BufRead.{Rests};
 ghost use Rattle.std.specs.List.{position};
@@ -36,7 +36,7 @@ pub struct Table<S: Shape> {
 impl<S: Shape> Table<S> {
     /// A table with no subscription. It stands for the empty log.
     pub fn new(alloc: Global, timeout: u64) -> Result<Table<S>, NoMemory>
-        ensures ports { IfOk result (λ t. states S.extent t.ports.items ≡ []) }
+        ensures ports { IfOk result (λ t. t.ports.items ≡ []) }
         ensures timeout { IfOk result (λ t. t.timeout ≡ timeout) }
         ensures stands { IfOk result (λ t. StandsFor timeout [] (states S.extent t.ports.items)) }
     {
@@ -68,9 +68,12 @@ impl<S: Shape> Table<S> {
         ensures timeout { self.new.timeout ≡ self.old.timeout }
         ensures ports { OnOk result (states S.extent self.new.ports.items ≡ states S.extent self.old.ports.items
             ++ subscribed (record { kind = kind; port = port; sources = sources; extent = S.extent shape }) ∷ []) }
+        ensures count { OnOk result (length self.new.ports.items ≡ length self.old.ports.items + 1) }
         ensures shapes { OnOk result (map (λ p. p.shape) self.new.ports.items ≡ map (λ p. p.shape) self.old.ports.items ++ shape ∷ []) }
         ensures stands { StandsFor self.old.timeout [] (states S.extent self.old.ports.items)
             → OnOk result (StandsFor self.old.timeout [] (states S.extent self.new.ports.items)) }
+        ensures heard { (now : ℕ) → HeardBy now (states S.extent self.old.ports.items)
+            → OnOk result (HeardBy now (states S.extent self.new.ports.items)) }
         ensures taken { (result ≡ Err Taken) ↔ (port_at kind port (ports_of (states S.extent self.old.ports.items)) ≢ None) }
         ensures err { OnErr result (self.new.ports.items ≡ self.old.ports.items) }
     {

@@ -1,8 +1,9 @@
 use Rattle.std.proofs.Common.{◌∙◌, sym, ap, refl, subst, List, ◌++◌, ◌∷◌, [], arith}
 use Rattle.rx_table.specs.declared.port.Port as code
 use Rattle.rx_table.specs.Ports.{Port, PortState}
-use Rattle.rx_table.specs.Table.{states, StandsFor}
+use Rattle.rx_table.specs.Table.{states, StandsFor, HeardBy}
 use Rattle.rx_table.proofs.FoundPorts.{taken, not_taken}
+use Rattle.rx_table.proofs.Heard.{heard-subscribed}
 use Rattle.rx_table.proofs.Subscribed.{states-append, length-states, stands-subscribed}
 use Rattle.rx_table.proofs.table.Table.subscribe.Goals as goal
 
@@ -40,3 +41,13 @@ returns-in-Err-clause-taken g c = (
   λ e. absurd cc,
   λ n. absurd (n (not_taken g.S.Shape.extent c.args.kind c.args.port c.args.self.now.ports.items c.find.result (sym c.find.ensures) (sym c.is_some.ensures ∙ c.if-is_some.false))),
 )
+
+pub returns-in-Ok-clause-heard : goal.returns-in-Ok-clause-heard
+returns-in-Ok-clause-heard g c now x =
+    let ports = c.args.self.now.ports.items in
+    let ps = states g.S.Shape.extent ports in
+    let p : Port = record { kind = c.args.kind; port = c.args.port; sources = c.args.sources; extent = g.S.Shape.extent c.args.shape } in
+    subst (λ (qs : List PortState). HeardBy now qs)
+    (sym (ap (λ (t : List (code.Port g.row.S.Denot)). states g.S.Shape.extent t) c.in-Ok.ensures.ok
+    ∙ (states-append g.S.Shape.extent ports c.new.result ∙ ap (λ (q : PortState). ps ++ q ∷ []) c.new.ensures.state)))
+    (heard-subscribed now ps p x)
