@@ -9,7 +9,7 @@ use Rattle.rx_table.specs.Keys.{KeyedFrame, EachFrame}
 use Rattle.rx_table.specs.Admitted.{has, key_of}
 use Rattle.rx_table.specs.Ports.{Port, Entry, PortState, sources_of, open_session, accept_at, EachStands, TableStands}
 use Rattle.rx_table.specs.Places.{opened, fed_entries, feed_nth}
-use Rattle.rx_table.specs.Table.{EntriesHeard, HeardBy, StandsFor, TableHeard, subscribed}
+use Rattle.rx_table.specs.Table.{EntriesHeard, HeardBy, TableHeard, subscribed}
 use Rattle.rx_table.proofs.Moments.{heard_in_time}
 
 pub entries-later : (m n : ℕ) (es : List Entry) → m ≤ n → EntriesHeard m es → EntriesHeard n es

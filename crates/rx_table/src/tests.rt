@@ -1,3 +1,5 @@
+ghost use Rattle.std.specs.Prelude.{◌≡◌};
+
 use crate::{Fed, SubscribeError, Table};
 use can_id::{Ident, Kind};
 use cy_bits::NoMemory;
@@ -17,7 +19,9 @@ impl Shape for Four {
 }
 
 /// A whole transfer on subject 100.
-fn whole<'a>(moment: u64, ident: Ident, tid: u8, body: &'a [u8]) -> Frame<'a> {
+fn whole<'a>(moment: u64, ident: Ident, tid: u8, body: &'a [u8]) -> Frame<'a>
+    ensures { result.moment ≡ moment }
+{
     Frame {
         line: moment,
         moment,
