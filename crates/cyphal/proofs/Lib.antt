@@ -1,1 +1,2 @@
 pub mod ClapWords
+pub mod Parts

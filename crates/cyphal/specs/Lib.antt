@@ -1,2 +1,4 @@
 pub mod Words
 pub mod ClapShape
+pub mod ErrorLine
+pub mod Expected

@@ -1,0 +1,39 @@
+-- The line that is written of a status.
+use Rattle.std.specs.Prelude.{ℕ, List, [], ◌∷◌, ◌++◌, codes, decimal}
+use Rattle.node_plan.specs.declared.plan.PlanWhy.{PlanWhy}
+use Rattle.node_plan.specs.declared.plan.PlanWhy.TheVariants as plan_why
+use Rattle.node_run.specs.declared.status.LogWhy.{LogWhy}
+use Rattle.node_run.specs.declared.status.LogWhy.TheVariants as log_why
+use Rattle.node_run.specs.declared.status.Status.{Status}
+use Rattle.node_run.specs.declared.status.Status.TheVariants as status
+
+abbrev pub plan_why_text : PlanWhy → List ℕ
+plan_why_text plan_why.Line = codes "Line"
+plan_why_text plan_why.UnknownType = codes "UnknownType"
+plan_why_text plan_why.Repeated = codes "Repeated"
+plan_why_text plan_why.Range = codes "Range"
+
+abbrev pub log_why_text : LogWhy → List ℕ
+log_why_text log_why.BadLine = codes "BadLine"
+log_why_text log_why.TimeBack = codes "TimeBack"
+log_why_text log_why.UnknownBus = codes "UnknownBus"
+log_why_text log_why.TooFar = codes "TooFar"
+
+-- a line of an input, and why it is refused
+abbrev pub numbered : List ℕ → ℕ → List ℕ → List ℕ
+numbered head n why = head ++ (decimal n ++ (codes ": " ++ (why ++ 10 ∷ [])))
+
+-- a file that isn't there
+abbrev pub missing : List ℕ → List ℕ
+missing path = codes "cyphal: not found: " ++ (path ++ 10 ∷ [])
+
+abbrev pub error_line : Status → List ℕ
+error_line status.Ok = []
+error_line status.Usage = codes "cyphal: usage\n"
+error_line (status.Plan n why) = numbered (codes "cyphal: plan line ") n (plan_why_text why)
+error_line (status.Log n why) = numbered (codes "cyphal: log line ") n (log_why_text why)
+error_line status.LogLong = codes "cyphal: input too long\n"
+error_line (status.NoFile path) = missing path
+error_line status.ReadFault = codes "cyphal: read fault\n"
+error_line status.WriteFault = codes "cyphal: write fault\n"
+error_line status.NoMemory = codes "cyphal: out of memory\n"

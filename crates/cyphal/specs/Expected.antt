@@ -1,0 +1,76 @@
+-- What the words, the files and the input ask for.
+use Rattle.std.specs.Prelude.{◌≡◌, ℕ, Bool, true, false, List, [], Option, Some, None, IfSome, ⊤}
+use Rattle.std.specs.FinMap as map
+use Rattle.cy_outside.specs.Files.{Files}
+use Rattle.node_plan.specs.Plan.{PlanIs, Good, Bad, plan_of}
+use Rattle.node_plan.specs.declared.plan.Plan.{Plan}
+use Rattle.frame_log.specs.Log.{log_of}
+use Rattle.frame_log.specs.declared.error.LogError.{LogError}
+use Rattle.node_run.specs.Ran.{IsEmpty, HasRun, names_of, refused}
+use Rattle.node_run.specs.declared.report.Report.{Report}
+use Rattle.node_run.specs.declared.status.Status.{Status}
+use Rattle.node_run.specs.declared.status.Status.TheVariants as status
+use Rattle.cyphal.specs.Words.{Command, Run, command_of}
+
+-- how a log that ends so ends a run
+abbrev pub ending : Option LogError → Status
+ending None = status.Ok
+ending (Some error) = refused error
+
+abbrev pub on_plan : PlanIs → Option (List ℕ) → Option Status
+on_plan (Bad n why) input = Some (status.Plan n why)
+on_plan (Good plan) None = None
+on_plan (Good plan) (Some bytes) = Some (ending (log_of (names_of plan) bytes).refusal)
+
+abbrev pub on_file : List ℕ → Option (List ℕ) → Option (List ℕ) → Option Status
+on_file path None input = Some (status.NoFile path)
+on_file path (Some text) input = on_plan (plan_of text) input
+
+abbrev pub on_run : List ℕ → Option Files → Option (List ℕ) → Option Status
+on_run path None input = None
+on_run path (Some files) input = on_file path (map.get files path) input
+
+abbrev pub on_command : Option Command → Option Files → Option (List ℕ) → Option Status
+on_command None files input = Some status.Usage
+on_command (Some (Run path)) files input = on_run path files input
+
+-- the status that is asked for, as far as what is told decides it
+abbrev pub expected : List (List ℕ) → Option Files → Option (List ℕ) → Option Status
+expected words files input = on_command (command_of words) files input
+
+-- the statuses that may come at any time
+abbrev pub is_fault : Status → Bool
+is_fault status.ReadFault = true
+is_fault status.WriteFault = true
+is_fault status.NoMemory = true
+is_fault other = false
+
+-- the statuses of a run over all of the log that counts
+abbrev pub is_settled : Status → Bool
+is_settled status.Ok = true
+is_settled (status.Log n why) = true
+is_settled status.LogLong = true
+is_settled other = false
+
+-- the plan is that of the file at a path
+abbrev pub PlanAt : List ℕ → Option Files → Plan → Type 0
+PlanAt path None plan = ⊤
+PlanAt path (Some files) plan = (text : List ℕ) × (map.get files path ≡ Some text) × (plan_of text ≡ Good plan)
+
+-- nothing was run
+pub record NotRun (stat : Status) (report : Report) (before after : Option (List ℕ)) : Type 0 where
+  pub empty : IsEmpty report
+  pub written : after ≡ before
+  pub not_settled : is_settled stat ≡ false
+
+-- the plan at a path was run over the input
+pub record HasRunAt (path : List ℕ) (files : Option Files) (input : Option (List ℕ)) (stat : Status) (report : Report) (before after : Option (List ℕ)) : Type 0 where
+  pub plan : Plan
+  pub is : PlanAt path files plan
+  pub run : HasRun plan input stat report before after
+
+-- the plan that the words name was run over the input
+pub record WasRun (words : List (List ℕ)) (files : Option Files) (input : Option (List ℕ)) (stat : Status) (report : Report) (before after : Option (List ℕ)) : Type 0 where
+  pub path : List ℕ
+  pub asked : command_of words ≡ Some (Run path)
+  pub run : HasRunAt path files input stat report before after

@@ -1,0 +1,92 @@
+//! The line that is written of a status. It takes no memory.
+ghost use Rattle.std.specs.Prelude.{◌≡◌, OnOk, OnErr};
+ghost use Rattle.std.specs.List.{flat_map};
+ghost use Rattle.cy_outside.specs.Outside.{Rose};
+ghost use Rattle.cy_outside.specs.Written.{behind, Begins};
+ghost use Rattle.cyphal.specs.ErrorLine.{plan_why_text, log_why_text, numbered, missing, error_line};
+
+use cy_outside::{Failed, Sink, put_all};
+use itoa::Buffer;
+use node_plan::PlanWhy;
+use node_run::{LogWhy, Status};
+
+/// Writes the line of a status, in pieces; of `Ok` there is none.
+pub fn put_error<E: Sink>(err: &mut E, status: &Status) -> Result<(), Failed>
+    ensures written { OnOk result (E.written err.new ≡ behind (E.written err.old) (error_line status.now)) }
+    ensures begins { OnErr result (Begins (error_line status.now) (E.written err.old) (E.written err.new)) }
+    ensures fault { OnErr result (Rose (E.faults err.old) (E.faults err.new)) }
+{
+    match status {
+        Status::Ok => put_all(err, b""),
+        Status::Usage => put_all(err, b"cyphal: usage\n"),
+        Status::Plan { line, why } => {
+            put_numbered(err, b"cyphal: plan line ", *line as u64, plan_why_text(*why))
+        }
+        Status::Log { line, why } => put_numbered(err, b"cyphal: log line ", *line, log_why_text(*why)),
+        Status::LogLong => put_all(err, b"cyphal: input too long\n"),
+        Status::NoFile { path } => put_missing(err, path.as_str()),
+        Status::ReadFault => put_all(err, b"cyphal: read fault\n"),
+        Status::WriteFault => put_all(err, b"cyphal: write fault\n"),
+        Status::NoMemory => put_all(err, b"cyphal: out of memory\n"),
+    }
+}
+
+/// Writes the line of a file that isn't there.
+fn put_missing<E: Sink>(err: &mut E, path: &str) -> Result<(), Failed>
+    ensures written { OnOk result (E.written err.new ≡ behind (E.written err.old) (missing path.now)) }
+    ensures begins { OnErr result (Begins (missing path.now) (E.written err.old) (E.written err.new)) }
+    ensures fault { OnErr result (Rose (E.faults err.old) (E.faults err.new)) }
+{
+    let parts = [b"cyphal: not found: ".as_slice(), path.as_bytes(), b"\n".as_slice()];
+    put_parts(err, &parts)
+}
+
+/// Writes the line of an input's line that is refused.
+fn put_numbered<E: Sink>(err: &mut E, head: &[u8], n: u64, why: &[u8]) -> Result<(), Failed>
+    ensures written { OnOk result (E.written err.new ≡ behind (E.written err.old) (numbered head.now n why.now)) }
+    ensures begins { OnErr result (Begins (numbered head.now n why.now) (E.written err.old) (E.written err.new)) }
+    ensures fault { OnErr result (Rose (E.faults err.old) (E.faults err.new)) }
+{
+    let mut buffer = Buffer::new();
+    let digits = buffer.format(n).as_bytes();
+    let parts = [head, digits, b": ".as_slice(), why, b"\n".as_slice()];
+    put_parts(err, &parts)
+}
+
+/// Writes parts, one behind another.
+fn put_parts<E: Sink>(err: &mut E, parts: &[&[u8]]) -> Result<(), Failed>
+    ensures written { OnOk result (E.written err.new ≡ behind (E.written err.old) (flat_map (λ part. part.now) parts.now)) }
+    ensures begins { OnErr result (Begins (flat_map (λ part. part.now) parts.now) (E.written err.old) (E.written err.new)) }
+    ensures fault { OnErr result (Rose (E.faults err.old) (E.faults err.new)) }
+{
+    for part in parts {
+        let Ok(()) = put_all(err, part) else {
+            return Err(Failed);
+        };
+    }
+    Ok(())
+}
+
+/// The word of why a line of a plan is refused.
+fn plan_why_text(why: PlanWhy) -> &'static [u8]
+    ensures { result.now ≡ plan_why_text why }
+{
+    match why {
+        PlanWhy::Line => b"Line",
+        PlanWhy::UnknownType => b"UnknownType",
+        PlanWhy::Repeated => b"Repeated",
+        PlanWhy::Range => b"Range",
+    }
+}
+
+/// The word of why a line of a log is refused.
+fn log_why_text(why: LogWhy) -> &'static [u8]
+    ensures { result.now ≡ log_why_text why }
+{
+    match why {
+        LogWhy::BadLine => b"BadLine",
+        LogWhy::TimeBack => b"TimeBack",
+        LogWhy::UnknownBus => b"UnknownBus",
+        LogWhy::TooFar => b"TooFar",
+    }
+}
