@@ -1,5 +1,6 @@
 -- Parts of a line that are written one behind another.
-use Rattle.std.proofs.Common.{◌≡◌, ◌∙◌, ℕ, ◌+◌, ◌<◌, List, [], ◌∷◌, ◌++◌, Option, Some, None, Bor, refl, sym, ap, subst, append_assoc, take, drop, length, arith}
+use Rattle.std.proofs.Common.{◌≡◌, ◌∙◌, ℕ, ◌<◌, List, [], ◌++◌, Option, Some, None, Bor, refl, sym, ap, subst, append_assoc, append-nil, take, drop, length, get_or, suc, ap₂}
+use Rattle.std.proofs.Math.Seq.{drop-cons}
 use Rattle.std.proofs.lemmas.List.{take-append-drop}
 use Rattle.std.proofs.lemmas.Grind.{flat_map-append}
 use Rattle.std.specs.List.{flat_map}
@@ -13,13 +14,20 @@ abbrev bytes_of : List (Bor (List ℕ)) → List ℕ
 bytes_of = flat_map (λ (part : Bor (List ℕ)). part.now)
 
 -- a part of the next one came
-pub begins_part : (parts : List (Bor (List ℕ))) (i : ℕ) (part : Bor (List ℕ)) (rest : List (Bor (List ℕ))) (before mid after : Option (List ℕ)) → drop i parts ≡ part ∷ rest → mid ≡ behind before (bytes_of (take i parts)) → Begins part.now mid after
+pub begins_part : (parts : List (Bor (List ℕ))) (i : ℕ) (d : Bor (List ℕ)) (before mid after : Option (List ℕ)) → i < length parts → mid ≡ behind before (bytes_of (take i parts)) → Begins (get_or parts i d).now mid after
     → Begins (bytes_of parts) before after
-begins_part parts i part rest before mid after d e b =
+begins_part parts i d before mid after h e b =
     let done = bytes_of (take i parts) in
-    let whole : bytes_of parts ≡ done ++ (part.now ++ bytes_of rest) = ap bytes_of (sym (take-append-drop i parts)) ∙ (flat_map-append _ (take i parts) (drop i parts) ∙ ap (λ t. done ++ bytes_of t) d) in record {
+    let part = get_or parts i d in
+    let rest = bytes_of (drop (suc i) parts) in
+    let split : bytes_of (take i parts ++ drop i parts) ≡ done ++ bytes_of (drop i parts) = flat_map-append _ (take i parts) (drop i parts) in
+    let next : bytes_of (drop i parts) ≡ part.now ++ rest = ap bytes_of (drop-cons parts i d h) in
+    let whole : bytes_of parts ≡ done ++ (part.now ++ rest) = ap bytes_of (sym (take-append-drop i parts)) ∙ (split ∙ ap (λ t. done ++ t) next) in record {
       front = done ++ b.front;
-      rest = b.rest ++ bytes_of rest;
-      whole = whole ∙ (ap (λ t. done ++ (t ++ bytes_of rest)) b.whole ∙ (ap (λ t. done ++ t) (append_assoc b.front b.rest (bytes_of rest)) ∙ sym (append_assoc done b.front (b.rest ++ bytes_of rest))));
+      rest = b.rest ++ rest;
+      whole = whole ∙ (ap (λ t. done ++ (t ++ rest)) b.whole ∙ (ap (λ t. done ++ t) (append_assoc b.front b.rest rest) ∙ sym (append_assoc done b.front (b.rest ++ rest))));
       written = b.written ∙ (ap (λ o. behind o b.front) e ∙ behind_more before done b.front);
     }
+
+pub three : (a b c x y z : List ℕ) → a ≡ x → b ≡ y → c ≡ z → a ++ (b ++ (c ++ [])) ≡ x ++ (y ++ z)
+three a b c x y z e f g = ap₂ (λ s t. s ++ t) e (ap₂ (λ s t. s ++ t) f (append-nil c ∙ g))

@@ -2,6 +2,45 @@
 #![tactic(auto)]
 
 mod error_line;
+mod top;
 mod words;
+mod work;
 
-fn main() {}
+use cy_outside::{RealSink, RealSource, RealTree};
+use node_run::Status;
+use std::io;
+use std::process::ExitCode;
+use top::top;
+
+fn main(rt: HostRuntime) -> io::Result<ExitCode> {
+    let alloc = rt.alloc();
+    let words: Vec<String> = std::env::args(&rt)?.skip(1).collect(alloc)?;
+    let mut tree = RealTree::new(&rt);
+    let mut input = RealSource::new(rt.stdin());
+    let mut out = RealSink::new(rt.stdout());
+    let mut err = RealSink::new(rt.stderr());
+    let done = top(
+        alloc,
+        words.as_slice(),
+        &mut tree,
+        &mut input,
+        &mut out,
+        &mut err,
+    );
+    Ok(ExitCode::from(code_of(&done.status)))
+}
+
+/// The number of a status, by which the program ends.
+fn code_of(status: &Status) -> u8 {
+    match status {
+        Status::Ok => 0,
+        Status::Usage => 1,
+        Status::Plan { .. } => 3,
+        Status::Log { .. } => 4,
+        Status::ReadFault => 8,
+        Status::WriteFault => 9,
+        Status::NoMemory => 10,
+        Status::LogLong => 11,
+        Status::NoFile { .. } => 12,
+    }
+}

@@ -9,6 +9,7 @@ use cy_bits::NoMemory;
 use std::alloc::Global;
 
 /// The arguments of `run`: the root of the namespace, and the path of the plan.
+#[derive(Clone, Copy)]
 pub struct RunWords<'a> {
     pub root: &'a str,
     pub plan: &'a str,

@@ -1,0 +1,52 @@
+//! The top call.
+ghost use Rattle.std.specs.Prelude.{◌≡◌, ◌⊎◌, ◌↔◌, ◌≤◌, ℕ, List, None, Some, false, IfSome, map, string_bytes};
+ghost use Rattle.cy_outside.specs.Outside.{Rose};
+ghost use Rattle.cy_outside.specs.Written.{behind, Begins};
+ghost use Rattle.node_run.specs.declared.status.Status.TheVariants.{Ok as OkStatus};
+ghost use Rattle.cyphal.specs.Words.{command_of};
+ghost use Rattle.cyphal.specs.ErrorLine.{error_line};
+ghost use Rattle.cyphal.specs.Expected.{expected, is_fault, NotRun, WasRun};
+
+use crate::error_line::put_error;
+use crate::work::work;
+use cy_outside::{Sink, Source, Tree};
+use node_run::{Report, Status};
+use std::alloc::Global;
+
+/// What a command came to.
+#[derive(Drop)]
+pub struct Done {
+    /// How it ended.
+    pub status: Status,
+    /// What was reported of a run.
+    pub report: Report,
+}
+
+/// Does what the words ask for. What is due is written to `out`, and of each status but `Ok` one line to `err`.
+pub fn top<T: Tree, L: Source, O: Sink, E: Sink>(
+    alloc: Global,
+    words: &[String],
+    tree: &mut T,
+    input: &mut L,
+    out: &mut O,
+    err: &mut E,
+) -> Done
+    ensures answer { is_fault result.status ≡ false → IfSome (expected (map string_bytes words.now) (T.files tree.old) (L.left input.old)) (λ stat. result.status ≡ stat) }
+    ensures usage { (result.status ≡ Status.Usage) ↔ (command_of (map string_bytes words.now) ≡ None) }
+    ensures read { result.status ≡ Status.ReadFault → (Rose (T.faults tree.old) (T.faults tree.new) × (input.new ≡ input.old)) ⊎ Rose (L.faults input.old) (L.faults input.new) }
+    ensures write { result.status ≡ Status.WriteFault → Rose (O.faults out.old) (O.faults out.new) }
+    ensures kept { result.status ≡ Status.Ok → (T.faults tree.new ≡ T.faults tree.old) × (L.faults input.new ≡ L.faults input.old) × (O.faults out.new ≡ O.faults out.old) }
+    ensures ran { NotRun result.status result.report (O.written out.old) (O.written out.new)
+        ⊎ WasRun (map string_bytes words.now) (T.files tree.old) (L.left input.old) result.status result.report (O.written out.old) (O.written out.new) }
+    ensures held { result.report.held ≤ result.report.bound }
+    ensures complete { expected (map string_bytes words.now) (T.files tree.old) (L.left input.old) ≡ Some OkStatus
+        → ¬ Rose (T.faults tree.old) (T.faults tree.new) → ¬ Rose (L.faults input.old) (L.faults input.new) → ¬ Rose (O.faults out.old) (O.faults out.new)
+        → (result.status ≡ Status.Ok) ⊎ (result.status ≡ Status.NoMemory) }
+    ensures line { Begins (error_line result.status) (E.written err.old) (E.written err.new) }
+    ensures whole_line { ¬ Rose (E.faults err.old) (E.faults err.new) → E.written err.new ≡ behind (E.written err.old) (error_line result.status) }
+{
+    let mut report = Report::empty(alloc);
+    let status = work(alloc, words, tree, input, out, &mut report);
+    let _ = put_error(err, &status);
+    Done { status, report }
+}
