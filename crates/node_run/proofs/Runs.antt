@@ -134,10 +134,13 @@ module _ (plan : Plan) (told : Option (List ℕ)) (past : List Record) (report :
       let whole = text plan.buses (lines plan all) in record {
         bytes = h.has.bytes;
         is = h.has.is;
-        ran = (ap (λ (l : Log). l.refusal) log, settled_onto plan past None report before after (log_of (names_of plan) h.has.bytes) log (record {
-          at = at;
-          written = gathered_end whole gathered (end_text (numbers_of report)) before mid after g (ok refl) ∙ ap (λ n. behind before (whole ++ end_text n)) at.counted;
-        }));
+        ran = (
+          ap (λ (l : Log). l.refusal) log,
+          settled_onto plan past None report before after (log_of (names_of plan) h.has.bytes) log (record {
+            at = at;
+            written = gathered_end whole gathered (end_text (numbers_of report)) before mid after g (ok refl) ∙ ap (λ n. behind before (whole ++ end_text n)) at.counted;
+          }),
+        );
       }
   has_finished status.WriteFault h f at mid gathered g ok write memory =
       let log = h.has.log ∙ ap (onto past) h.next in

@@ -1,7 +1,9 @@
 -- A run that ended before its first record.
-use Rattle.std.proofs.Common.{◌≡◌, ◌∙◌, ℕ, List, [], ◌++◌, Option, Some, None, IfSome, refl, sym, ap}
+use Rattle.std.proofs.Common.{◌≡◌, ◌∙◌, ℕ, ◌+◌, ◌*◌, List, [], ◌∷◌, length, take, Option, Some, None, IfSome, refl, sym, ap, arith}
+use Rattle.std.proofs.lemmas.Grind.{common_steps}
 use Rattle.std.specs.Prelude.{unwrap_or}
-use Rattle.cy_outside.specs.Written.{Begins}
+use Rattle.rx_table.specs.Ports.{Port, held}
+use Rattle.node_core.specs.Heard.{ports_of}
 use Rattle.node_plan.specs.Bound.{bound_of}
 use Rattle.node_plan.specs.declared.plan.Plan.{Plan}
 use Rattle.frame_log.specs.Log.{log_of}
@@ -14,12 +16,19 @@ use Rattle.node_run.proofs.Written.{begins_none}
 use Rattle.node_run.proofs.Came.{Has}
 use Rattle.node_run.proofs.Runs.{at_broke, has_begun}
 
+take_none : (n : ℕ) → take {A = ℕ} n [] ≡ []
+take_none n = grind (arith, common_steps)
+
+-- before its first frame a port holds nothing
+held_before : (ports : List Port) → held ports [] ≡ 0
+held_before [] = refl
+held_before (p ∷ ports) = ap (λ (s : List ℕ). length s * p.extent + held ports []) (take_none p.sources) ∙ (omega arith ∙ held_before ports)
+
 held_none : (plan : Plan) → held_at plan [] ≡ 0
-unfolding held_at
-held_none plan = refl
+held_none plan = held_before (ports_of plan)
 
 -- a report of nothing, but for the bound
-at_none : (plan : Plan) (report : Report) (bound held : ℕ) → IsEmpty report → bound ≡ bound_of plan → held ≡ held_at plan [] → At plan [] (record report { bound = bound; held = held })
+pub at_none : (plan : Plan) (report : Report) (bound held : ℕ) → IsEmpty report → bound ≡ bound_of plan → held ≡ held_at plan [] → At plan [] (record report { bound = bound; held = held })
 at_none plan report bound held e b h =
     let z = e.counted in
     let q1 : report.records ≡ 0 = ap (λ (n : Numbers). n.records) z in

@@ -26,7 +26,7 @@ broke_part plan past r report new more a e p n =
     let ls = lines plan (steps plan past) in record {
       rest = p.rest;
       reported = lines_next plan r past ∙ (ap (λ t. ls ++ t) (sym e ∙ p.parts) ∙ (sym (append_assoc ls p.front p.rest)
-      ∙ ap (λ t. t ++ p.rest) (ap (λ t. t ++ p.front) (sym a.reported) ∙ sym p.reported)));
+          ∙ ap (λ t. t ++ p.rest) (ap (λ t. t ++ p.front) (sym a.reported) ∙ sym p.reported)));
       newer = Heard r ∷ [];
       past = steps plan past;
       parts = refl;

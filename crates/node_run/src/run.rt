@@ -4,7 +4,7 @@ ghost use Rattle.cy_outside.specs.Outside.{Rose};
 ghost use Rattle.cy_outside.specs.Written.{behind, Begins};
 ghost use Rattle.node_plan.specs.Bound.{bound_of};
 ghost use Rattle.node_plan.specs.IsPlan.{IsPlan};
-ghost use Rattle.node_core.specs.Steps.{Stands};
+ghost use Rattle.node_core.specs.Stands.{Stands};
 ghost use Rattle.node_core.specs.Text.{end_text};
 ghost use Rattle.frame_log.specs.Log.{log_of};
 ghost use Rattle.frame_log.specs.Reader.{saw_end, answer_of, log_behind};
@@ -130,10 +130,22 @@ fn refused(error: LogError) -> Status
     ensures { result ≡ refused error }
 {
     match error {
-        LogError::BadLine { n } => Status::Log { line: n, why: LogWhy::BadLine },
-        LogError::TimeBack { n } => Status::Log { line: n, why: LogWhy::TimeBack },
-        LogError::UnknownBus { n } => Status::Log { line: n, why: LogWhy::UnknownBus },
-        LogError::TooFar { n } => Status::Log { line: n, why: LogWhy::TooFar },
+        LogError::BadLine { n } => Status::Log {
+            line: n,
+            why: LogWhy::BadLine,
+        },
+        LogError::TimeBack { n } => Status::Log {
+            line: n,
+            why: LogWhy::TimeBack,
+        },
+        LogError::UnknownBus { n } => Status::Log {
+            line: n,
+            why: LogWhy::UnknownBus,
+        },
+        LogError::TooFar { n } => Status::Log {
+            line: n,
+            why: LogWhy::TooFar,
+        },
         LogError::LogLong => Status::LogLong,
         LogError::Failed => Status::ReadFault,
     }

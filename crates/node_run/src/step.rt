@@ -2,7 +2,8 @@
 ghost use Rattle.std.specs.Prelude.{◌≡◌, ◌++◌, ◌∷◌, ◌<◌, ◌≤◌, ◌+◌, ℕ, List as ListOf, OnOk, OnErr, count_by};
 ghost use Rattle.tail_frame.specs.declared.logged.Record.{Record};
 ghost use Rattle.node_plan.specs.Bound.{bound_of};
-ghost use Rattle.node_core.specs.Steps.{Stands, steps, got, is_rx, is_nosession, one_if};
+ghost use Rattle.node_core.specs.Stands.{Stands};
+ghost use Rattle.node_core.specs.Steps.{steps, got, is_rx, is_nosession, one_if};
 ghost use Rattle.node_core.specs.Text.{text};
 ghost use Rattle.node_run.specs.Ran.{At, Broke, IsCounted};
 

@@ -20,7 +20,7 @@ returns-in-Err-clause-ran g c =
     let written = g.O.Sink.written in
     subst (λ (s : Status). HasRun plan (left c.args.input.now) s c.records.report (written c.args.out.now) (written c.next.new.out)) (sym c.stopped.ensures)
     (has_stopped plan (left c.args.input.now) (left c.records.input) (left c.next.new.input) c.records.reader c.next.new.reader i.past c.in-Err.stop c.records.report c.records.gathered.items c.next.new.gathered.items
-      (written c.args.out.now) (written c.records.out) (written c.next.new.out) i.reads c.in-Err.ensures.log c.in-Err.ensures.end i.at i.gathered c.in-Err.ensures.text)
+    (written c.args.out.now) (written c.records.out) (written c.next.new.out) i.reads c.in-Err.ensures.log c.in-Err.ensures.end i.at i.gathered c.in-Err.ensures.text)
 
 pub record_step-requires-clause-order : goal.record_step-requires-clause-order
 record_step-requires-clause-order g c =

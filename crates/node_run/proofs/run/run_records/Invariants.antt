@@ -2,7 +2,8 @@ use Rattle.std.proofs.Common.{◌≡◌, ◌≤◌, List, None}
 use Rattle.tail_frame.specs.declared.logged.Record.{Record}
 use Rattle.node_plan.specs.Bound.{bound_of}
 use Rattle.frame_log.specs.Reader.{answer_of, bytes_left}
-use Rattle.node_core.specs.Steps.{Stands, steps, lines}
+use Rattle.node_core.specs.Stands.{Stands}
+use Rattle.node_core.specs.Steps.{steps, lines}
 use Rattle.node_core.specs.Text.{text}
 use Rattle.node_run.specs.Gathered.{Gathered}
 use Rattle.node_run.specs.Ran.{At, IsCounted, names_of}

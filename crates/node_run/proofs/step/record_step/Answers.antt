@@ -1,4 +1,5 @@
-use Rattle.std.proofs.Common.{◌≡◌, ◌+◌, ◌∷◌, ◌++◌, List, refl, sym, ap, ◌∙◌, count_by, rules}
+use Rattle.std.proofs.Common.{◌≡◌, ◌+◌, ◌∷◌, ◌++◌, List, ◌≤◌, subst, refl, sym, ap, ◌∙◌, count_by, rules}
+use Rattle.node_plan.specs.Bound.{bound_of}
 use Rattle.node_plan.specs.declared.plan.Plan.{Plan}
 use Rattle.node_core.specs.declared.line.Line.{Line}
 use Rattle.node_core.specs.Steps.{got, is_rx, is_nosession, one_if, held_at}
@@ -18,5 +19,9 @@ returns-clause-at c past stands at =
     (ap (λ n. c.args.report.now.delivered + n) (c.count_rx-delivered.ensures ∙ ap (count_by is_rx) c.as_slice.ensures))
     (ap (λ n. c.args.report.now.nosession + n) (c.count_nosession-nosession.ensures ∙ ap (count_by is_nosession) c.as_slice-2.ensures))
     (ap (λ n. c.args.report.now.badcrc + n) (c.one_if.ensures.value ∙ ap one_if (c.in-Ok.ensures.badcrc past stands)))
-    (c.held-report.ensures.held _ (c.in-Ok.ensures.stands past stands) ∙ ap (λ (p : Plan). held_at p (c.args.rec.now ∷ past)) c.frame.ensures.plan)
+    (c.held-report.ensures.held (c.args.rec.now ∷ past) (c.in-Ok.ensures.stands past stands) ∙ ap (λ (p : Plan). held_at p (c.args.rec.now ∷ past)) c.frame.ensures.plan)
     refl refl
+
+pub returns-clause-held : goal.returns-clause-held
+returns-clause-held c past stands =
+    subst (λ (p : Plan). c.held-report.result ≤ bound_of p) c.frame.ensures.plan (c.held-report.ensures.bound (c.args.rec.now ∷ past) (c.in-Ok.ensures.stands past stands))
