@@ -1,7 +1,7 @@
 -- The lines of a session are what its records deliver.
 use Rattle.std.proofs.Common.{◌≡◌, ◌∙◌, ℕ, zero, suc, Bool, true, false, cond, not, ◌&&◌, ◌||◌, eqb, List, [], ◌∷◌, ◌++◌, take, map, Option, Some, None, refl, sym, ap, subst, inl, inr, append-nil, append_assoc}
-use Rattle.std.proofs.lemmas.Bool.{eqb-true, eqb-false, eq-eqb, ne_eqb, and_parts, and_from, and_left, and_right, or_left, or_right, or_cases, cond-true, cond-false, cond_both, both_ways, not_from_true, not_from_false, cases_Bool, true≢false}
-use Rattle.std.proofs.lemmas.List.{map-append, reverse-append}
+use Rattle.std.proofs.lemmas.Bool.{eqb-true, eq-eqb, ne_eqb, and_parts, and_from, or_left, or_right, or_cases, cond-true, cond-false, cond_both, both_ways, cases_Bool, true≢false}
+use Rattle.std.proofs.lemmas.List.{map-append}
 use Rattle.std.proofs.lemmas.Grind.{reverse_onto}
 use mathlib.Core.List.{reverse}
 use Rattle.can_id.specs.Identifiers.{key_of as key_of_ident, priority_of}
@@ -11,8 +11,7 @@ use Rattle.can_id.specs.declared.key.Key.{Key}
 use Rattle.can_id.specs.declared.key.Kind.{Kind}
 use Rattle.can_id.specs.declared.key.Kind.TheVariants as kind
 use Rattle.tail_frame.specs.Chains.{KeyRecord}
-use Rattle.tail_frame.specs.Frames.{FrameOf, frame_of}
-use Rattle.tail_frame.specs.declared.logged.Record.{Record}
+use Rattle.tail_frame.specs.Frames.{FrameOf}
 use Rattle.tail_frame.specs.declared.tail.Tail.{Tail}
 use Rattle.transfer_crc.specs.Crc.{crc_of}
 use Rattle.rx_table.specs.Admitted.{has, is_on, sources, key_of}
@@ -23,12 +22,11 @@ use Rattle.rx_table.specs.Received.{Delivery, received}
 use Rattle.rx_table.specs.Steps.{add, delivery_at}
 use Rattle.node_plan.specs.declared.plan.Plan.{Plan}
 use Rattle.node_core.specs.declared.line.Line.{Line}
-use Rattle.node_core.specs.declared.line.Line.TheVariants.{Rx, NoSession}
 use Rattle.rx_table.specs.Table.{keyed, log_with, port_on}
 use Rattle.node_core.specs.Heard.{ports_of, frame_for, with_frame, frames}
-use Rattle.node_core.specs.Steps.{of_delivery, anonymous_line, refused_line, of_session, of_source, on_port, of_frame, got, Step, Heard, records, lines}
+use Rattle.node_core.specs.Steps.{of_delivery, refused_line, of_session, of_source, on_port, of_frame, got, Step, Heard, records, lines}
 use Rattle.once.specs.Report.{Rx as RxOf, rx_of, reported}
-use Rattle.node_core.specs.Reported.{is_source, is_key, of_line, rxs, of_key, has_session, IsSession, Reported}
+use Rattle.node_core.specs.Reported.{is_key, of_line, rxs, of_key, has_session, Reported}
 
 -- one more source, another one
 has_other : (s x n : ℕ) (xs : List ℕ) → eqb x s ≡ false → has s (take n (xs ++ x ∷ [])) ≡ has s (take n xs)

@@ -1,5 +1,5 @@
 -- One step of a node.
-use Rattle.std.proofs.Common.{◌≡◌, ◌∙◌, ℕ, Bool, List, [], ◌∷◌, Option, Some, None, Result, Ok, Err, OnOk, refl, sym, ap, subst}
+use Rattle.std.proofs.Common.{◌≡◌, ◌∙◌, ℕ, List, ◌∷◌, Option, Some, Result, Ok, Err, OnOk, sym, ap, subst}
 use Rattle.tail_frame.specs.Frames.{FrameOf}
 use Rattle.tail_frame.specs.declared.logged.Record.{Record}
 use Rattle.rx_table.specs.Keys.{KeyedFrame}
@@ -7,7 +7,6 @@ use Rattle.rx_table.specs.Laws.{OutcomeTells}
 use Rattle.rx_table.specs.Ports.{Port, PortState, Answer}
 use Rattle.rx_table.specs.Table.{StandsFor, logged, port_on, Told}
 use Rattle.node_plan.specs.declared.plan.Plan.{Plan}
-use Rattle.node_core.specs.declared.line.Line.{Line}
 use Rattle.node_core.specs.declared.node.Node.{Node}
 use Rattle.node_core.specs.Heard.{frame_for, with_frame, frames}
 use Rattle.node_core.specs.Stands.{StandsAt, Stands}

@@ -1,5 +1,5 @@
 -- Tables of a plan's ports.
-use Rattle.std.proofs.Common.{◌≡◌, ◌≢◌, ◌∙◌, ℕ, zero, suc, ◌+◌, ◌*◌, ◌<◌, ◌≤◌, Bool, true, false, eqb, List, [], ◌∷◌, length, take, map, get_or, slice_index_or, sum_by, Option, Some, None, refl, sym, ap, subst, arith, AllPairs, length-take, ◌^◌}
+use Rattle.std.proofs.Common.{◌≡◌, ◌≢◌, ◌∙◌, ℕ, zero, suc, ◌+◌, ◌<◌, ◌≤◌, eqb, List, [], ◌∷◌, length, take, map, get_or, slice_index_or, sum_by, Some, None, refl, sym, ap, arith, AllPairs, length-take, ◌^◌}
 use Rattle.std.proofs.lemmas.List.{length-map, get_or_default}
 use Rattle.std.proofs.lemmas.List.Sums.{sum_by-cons}
 use Rattle.std.proofs.lemmas.Bool.{cond-false, ne_eqb}
@@ -7,9 +7,8 @@ use Rattle.can_id.specs.declared.key.Kind.TheVariants.{Message}
 use Rattle.node_plan.specs.Bound.{sub_bound, bound_of}
 use Rattle.node_plan.specs.declared.plan.Plan.{Plan}
 use Rattle.node_plan.specs.declared.plan.Sub.{Sub}
-use Rattle.rx_table.specs.Keys.{KeyedFrame}
 use Rattle.rx_table.specs.Ports.{Port, Entry, PortState, ports_of as ports_in, port_at, bound}
-use Rattle.rx_table.specs.Table.{states, StandsFor, EntriesHeard, HeardBy, subscribed}
+use Rattle.rx_table.specs.Table.{states, EntriesHeard, HeardBy, subscribed}
 use Rattle.rx_table.specs.declared.port.Port as code_port
 use Rattle.node_core.specs.declared.port_shape.PortShape.{PortShape}
 use Rattle.node_core.specs.Heard.{port_of_sub, ports_of}

@@ -1,5 +1,5 @@
 -- What a table tells of a frame are the lines that the frame gives.
-use Rattle.std.proofs.Common.{◌≡◌, ◌∙◌, ℕ, Bool, true, false, cond, ◌&&◌, List, [], ◌∷◌, take, Option, Some, None, refl, sym, ap, inl, inr}
+use Rattle.std.proofs.Common.{◌≡◌, ◌∙◌, ℕ, cond, ◌&&◌, List, [], ◌∷◌, Option, Some, None, refl, sym, ap, inl, inr}
 use Rattle.std.proofs.lemmas.Bool.{cond-true, cond-false, cases_Bool}
 use Rattle.can_id.specs.Identifiers.{key_of}
 use Rattle.can_id.specs.declared.key.Key.{Key}
@@ -8,9 +8,9 @@ use Rattle.tail_frame.specs.Chains.{KeyRecord}
 use Rattle.tail_frame.specs.Frames.{FrameOf, key_record}
 use Rattle.transfer_crc.specs.Crc.{crc_of}
 use Rattle.rx_session.specs.Session.{Outcome, Ignored, Held, BadCrc, Delivered}
-use Rattle.rx_table.specs.Keys.{SessionKey, KeyedFrame, history}
+use Rattle.rx_table.specs.Keys.{KeyedFrame, history}
 use Rattle.rx_table.specs.Laws.{OutcomeTells, Tells}
-use Rattle.rx_table.specs.Ports.{Port, Answer, NoPort, NoSession, OfSession, Anonymous, is_admitted, AnswerIs}
+use Rattle.rx_table.specs.Ports.{Port, Answer, is_admitted, AnswerIs}
 use Rattle.rx_table.specs.Received.{Delivery}
 use Rattle.rx_table.specs.Stands.{OutcomeIs}
 use Rattle.rx_table.specs.Steps.{delivery_at, is_bad}

@@ -1,5 +1,5 @@
 -- The steps of a node, and the lines that each gives.
-use Rattle.std.specs.Prelude.{ℕ, Bool, true, false, ◌&&◌, ◌+◌, ◌*◌, if◌then◌else◌, List, [], ◌∷◌, ◌++◌, length, take, count_by, Option, Some, None}
+use Rattle.std.specs.Prelude.{ℕ, Bool, true, false, ◌&&◌, ◌+◌, if◌then◌else◌, List, [], ◌∷◌, ◌++◌, length, take, count_by, Option, Some, None}
 use Rattle.can_id.specs.Identifiers.{key_of, priority_of}
 use Rattle.can_id.specs.declared.key.Key.{Key}
 use Rattle.tail_frame.specs.Chains.{KeyRecord}
@@ -22,16 +22,16 @@ use Rattle.node_core.specs.declared.numbers.Numbers.{Numbers}
 -- the line of a delivery
 abbrev pub rx_line : ℕ → Key → Delivery → Line
 rx_line extent key d = Rx (record {
-    moment = d.first.moment;
-    bus = d.first.bus;
-    key = key;
-    priority = d.last.priority;
-    tid = d.first.tid;
-    first = d.first.line;
-    last = d.last.line;
-    payload = take extent d.content;
-    reading = Raw;
-  })
+  moment = d.first.moment;
+  bus = d.first.bus;
+  key = key;
+  priority = d.last.priority;
+  tid = d.first.tid;
+  first = d.first.line;
+  last = d.last.line;
+  payload = take extent d.content;
+  reading = Raw;
+})
 
 abbrev pub of_delivery : ℕ → Key → Option Delivery → List Line
 of_delivery extent key None = []
@@ -40,16 +40,16 @@ of_delivery extent key (Some d) = rx_line extent key d ∷ []
 -- the line of an anonymous message, which is one frame
 abbrev pub anonymous_line : ℕ → FrameOf → Line
 anonymous_line extent f = Rx (record {
-    moment = f.moment;
-    bus = f.bus;
-    key = key_of f.ident;
-    priority = priority_of f.ident;
-    tid = f.tail.tid;
-    first = f.line;
-    last = f.line;
-    payload = take extent f.body;
-    reading = Raw;
-  })
+  moment = f.moment;
+  bus = f.bus;
+  key = key_of f.ident;
+  priority = priority_of f.ident;
+  tid = f.tail.tid;
+  first = f.line;
+  last = f.line;
+  payload = take extent f.body;
+  reading = Raw;
+})
 
 -- the line of a start frame whose source has no session
 abbrev pub refused_line : Key → KeyRecord → Line
@@ -144,11 +144,11 @@ is_nosession (NoSession refused) = true
 -- the numbers of a report on these steps
 abbrev pub numbers : Plan → List Step → Numbers
 numbers plan steps = record {
-    records = length (records steps);
-    delivered = count_by is_rx (lines plan steps);
-    badcrc = badcrcs plan steps;
-    nosession = count_by is_nosession (lines plan steps);
-    sent = 0;
-    held = held_at plan (records steps);
-    bound = bound_of plan;
-  }
+  records = length (records steps);
+  delivered = count_by is_rx (lines plan steps);
+  badcrc = badcrcs plan steps;
+  nosession = count_by is_nosession (lines plan steps);
+  sent = 0;
+  held = held_at plan (records steps);
+  bound = bound_of plan;
+}

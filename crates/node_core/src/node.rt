@@ -34,8 +34,8 @@ pub struct Stepped {
 }
 
 impl Node {
-    ghost use Rattle.std.specs.Prelude.{◌≡◌, ◌≤◌, ◌++◌, ◌∷◌, [], ℕ, List as ListOf, IfOk, OnOk, OnErr};
-    ghost use Rattle.tail_frame.specs.Frames.{FrameOf, seen};
+    ghost use Rattle.std.specs.Prelude.{◌≡◌, ◌≤◌, ◌++◌, ◌∷◌, [], List as ListOf, IfOk, OnOk, OnErr};
+    ghost use Rattle.tail_frame.specs.Frames.{seen};
     ghost use Rattle.tail_frame.specs.declared.logged.Record.{Record as RecordOf};
     ghost use Rattle.node_plan.specs.Bound.{bound_of};
     ghost use Rattle.node_plan.specs.IsPlan.{IsPlan};
@@ -92,6 +92,7 @@ impl Node {
         rx_table::laws::outcome_tells();
         let met = self.table.step(frame)?;
         self.latest = frame.moment;
+        // The same frame, lent for as long as the table is.
         let lent = Frame {
             body: frame.body,
             ..*frame

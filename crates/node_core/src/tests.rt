@@ -100,7 +100,9 @@ fn run(
     extent: &str,
     log: &[Logged<'_>],
 ) -> Result<String, NoMemory> {
-    let plan = format!(in alloc; "plan 1\nnode 10\nbus can0\nbus can1\nsilent\nsub 100 2 raw {extent}\n")?;
+    let plan = format!(in alloc;
+        "plan 1\nnode 10\nbus can0\nbus can1\nsilent\nsub 100 2 raw {extent}\n"
+    )?;
     let Ok(plan) = read_plan(alloc, plan.as_bytes()) else {
         panic!(rt; "no plan");
     };

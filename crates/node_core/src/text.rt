@@ -78,11 +78,7 @@ fn push_transfer(text: &mut Vec<u8>, rx: &Rx) -> Result<(), NoMemory>
 }
 
 /// Appends the text of a start frame that had no session.
-fn push_refused(
-    text: &mut Vec<u8>,
-    buses: &[BusPlan],
-    refused: &Refused,
-) -> Result<(), NoMemory>
+fn push_refused(text: &mut Vec<u8>, buses: &[BusPlan], refused: &Refused) -> Result<(), NoMemory>
     ensures { OnOk result (text.new.items ≡ text.old.items ++ line_text buses.now (Line.NoSession refused.now)) }
 {
     text.extend_from_slice(b"nosession ")?;
@@ -225,5 +221,9 @@ fn hex_digit(value: u8) -> u8
     requires { value < 16 }
     ensures { result ≡ slice_index upper_digits value }
 {
-    if value < 10 { b'0' + value } else { b'A' - 10 + value }
+    if value < 10 {
+        b'0' + value
+    } else {
+        b'A' - 10 + value
+    }
 }

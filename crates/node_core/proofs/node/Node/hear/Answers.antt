@@ -1,4 +1,4 @@
-use Rattle.std.proofs.Common.{◌≡◌, ◌∙◌, ◌++◌, List, ap}
+use Rattle.std.proofs.Common.{◌∙◌, ◌++◌, List, ap}
 use Rattle.tail_frame.specs.Frames.{seen}
 use Rattle.rx_table.specs.Ports.{Answer}
 use Rattle.node_core.specs.declared.line.Line.{Line}

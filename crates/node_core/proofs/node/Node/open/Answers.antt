@@ -1,5 +1,5 @@
-use Rattle.std.proofs.Common.{◌∙◌, List, ap, sym, subst}
-use Rattle.rx_table.specs.Ports.{PortState, ports_of as ports_in}
+use Rattle.std.proofs.Common.{◌∙◌, ap, sym, subst}
+use Rattle.rx_table.specs.Ports.{ports_of as ports_in}
 use Rattle.rx_table.specs.Table.{HeardBy}
 use Rattle.node_core.proofs.Tables.{nothing_heard, ports_in-subscribed}
 use Rattle.node_core.proofs.node.Node.open.Goals as goal
