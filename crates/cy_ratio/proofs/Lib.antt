@@ -1,0 +1,4 @@
+pub mod GcdLemmas
+pub mod PartLemmas
+pub mod PowerLemmas
+pub mod OrderLemmas
