@@ -70,6 +70,7 @@ got_of (Some bytes) folder offset room = Bytes (min room (length bytes - offset)
 got_of None true offset room = FolderGot
 got_of None false offset room = NoBytes
 
+-- the same, at a path of these files
 abbrev pub got_at : Files → List ℕ → ℕ → ℕ → Got
 got_at files path offset room = got_of (map.get files path) (is_folder files path) offset room
 
@@ -87,10 +88,11 @@ size_of (Some bytes) folder = File (length bytes)
 size_of None true = Folder
 size_of None false = Absent
 
+-- the same, at a path of these files
 abbrev pub size_at : Files → List ℕ → Size
 size_at files path = size_of (map.get files path) (is_folder files path)
 
--- the same, where the files are told
+-- what a tree says stands at a path, where the files are told
 abbrev pub Sizes : Option Files → List ℕ → Size → Type 0
 Sizes None path size = ⊤
 Sizes (Some files) path size = size ≡ size_at files path

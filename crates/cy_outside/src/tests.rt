@@ -28,12 +28,26 @@ fn a_real_tree_reads_the_systems_files(rt: HostRuntime) -> Result<(), Fail> {
     assert_eq!(rt; tree.size("a-tree/hello.txt")?, Size::File(6));
     assert_eq!(rt; tree.size("a-tree/notes")?, Size::Folder);
     assert_eq!(rt; tree.size("a-tree/none")?, Size::Absent);
-    assert_eq!(rt; tree.read_at("a-tree/hello.txt", 4, &mut buf)?, Got::Bytes(2));
+    assert_eq!(rt;
+        tree.read_at("a-tree/hello.txt", 4, &mut buf)?,
+        Got::Bytes(2)
+    );
     assert_eq!(rt; buf, *b"o\n--");
-    assert_eq!(rt; tree.read_at("a-tree/hello.txt", 6, &mut buf)?, Got::Bytes(0));
-    assert_eq!(rt; tree.read_at("a-tree/hello.txt/none", 0, &mut buf)?, Got::Absent);
+    assert_eq!(rt;
+        tree.read_at("a-tree/hello.txt", 6, &mut buf)?,
+        Got::Bytes(0)
+    );
+    assert_eq!(rt;
+        tree.read_at("a-tree/hello.txt/none", 0, &mut buf)?,
+        Got::Absent
+    );
     assert_eq!(rt; tree.read_at("a-tree/notes", 0, &mut buf)?, Got::Folder);
-    assert!(rt; matches!(tree.list(rt.alloc(), "a-tree/hello.txt")?, Listing::NotFolder));
+    assert!(rt;
+        matches!(
+            tree.list(rt.alloc(), "a-tree/hello.txt")?,
+            Listing::NotFolder
+        )
+    );
     assert!(rt; matches!(tree.list(rt.alloc(), "a-tree/none")?, Listing::Absent));
     match tree.list(rt.alloc(), "a-tree/notes")? {
         Listing::Entries(entries) => assert_eq!(rt; named(&entries), (2, true, true)),
@@ -78,7 +92,10 @@ fn a_tree_in_memory_fails_where_it_is_told_to(rt: HostRuntime) -> Result<(), Fai
         _ => assert!(rt; false),
     }
     assert_eq!(rt; tree.size("notes")?, Size::Folder);
-    assert_eq!(rt; tree.read_at("notes/list.txt", 11, &mut buf)?, Got::Bytes(2));
+    assert_eq!(rt;
+        tree.read_at("notes/list.txt", 11, &mut buf)?,
+        Got::Bytes(2)
+    );
     assert_eq!(rt; tree.size("notes/list.txt"), Err(TreeError::Failed));
     assert_eq!(rt; tree.size("notes/list.txt")?, Size::File(13));
     assert_eq!(rt; tree.calls.faults, 1);
@@ -100,10 +117,7 @@ fn files(alloc: Global) -> Result<List<File>, Fail> {
 /// The number of entries, and whether they have the file `list.txt` and the folder `old`.
 fn named(entries: &List<Entry>) -> (usize, bool, bool) {
     let has = |name: &str, folder: bool| {
-        entries
-            .as_slice()
-            .iter()
-            .any(|entry| entry.name.as_str() == name && entry.folder == folder)
+        entries.as_slice().iter().any(|entry| entry.name.as_str() == name && entry.folder == folder)
     };
     (entries.len(), has("list.txt", false), has("old", true))
 }
