@@ -1,4 +1,5 @@
 pub mod Heard
+pub mod Held
 pub mod InTime
 pub mod Reported
 pub mod Shapes
