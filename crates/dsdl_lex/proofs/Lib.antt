@@ -1,0 +1,9 @@
+pub mod May
+pub mod NameLaw
+pub mod NumberLaw
+pub mod StringLaw
+pub mod SignLaw
+pub mod Runs
+pub mod Versions
+pub mod ReferenceLaw
+pub mod KindLaw
