@@ -107,3 +107,16 @@ has_run_at files path most text input stat plan report before after r enough e h
 -- a run is none of the statuses before it
 pub not_usage : (plan : Plan) (input : Option (List ℕ)) (stat : Status) (report : Report) (before after : Option (List ℕ)) → HasRun plan input stat report before after → stat ≡ status.Usage → ⊥
 not_usage plan input stat report before after h e = subst (λ (s : Status). Ran plan (log_of (names_of plan) h.bytes) s report before after) e h.ran
+
+-- where all is accepted and nothing failed, all was done or memory was wanting
+pub completed : (stat : Status) (o : Option Status) (A B C D : Type 0) → o ≡ Some status.Ok → (is_fault stat ≡ false → IfSome o (λ s. stat ≡ s)) → (stat ≡ status.ReadFault → (A × D) ⊎ B) → (stat ≡ status.WriteFault → C)
+    → (A → ⊥) → (B → ⊥) → (C → ⊥) → (stat ≡ status.Ok) ⊎ (stat ≡ status.NoMemory)
+completed status.Ok o A B C D e a r w x y z = inl refl
+completed status.Usage o A B C D e a r w x y z = inl (subst (λ p. IfSome p (λ s. status.Usage ≡ s)) e (a refl))
+completed (status.Plan n why) o A B C D e a r w x y z = inl (subst (λ p. IfSome p (λ s. status.Plan n why ≡ s)) e (a refl))
+completed (status.Log n why) o A B C D e a r w x y z = inl (subst (λ p. IfSome p (λ s. status.Log n why ≡ s)) e (a refl))
+completed status.LogLong o A B C D e a r w x y z = inl (subst (λ p. IfSome p (λ s. status.LogLong ≡ s)) e (a refl))
+completed (status.NoFile path) o A B C D e a r w x y z = inl (subst (λ p. IfSome p (λ s. status.NoFile path ≡ s)) e (a refl))
+completed status.ReadFault o A B C D e a r w x y z = elim (r refl) [ inl f ↦ absurd (x f.0) | inr f ↦ absurd (y f) ]
+completed status.WriteFault o A B C D e a r w x y z = absurd (z (w refl))
+completed status.NoMemory o A B C D e a r w x y z = inr refl

@@ -1,5 +1,5 @@
 -- Parts of a line that are written one behind another.
-use Rattle.std.proofs.Common.{◌≡◌, ◌∙◌, ℕ, ◌<◌, List, [], ◌++◌, Option, Some, None, Bor, refl, sym, ap, subst, append_assoc, append-nil, take, drop, length, get_or, suc, ap₂}
+use Rattle.std.proofs.Common.{◌≡◌, ◌∙◌, ℕ, ◌<◌, List, [], ◌++◌, Option, Some, None, Result, Ok, Err, OnOk, OnErr, Bor, refl, sym, ap, subst, append_assoc, append-nil, take, drop, length, get_or, suc, ap₂}
 use Rattle.std.proofs.Math.Seq.{drop-cons}
 use Rattle.std.proofs.lemmas.List.{take-append-drop}
 use Rattle.std.proofs.lemmas.Grind.{flat_map-append}
@@ -31,3 +31,8 @@ begins_part parts i d before mid after h e b =
 
 pub three : (a b c x y z : List ℕ) → a ≡ x → b ≡ y → c ≡ z → a ++ (b ++ (c ++ [])) ≡ x ++ (y ++ z)
 three a b c x y z e f g = ap₂ (λ s t. s ++ t) e (ap₂ (λ s t. s ++ t) f (append-nil c ∙ g))
+
+-- all of a line came, or its beginning
+pub begins_either : {T E : Type 0} (r : Result T E) (line : List ℕ) (before after : Option (List ℕ)) → OnOk r (after ≡ behind before line) → OnErr r (Begins line before after) → Begins line before after
+begins_either (Ok x) line before after w b = record { front = line; rest = []; whole = sym (append-nil line); written = w }
+begins_either (Err x) line before after w b = b

@@ -20,9 +20,19 @@ pub fn put_error<E: Sink>(err: &mut E, status: &Status) -> Result<(), Failed>
         Status::Ok => put_all(err, b""),
         Status::Usage => put_all(err, b"cyphal: usage\n"),
         Status::Plan { line, why } => {
-            put_numbered(err, b"cyphal: plan line ", *line as u64, plan_why_text(*why))
+            put_numbered(
+                err,
+                b"cyphal: plan line ",
+                *line as u64,
+                plan_why_text(*why),
+            )
         }
-        Status::Log { line, why } => put_numbered(err, b"cyphal: log line ", *line, log_why_text(*why)),
+        Status::Log { line, why } => put_numbered(
+            err,
+            b"cyphal: log line ",
+            *line,
+            log_why_text(*why),
+        ),
         Status::LogLong => put_all(err, b"cyphal: input too long\n"),
         Status::NoFile { path } => put_missing(err, path.as_str()),
         Status::ReadFault => put_all(err, b"cyphal: read fault\n"),
@@ -37,7 +47,11 @@ fn put_missing<E: Sink>(err: &mut E, path: &str) -> Result<(), Failed>
     ensures begins { OnErr result (Begins (missing path.now) (E.written err.old) (E.written err.new)) }
     ensures fault { OnErr result (Rose (E.faults err.old) (E.faults err.new)) }
 {
-    let parts = [b"cyphal: not found: ".as_slice(), path.as_bytes(), b"\n".as_slice()];
+    let parts = [
+        b"cyphal: not found: ".as_slice(),
+        path.as_bytes(),
+        b"\n".as_slice(),
+    ];
     put_parts(err, &parts)
 }
 

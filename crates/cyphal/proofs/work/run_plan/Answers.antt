@@ -32,4 +32,4 @@ returns-clause-ran g c =
     let files = g.T.Tree.files c.args.tree.now in
     let there = subst (λ (t : List ℕ). ReadsFront files c.args.path.now 1048577 (Some t)) (sym c.as_slice.ensures) (rw c.in-Ok-Some.field-0-is at c.in-Ok-Some.ensures.file) in
     inr (has_run_at files c.args.path.now 1048577 c.as_slice.result.now (g.L.Source.left c.args.input.now) c.run_log.result c.in-Ok.plan c.run_log.new.report (g.O.Sink.written c.args.out.now) (g.O.Sink.written c.run_log.new.out)
-      there c.read_plan.ensures.enough c.in-Ok.ensures.plan c.run_log.ensures.ran)
+    there c.read_plan.ensures.enough c.in-Ok.ensures.plan c.run_log.ensures.ran)

@@ -1,0 +1,9 @@
+use Rattle.cyphal.proofs.Asked.{completed}
+use Rattle.cyphal.proofs.Parts.{begins_either}
+use Rattle.cyphal.proofs.top.top.Goals as goal
+
+pub returns-clause-complete : goal.returns-clause-complete
+returns-clause-complete g c e x y z = completed c.work-status.result _ _ _ _ _ e c.work-status.ensures.answer c.work-status.ensures.read c.work-status.ensures.write x y z
+
+pub returns-clause-line : goal.returns-clause-line
+returns-clause-line g c = begins_either c.put_error.result _ _ _ c.put_error.ensures.written c.put_error.ensures.begins
