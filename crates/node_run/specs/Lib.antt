@@ -1,3 +1,4 @@
+pub mod BoundText
 pub mod Gathered
 pub mod Next
 pub mod Ran

@@ -1,6 +1,7 @@
 //! A run of a node over a log: which lines are reported, what is written and when, and how it ended.
 #![tactic(auto)]
 
+mod bound_text;
 mod gather;
 pub mod next;
 pub mod report;
@@ -8,6 +9,7 @@ mod run;
 pub mod status;
 mod step;
 
+pub use bound_text::bound;
 pub use report::Report;
 pub use run::run_log;
 pub use status::{LogWhy, Status};
