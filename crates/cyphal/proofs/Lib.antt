@@ -1,3 +1,4 @@
 pub mod ClapWords
 pub mod Parts
 pub mod Asked
+pub mod Headlines

@@ -2,3 +2,4 @@ pub mod Words
 pub mod ClapShape
 pub mod ErrorLine
 pub mod Expected
+pub mod Headline

@@ -6,11 +6,15 @@ ghost use Rattle.node_run.specs.declared.status.Status.TheVariants.{Ok as OkStat
 ghost use Rattle.cyphal.specs.Words.{command_of};
 ghost use Rattle.cyphal.specs.ErrorLine.{error_line};
 ghost use Rattle.cyphal.specs.Expected.{expected, is_fault, NotRun, WasRun};
+ghost use Rattle.cyphal.specs.Headline.{OnceOf, DueOf};
 
 use crate::error_line::put_error;
 use crate::work::work;
 use cy_outside::{Sink, Source, Tree};
+use frame_log::ordered;
+use node_core::laws::reported;
 use node_run::{Report, Status};
+use once::{due_in_report, once_in_part, wire_explains_fields};
 use std::alloc::Global;
 
 /// What a command came to.
@@ -42,9 +46,17 @@ pub fn top<T: Tree, L: Source, O: Sink, E: Sink>(
     ensures complete { expected (map string_bytes words.now) (T.files tree.old) (L.left input.old) ≡ Some OkStatus
         → ¬ Rose (T.faults tree.old) (T.faults tree.new) → ¬ Rose (L.faults input.old) (L.faults input.new) → ¬ Rose (O.faults out.old) (O.faults out.new)
         → (result.status ≡ Status.Ok) ⊎ (result.status ≡ Status.NoMemory) }
+    // The headline, where the words, the files and the input are told and a sent list explains the records of a session.
+    ensures once { OnceOf (map string_bytes words.now) (T.files tree.old) (L.left input.old) result.report }
+    ensures due { DueOf (map string_bytes words.now) (T.files tree.old) (L.left input.old) result.status result.report }
     ensures line { Begins (error_line result.status) (E.written err.old) (E.written err.new) }
     ensures whole_line { ¬ Rose (E.faults err.old) (E.faults err.new) → E.written err.new ≡ behind (E.written err.old) (error_line result.status) }
 {
+    reported();
+    once_in_part();
+    due_in_report();
+    wire_explains_fields();
+    ordered();
     let mut report = Report::empty(alloc);
     let status = work(alloc, words, tree, input, out, &mut report);
     let _ = put_error(err, &status);

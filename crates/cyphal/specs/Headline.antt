@@ -1,0 +1,59 @@
+-- The headline: of each session only sent transfers are reported, in order and at most once, and each transfer that
+-- is due is.
+use Rattle.std.specs.Prelude.{◌≡◌, ℕ, true, List, Option, Some, option_and_then}
+use Rattle.tail_frame.specs.Chains.{KeyRecord}
+use Rattle.tail_frame.specs.declared.logged.Record.{Record}
+use Rattle.rx_table.specs.Keys.{SessionKey, KeyedFrame}
+use Rattle.rx_table.specs.Ports.{Port}
+use Rattle.rx_table.specs.Table.{keyed}
+use Rattle.frag.specs.Sent.{Pair}
+use Rattle.frag.specs.declared.sent.Sent.{Sent}
+use Rattle.once.specs.Raw.{WireExplains}
+use Rattle.once.specs.Report.{AnyRx, SelectedRx, IsDue}
+use Rattle.cy_outside.specs.Files.{Files}
+use Rattle.frame_log.specs.Log.{log_of}
+use Rattle.node_plan.specs.declared.plan.Plan.{Plan}
+use Rattle.node_core.specs.Heard.{frame_for}
+use Rattle.node_core.specs.Reported.{rxs, of_key, IsSession}
+use Rattle.node_run.specs.Ran.{names_of, newest_first}
+use Rattle.node_run.specs.declared.report.Report.{Report}
+use Rattle.node_run.specs.declared.status.Status.{Status}
+use Rattle.cyphal.specs.Words.{Run, command_of}
+use Rattle.cyphal.specs.Expected.{PlanAt, is_settled}
+
+-- the words name a file of this plan, and the input has these bytes
+pub record Asked (words : List (List ℕ)) (files : Option Files) (input : Option (List ℕ)) (plan : Plan) (bytes : List ℕ) : Type 0 where
+  pub path : List ℕ
+  pub command : command_of words ≡ Some (Run path)
+  pub tree : Files
+  pub is_tree : files ≡ Some tree
+  pub is_plan : PlanAt path (Some tree) plan
+  pub is_input : input ≡ Some bytes
+
+-- the records of the input that count, the newest first
+abbrev pub logged_in : Plan → List ℕ → List Record
+logged_in plan bytes = newest_first (log_of (names_of plan) bytes)
+
+-- the frame of a session that a record is, to the node
+abbrev pub heard_as : ℕ → Record → Option KeyedFrame
+heard_as node rec = option_and_then keyed (frame_for node rec)
+
+-- a sent list explains the records of a session, by their identifiers and data
+abbrev pub ExplainsIn : Plan → List ℕ → Sent → SessionKey → List Pair → Type 0
+ExplainsIn plan bytes sent key origin = WireExplains (heard_as plan.node) plan.timeout sent key origin (logged_in plan bytes)
+
+-- what is reported of a session are sent transfers, in the order of the sent list, each at most once, cut to the extent
+abbrev pub OnceOf : List (List ℕ) → Option Files → Option (List ℕ) → Report → Type 0
+OnceOf words files input report =
+    (plan : Plan) (bytes : List ℕ) (key : SessionKey) (p : Port) (sent : Sent) (origin : List Pair)
+    → Asked words files input plan bytes → IsSession plan key (logged_in plan bytes) p → ExplainsIn plan bytes sent key origin
+    → SelectedRx p.extent sent origin (of_key plan key (logged_in plan bytes)) (rxs key report.lines)
+
+-- where all that counts of the input was run, each transfer that came whole on the bus in force with a fresh transfer-ID
+-- is reported
+abbrev pub DueOf : List (List ℕ) → Option Files → Option (List ℕ) → Status → Report → Type 0
+DueOf words files input stat report =
+    (plan : Plan) (bytes : List ℕ) (key : SessionKey) (p : Port) (sent : Sent) (origin : List Pair) (q : KeyRecord)
+    → Asked words files input plan bytes → IsSession plan key (logged_in plan bytes) p → ExplainsIn plan bytes sent key origin
+    → is_settled stat ≡ true → IsDue plan.timeout sent origin (of_key plan key (logged_in plan bytes)) q
+    → AnyRx (λ rx. rx.last ≡ q.line) (rxs key report.lines)
