@@ -9,13 +9,16 @@ use Rattle.node_plan.specs.declared.plan.PlanError.TheVariants as plan_error
 use Rattle.node_plan.specs.declared.plan.PlanWhy.{PlanWhy}
 use Rattle.frame_log.specs.Log.{Log, log_of}
 use Rattle.frame_log.specs.declared.error.LogError.{LogError}
-use Rattle.node_run.specs.Ran.{Ran, HasRun, IsEmpty, names_of, refused, refusal_of}
+use Rattle.node_run.specs.BoundText.{HasBound}
+use Rattle.node_run.specs.Ran.{Ran, HasRun, names_of, refused, refusal_of}
 use Rattle.node_run.specs.declared.report.Report.{Report}
 use Rattle.node_run.specs.declared.status.LogWhy.{LogWhy}
 use Rattle.node_run.specs.declared.status.LogWhy.TheVariants as why
 use Rattle.node_run.specs.declared.status.Status.{Status}
 use Rattle.node_run.specs.declared.status.Status.TheVariants as status
-use Rattle.cyphal.specs.Expected.{ending, on_plan, on_file, on_run, is_fault, is_settled, PlanAt, NotRun, HasRunAt}
+use Rattle.cyphal.specs.Expected.{ending, on_plan, on_file, on_path, over, is_fault, PlanAt}
+use Rattle.cyphal.specs.Words.{Command, Run, Bound, name_of, path_of}
+use Rattle.cyphal.specs.declared.words.CommandName.TheVariants as name
 
 named : (n : ℕ) (w : LogWhy) → refused (refusal_of n w) ≡ status.Log n w
 named n why.BadLine = refl
@@ -35,7 +38,8 @@ ended_so plan log status.ReadFault report before after h r = absurd cc
 ended_so plan log status.WriteFault report before after h r = absurd cc
 ended_so plan log status.NoMemory report before after h r = absurd cc
 
-plan_answer : (plan : Plan) (input : Option (List ℕ)) (stat : Status) (report : Report) (before after : Option (List ℕ)) → is_fault stat ≡ false → HasRun plan input stat report before after → IfSome (on_plan (Good plan) input) (λ s. stat ≡ s)
+-- a run's status is the one that is asked for
+pub plan_answer : (plan : Plan) (input : Option (List ℕ)) (stat : Status) (report : Report) (before after : Option (List ℕ)) → is_fault stat ≡ false → HasRun plan input stat report before after → IfSome (over input plan) (λ s. stat ≡ s)
 plan_answer plan None stat report before after h r = tt
 plan_answer plan (Some bytes) stat report before after h r =
     ended_so plan (log_of (names_of plan) r.bytes) stat report before after h r.ran ∙ ap (λ b. ending (log_of (names_of plan) b).refusal) r.is
@@ -63,50 +67,73 @@ none_there fs path most r = by_file (map.get fs path) refl
     by_file (Some all) e = let bad : None ≡ Some (take most all) = r ∙ ap (option_map (take most)) e in absurd cc
 
 -- the path has no file
-pub missing_answer : (files : Option Files) (path : List ℕ) (most : ℕ) (input : Option (List ℕ)) (stat : Status) → ReadsFront files path most None → (stat ≡ status.NoFile path) ⊎ (stat ≡ status.NoMemory) → is_fault stat ≡ false
-    → IfSome (on_run path files input) (λ s. stat ≡ s)
-missing_answer None path most input stat r s h = tt
-missing_answer (Some fs) path most input stat r (inl s) h = subst (λ o. IfSome (on_file path o input) (λ t. stat ≡ t)) (sym (none_there fs path most r)) s
-missing_answer (Some fs) path most input stat r (inr s) h = let bad : true ≡ false = sym (ap is_fault s) ∙ h in absurd cc
+pub missing_answer : (files : Option Files) (path : List ℕ) (most : ℕ) (rest : Plan → Option Status) (stat : Status) → ReadsFront files path most None → (stat ≡ status.NoFile path) ⊎ (stat ≡ status.NoMemory) → is_fault stat ≡ false
+    → IfSome (on_path path files rest) (λ s. stat ≡ s)
+missing_answer None path most rest stat r s h = tt
+missing_answer (Some fs) path most rest stat r (inl s) h = subst (λ o. IfSome (on_file path o rest) (λ t. stat ≡ t)) (sym (none_there fs path most r)) s
+missing_answer (Some fs) path most rest stat r (inr s) h = let bad : true ≡ false = sym (ap is_fault s) ∙ h in absurd cc
 
-pub missing_unsettled : (stat : Status) (path : List ℕ) → (stat ≡ status.NoFile path) ⊎ (stat ≡ status.NoMemory) → is_settled stat ≡ false
-missing_unsettled stat path (inl s) = ap is_settled s
-missing_unsettled stat path (inr s) = ap is_settled s
-
-file_answer : (fs : Files) (path text : List ℕ) (input : Option (List ℕ)) (stat : Status) (plan : PlanIs) → Found fs path text → plan_of text ≡ plan → IfSome (on_plan plan input) (λ s. stat ≡ s) → IfSome (on_run path (Some fs) input) (λ s. stat ≡ s)
-file_answer fs path text input stat plan f e a =
-    subst (λ o. IfSome (on_file path o input) (λ s. stat ≡ s)) (sym f.is) (subst (λ (p : PlanIs). IfSome (on_plan p input) (λ s. stat ≡ s)) (sym e ∙ f.plan) a)
+-- the text of the path's file is a plan or not
+file_answer : (fs : Files) (path text : List ℕ) (rest : Plan → Option Status) (stat : Status) (plan : PlanIs) → Found fs path text → plan_of text ≡ plan → IfSome (on_plan plan rest) (λ s. stat ≡ s) → IfSome (on_path path (Some fs) rest) (λ s. stat ≡ s)
+file_answer fs path text rest stat plan f e a =
+    subst (λ o. IfSome (on_file path o rest) (λ s. stat ≡ s)) (sym f.is) (subst (λ (p : PlanIs). IfSome (on_plan p rest) (λ s. stat ≡ s)) (sym e ∙ f.plan) a)
 
 -- the plan is refused
-pub refused_answer : (files : Option Files) (path : List ℕ) (most : ℕ) (text : List ℕ) (input : Option (List ℕ)) (stat : Status) (n : ℕ) (w : PlanWhy) → ReadsFront files path most (Some text) → ((all : List ℕ) → plan_of (take most all) ≡ plan_of all)
-    → plan_of text ≡ Bad n w → stat ≡ status.Plan n w → IfSome (on_run path files input) (λ s. stat ≡ s)
-refused_answer None path most text input stat n w r enough e s = tt
-refused_answer (Some fs) path most text input stat n w r enough e s = file_answer fs path text input stat (Bad n w) (found fs path most text r enough) e s
+refused_answer : (files : Option Files) (path : List ℕ) (most : ℕ) (text : List ℕ) (rest : Plan → Option Status) (stat : Status) (n : ℕ) (w : PlanWhy) → ReadsFront files path most (Some text) → ((all : List ℕ) → plan_of (take most all) ≡ plan_of all)
+    → plan_of text ≡ Bad n w → stat ≡ status.Plan n w → IfSome (on_path path files rest) (λ s. stat ≡ s)
+refused_answer None path most text rest stat n w r enough e s = tt
+refused_answer (Some fs) path most text rest stat n w r enough e s = file_answer fs path text rest stat (Bad n w) (found fs path most text r enough) e s
 
-pub error_answer : (files : Option Files) (path : List ℕ) (most : ℕ) (text : List ℕ) (input : Option (List ℕ)) (stat : Status) (error : PlanError) → ReadsFront files path most (Some text) → ((all : List ℕ) → plan_of (take most all) ≡ plan_of all)
+pub error_answer : (files : Option Files) (path : List ℕ) (most : ℕ) (text : List ℕ) (rest : Plan → Option Status) (stat : Status) (error : PlanError) → ReadsFront files path most (Some text) → ((all : List ℕ) → plan_of (take most all) ≡ plan_of all)
     → ((n : ℕ) (w : PlanWhy) → error ≡ plan_error.Refused n w → plan_of text ≡ Bad n w) → (error ≡ plan_error.NoMemory → stat ≡ status.NoMemory) → ((n : ℕ) (w : PlanWhy) → error ≡ plan_error.Refused n w → stat ≡ status.Plan n w)
-    → is_fault stat ≡ false → IfSome (on_run path files input) (λ s. stat ≡ s)
-error_answer files path most text input stat (plan_error.Refused n w) r enough e m s h = refused_answer files path most text input stat n w r enough (e n w refl) (s n w refl)
-error_answer files path most text input stat plan_error.NoMemory r enough e m s h = let bad : true ≡ false = sym (ap is_fault (m refl)) ∙ h in absurd cc
+    → is_fault stat ≡ false → IfSome (on_path path files rest) (λ s. stat ≡ s)
+error_answer files path most text rest stat (plan_error.Refused n w) r enough e m s h = refused_answer files path most text rest stat n w r enough (e n w refl) (s n w refl)
+error_answer files path most text rest stat plan_error.NoMemory r enough e m s h = let bad : true ≡ false = sym (ap is_fault (m refl)) ∙ h in absurd cc
 
--- the plan was run
-pub run_answer : (files : Option Files) (path : List ℕ) (most : ℕ) (text : List ℕ) (input : Option (List ℕ)) (stat : Status) (plan : Plan) (report : Report) (before after : Option (List ℕ)) → ReadsFront files path most (Some text)
-    → ((all : List ℕ) → plan_of (take most all) ≡ plan_of all) → plan_of text ≡ Good plan → HasRun plan input stat report before after → is_fault stat ≡ false → IfSome (on_run path files input) (λ s. stat ≡ s)
-run_answer None path most text input stat plan report before after r enough e h f = tt
-run_answer (Some fs) path most text input stat plan report before after r enough e h f =
-    file_answer fs path text input stat (Good plan) (found fs path most text r enough) e (plan_answer plan input stat report before after f h)
-
-plan_there : (files : Option Files) (path : List ℕ) (most : ℕ) (text : List ℕ) (plan : Plan) → ReadsFront files path most (Some text) → ((all : List ℕ) → plan_of (take most all) ≡ plan_of all) → plan_of text ≡ Good plan → PlanAt path files plan
+-- the file at the path is a plan
+pub plan_there : (files : Option Files) (path : List ℕ) (most : ℕ) (text : List ℕ) (plan : Plan) → ReadsFront files path most (Some text) → ((all : List ℕ) → plan_of (take most all) ≡ plan_of all) → plan_of text ≡ Good plan → PlanAt path files plan
 plan_there None path most text plan r enough e = tt
 plan_there (Some fs) path most text plan r enough e = let f = found fs path most text r enough in (f.all, f.is, sym f.plan ∙ e)
 
-pub has_run_at : (files : Option Files) (path : List ℕ) (most : ℕ) (text : List ℕ) (input : Option (List ℕ)) (stat : Status) (plan : Plan) (report : Report) (before after : Option (List ℕ)) → ReadsFront files path most (Some text)
-    → ((all : List ℕ) → plan_of (take most all) ≡ plan_of all) → plan_of text ≡ Good plan → HasRun plan input stat report before after → HasRunAt path files input stat report before after
-has_run_at files path most text input stat plan report before after r enough e h = record { plan = plan; is = plan_there files path most text plan r enough e; run = h }
+-- so what is asked for is asked of that plan
+pub good_answer : (files : Option Files) (path : List ℕ) (rest : Plan → Option Status) (stat : Status) (plan : Plan) → PlanAt path files plan → IfSome (rest plan) (λ s. stat ≡ s) → IfSome (on_path path files rest) (λ s. stat ≡ s)
+good_answer None path rest stat plan at a = tt
+good_answer (Some fs) path rest stat plan at a =
+    subst (λ o. IfSome (on_file path o rest) (λ s. stat ≡ s)) (sym at.1) (subst (λ (p : PlanIs). IfSome (on_plan p rest) (λ s. stat ≡ s)) (sym at.2) a)
 
 -- a run is none of the statuses before it
 pub not_usage : (plan : Plan) (input : Option (List ℕ)) (stat : Status) (report : Report) (before after : Option (List ℕ)) → HasRun plan input stat report before after → stat ≡ status.Usage → ⊥
 not_usage plan input stat report before after h e = subst (λ (s : Status). Ran plan (log_of (names_of plan) h.bytes) s report before after) e h.ran
+
+-- a memory bound that was written without a fault is done
+pub bound_answer : (plan : Plan) (stat : Status) (before after : Option (List ℕ)) → HasBound plan stat before after → is_fault stat ≡ false → stat ≡ status.Ok
+bound_answer plan status.Ok before after h f = refl
+bound_answer plan status.Usage before after h f = absurd h
+bound_answer plan (status.Plan n w) before after h f = absurd h
+bound_answer plan (status.Log n w) before after h f = absurd h
+bound_answer plan status.LogLong before after h f = absurd h
+bound_answer plan (status.NoFile path) before after h f = absurd h
+bound_answer plan status.ReadFault before after h f = absurd h
+bound_answer plan status.WriteFault before after h f = absurd cc
+bound_answer plan status.NoMemory before after h f = absurd cc
+
+-- it is none of the statuses before it
+pub bound_usage : (plan : Plan) (stat : Status) (before after : Option (List ℕ)) → HasBound plan stat before after → stat ≡ status.Usage → ⊥
+bound_usage plan stat before after h e = subst (λ (s : Status). HasBound plan s before after) e h
+
+pub bound_read : (plan : Plan) (stat : Status) (before after : Option (List ℕ)) → HasBound plan stat before after → stat ≡ status.ReadFault → ⊥
+bound_read plan stat before after h e = subst (λ (s : Status). HasBound plan s before after) e h
+
+-- what the words ask for, by the command's name and the path
+pub asked_run : (o : Option Command) (path : List ℕ) → option_map name_of o ≡ Some name.Run → option_map path_of o ≡ Some path → o ≡ Some (Run path)
+asked_run None path e f = absurd cc
+asked_run (Some (Run p)) path e f = ap (option_map Run) f
+asked_run (Some (Bound p)) path e f = absurd cc
+
+pub asked_bound : (o : Option Command) (path : List ℕ) → option_map name_of o ≡ Some name.Bound → option_map path_of o ≡ Some path → o ≡ Some (Bound path)
+asked_bound None path e f = absurd cc
+asked_bound (Some (Run p)) path e f = absurd cc
+asked_bound (Some (Bound p)) path e f = ap (option_map Bound) f
 
 -- where all is accepted and nothing failed, all was done or memory was wanting
 pub completed : (stat : Status) (o : Option Status) (A B C D : Type 0) → o ≡ Some status.Ok → (is_fault stat ≡ false → IfSome o (λ s. stat ≡ s)) → (stat ≡ status.ReadFault → (A × D) ⊎ B) → (stat ≡ status.WriteFault → C)

@@ -29,8 +29,8 @@ use Rattle.node_run.specs.Ran.{Ran, HasRun, names_of, newest_first, steps_of}
 use Rattle.node_run.specs.declared.report.Report.{Report}
 use Rattle.node_run.specs.declared.status.Status.{Status}
 use Rattle.node_run.specs.declared.status.Status.TheVariants as status
-use Rattle.cyphal.specs.Words.{Command, Run, command_of}
-use Rattle.cyphal.specs.Expected.{PlanAt, is_settled, NotRun, HasRunAt, WasRun}
+use Rattle.cyphal.specs.Words.{Command, Run, Bound, command_of}
+use Rattle.cyphal.specs.Expected.{PlanAt, is_settled, NotRun, HasRunAt, WasRun, WasBound}
 use Rattle.cyphal.specs.Headline.{Asked, OnceOf, DueOf, ExplainsIn, heard_as, logged_in}
 
 -- a frame has its record's moment and line
@@ -209,6 +209,9 @@ pub record Had (plan : Plan) (bytes : List ℕ) (stat : Status) (report : Report
 one_path : (words : List (List ℕ)) (a b : List ℕ) → command_of words ≡ Some (Run a) → command_of words ≡ Some (Run b) → a ≡ b
 one_path words a b e f = let h : Some (Run a) ≡ Some (Run b) = sym e ∙ f in cc
 
+one_command : (words : List (List ℕ)) (a b : List ℕ) → command_of words ≡ Some (Bound a) → command_of words ≡ Some (Run b) → ⊥
+one_command words a b e f = let h : Some (Bound a) ≡ Some (Run b) = sym e ∙ f in absurd cc
+
 one_plan : (path : List ℕ) (files : Files) (a b : Plan) → PlanAt path (Some files) a → PlanAt path (Some files) b → a ≡ b
 one_plan path files a b x y =
     let t : Some x.0 ≡ Some y.0 = sym x.1 ∙ y.1 in
@@ -247,18 +250,20 @@ module _ (plan : Plan) (bytes : List ℕ) where
       law plan key (steps plan past) p (subst (λ t. IsSession plan key t p) (sym e) s) ∙ ap (λ t. reported plan.timeout p.extent (of_key plan key t)) e
 
 pub once_of : Reported → OnceInPart → WireExplainsFields → ((buses : List (List ℕ)) (bytes : List ℕ) → IsAhead 0 0 (log_of buses bytes).records) → (words : List (List ℕ)) (files : Option Files) (input : Option (List ℕ)) (stat : Status)
-    (report : Report) (before after : Option (List ℕ)) → NotRun stat report before after ⊎ WasRun words files input stat report before after → OnceOf words files input report
+    (report : Report) (before after : Option (List ℕ)) → NotRun stat report before after ⊎ (WasRun words files input stat report before after ⊎ WasBound words files stat report before after) → OnceOf words files input report
 once_of law once fields order words files input stat report before after (inl n) plan bytes key p sent origin a s x =
     subst (λ (ls : List Line). SelectedRx p.extent sent origin (of_key plan key (logged_in plan bytes)) (rxs key ls)) (sym n.empty.reported) (record { sent_ones = tt; in_order = tt })
-once_of law once fields order words files input stat report before after (inr w) plan bytes key p sent origin a s x =
+once_of law once fields order words files input stat report before after (inr (inr b)) plan bytes key p sent origin a s x = absurd (one_command words b.path a.path b.asked a.command)
+once_of law once fields order words files input stat report before after (inr (inl w)) plan bytes key p sent origin a s x =
     let h = had words files input stat report before after plan bytes w a in
     once plan.timeout p.extent sent key origin (frames plan.node (logged_in plan bytes)) (rxs key report.lines) (rxs key h.front.rest) (log_order plan bytes order) (by_fields plan bytes fields sent key origin x)
     (sym (session plan bytes law key p s) ∙ (ap (rxs key) h.front.whole ∙ rxs_append key report.lines h.front.rest))
 
 pub due_of : Reported → DueInReport → WireExplainsFields → (words : List (List ℕ)) (files : Option Files) (input : Option (List ℕ)) (stat : Status) (report : Report) (before after : Option (List ℕ))
-    → NotRun stat report before after ⊎ WasRun words files input stat report before after → DueOf words files input stat report
+    → NotRun stat report before after ⊎ (WasRun words files input stat report before after ⊎ WasBound words files stat report before after) → DueOf words files input stat report
 due_of law due fields words files input stat report before after (inl n) plan bytes key p sent origin q a s x settled d = let bad : true ≡ false = sym settled ∙ n.not_settled in absurd cc
-due_of law due fields words files input stat report before after (inr w) plan bytes key p sent origin q a s x settled d =
+due_of law due fields words files input stat report before after (inr (inr b)) plan bytes key p sent origin q a s x settled d = absurd (one_command words b.path a.path b.asked a.command)
+due_of law due fields words files input stat report before after (inr (inl w)) plan bytes key p sent origin q a s x settled d =
     let h = had words files input stat report before after plan bytes w a in
     subst (AnyRx (λ rx. rx.last ≡ q.line)) (sym (ap (rxs key) (h.whole settled) ∙ session plan bytes law key p s))
     (due plan.timeout p.extent sent key origin (of_key plan key (logged_in plan bytes)) q (by_fields plan bytes fields sent key origin x) d)

@@ -1,4 +1,4 @@
--- What the command `run` is to `clap`.
+-- What a command of a root and a plan is to `clap`.
 use Rattle.std.specs.Prelude.{true, codes, Some}
 use Rattle.clap.specs.Walk.{Rule, Text}
 use Rattle.clap.specs.Simple.{App, new_app, new_rule, with_rule}
@@ -8,6 +8,6 @@ use Rattle.clap.specs.declared.builder.action.ArgAction.TheVariants.{Set}
 abbrev pub given : Text → Rule
 given id = record (new_rule id) { required = true; action = Some Set }
 
--- `run` with its two arguments
-abbrev pub run_shape : App
-run_shape = with_rule (with_rule (new_app (codes "run")) (given (codes "ROOT"))) (given (codes "PLAN"))
+-- the program with the two arguments
+abbrev pub plan_shape : App
+plan_shape = with_rule (with_rule (new_app (codes "cyphal")) (given (codes "ROOT"))) (given (codes "PLAN"))

@@ -6,33 +6,47 @@ use Rattle.node_plan.specs.Plan.{PlanIs, Good, Bad, plan_of}
 use Rattle.node_plan.specs.declared.plan.Plan.{Plan}
 use Rattle.frame_log.specs.Log.{log_of}
 use Rattle.frame_log.specs.declared.error.LogError.{LogError}
+use Rattle.node_run.specs.BoundText.{HasBound}
 use Rattle.node_run.specs.Ran.{IsEmpty, HasRun, names_of, refused}
 use Rattle.node_run.specs.declared.report.Report.{Report}
 use Rattle.node_run.specs.declared.status.Status.{Status}
 use Rattle.node_run.specs.declared.status.Status.TheVariants as status
-use Rattle.cyphal.specs.Words.{Command, Run, command_of}
+use Rattle.cyphal.specs.Words.{Command, Run, Bound, command_of}
 
 -- how a log that ends so ends a run
 abbrev pub ending : Option LogError → Status
 ending None = status.Ok
 ending (Some error) = refused error
 
-abbrev pub on_plan : PlanIs → Option (List ℕ) → Option Status
-on_plan (Bad n why) input = Some (status.Plan n why)
-on_plan (Good plan) None = None
-on_plan (Good plan) (Some bytes) = Some (ending (log_of (names_of plan) bytes).refusal)
+-- what is asked for where a text is a plan, of which the rest is asked
+abbrev pub on_plan : PlanIs → (Plan → Option Status) → Option Status
+on_plan (Bad n why) rest = Some (status.Plan n why)
+on_plan (Good plan) rest = rest plan
 
-abbrev pub on_file : List ℕ → Option (List ℕ) → Option (List ℕ) → Option Status
-on_file path None input = Some (status.NoFile path)
-on_file path (Some text) input = on_plan (plan_of text) input
+abbrev pub on_file : List ℕ → Option (List ℕ) → (Plan → Option Status) → Option Status
+on_file path None rest = Some (status.NoFile path)
+on_file path (Some text) rest = on_plan (plan_of text) rest
+
+abbrev pub on_path : List ℕ → Option Files → (Plan → Option Status) → Option Status
+on_path path None rest = None
+on_path path (Some files) rest = on_file path (map.get files path) rest
+
+-- a run of a plan ends as the log of the input does
+abbrev pub over : Option (List ℕ) → Plan → Option Status
+over None plan = None
+over (Some bytes) plan = Some (ending (log_of (names_of plan) bytes).refusal)
 
 abbrev pub on_run : List ℕ → Option Files → Option (List ℕ) → Option Status
-on_run path None input = None
-on_run path (Some files) input = on_file path (map.get files path) input
+on_run path files input = on_path path files (over input)
+
+-- each plan has a memory bound
+abbrev pub on_bound : List ℕ → Option Files → Option Status
+on_bound path files = on_path path files (λ plan. Some status.Ok)
 
 abbrev pub on_command : Option Command → Option Files → Option (List ℕ) → Option Status
 on_command None files input = Some status.Usage
 on_command (Some (Run path)) files input = on_run path files input
+on_command (Some (Bound path)) files input = on_bound path files
 
 -- the status that is asked for, as far as what is told decides it
 abbrev pub expected : List (List ℕ) → Option Files → Option (List ℕ) → Option Status
@@ -74,3 +88,16 @@ pub record WasRun (words : List (List ℕ)) (files : Option Files) (input : Opti
   pub path : List ℕ
   pub asked : command_of words ≡ Some (Run path)
   pub run : HasRunAt path files input stat report before after
+
+-- the memory bound of the plan at a path was written, as far as the status says
+pub record HasBoundAt (path : List ℕ) (files : Option Files) (stat : Status) (before after : Option (List ℕ)) : Type 0 where
+  pub plan : Plan
+  pub is : PlanAt path files plan
+  pub bound : HasBound plan stat before after
+
+-- the memory bound of the plan that the words name was written, and nothing was run
+pub record WasBound (words : List (List ℕ)) (files : Option Files) (stat : Status) (report : Report) (before after : Option (List ℕ)) : Type 0 where
+  pub path : List ℕ
+  pub asked : command_of words ≡ Some (Bound path)
+  pub bound : HasBoundAt path files stat before after
+  pub empty : IsEmpty report

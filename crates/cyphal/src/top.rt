@@ -3,9 +3,9 @@ ghost use Rattle.std.specs.Prelude.{◌≡◌, ◌⊎◌, ◌↔◌, ◌≤◌, 
 ghost use Rattle.cy_outside.specs.Outside.{Rose};
 ghost use Rattle.cy_outside.specs.Written.{behind, Begins};
 ghost use Rattle.node_run.specs.declared.status.Status.TheVariants.{Ok as OkStatus};
-ghost use Rattle.cyphal.specs.Words.{command_of};
+ghost use Rattle.cyphal.specs.Words.{Bound, command_of};
 ghost use Rattle.cyphal.specs.ErrorLine.{error_line};
-ghost use Rattle.cyphal.specs.Expected.{expected, is_fault, NotRun, WasRun};
+ghost use Rattle.cyphal.specs.Expected.{expected, is_fault, NotRun, WasRun, WasBound};
 ghost use Rattle.cyphal.specs.Headline.{OnceOf, DueOf};
 
 use crate::error_line::put_error;
@@ -38,10 +38,12 @@ pub fn top<T: Tree, L: Source, O: Sink, E: Sink>(
     ensures answer { is_fault result.status ≡ false → IfSome (expected (map string_bytes words.now) (T.files tree.old) (L.left input.old)) (λ stat. result.status ≡ stat) }
     ensures usage { (result.status ≡ Status.Usage) ↔ (command_of (map string_bytes words.now) ≡ None) }
     ensures read { result.status ≡ Status.ReadFault → (Rose (T.faults tree.old) (T.faults tree.new) × (input.new ≡ input.old)) ⊎ Rose (L.faults input.old) (L.faults input.new) }
+    ensures unread { (path : List ℕ) → command_of (map string_bytes words.now) ≡ Some (Bound path) → input.new ≡ input.old }
     ensures write { result.status ≡ Status.WriteFault → Rose (O.faults out.old) (O.faults out.new) }
     ensures kept { result.status ≡ Status.Ok → (T.faults tree.new ≡ T.faults tree.old) × (L.faults input.new ≡ L.faults input.old) × (O.faults out.new ≡ O.faults out.old) }
     ensures ran { NotRun result.status result.report (O.written out.old) (O.written out.new)
-        ⊎ WasRun (map string_bytes words.now) (T.files tree.old) (L.left input.old) result.status result.report (O.written out.old) (O.written out.new) }
+        ⊎ (WasRun (map string_bytes words.now) (T.files tree.old) (L.left input.old) result.status result.report (O.written out.old) (O.written out.new)
+        ⊎ WasBound (map string_bytes words.now) (T.files tree.old) result.status result.report (O.written out.old) (O.written out.new)) }
     ensures held { result.report.held ≤ result.report.bound }
     ensures complete { expected (map string_bytes words.now) (T.files tree.old) (L.left input.old) ≡ Some OkStatus
         → ¬ Rose (T.faults tree.old) (T.faults tree.new) → ¬ Rose (L.faults input.old) (L.faults input.new) → ¬ Rose (O.faults out.old) (O.faults out.new)

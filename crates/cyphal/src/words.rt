@@ -1,16 +1,25 @@
-ghost use Rattle.std.specs.Prelude.{◌≡◌, IfOk, Some, is_some, map, string_bytes, true, false};
+ghost use Rattle.std.specs.Prelude.{◌≡◌, ℕ, List, IfOk, Some, is_some, map, option_map, string_bytes, true, false};
 ghost use Rattle.clap.specs.Words.{app_of};
 ghost use Rattle.clap.specs.Walk.{rule_of};
-ghost use Rattle.cyphal.specs.ClapShape.{given, run_shape};
-ghost use Rattle.cyphal.specs.Words.{is_argument, command_of, Run};
+ghost use Rattle.cyphal.specs.ClapShape.{given, plan_shape};
+ghost use Rattle.cyphal.specs.Words.{is_argument, are_arguments, named, command_of, name_of, path_of};
 
 use clap::{Arg, ArgAction, Command};
 use cy_bits::NoMemory;
 use std::alloc::Global;
 
-/// The arguments of `run`: the root of the namespace, and the path of the plan.
+/// The name of a command.
 #[derive(Clone, Copy)]
-pub struct RunWords<'a> {
+pub enum CommandName {
+    /// Runs a plan over a log.
+    Run,
+    /// Writes the memory bound of a plan.
+    Bound,
+}
+
+/// The arguments of a command: the root of the namespace, and the path of the plan.
+#[derive(Clone, Copy)]
+pub struct PlanWords<'a> {
     pub root: &'a str,
     pub plan: &'a str,
 }
@@ -25,17 +34,37 @@ fn is_argument(word: &str) -> bool
     }
 }
 
-/// Whether the words are accepted, so `run none PLAN`.
-pub fn is_command(words: &[String]) -> bool
-    ensures { result ≡ is_some (command_of (map string_bytes words.now)) }
+/// Whether the arguments are accepted, so `none PLAN`.
+fn are_arguments(root: &str, plan: &str) -> bool
+    ensures { result ≡ are_arguments root.now plan.now }
+{
+    is_argument(root) && is_argument(plan) && root == "none"
+}
+
+/// Which command a word names, whatever the plan.
+fn named(word: &str) -> Option<CommandName>
+    ensures { (plan : List ℕ) → result ≡ option_map name_of (named word.now plan) }
+{
+    if word == "run" {
+        Some(CommandName::Run)
+    } else if word == "bound" {
+        Some(CommandName::Bound)
+    } else {
+        None
+    }
+}
+
+/// Which command the words are, so `run none PLAN` or `bound none PLAN`; none where they aren't accepted.
+pub fn command_name(words: &[String]) -> Option<CommandName>
+    ensures { result ≡ option_map name_of (command_of (map string_bytes words.now)) }
 {
     let [word, root, plan] = words else {
-        return false;
+        return None;
     };
-    is_argument(root.as_str())
-        && is_argument(plan.as_str())
-        && word.as_str() == "run"
-        && root.as_str() == "none"
+    if !are_arguments(root.as_str(), plan.as_str()) {
+        return None;
+    }
+    named(word.as_str())
 }
 
 /// A required argument with one value.
@@ -46,26 +75,26 @@ fn given<'a>(alloc: Global, id: &'a str) -> Arg<'a>
     Arg::new(alloc, id).required(true).action(ArgAction::Set)
 }
 
-fn run_shape<'a>(alloc: Global) -> Result<Command<'a>, NoMemory>
-    ensures { IfOk result (λ c. app_of c ≡ run_shape) }
+fn plan_shape<'a>(alloc: Global) -> Result<Command<'a>, NoMemory>
+    ensures { IfOk result (λ c. app_of c ≡ plan_shape) }
 {
-    let command = Command::new(alloc, "run")
+    let command = Command::new(alloc, "cyphal")
         .arg(given(alloc, "ROOT"))?
         .arg(given(alloc, "PLAN"))?;
     Ok(command)
 }
 
 /// The arguments of accepted words. It refuses nothing, and wants memory.
-pub fn run_words<'a>(alloc: Global, words: &'a [String]) -> Result<RunWords<'a>, NoMemory>
+pub fn plan_words<'a>(alloc: Global, words: &'a [String]) -> Result<PlanWords<'a>, NoMemory>
     requires { is_some (command_of (map string_bytes words.now)) ≡ true }
-    ensures { IfOk result (λ r. command_of (map string_bytes words.entry.now) ≡ Some (Run r.plan.now)) }
+    ensures { IfOk result (λ given. option_map path_of (command_of (map string_bytes words.entry.now)) ≡ Some given.plan.now) }
 {
-    let command = run_shape(alloc)?;
+    let command = plan_shape(alloc)?;
     match command.try_get_matches_from(words) {
         Ok(matches) => {
             let root = matches.get_str("ROOT").unwrap();
             let plan = matches.get_str("PLAN").unwrap();
-            Ok(RunWords { root, plan })
+            Ok(PlanWords { root, plan })
         }
         Err(_) => Err(NoMemory),
     }

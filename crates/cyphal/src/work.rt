@@ -1,16 +1,19 @@
 //! The work of each command.
-ghost use Rattle.std.specs.Prelude.{◌≡◌, ◌⊎◌, ◌↔◌, ◌≤◌, ℕ, List, None, Some, false, IfSome, map, string_bytes};
+ghost use Rattle.std.specs.Prelude.{◌≡◌, ◌⊎◌, ◌↔◌, ◌≤◌, ℕ, List, Option, None, Some, false, IfSome, IfOk, IfErr, OnOk, map, string_bytes};
 ghost use Rattle.cy_outside.specs.Outside.{Rose};
+ghost use Rattle.node_plan.specs.IsPlan.{IsPlan};
+ghost use Rattle.node_plan.specs.declared.plan.Plan.{Plan as ThePlan};
 ghost use Rattle.node_plan.specs.declared.plan.PlanWhy.{PlanWhy as Why};
 ghost use Rattle.node_run.specs.Ran.{IsEmpty};
-ghost use Rattle.cyphal.specs.Words.{command_of};
-ghost use Rattle.cyphal.specs.Expected.{expected, on_run, is_fault, NotRun, HasRunAt, WasRun};
+ghost use Rattle.node_run.specs.declared.status.Status.{Status as TheStatus};
+ghost use Rattle.cyphal.specs.Words.{Bound, command_of};
+ghost use Rattle.cyphal.specs.Expected.{expected, on_path, on_run, on_bound, is_fault, is_settled, PlanAt, NotRun, HasRunAt, WasRun, HasBoundAt, WasBound};
 
-use crate::words::{is_command, run_words};
+use crate::words::{CommandName, command_name, plan_words};
 use cy_bits::Text;
 use cy_outside::{Sink, Source, Tree, TreeError, read_file};
-use node_plan::{MAX_TEXT, PlanError, read_plan};
-use node_run::{Report, Status, run_log};
+use node_plan::{MAX_TEXT, Plan, PlanError, read_plan};
+use node_run::{Report, Status, bound, run_log};
 use std::alloc::Global;
 
 /// Does what the words ask for.
@@ -26,19 +29,24 @@ pub fn work<T: Tree, L: Source, O: Sink>(
     ensures answer { is_fault result ≡ false → IfSome (expected (map string_bytes words.now) (T.files tree.old) (L.left input.old)) (λ stat. result ≡ stat) }
     ensures usage { (result ≡ Status.Usage) ↔ (command_of (map string_bytes words.now) ≡ None) }
     ensures read { result ≡ Status.ReadFault → (Rose (T.faults tree.old) (T.faults tree.new) × (input.new ≡ input.old)) ⊎ Rose (L.faults input.old) (L.faults input.new) }
+    ensures unread { (path : List ℕ) → command_of (map string_bytes words.now) ≡ Some (Bound path) → input.new ≡ input.old }
     ensures write { result ≡ Status.WriteFault → Rose (O.faults out.old) (O.faults out.new) }
     ensures kept { result ≡ Status.Ok → (T.faults tree.new ≡ T.faults tree.old) × (L.faults input.new ≡ L.faults input.old) × (O.faults out.new ≡ O.faults out.old) }
     ensures ran { NotRun result report.new (O.written out.old) (O.written out.new)
-        ⊎ WasRun (map string_bytes words.now) (T.files tree.old) (L.left input.old) result report.new (O.written out.old) (O.written out.new) }
+        ⊎ (WasRun (map string_bytes words.now) (T.files tree.old) (L.left input.old) result report.new (O.written out.old) (O.written out.new)
+        ⊎ WasBound (map string_bytes words.now) (T.files tree.old) result report.new (O.written out.old) (O.written out.new)) }
     ensures held { report.new.held ≤ report.new.bound }
 {
-    if !is_command(words) {
+    let Some(command) = command_name(words) else {
         return Status::Usage;
-    }
-    let Ok(run) = run_words(alloc, words) else {
+    };
+    let Ok(given) = plan_words(alloc, words) else {
         return Status::NoMemory;
     };
-    run_plan(alloc, run.plan, tree, input, out, report)
+    match command {
+        CommandName::Run => run_plan(alloc, given.plan, tree, input, out, report),
+        CommandName::Bound => bound_plan(alloc, given.plan, tree, out),
+    }
 }
 
 /// Runs the plan at a path over the input.
@@ -60,17 +68,51 @@ fn run_plan<T: Tree, L: Source, O: Sink>(
         ⊎ HasRunAt path.now (T.files tree.old) (L.left input.old) result report.new (O.written out.old) (O.written out.new) }
     ensures held { report.new.held ≤ report.new.bound }
 {
-    let text = match read_file(alloc, tree, path, MAX_TEXT + 1) {
-        Ok(Some(text)) => text,
-        Ok(None) => return no_file(alloc, path),
-        Err(TreeError::Failed) => return Status::ReadFault,
-        Err(TreeError::NoMemory) => return Status::NoMemory,
-    };
-    let plan = match read_plan(alloc, text.as_slice()) {
+    let plan = match plan_at(alloc, path, tree) {
         Ok(plan) => plan,
-        Err(error) => return plan_refused(error),
+        Err(status) => return status,
     };
     run_log(alloc, plan, input, out, report)
+}
+
+/// Writes the memory bound of the plan at a path.
+fn bound_plan<T: Tree, O: Sink>(alloc: Global, path: &str, tree: &mut T, out: &mut O) -> Status
+    ensures answer { is_fault result ≡ false → IfSome (on_bound path.now (T.files tree.old)) (λ stat. result ≡ stat) }
+    ensures usage { ¬ (result ≡ Status.Usage) }
+    ensures read { result ≡ Status.ReadFault → Rose (T.faults tree.old) (T.faults tree.new) }
+    ensures write { result ≡ Status.WriteFault → Rose (O.faults out.old) (O.faults out.new) }
+    ensures kept { result ≡ Status.Ok → (T.faults tree.new ≡ T.faults tree.old) × (O.faults out.new ≡ O.faults out.old) }
+    ensures ran { ((O.written out.new ≡ O.written out.old) × (is_settled result ≡ false))
+        ⊎ HasBoundAt path.now (T.files tree.old) result (O.written out.old) (O.written out.new) }
+{
+    let plan = match plan_at(alloc, path, tree) {
+        Ok(plan) => plan,
+        Err(status) => return status,
+    };
+    bound(alloc, &plan, out)
+}
+
+/// The plan at a path, or how a command ends for want of it.
+fn plan_at<T: Tree>(alloc: Global, path: &str, tree: &mut T) -> Result<Plan, Status>
+    ensures plan { IfOk result (λ plan. PlanAt path.now (T.files tree.old) plan) }
+    ensures sound { IfOk result IsPlan }
+    ensures kept { OnOk result (T.faults tree.new ≡ T.faults tree.old) }
+    ensures answer { IfErr result (λ stat. is_fault stat ≡ false → (rest : ThePlan → Option TheStatus) → IfSome (on_path path.now (T.files tree.old) rest) (λ s. stat ≡ s)) }
+    ensures usage { IfErr result (λ stat. ¬ (stat ≡ Status.Usage)) }
+    ensures read { IfErr result (λ stat. stat ≡ Status.ReadFault → Rose (T.faults tree.old) (T.faults tree.new)) }
+    ensures write { IfErr result (λ stat. ¬ (stat ≡ Status.WriteFault)) }
+    ensures early { IfErr result (λ stat. is_settled stat ≡ false) }
+{
+    let text = match read_file(alloc, tree, path, MAX_TEXT + 1) {
+        Ok(Some(text)) => text,
+        Ok(None) => return Err(no_file(alloc, path)),
+        Err(TreeError::Failed) => return Err(Status::ReadFault),
+        Err(TreeError::NoMemory) => return Err(Status::NoMemory),
+    };
+    match read_plan(alloc, text.as_slice()) {
+        Ok(plan) => Ok(plan),
+        Err(error) => Err(plan_refused(error)),
+    }
 }
 
 /// The status of a path that has no file.

@@ -1,7 +1,6 @@
 use Rattle.std.proofs.Common.{◌≡◌, ◌∙◌, Some, ap, List, ℕ}
-use Rattle.cyphal.specs.Words.{Run}
 use Rattle.cyphal.proofs.ClapWords.{has, some_now, now_is}
-use Rattle.cyphal.proofs.words.run_words.Goals as goal
+use Rattle.cyphal.proofs.words.plan_words.Goals as goal
 
 pub unwrap-root-requires : goal.unwrap-root-requires
 unwrap-root-requires c =
@@ -16,5 +15,5 @@ unwrap-plan-requires c =
 pub returns-in-Ok : goal.returns-in-Ok
 returns-in-Ok c =
     let h = has _ c.in-Ok.matches _ c.in_ok-command.ensures c.requires c.in-Ok.ensures.matches in
-    h.are ∙ ap (λ (p : List ℕ). Some (Run p))
+    h.are ∙ ap (λ (p : List ℕ). Some p)
     (now_is _ c.unwrap-plan.result _ h.plan c.unwrap-plan.ensures c.get_str-in-Ok.ensures h.plan_is)
