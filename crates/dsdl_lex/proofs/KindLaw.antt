@@ -1,5 +1,5 @@
 -- The kinds that a scan tells are those of whole texts.
-use Rattle.std.proofs.Common.{◌≡◌, ℕ, Bool, true, false, ◌&&◌, ◌||◌, ◌==◌, cond, List, [], ◌∷◌, Option, Some, None, refl, sym, ap, ◌∙◌, subst, inl, inr}
+use Rattle.std.proofs.Common.{◌≡◌, ℕ, Bool, true, false, ◌&&◌, ◌||◌, ◌==◌, cond, List, [], ◌∷◌, Option, Some, None, refl, sym, ap, ◌∙◌, subst, ◌⊎◌, inl, inr}
 use Rattle.std.specs.List.{list_all}
 use Rattle.std.specs.Prelude.{nat_le, length}
 use Rattle.std.proofs.lemmas.Bool.{false≢true, eqb-true}
@@ -98,7 +98,7 @@ tells_plain text k.Sign t h = (signs_law text Plain).1 h
 
 -- ---- a text is of one kind
 -- a text of two dashes or more is told by no scan
-two_dashes : (b c : ℕ) (bs : List ℕ) → is_dash b ≡ true → is_dash c ≡ true → kind_of (run Start (b ∷ c ∷ bs)) ≡ None
+pub two_dashes : (b c : ℕ) (bs : List ℕ) → is_dash b ≡ true → is_dash c ≡ true → kind_of (run Start (b ∷ c ∷ bs)) ≡ None
 two_dashes b c bs e f =
     subst (λ v. kind_of (run Start (v ∷ c ∷ bs)) ≡ None) (sym (eqb-true b 45 e))
     (ap kind_of (run_dead bs))
@@ -116,7 +116,7 @@ split_untold (b ∷ c ∷ bs) e =
     two_dashes b c bs q.0 (both_true (is_dash c) (list_all is_dash bs) q.1).0
 
 -- a kind but a split is told
-kind_told : (text : List ℕ) (kind : TokenKind) → IsKind kind text → (kind ≡ k.Split) ⊎ (kind_of (run Start text) ≡ Some kind)
+pub kind_told : (text : List ℕ) (kind : TokenKind) → IsKind kind text → (kind ≡ k.Split) ⊎ (kind_of (run Start text) ≡ Some kind)
 kind_told text k.Reference h = inr (tells text k.Reference tt h)
 kind_told text k.Name h = inr (tells text k.Name tt h)
 kind_told text k.Number h = inr (tells text k.Number tt h)

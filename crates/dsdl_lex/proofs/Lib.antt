@@ -7,3 +7,10 @@ pub mod Runs
 pub mod Versions
 pub mod ReferenceLaw
 pub mod KindLaw
+pub mod Fronts
+pub mod Scanned
+pub mod Clear
+pub mod Blanks
+pub mod SplitPlaces
+pub mod Reading
+pub mod Going

@@ -1,5 +1,5 @@
 -- What a scan finds at the front of a text.
-use Rattle.std.specs.Prelude.{◌≡◌, ℕ, ◌<◌, ◌≤◌, Bool, false, ◌&&◌, if◌then◌else◌, List, length, take, drop, slice_index, true, Option, Some, None}
+use Rattle.std.specs.Prelude.{◌≡◌, ℕ, ◌+◌, ◌<◌, ◌≤◌, Bool, false, ◌&&◌, if◌then◌else◌, List, length, take, drop, slice_index, true, Option, Some, None}
 use Rattle.dsdl_lex.specs.declared.token.TokenKind.{TokenKind}
 use Rattle.dsdl_lex.specs.declared.state.State.{State}
 use Rattle.dsdl_lex.specs.declared.state.State.TheVariants.{Dead}
@@ -51,3 +51,16 @@ NoReference line at = (n : ℕ) → IsToken line at k.Reference n → ⊥
 -- no reference begins at a place from the first of these on that is before the second
 abbrev pub IsClear : List ℕ → ℕ → ℕ → Type 0
 IsClear line at clear = (place : ℕ) → at ≤ place → place < clear → NoReference line place
+
+abbrev pub is_name_kind : TokenKind → Bool
+is_name_kind k.Name = true
+is_name_kind k.Reference = false
+is_name_kind k.Number = false
+is_name_kind k.Str = false
+is_name_kind k.Split = false
+is_name_kind k.Sign = false
+
+-- the place before which no reference begins, behind a scan that reached so far from a place
+abbrev pub clear_after : Option (TokenKind × ℕ) → ℕ → ℕ → ℕ → ℕ
+clear_after None at reach clear = clear
+clear_after (Some found) at reach clear = if is_name_kind found.0 then at + reach else clear

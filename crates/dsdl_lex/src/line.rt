@@ -1,6 +1,6 @@
-ghost use Rattle.std.specs.Prelude.{◌≡◌, ℕ, ◌≤◌, ◌<◌, ◌^◌, length, Err, IfOk, IfSome, IfNone};
+ghost use Rattle.std.specs.Prelude.{◌≡◌, ℕ, ◌+◌, ◌≤◌, ◌<◌, ◌^◌, length, Err, IfOk, IfSome, IfNone};
 ghost use Rattle.dsdl_lex.specs.Tokens.{Lexes, Stuck, IsLongest, NoToken};
-ghost use Rattle.dsdl_lex.specs.Scans.{IsClear, NoSplit};
+ghost use Rattle.dsdl_lex.specs.Scans.{IsClear, NoSplit, is_name_kind, clear_after};
 ghost use Rattle.dsdl_lex.specs.declared.line.LexError.TheVariants.{Lex};
 
 use crate::bytes::{behind, is_blank};
@@ -31,6 +31,27 @@ impl From<NoMemory> for LexError {
     }
 }
 
+fn is_name(kind: TokenKind) -> bool
+    ensures { result ≡ is_name_kind kind }
+{
+    match kind {
+        TokenKind::Name => true,
+        _ => false,
+    }
+}
+
+/// The place before which no reference begins, behind a scan that reached so far from this place:
+/// where it found a name, none begins in its reach.
+fn clear_behind(best: Option<(TokenKind, usize)>, at: usize, reach: usize, clear: usize) -> usize
+    requires { at + reach < 2 ^ 64 }
+    ensures { result ≡ clear_after best at reach clear }
+{
+    match best {
+        Some((kind, _)) => { if is_name(kind) { at + reach } else { clear } }
+        None => clear,
+    }
+}
+
 /// The longest token from a place on. No reference begins at a place before `clear`, which moves
 /// on where a scan found none.
 fn found_at(line: &[u8], at: usize, clear: &mut usize) -> Option<(TokenKind, usize)>
@@ -46,9 +67,7 @@ fn found_at(line: &[u8], at: usize, clear: &mut usize) -> Option<(TokenKind, usi
         return scan(State::Plain, text).best;
     }
     let Found { best, reach } = scan(State::Start, text);
-    if let Some((TokenKind::Name, _)) = best {
-        *clear = at + reach;
-    }
+    *clear = clear_behind(best, at, reach, *clear);
     best
 }
 

@@ -1,4 +1,5 @@
-ghost use Rattle.std.specs.Prelude.{◌≡◌, length};
+ghost use Rattle.std.specs.Prelude.{◌≡◌, false, None, length};
+ghost use Rattle.dsdl_lex.specs.Steps as steps;
 ghost use Rattle.dsdl_lex.specs.Scans.{IsBest, IsAlive, kind_before};
 ghost use Rattle.std.specs.Prelude.{◌≤◌, drop};
 
@@ -29,6 +30,8 @@ fn kind_at(state: State, text: &[u8], at: usize) -> Option<TokenKind>
 
 /// The longest token at the front of a text.
 pub fn scan(start: State, text: &[u8]) -> Found
+    requires fresh { steps.kind_of start ≡ None }
+    requires alive { steps.is_dead start ≡ false }
     ensures best { IsBest start text.now (length text.now) result.best }
     ensures reach { IsAlive start text.now result.reach }
 {
