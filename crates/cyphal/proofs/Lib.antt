@@ -1,4 +1,5 @@
 pub mod ClapWords
 pub mod Parts
 pub mod Asked
+pub mod Frames
 pub mod Headlines

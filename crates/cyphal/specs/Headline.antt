@@ -34,23 +34,26 @@ pub record Asked (words : List (List ℕ)) (files : Option Files) (input : Optio
 abbrev pub logged_in : Plan → List ℕ → List Record
 logged_in plan bytes = newest_first (log_of (names_of plan) bytes)
 
--- the frame of a session that a record is, to the node
+-- the frame of a session that a record is, to the node: discarded frames, anonymous ones, the node's own and those of
+-- services for other nodes are none
 abbrev pub heard_as : ℕ → Record → Option KeyedFrame
 heard_as node rec = option_and_then keyed (frame_for node rec)
 
--- a sent list explains the records of a session, by their identifiers and data
+-- each record of a session is, by identifier and data, the frame of the sent list that its pair in `origin` names,
+-- received less than the timeout after it was sent; on each bus these pairs never fall; and there is no chance match
 abbrev pub ExplainsIn : Plan → List ℕ → Sent → SessionKey → List Pair → Type 0
 ExplainsIn plan bytes sent key origin = WireExplains (heard_as plan.node) plan.timeout sent key origin (logged_in plan bytes)
 
--- what is reported of a session are sent transfers, in the order of the sent list, each at most once, cut to the extent
+-- once, however the run ended: what is reported of a session are sent transfers, in the order of the sent list, each at
+-- most once, cut to the extent
 abbrev pub OnceOf : List (List ℕ) → Option Files → Option (List ℕ) → Report → Type 0
 OnceOf words files input report =
     (plan : Plan) (bytes : List ℕ) (key : SessionKey) (p : Port) (sent : Sent) (origin : List Pair)
     → Asked words files input plan bytes → IsSession plan key (logged_in plan bytes) p → ExplainsIn plan bytes sent key origin
     → SelectedRx p.extent sent origin (of_key plan key (logged_in plan bytes)) (rxs key report.lines)
 
--- where all that counts of the input was run, each transfer that came whole on the bus in force with a fresh transfer-ID
--- is reported
+-- due, where all that counts of the input was run: each transfer of a session that came whole on the bus in force with a
+-- fresh transfer-ID is reported, on the line of its last frame
 abbrev pub DueOf : List (List ℕ) → Option Files → Option (List ℕ) → Status → Report → Type 0
 DueOf words files input stat report =
     (plan : Plan) (bytes : List ℕ) (key : SessionKey) (p : Port) (sent : Sent) (origin : List Pair) (q : KeyRecord)

@@ -10,7 +10,7 @@ pub returns-clause-line : goal.returns-clause-line
 returns-clause-line g c = begins_either c.put_error.result _ _ _ c.put_error.ensures.written c.put_error.ensures.begins
 
 pub returns-clause-once : goal.returns-clause-once
-returns-clause-once g c = once_of c.reported.ensures c.once_in_part.ensures c.wire_explains_fields.ensures c.ordered.ensures.order _ _ _ _ _ _ _ c.work-status.ensures.ran
+returns-clause-once g c = once_of c.reported.ensures c.wire_explains_fields.ensures c.once_in_part.ensures c.ordered.ensures.order _ _ _ _ _ _ _ c.work-status.ensures.ran
 
 pub returns-clause-due : goal.returns-clause-due
-returns-clause-due g c = due_of c.reported.ensures c.due_in_report.ensures c.wire_explains_fields.ensures _ _ _ _ _ _ _ c.work-status.ensures.ran
+returns-clause-due g c = due_of c.reported.ensures c.wire_explains_fields.ensures c.due_in_report.ensures _ _ _ _ _ _ _ c.work-status.ensures.ran
