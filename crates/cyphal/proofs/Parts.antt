@@ -1,5 +1,5 @@
 -- Parts of a line that are written one behind another.
-use Rattle.std.proofs.Common.{◌≡◌, ◌∙◌, ℕ, ◌<◌, List, [], ◌++◌, Option, Some, None, Result, Ok, Err, OnOk, OnErr, Bor, refl, sym, ap, subst, append_assoc, append-nil, take, drop, length, get_or, suc, ap₂}
+use Rattle.std.proofs.Common.{◌≡◌, ◌∙◌, ℕ, ◌<◌, List, [], ◌++◌, Option, Some, None, Result, Ok, Err, OnOk, OnErr, Bor, refl, sym, ap, append_assoc, append-nil, take, drop, length, get_or, suc, ap₂}
 use Rattle.std.proofs.Math.Seq.{drop-cons}
 use Rattle.std.proofs.lemmas.List.{take-append-drop}
 use Rattle.std.proofs.lemmas.Grind.{flat_map-append}

@@ -37,3 +37,15 @@ error_line (status.NoFile path) = missing path
 error_line status.ReadFault = codes "cyphal: read fault\n"
 error_line status.WriteFault = codes "cyphal: write fault\n"
 error_line status.NoMemory = codes "cyphal: out of memory\n"
+
+-- the number with which the program ends
+abbrev pub code_of : Status → ℕ
+code_of status.Ok = 0
+code_of status.Usage = 1
+code_of (status.Plan n why) = 3
+code_of (status.Log n why) = 4
+code_of status.ReadFault = 8
+code_of status.WriteFault = 9
+code_of status.NoMemory = 10
+code_of status.LogLong = 11
+code_of (status.NoFile path) = 12

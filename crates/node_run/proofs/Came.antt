@@ -1,9 +1,9 @@
 -- How far a log was read.
-use Rattle.std.proofs.Common.{◌≡◌, ◌∙◌, ℕ, Bool, true, false, List, [], ◌∷◌, ◌++◌, Option, Some, None, Result, Ok, IfSome, refl, sym, ap, subst, append_assoc, append-nil}
+use Rattle.std.proofs.Common.{◌≡◌, ◌∙◌, ℕ, Bool, true, false, List, [], ◌∷◌, ◌++◌, Option, Some, None, Result, Ok, IfSome, refl, sym, ap, subst, append_assoc}
 use Rattle.std.specs.Prelude.{unwrap_or}
 use Rattle.tail_frame.specs.declared.logged.Record.{Record}
 use Rattle.frame_log.specs.Input.{Took, IsAtEnd}
-use Rattle.frame_log.specs.Log.{Log, with_record, log_of}
+use Rattle.frame_log.specs.Log.{Log, log_of}
 use Rattle.frame_log.specs.Reader.{saw_end, log_behind, IsNext}
 use Rattle.frame_log.specs.declared.error.LogError.{LogError}
 use Rattle.frame_log.specs.declared.reader.LogReader.{LogReader}

@@ -1,8 +1,8 @@
 -- A log, of which some records came.
-use Rattle.std.proofs.Common.{◌≡◌, ◌∙◌, ℕ, ◌<◌, ◌≤◌, suc, List, [], ◌∷◌, ◌++◌, length, refl, sym, ap, arith}
+use Rattle.std.proofs.Common.{◌≡◌, ℕ, ◌<◌, ◌≤◌, List, [], ◌∷◌, length, refl, arith}
 use mathlib.Core.List.{reverse_aux}
 use Rattle.tail_frame.specs.declared.logged.Record.{Record}
-use Rattle.frame_log.specs.Log.{Log, with_record}
+use Rattle.frame_log.specs.Log.{Log}
 use Rattle.frame_log.specs.Order.{IsAhead}
 
 -- a log behind records, the newest of which comes first

@@ -1,5 +1,5 @@
 -- From steps to a whole run.
-use Rattle.std.proofs.Common.{◌≡◌, ◌∙◌, ℕ, List, [], ◌∷◌, ◌++◌, ◌<◌, ◌≤◌, Bool, true, false, length, Option, Some, None, Result, Ok, Err, refl, sym, ap, subst, append_assoc, append-nil, inl, inr, arith}
+use Rattle.std.proofs.Common.{◌≡◌, ◌∙◌, ℕ, List, [], ◌∷◌, ◌++◌, ◌<◌, ◌≤◌, true, false, length, Option, Some, None, Ok, Err, refl, sym, ap, subst, append_assoc, append-nil, inl, inr, arith}
 use mathlib.Core.List.{reverse_aux}
 use Rattle.tail_frame.specs.declared.logged.Record.{Record}
 use Rattle.cy_outside.specs.Written.{behind, Begins}
@@ -22,7 +22,7 @@ use Rattle.frame_log.specs.Input.{IsAtEnd}
 use Rattle.frame_log.specs.Order.{IsAhead}
 use Rattle.frame_log.specs.Reader.{saw_end, log_behind}
 use Rattle.frame_log.specs.declared.reader.LogReader.{LogReader}
-use Rattle.node_run.specs.Ran.{At, Broke, Settled, Begun, Upto, Ran, HasRun, names_of, steps_of, newest_first, end_part, whole_text, numbers_of, refused, stopped, IsFinish}
+use Rattle.node_run.specs.Ran.{At, Broke, Settled, Begun, Ran, HasRun, names_of, steps_of, end_part, whole_text, numbers_of, refused, stopped, IsFinish}
 use Rattle.node_run.proofs.Texts.{text_append}
 use Rattle.node_run.proofs.Steps.{lines_next, records_steps}
 use Rattle.node_run.proofs.Logs.{onto, newest_onto, latest_of, line_of, ahead_in}

@@ -8,12 +8,11 @@ use Rattle.node_plan.specs.Bound.{bound_of}
 use Rattle.node_plan.specs.declared.plan.Plan.{Plan}
 use Rattle.frame_log.specs.Log.{log_of}
 use Rattle.node_core.specs.declared.numbers.Numbers.{Numbers}
-use Rattle.node_core.specs.Steps.{held_at, numbers}
+use Rattle.node_core.specs.Steps.{held_at}
 use Rattle.node_run.specs.declared.report.Report.{Report}
 use Rattle.node_run.specs.declared.status.Status.TheVariants as status
-use Rattle.node_run.specs.Ran.{numbers_of, names_of, IsEmpty, At, HasRun}
+use Rattle.node_run.specs.Ran.{names_of, IsEmpty, At, HasRun}
 use Rattle.node_run.proofs.Written.{begins_none}
-use Rattle.node_run.proofs.Came.{Has}
 use Rattle.node_run.proofs.Runs.{at_broke, has_begun}
 
 take_none : (n : ℕ) → take {A = ℕ} n [] ≡ []

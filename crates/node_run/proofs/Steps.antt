@@ -1,12 +1,12 @@
 -- What one more step adds to a report.
-use Rattle.std.proofs.Common.{◌≡◌, ◌∙◌, ℕ, ◌+◌, suc, List, [], ◌∷◌, ◌++◌, length, refl, sym, ap, append_assoc, arith, count_by}
+use Rattle.std.proofs.Common.{◌≡◌, ◌∙◌, ◌+◌, suc, List, [], ◌∷◌, ◌++◌, length, refl, sym, ap, append_assoc, arith, count_by}
 use Rattle.std.proofs.lemmas.List.Sums.{sum_by-append}
 use Rattle.tail_frame.specs.declared.logged.Record.{Record}
 use Rattle.node_plan.specs.declared.plan.Plan.{Plan}
 use Rattle.node_plan.specs.Bound.{bound_of}
 use Rattle.node_core.specs.declared.line.Line.{Line}
 use Rattle.node_core.specs.declared.numbers.Numbers.{Numbers}
-use Rattle.node_core.specs.Steps.{Step, Heard, steps, records, got, is_bad_at, held_at, badcrcs, one_if, is_rx, is_nosession, lines, numbers}
+use Rattle.node_core.specs.Steps.{Heard, steps, records, got, is_bad_at, held_at, badcrcs, one_if, is_rx, is_nosession, lines}
 use Rattle.node_run.specs.declared.report.Report.{Report}
 use Rattle.node_run.specs.Gathered.{IsPart}
 use Rattle.node_run.specs.Ran.{numbers_of, At, Broke}

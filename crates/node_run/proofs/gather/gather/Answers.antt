@@ -1,4 +1,4 @@
-use Rattle.std.proofs.Common.{◌∷◌, [], ◌++◌, rules, refl}
+use Rattle.std.proofs.Common.{◌∷◌, [], ◌++◌, refl}
 use Rattle.node_run.proofs.Texts.{one_more, behind_one, text_one}
 use Rattle.node_run.proofs.gather.gather.Goals as goal
 

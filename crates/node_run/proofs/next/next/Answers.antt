@@ -1,4 +1,4 @@
-use Rattle.std.proofs.Common.{◌≤◌, ◌<◌, Result, Ok, Err, Option, Some, None, arith, rules}
+use Rattle.std.proofs.Common.{◌≤◌, Result, Ok, Err, Option, Some, None, arith}
 use Rattle.tail_frame.specs.declared.logged.Record.{Record}
 use Rattle.frame_log.specs.Reader.{bytes_left}
 use Rattle.frame_log.specs.declared.reader.LogReader.{LogReader}

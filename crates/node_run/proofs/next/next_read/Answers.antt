@@ -1,4 +1,4 @@
-use Rattle.std.proofs.Common.{◌≡◌, sym, ap, Ok, Err}
+use Rattle.std.proofs.Common.{ap, Ok, Err}
 use Rattle.node_run.proofs.Came.{goes_read}
 use Rattle.node_run.proofs.next.next_read.Goals as goal
 

@@ -1,4 +1,4 @@
-use Rattle.std.proofs.Common.{◌≡◌, ◌+◌, ◌∷◌, ◌++◌, List, ◌≤◌, subst, refl, sym, ap, ◌∙◌, count_by, rules}
+use Rattle.std.proofs.Common.{◌+◌, ◌∷◌, ◌++◌, List, ◌≤◌, subst, refl, ap, ◌∙◌, count_by}
 use Rattle.node_plan.specs.Bound.{bound_of}
 use Rattle.node_plan.specs.declared.plan.Plan.{Plan}
 use Rattle.node_core.specs.declared.line.Line.{Line}

@@ -1,0 +1,32 @@
+//! What the program says of itself.
+
+/// What `--help` answers.
+pub const HELP: &str = "\
+cyphal run none PLAN
+    runs a node by the plan in the file PLAN over the log on standard input,
+    and writes its report
+
+cyphal bound none PLAN
+    writes how many bytes the plan's sessions hold at most
+
+cyphal --help, cyphal --version
+    write this, or the version
+
+statuses: 0 done, 1 usage, 3 plan refused, 4 log refused, 8 read fault,
+    9 write fault, 10 out of memory, 11 input too long, 12 no such file
+";
+
+/// What `--version` answers.
+pub const VERSION: &str = "cyphal 0.1.0\n";
+
+/// What the program itself answers, where the words ask for that alone.
+pub fn own_answer(words: &[String]) -> Option<&'static str> {
+    let [word] = words else {
+        return None;
+    };
+    match word.as_str() {
+        "--help" => Some(HELP),
+        "--version" => Some(VERSION),
+        _ => None,
+    }
+}

@@ -1,0 +1,105 @@
+use crate::code_of;
+use crate::top::top;
+use cy_bits::List;
+use cy_outside::{File, MemSink, MemSource, MemTree};
+use std::alloc::AllocError;
+use std::test::Fail;
+
+const PLAN: &[u8] = b"plan 1\nnode 10\nbus can0\nbus can1\nsilent\nsub 7509 4 raw 7\n";
+
+const LOG: &[u8] = b"(0.000000) can0 107D552A#01000000000000E0\n";
+
+const RX: &[u8] = b"rx 0.000000 can0 msg 7509 42 4 0 1 1 01000000000000 raw\n";
+
+const ALL: &[u8] =
+    b"rx 0.000000 can0 msg 7509 42 4 0 1 1 01000000000000 raw\nend records 1 delivered 1 badcrc 0 nosession 0 sent 0 held 7 bound 28\n";
+
+/// Which calls of the tree, the input and the output fail, and what the run comes to.
+#[derive(Clone, Copy)]
+struct Row {
+    tree: &'static [u64],
+    input: &'static [u64],
+    out: &'static [u64],
+    code: u8,
+    written: &'static [u8],
+    line: &'static [u8],
+}
+
+#[test]
+fn a_fault_ends_a_run_and_leaves_a_beginning(rt: HostRuntime) -> Result<(), Fail> {
+    let rows = [
+        Row {
+            tree: &[],
+            input: &[],
+            out: &[],
+            code: 0,
+            written: ALL,
+            line: b"",
+        },
+        Row {
+            tree: &[0],
+            input: &[],
+            out: &[],
+            code: 8,
+            written: b"",
+            line: b"cyphal: read fault\n",
+        },
+        Row {
+            tree: &[],
+            input: &[0],
+            out: &[],
+            code: 8,
+            written: b"",
+            line: b"cyphal: read fault\n",
+        },
+        Row {
+            tree: &[],
+            input: &[1],
+            out: &[],
+            code: 8,
+            written: RX,
+            line: b"cyphal: read fault\n",
+        },
+        Row {
+            tree: &[],
+            input: &[],
+            out: &[0],
+            code: 9,
+            written: b"",
+            line: b"cyphal: write fault\n",
+        },
+        Row {
+            tree: &[],
+            input: &[],
+            out: &[1],
+            code: 9,
+            written: RX,
+            line: b"cyphal: write fault\n",
+        },
+    ];
+    for row in &rows {
+        let alloc = rt.alloc();
+        let words = vec![in alloc;
+            String::from_str(alloc, "run")?,
+            String::from_str(alloc, "none")?,
+            String::from_str(alloc, "plan")?,
+        ]?;
+        let files = List::new(vec![in alloc; File::new(alloc, "plan", PLAN)?]?);
+        let mut tree = MemTree::new(files, row.tree).ok_or(AllocError)?;
+        let mut input = MemSource::new(LOG, row.input);
+        let mut out = MemSink::new(alloc, row.out);
+        let mut err = MemSink::new(alloc, &[]);
+        let done = top(
+            alloc,
+            words.as_slice(),
+            &mut tree,
+            &mut input,
+            &mut out,
+            &mut err,
+        );
+        assert_eq!(rt; code_of(&done.status), row.code);
+        assert_eq!(rt; out.written.as_slice(), row.written);
+        assert_eq!(rt; err.written.as_slice(), row.line);
+    }
+    Ok(())
+}
