@@ -1,4 +1,0 @@
-pub mod GcdLemmas
-pub mod PartLemmas
-pub mod PowerLemmas
-pub mod OrderLemmas
