@@ -1,0 +1,5 @@
+pub mod GcdLemmas
+pub mod PartLemmas
+pub mod PowerLemmas
+pub mod OrderLemmas
+pub mod ValueLemmas

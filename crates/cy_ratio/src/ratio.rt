@@ -1,0 +1,210 @@
+//! The fraction and its operations.
+
+ghost use Rattle.std.specs.Prelude.{◌≡◌, ◌*◌, ◌/◌, ◌^◌, ◌<◌, pos, ◌+ℤ◌, ◌*ℤ◌, neg_ℤ, unsigned_abs, int_div};
+ghost use Rattle.cy_ratio.specs.Fraction.{IsReduced, fraction_of, lowest, sum_of, difference_of, product_of, reciprocal_of, quotient_of, floor_of, remainder_of, power_of, raised, order_of};
+
+use crate::RatioError;
+use crate::named::{denominator, denominators, gcd, minus, plus, quotient, scaled, signed, times};
+use crate::order::compare;
+use std::cmp::Ordering;
+use std::marker::Model;
+
+/// A fraction in lowest terms, with its numerator in i128 and its denominator from 1 to 2^127 - 1.
+#[derive(Clone, Copy, Debug, PartialEq, Eq)]
+pub struct Ratio {
+    num: i128,
+    den: u128,
+}
+
+impl Model for Ratio {
+    ghost use Rattle.cy_ratio.specs.Fraction.{Fraction, IsReduced};
+
+    ghost Value = { Fraction };
+
+    ghost view = { λ r. record { num = r.num; den = r.den } };
+
+    ghost invariant = { λ r. IsReduced (record { num = r.num; den = r.den }) };
+
+    ghost inverse = { λ f. record { num = f.num; den = f.den } };
+}
+
+impl Ratio {
+    /// `num / den` in lowest terms. Zero where `den` is 0; Range where a sign has to be turned that i128 has no room for.
+    pub fn new(num: i128, den: i128) -> Result<Ratio, RatioError>
+        ensures { result ≡ fraction_of num den }
+    {
+        if den == 0 {
+            return Err(RatioError::Zero);
+        }
+        let size = den.unsigned_abs();
+        let g = gcd(num.unsigned_abs(), size);
+        let above = signed((num < 0) != (den < 0), num.unsigned_abs() / g)?;
+        let below = denominator(size / g)?;
+        Ok(Ratio {
+            num: above,
+            den: below,
+        })
+    }
+
+    /// The sum. Range where a number that the rule names leaves i128.
+    pub fn add(self, o: Ratio) -> Result<Ratio, RatioError>
+        ensures { result ≡ sum_of self o }
+    {
+        sum(self.num, self.den, o.num, o.den)
+    }
+
+    /// The difference. Range where a number that the rule names leaves i128.
+    pub fn sub(self, o: Ratio) -> Result<Ratio, RatioError>
+        ensures { result ≡ difference_of self o }
+    {
+        difference(self.num, self.den, o.num, o.den)
+    }
+
+    /// The product. Range where a number that the rule names leaves i128.
+    pub fn mul(self, o: Ratio) -> Result<Ratio, RatioError>
+        ensures { result ≡ product_of self o }
+    {
+        product(self.num, self.den, o.num, o.den)
+    }
+
+    /// The quotient: the product with the reciprocal. Zero where `o` is 0; Range where a number that the rule names leaves i128.
+    pub fn div(self, o: Ratio) -> Result<Ratio, RatioError>
+        ensures { result ≡ quotient_of self o }
+    {
+        let turned = reciprocal(o.num, o.den)?;
+        self.mul(turned)
+    }
+
+    /// What is left after the greatest whole number of times that `o` goes into this; it has the sign of `o`.
+    /// Zero where `o` is 0; Range where a number that the rule names leaves i128, also in the quotient.
+    pub fn rem(self, o: Ratio) -> Result<Ratio, RatioError>
+        ensures { result ≡ remainder_of self o }
+    {
+        let times = self.div(o)?;
+        let taken = o.mul(times.floor())?;
+        self.sub(taken)
+    }
+
+    /// The power with a whole exponent from -127 to 127; with 0 it is 1, also for 0.
+    /// Range where the exponent is another, or one of the powers up to it leaves i128; Zero for 0 under a negative exponent.
+    pub fn pow(self, e: i128) -> Result<Ratio, RatioError>
+        ensures { result ≡ power_of self e }
+    {
+        if e < -127 || e > 127 {
+            return Err(RatioError::Range);
+        }
+        let raised = raised(self.num, self.den, e.unsigned_abs() as u32)?;
+        if e < 0 {
+            reciprocal(raised.num, raised.den)
+        } else {
+            Ok(raised)
+        }
+    }
+
+    /// How the two compare, exactly: as their products across.
+    pub fn compare(self, o: Ratio) -> Ordering
+        ensures { result ≡ order_of self o }
+    {
+        compare(self.num, self.den, o.num, o.den)
+    }
+
+    /// The greatest whole number not above this.
+    fn floor(self) -> Ratio
+        ensures { result ≡ floor_of self }
+    {
+        Ratio {
+            num: self.num.div_euclid(self.den as i128),
+            den: 1,
+        }
+    }
+
+    /// The numerator, which has the sign of the fraction.
+    pub fn num(self) -> i128
+        ensures value { result ≡ self.num }
+        ensures reduced { IsReduced self }
+    {
+        self.num
+    }
+
+    /// The denominator, 1 or more.
+    pub fn den(self) -> i128
+        ensures value { result ≡ pos self.den }
+        ensures reduced { IsReduced self }
+    {
+        self.den as i128
+    }
+}
+
+/// a/b + c/d, for denominators from 1 to 2^127 - 1.
+fn sum(a: i128, b: u128, c: i128, d: u128) -> Result<Ratio, RatioError>
+    requires left { (0 < b) × (b < 2 ^ 127) }
+    requires right { (0 < d) × (d < 2 ^ 127) }
+    ensures { result ≡ sum_of (record { num = a; den = b }) (record { num = c; den = d }) }
+{
+    let g = gcd(b, d);
+    let left = scaled(a, d / g)?;
+    let right = scaled(c, b / g)?;
+    let above = plus(left, right)?;
+    let below = denominators(b, d / g)?;
+    Ratio::new(above, below as i128)
+}
+
+/// a/b - c/d, for denominators from 1 to 2^127 - 1.
+fn difference(a: i128, b: u128, c: i128, d: u128) -> Result<Ratio, RatioError>
+    requires left { (0 < b) × (b < 2 ^ 127) }
+    requires right { (0 < d) × (d < 2 ^ 127) }
+    ensures { result ≡ difference_of (record { num = a; den = b }) (record { num = c; den = d }) }
+{
+    let g = gcd(b, d);
+    let left = scaled(a, d / g)?;
+    let right = scaled(c, b / g)?;
+    let above = minus(left, right)?;
+    let below = denominators(b, d / g)?;
+    Ratio::new(above, below as i128)
+}
+
+/// a/b * c/d, for fractions in lowest terms.
+fn product(a: i128, b: u128, c: i128, d: u128) -> Result<Ratio, RatioError>
+    requires left { IsReduced (record { num = a; den = b }) }
+    requires right { IsReduced (record { num = c; den = d }) }
+    ensures { result ≡ product_of (record { num = a; den = b }) (record { num = c; den = d }) }
+{
+    let g = gcd(a.unsigned_abs(), d);
+    let h = gcd(c.unsigned_abs(), b);
+    let above = times(quotient(a, g), quotient(c, h))?;
+    let below = denominators(b / h, d / g)?;
+    Ok(Ratio {
+        num: above,
+        den: below,
+    })
+}
+
+/// d/c, the reciprocal of c/d, for a fraction in lowest terms.
+fn reciprocal(c: i128, d: u128) -> Result<Ratio, RatioError>
+    requires { IsReduced (record { num = c; den = d }) }
+    ensures { result ≡ reciprocal_of (record { num = c; den = d }) }
+{
+    if c == 0 {
+        return Err(RatioError::Zero);
+    }
+    let above = signed(c < 0, d)?;
+    let below = denominator(c.unsigned_abs())?;
+    Ok(Ratio {
+        num: above,
+        den: below,
+    })
+}
+
+/// The power of a/b, a fraction in lowest terms, by products from 1 on.
+fn raised(a: i128, b: u128, e: u32) -> Result<Ratio, RatioError>
+    requires { IsReduced (record { num = a; den = b }) }
+    ensures { result ≡ raised (record { num = a; den = b }) e }
+{
+    let mut num = 1;
+    let mut den = 1;
+    for _ in 0..e {
+        num = times(num, a)?;
+        den = denominators(den, b)?;
+    }
+    Ok(Ratio { num, den })
+}

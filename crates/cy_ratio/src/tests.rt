@@ -1,0 +1,58 @@
+use crate::{Ratio, RatioError};
+use std::cmp::Ordering;
+
+/// The operation of a sign; `^` is the power with a whole exponent.
+fn answer(sign: u8, x: Ratio, y: Ratio) -> Result<Ratio, RatioError> {
+    match sign {
+        b'+' => x.add(y),
+        b'-' => x.sub(y),
+        b'*' => x.mul(y),
+        b'/' => x.div(y),
+        b'%' => x.rem(y),
+        _ => x.pow(y.num()),
+    }
+}
+
+/// Operations at their edges.
+#[test]
+fn known_answers(rt: HostRuntime) {
+    let least = i128::MIN;
+    let rows: [(
+        u8,
+        (i128, i128),
+        (i128, i128),
+        Result<(i128, i128), RatioError>,
+    ); 14] = [
+        (b'+', (1, 3), (1, 6), Ok((1, 2))),
+        (b'-', (1, 2), (2, 4), Ok((0, 1))),
+        (b'*', (2, 3), (-3, 4), Ok((-1, 2))),
+        (b'/', (8, 1), (0, 1), Err(RatioError::Zero)),
+        (b'/', (least, 1), (least, 1), Err(RatioError::Range)),
+        (b'%', (7, 1), (-2, 1), Ok((-1, 1))),
+        (b'%', (-7, 2), (2, 1), Ok((1, 2))),
+        (b'^', (2, 1), (-2, 1), Ok((1, 4))),
+        (b'^', (-2, 1), (127, 1), Ok((least, 1))),
+        (b'^', (2, 1), (127, 1), Err(RatioError::Range)),
+        (b'^', (1, 2), (127, 1), Err(RatioError::Range)),
+        (b'^', (1, 1), (128, 1), Err(RatioError::Range)),
+        (b'^', (0, 1), (0, 1), Ok((1, 1))),
+        (b'^', (0, 1), (-1, 1), Err(RatioError::Zero)),
+    ];
+    for (sign, x, y, want) in rows {
+        let x = Ratio::new(x.0, x.1).expect(&rt, "a fraction");
+        let y = Ratio::new(y.0, y.1).expect(&rt, "a fraction");
+        let got = answer(sign, x, y).map(|r| (r.num(), r.den()));
+        assert!(rt; got == want, "at {sign}");
+    }
+}
+
+/// Fractions whose products across pass 128 bits.
+#[test]
+fn close_fractions(rt: HostRuntime) {
+    let most = i128::MAX;
+    let x = Ratio::new(most, most - 1).expect(&rt, "a fraction");
+    let y = Ratio::new(most - 1, most - 2).expect(&rt, "a fraction");
+    assert!(rt; x.compare(y) == Ordering::Less);
+    assert!(rt; y.compare(x) == Ordering::Greater);
+    assert!(rt; x.compare(x) == Ordering::Equal);
+}

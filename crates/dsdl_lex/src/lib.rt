@@ -1,0 +1,19 @@
+//! The tokens of a line of a DSDL definition: at each place the longest one is taken. Blanks stand
+//! between tokens, and a comment runs from `#` to the end of the line.
+#![tactic(auto)]
+
+mod bytes;
+mod laws;
+mod line;
+mod number;
+mod scan;
+mod split;
+mod state;
+#[cfg(test)]
+mod tests;
+mod token;
+mod word;
+
+pub use laws::{kinds, one_reading};
+pub use line::{LexError, tokens_of};
+pub use token::{Token, TokenKind};
