@@ -5,3 +5,4 @@ pub mod Logs
 pub mod Came
 pub mod Runs
 pub mod Starts
+pub mod Taken

@@ -1,10 +1,10 @@
 -- From steps to a whole run.
-use Rattle.std.proofs.Common.{◌≡◌, ◌∙◌, ℕ, List, [], ◌∷◌, ◌++◌, ◌<◌, ◌≤◌, true, false, length, Option, Some, None, Ok, Err, refl, sym, ap, subst, append_assoc, append-nil, inl, inr, arith}
+use Rattle.std.proofs.Common.{◌≡◌, ◌∙◌, ◌^◌, ℕ, List, [], ◌∷◌, ◌++◌, ◌<◌, ◌≤◌, true, false, length, Option, Some, None, Ok, Err, refl, sym, ap, subst, append_assoc, append-nil, inl, inr, arith}
 use mathlib.Core.List.{reverse_aux}
 use Rattle.tail_frame.specs.declared.logged.Record.{Record}
 use Rattle.cy_outside.specs.Written.{behind, Begins}
 use Rattle.node_plan.specs.declared.plan.Plan.{Plan}
-use Rattle.frame_log.specs.Log.{Log, ended, log_of}
+use Rattle.frame_log.specs.Log.{Log, ended, log_of, start}
 use Rattle.frame_log.specs.declared.error.LogError.{LogError}
 use Rattle.frame_log.specs.declared.error.LogError.TheVariants as error
 use Rattle.node_core.specs.declared.line.Line.{Line}
@@ -20,14 +20,17 @@ use Rattle.node_run.specs.declared.next.Stop.{Stop}
 use Rattle.node_run.specs.declared.next.Stop.TheVariants as stop
 use Rattle.frame_log.specs.Input.{IsAtEnd}
 use Rattle.frame_log.specs.Order.{IsAhead}
-use Rattle.frame_log.specs.Reader.{saw_end, log_behind}
+use Rattle.frame_log.specs.Line.{cut}
+use Rattle.frame_log.specs.Reader.{buses_of, bytes_left, held_of, place_of, saw_end, log_behind}
 use Rattle.frame_log.specs.declared.reader.LogReader.{LogReader}
 use Rattle.node_run.specs.Ran.{At, Broke, Settled, Begun, Ran, HasRun, names_of, steps_of, end_part, whole_text, numbers_of, refused, stopped, IsFinish}
 use Rattle.node_run.proofs.Texts.{text_append}
 use Rattle.node_run.proofs.Steps.{lines_next, records_steps}
 use Rattle.node_run.proofs.Logs.{onto, newest_onto, latest_of, line_of, ahead_in}
 use Rattle.node_run.proofs.Written.{begins_more, begins_front, begins_gathered, begins_end, gathered_end, gathered_less, gathered_more, all_written}
-use Rattle.node_run.proofs.Came.{Reads, Has, HasNext, has_log, has_next}
+use Rattle.node_run.specs.Taken.{whole_records, IsOfTaken}
+use Rattle.node_run.proofs.Taken.{fill, plain_fill, length_fill, plain_cut, records_whole, none_behind}
+use Rattle.node_run.proofs.Came.{took_more, log_after, Reads, Has, HasNext, has_log, has_next}
 
 -- the steps of a log, of which some records came
 pub steps_onto : (plan : Plan) (past : List Record) (behind log : Log) → log ≡ onto past behind → steps_of plan log ≡ steps plan (reverse_aux behind.records past)
@@ -215,3 +218,39 @@ pub begins_step : (plan : Plan) (past : List Record) (rec : Record) (gathered : 
 begins_step plan past rec gathered before after g =
     let whole = text plan.buses (lines plan (steps plan past)) in
     subst (λ (w : List ℕ). Begins w before after) (sym (text_next plan past rec)) (begins_more whole (text plan.buses (got plan rec past)) before after (begins_front whole gathered before after g))
+
+-- a run whose input failed
+pub has_taken : (plan : Plan) (told left next_left : Option (List ℕ)) (old new : LogReader) (past : List Record) (halt : Stop) (report : Report) (gathered rest : List ℕ) (before mid after : Option (List ℕ))
+    → stopped halt ≡ status.ReadFault → Reads (names_of plan) told left old past → GoesOn old new left next_left (Err halt) → (halt ≡ stop.Log error.Failed → (cut 10 (held_of new) ≡ None) × (saw_end new ≡ false))
+    → At plan (steps plan past) report → Gathered (text plan.buses (lines plan (steps plan past))) gathered before mid → Writes gathered rest mid after (Err halt) → IsOfTaken plan told next_left report before after
+has_taken plan told left next_left old new past (stop.Log error.Failed) report gathered rest before mid after e r g failed at h w =
+    let names = names_of plan in
+    let f = failed refl in
+    let tail = fill 4097 in
+    let plain = plain_fill 4097 in
+    let size : length tail ≡ 4097 = length_fill 4097 in
+    let long : 4096 < length tail = omega arith in
+    let is_open : saw_end new ≡ true → tail ≡ [] = λ t. let bad : true ≡ false = sym t ∙ f.1 in absurd cc in
+    let whole = log_after names told left next_left old new past (Err error.Failed) r g tail is_open in
+    let next = g.next tail is_open in
+    let none : (log_behind old (g.came ++ tail)).records ≡ [] = elim next [
+      | inl x ↦ ap (λ (l : Log). l.records) x
+      | inr x ↦ ap (λ (l : Log). l.records) x.1 ∙ none_behind (buses_of new) (bytes_left new) (held_of new) tail (place_of new) (plain_cut (held_of new) f.0) plain long
+    ] in
+    let of_lines = records_whole names (2 ^ 28) (r.came ++ g.came) tail start plain long in
+    let same : whole_records names (r.came ++ g.came) ≡ past = ap (λ (t : List Record). reverse_aux t []) (sym of_lines ∙ (ap (λ (l : Log). l.records) whole ∙ ap (reverse_aux past) none)) ∙ newest_onto past [] in
+    let lines_text = text plan.buses (lines plan (steps plan past)) in
+    let empty : Gathered lines_text [] before after = subst (λ (t : List ℕ). Gathered lines_text t before after) w.1 (gathered_less lines_text gathered rest before mid after h w.0) in record {
+      taken = r.came ++ g.came;
+      took = took_more told left next_left r.came g.came r.took g.took;
+      settled = subst (λ (t : List Record). Settled plan (steps plan t) (Some error.Failed) report before after) (sym same) (settled_refused plan (steps plan past) error.Failed report before after at (all_written lines_text before after empty));
+    }
+has_taken plan told left next_left old new past (stop.Log (error.BadLine n)) report gathered rest before mid after e r g failed at h w = absurd cc
+has_taken plan told left next_left old new past (stop.Log (error.TimeBack n)) report gathered rest before mid after e r g failed at h w = absurd cc
+has_taken plan told left next_left old new past (stop.Log (error.UnknownBus n)) report gathered rest before mid after e r g failed at h w = absurd cc
+has_taken plan told left next_left old new past (stop.Log (error.TooFar n)) report gathered rest before mid after e r g failed at h w = absurd cc
+has_taken plan told left next_left old new past (stop.Log error.LogLong) report gathered rest before mid after e r g failed at h w = absurd cc
+has_taken plan told left next_left old new past stop.Write report gathered rest before mid after e r g failed at h w = absurd cc
+
+pub not_read_fault : (stat : Status) → IsFinish stat → stat ≡ status.ReadFault → ⊥
+not_read_fault stat f e = subst IsFinish e f

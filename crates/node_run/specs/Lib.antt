@@ -2,3 +2,4 @@ pub mod BoundText
 pub mod Gathered
 pub mod Next
 pub mod Ran
+pub mod Taken

@@ -3,7 +3,9 @@ ghost use Rattle.std.specs.Prelude.{◌≡◌, true, false, None, Err, OnOk, OnE
 ghost use Rattle.cy_outside.specs.Outside.{Rose};
 ghost use Rattle.cy_outside.specs.Written.{Begins};
 ghost use Rattle.frame_log.specs.Input.{IsAtEnd};
-ghost use Rattle.frame_log.specs.Reader.{saw_end, answer_of};
+ghost use Rattle.frame_log.specs.Line.{cut};
+ghost use Rattle.frame_log.specs.Reader.{held_of, saw_end, answer_of};
+ghost use Rattle.frame_log.specs.declared.error.LogError.TheVariants as error;
 ghost use Rattle.node_run.specs.Gathered.{Gathered};
 ghost use Rattle.node_run.specs.Next.{GoesOn, ReadsOn, Writes, HasStopCause};
 
@@ -38,6 +40,7 @@ pub fn next<L: Source, O: Sink>(
     ensures end { saw_end reader.old ≡ false → saw_end reader.new ≡ true → IsAtEnd (L.left input.new) }
     ensures text { Writes gathered.old.items gathered.new.items (O.written out.old) (O.written out.new) result }
     ensures cause { HasStopCause (L.faults input.old) (L.faults input.new) (O.faults out.old) (O.faults out.new) result }
+    ensures failed { result ≡ Err (Stop.Log error.Failed) → (cut 10 (held_of reader.new) ≡ None) × (saw_end reader.new ≡ false) }
 {
     match reader.next_held() {
         Ok(Some(rec)) => {
@@ -69,6 +72,7 @@ fn next_read<L: Source, O: Sink>(
     ensures end { saw_end reader.old ≡ false → saw_end reader.new ≡ true → IsAtEnd (L.left input.new) }
     ensures text { Writes gathered.old.items gathered.new.items (O.written out.old) (O.written out.new) result }
     ensures cause { HasStopCause (L.faults input.old) (L.faults input.new) (O.faults out.old) (O.faults out.new) result }
+    ensures failed { result ≡ Err (Stop.Log error.Failed) → (cut 10 (held_of reader.new) ≡ None) × (saw_end reader.new ≡ false) }
 {
     let Ok(()) = flush(out, gathered) else {
         return Err(Stop::Write);

@@ -9,6 +9,7 @@ ghost use Rattle.node_core.specs.Text.{end_text};
 ghost use Rattle.frame_log.specs.Log.{log_of};
 ghost use Rattle.frame_log.specs.Reader.{saw_end, answer_of, log_behind};
 ghost use Rattle.node_run.specs.Ran.{numbers_of, names_of, At, IsCounted, IsEmpty, HasRun, stopped, refused, IsFinish};
+ghost use Rattle.node_run.specs.Taken.{IsOfTaken};
 
 use crate::gather::flush;
 use crate::next::{Stop, next};
@@ -34,6 +35,7 @@ pub fn run_log<L: Source, O: Sink>(
     requires plan { IsPlan plan }
     requires empty { IsEmpty report.old }
     ensures ran { HasRun plan (L.left input.old) result report.new (O.written out.old) (O.written out.new) }
+    ensures taken { result ≡ Status.ReadFault → IsOfTaken plan (L.left input.old) (L.left input.new) report.new (O.written out.old) (O.written out.new) }
     ensures read { result ≡ Status.ReadFault → Rose (L.faults input.old) (L.faults input.new) }
     ensures write { result ≡ Status.WriteFault → Rose (O.faults out.old) (O.faults out.new) }
     ensures kept { result ≡ Status.Ok → (L.faults input.new ≡ L.faults input.old) × (O.faults out.new ≡ O.faults out.old) }
@@ -69,6 +71,7 @@ fn run_records<L: Source, O: Sink>(
     requires counted { IsCounted report.old }
     requires held { report.old.held ≤ bound_of node.old.plan }
     ensures ran { HasRun node.old.plan (L.left input.old) result report.new (O.written out.old) (O.written out.new) }
+    ensures taken { result ≡ Status.ReadFault → IsOfTaken node.old.plan (L.left input.old) (L.left input.new) report.new (O.written out.old) (O.written out.new) }
     ensures read { result ≡ Status.ReadFault → Rose (L.faults input.old) (L.faults input.new) }
     ensures write { result ≡ Status.WriteFault → Rose (O.faults out.old) (O.faults out.new) }
     ensures kept { result ≡ Status.Ok → (L.faults input.new ≡ L.faults input.old) × (O.faults out.new ≡ O.faults out.old) }

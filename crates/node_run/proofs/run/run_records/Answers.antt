@@ -1,4 +1,4 @@
-use Rattle.std.proofs.Common.{◌≡◌, ◌≤◌, ◌++◌, ◌∷◌, [], List, ℕ, refl, sym, subst, ◌∙◌, arith}
+use Rattle.std.proofs.Common.{◌≡◌, ◌≤◌, ◌++◌, ◌∷◌, [], List, ℕ, refl, sym, ap, Err, subst, ◌∙◌, arith}
 use Rattle.node_plan.specs.Bound.{bound_of}
 use Rattle.node_plan.specs.declared.plan.Plan.{Plan}
 use Rattle.node_core.specs.Steps.{steps, got}
@@ -9,7 +9,7 @@ use Rattle.node_run.specs.Gathered.{Gathered}
 use Rattle.node_run.specs.Ran.{names_of, At, Broke, HasRun}
 use Rattle.node_run.proofs.Came.{reads_none, reads_more, has_log, has_next}
 use Rattle.node_run.proofs.Written.{gathered_all, gathered_less}
-use Rattle.node_run.proofs.Runs.{has_stopped, has_begun, has_finished, next_order, gathered_step, begins_step}
+use Rattle.node_run.proofs.Runs.{has_stopped, has_taken, not_read_fault, has_begun, has_finished, next_order, gathered_step, begins_step}
 use Rattle.node_run.proofs.run.run_records.Goals as goal
 
 pub returns-in-Err-clause-ran : goal.returns-in-Err-clause-ran
@@ -110,3 +110,14 @@ records-init g c =
       read = refl;
       write = refl;
     }
+
+pub returns-in-Err-clause-taken : goal.returns-in-Err-clause-taken
+returns-in-Err-clause-taken g c e =
+    let i = c.records.invariant in
+    let left = g.L.Source.left in
+    let written = g.O.Sink.written in
+    has_taken c.args.node.now.plan (left c.args.input.now) (left c.records.input) (left c.next.new.input) c.records.reader c.next.new.reader i.past c.in-Err.stop c.records.report c.records.gathered.items c.next.new.gathered.items
+    (written c.args.out.now) (written c.records.out) (written c.next.new.out) (sym c.stopped.ensures ∙ e) i.reads c.in-Err.ensures.log (λ h. c.in-Err.ensures.failed (ap Err h)) i.at i.gathered c.in-Err.ensures.text
+
+pub returns-clause-taken : goal.returns-clause-taken
+returns-clause-taken g c e = absurd (not_read_fault c.finish.result c.finish.ensures.only e)
