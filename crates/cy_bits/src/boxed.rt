@@ -5,9 +5,14 @@ use std::alloc::Global;
 use std::marker::Model;
 
 /// A value on the heap, which contracts see as the value alone. A type that holds itself holds it so.
-#[derive(Drop)]
 pub struct Boxed<T> {
     inner: Box<T>,
+}
+
+impl<T: Drop> Drop for Boxed<T> {
+    fn drop(self) {
+        let Boxed { inner: _inner } = self;
+    }
 }
 
 impl<T> Model for Boxed<T> {

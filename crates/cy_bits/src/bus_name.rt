@@ -16,6 +16,21 @@ impl Model for BusName {
 }
 
 impl BusName {
+    /// Takes an `ArrayString` as it is.
+    pub fn from_array_string(text: ArrayString<15>) -> BusName
+        ensures { result ≡ text.bytes }
+    {
+        BusName { text }
+    }
+
+    /// Gives the `ArrayString` back.
+    pub fn into_array_string(self) -> ArrayString<15>
+        ensures { result.bytes ≡ self }
+    {
+        let BusName { text } = self;
+        text
+    }
+
     /// The name, where it has at most 15 bytes.
     pub fn new(name: &str) -> Option<BusName>
         ensures { MatchOption result (15 < length name.now) (λ n. (n ≡ name.now) × (length name.now ≤ 15)) }

@@ -6,9 +6,14 @@ use std::alloc::Global;
 use std::marker::Model;
 
 /// Several of a thing, seen as a list.
-#[derive(Drop)]
 pub struct List<X> {
     items: Vec<X>,
+}
+
+impl<X: Drop> Drop for List<X> {
+    fn drop(self) {
+        let List { items: _items } = self;
+    }
 }
 
 impl<X> Model for List<X> {

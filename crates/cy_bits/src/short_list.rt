@@ -33,6 +33,21 @@ impl<T: Default, const N: usize> ShortList<T, N> {
 }
 
 impl<T, const N: usize> ShortList<T, N> {
+    /// Takes an `ArrayVec` as it is.
+    pub fn from_array_vec(items: ArrayVec<T, N>) -> ShortList<T, N>
+        ensures { result ≡ items.items }
+    {
+        ShortList { items }
+    }
+
+    /// Gives the `ArrayVec` back.
+    pub fn into_array_vec(self) -> ArrayVec<T, N>
+        ensures { result.items ≡ self }
+    {
+        let ShortList { items } = self;
+        items
+    }
+
     /// The items in a row.
     pub fn as_slice(&self) -> &[T]
         ensures value { result.now ≡ self.now }

@@ -1,4 +1,5 @@
 ghost use Rattle.std.specs.Prelude.{◌≡◌, IfOk, string_bytes, List, ℕ};
+ghost use Rattle.std.specs.Str.{IsAscii};
 
 use crate::{NoMemory, TryCopy};
 use std::alloc::Global;
@@ -30,6 +31,15 @@ impl Text {
     {
         let text = String::from_str(alloc, text)?;
         Ok(Text { text })
+    }
+
+    /// The text of these ASCII bytes, copied.
+    pub fn from_ascii(alloc: Global, bytes: &[u8]) -> Result<Text, NoMemory>
+        requires { IsAscii bytes.now }
+        ensures { IfOk result (λ t. t ≡ bytes.now) }
+    {
+        let text = std::str::from_utf8(bytes).unwrap();
+        Text::from_str(alloc, text)
     }
 
     /// The text.

@@ -8,6 +8,7 @@ pub fn is_letter(b: u8) -> bool
     (b >= b'a' && b <= b'z') || (b >= b'A' && b <= b'Z') || b == b'_'
 }
 
+/// Whether it is a decimal digit.
 pub fn is_digit(b: u8) -> bool
     ensures { result ≡ spec.is_digit b }
 {
@@ -28,6 +29,7 @@ pub fn is_blank(b: u8) -> bool
     b == b' ' || b == b'\t'
 }
 
+/// Whether it begins and ends a string.
 pub fn is_quote(b: u8) -> bool
     ensures { result ≡ spec.is_quote b }
 {

@@ -148,6 +148,7 @@ pub fn kind_of(state: State) -> Option<TokenKind>
     }
 }
 
+/// Whether no text that begins so is a token.
 pub fn is_dead(state: State) -> bool
     ensures { result ≡ spec.is_dead state }
 {
