@@ -14,4 +14,5 @@ pub mod Blanks
 pub mod SplitPlaces
 pub mod Reading
 pub mod Going
+pub mod Printable
 mod Rows

@@ -20,9 +20,13 @@ is_blank b = b == 32 || b == 9
 abbrev pub is_quote : ℕ → Bool
 is_quote b = b == 39 || b == 34
 
+-- a space or a visible character of ASCII
+abbrev pub is_printable : ℕ → Bool
+is_printable b = nat_le 32 b && nat_le b 126
+
 -- printable ASCII, neither this quote nor `\`
 abbrev pub is_inside : ℕ → ℕ → Bool
-is_inside quote b = (nat_le 32 b && nat_le b 126) && not (b == quote) && not (b == 92)
+is_inside quote b = is_printable b && not (b == quote) && not (b == 92)
 
 -- `+` or `-`
 abbrev pub is_plus_minus : ℕ → Bool

@@ -14,6 +14,6 @@ mod tests;
 mod token;
 mod word;
 
-pub use laws::{kinds, one_reading};
+pub use laws::{ascii, kinds, one_reading};
 pub use line::{LexError, tokens_of};
 pub use token::{Token, TokenKind};
