@@ -1,0 +1,15 @@
+pub mod SchemaRules
+pub mod Primitives
+pub mod Lengths
+pub mod Steps
+pub mod ZeroReads
+pub mod Akins
+pub mod Conversion
+pub mod Evolving
+pub mod Longer
+pub mod Cuts
+pub mod Padding
+pub mod Comparing
+pub mod Greatest
+pub mod Rows
+pub mod Reaching

@@ -1,0 +1,16 @@
+pub mod Schemas
+pub mod Values
+pub mod Fits
+pub mod Cast
+pub mod Zero
+pub mod Encoding
+pub mod Reading
+pub mod Lengths
+pub mod Greatest
+pub mod Reach
+pub mod Sound
+pub mod Rules
+pub mod Newer
+pub mod Difference
+pub mod DelimiterCounts
+pub mod Laws

@@ -1,0 +1,64 @@
+//! The laws of schemas, values and their serialized form. Each is the contract of a function that does
+//! nothing, for the schemas of `specs/Schemas.antt`.
+ghost use Rattle.std.specs.Prelude.{ℕ, List, ◌≤◌};
+ghost use Rattle.dsdl_types.specs.Schemas.{Sch};
+ghost use Rattle.dsdl_types.specs.Rules.{IsSchema};
+ghost use Rattle.dsdl_types.specs.Sound.{IsSound};
+ghost use Rattle.dsdl_types.specs.Laws.{ReadsOnce, RoundTrip, Evolution, ZerosLaw, CutLaw, PaddedLaw};
+ghost use Rattle.dsdl_types.specs.Lengths.{Length};
+ghost use Rattle.dsdl_types.specs.Greatest.{longest};
+ghost use Rattle.dsdl_types.specs.Reach.{Reaches, reach};
+ghost use Rattle.dsdl_types.specs.Reading.{own};
+ghost use Rattle.dsdl_types.specs.Difference.{Compares};
+
+/// A schema that keeps the rules of the language is one that these laws hold of.
+pub fn rules_suffice()
+    ensures { (s : Sch) → IsSchema s → IsSound s }
+{}
+
+/// Bytes read as exactly one value, or are refused at exactly one path for one cause.
+pub fn one_reading()
+    ensures { (s : Sch) (b : List ℕ) → ReadsOnce s b }
+{}
+
+/// The bytes of a value read as that value with its numbers in range.
+pub fn round_trip()
+    ensures { (s : Sch) → RoundTrip s }
+{}
+
+/// Zeros behind bytes change nothing of what they read as (implicit zero extension).
+pub fn zeros_behind()
+    ensures { (s : Sch) (b : List ℕ) → ZerosLaw s b }
+{}
+
+/// Where no delimiter header counts more than its part's extent, a cut to the extent changes nothing of
+/// what bytes read as or are refused for (implicit truncation).
+pub fn cut_to_extent()
+    ensures { (s : Sch) (b : List ℕ) → CutLaw s b }
+{}
+
+/// Where no delimiter header counts more than its part's extent, a payload that can be read, the same with
+/// zeros behind and that cut to the extent read as one value.
+pub fn padded_payload()
+    ensures { (s : Sch) (b : List ℕ) → PaddedLaw s b }
+{}
+
+/// A newer version of a type reads what an older one wrote, and the other way round, at any depth.
+pub fn evolution()
+    ensures { Evolution }
+{}
+
+/// One type is newer than another exactly where the comparison finds no difference.
+pub fn comparison()
+    ensures { (new old : Sch) → Compares new old }
+{}
+
+/// No length of a schema is above the greatest.
+pub fn greatest_length()
+    ensures { (s : Sch) (n : ℕ) → Length s n → n ≤ longest s }
+{}
+
+/// Reading ends at most so many bits past the end of what is read.
+pub fn reaches()
+    ensures { (s : Sch) → Reaches (λ p x. own s p x) (reach s) }
+{}
