@@ -4,6 +4,7 @@
 ghost use Rattle.std.specs.Prelude.{◌≡◌};
 
 mod full_name;
+mod laws;
 mod number;
 mod parse;
 mod parts;
@@ -11,9 +12,11 @@ mod parts;
 mod tests;
 mod word;
 
-use cy_bits::NoMemory;
+use cy_bits::{NoMemory, TryCopy};
 pub use full_name::FullName;
+pub use laws::order_of_types;
 pub use parse::{parse_file_name, parse_type_id};
+use std::alloc::Global;
 
 /// A type: its full name and its version.
 ///
@@ -26,6 +29,16 @@ pub struct TypeId {
     pub major: u8,
     /// The minor number of the version.
     pub minor: u8,
+}
+
+impl TryCopy for TypeId {
+    fn copy(&self, alloc: Global) -> Result<TypeId, NoMemory> {
+        Ok(TypeId {
+            name: self.name.copy(alloc)?,
+            major: self.major,
+            minor: self.minor,
+        })
+    }
 }
 
 /// What the path of a file says.

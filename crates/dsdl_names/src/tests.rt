@@ -1,6 +1,20 @@
-use crate::{NameError, parse_file_name, parse_type_id};
+use crate::{NameError, TypeId, parse_file_name, parse_type_id};
+use cy_bits::TryCopy;
+use std::cmp::Ordering;
 
-/// 64 names of 3 letters make 255 bytes, and one byte more is too long.
+/// 64 names of 3 letters, whose dotted name has 255 bytes.
+const LONGEST: &str = "aaa/aaa/aaa/aaa/aaa/aaa/aaa/aaa/aaa/aaa/aaa/aaa/aaa/aaa/aaa/aaa/\
+aaa/aaa/aaa/aaa/aaa/aaa/aaa/aaa/aaa/aaa/aaa/aaa/aaa/aaa/aaa/aaa/\
+aaa/aaa/aaa/aaa/aaa/aaa/aaa/aaa/aaa/aaa/aaa/aaa/aaa/aaa/aaa/aaa/\
+aaa/aaa/aaa/aaa/aaa/aaa/aaa/aaa/aaa/aaa/aaa/aaa/aaa/aaa/aaa/Aaa.1.0.dsdl";
+
+/// Its dotted name.
+const LONGEST_NAME: &str = "aaa.aaa.aaa.aaa.aaa.aaa.aaa.aaa.aaa.aaa.aaa.aaa.aaa.aaa.aaa.aaa.\
+aaa.aaa.aaa.aaa.aaa.aaa.aaa.aaa.aaa.aaa.aaa.aaa.aaa.aaa.aaa.aaa.\
+aaa.aaa.aaa.aaa.aaa.aaa.aaa.aaa.aaa.aaa.aaa.aaa.aaa.aaa.aaa.aaa.\
+aaa.aaa.aaa.aaa.aaa.aaa.aaa.aaa.aaa.aaa.aaa.aaa.aaa.aaa.aaa.Aaa";
+
+/// A path whose dotted name has 256 bytes.
 const LONG: &str = "aaa/aaa/aaa/aaa/aaa/aaa/aaa/aaa/aaa/aaa/aaa/aaa/aaa/aaa/aaa/aaa/\
 aaa/aaa/aaa/aaa/aaa/aaa/aaa/aaa/aaa/aaa/aaa/aaa/aaa/aaa/aaa/aaa/\
 aaa/aaa/aaa/aaa/aaa/aaa/aaa/aaa/aaa/aaa/aaa/aaa/aaa/aaa/aaa/aaa/\
@@ -8,7 +22,7 @@ aaa/aaa/aaa/aaa/aaa/aaa/aaa/aaa/aaa/aaa/aaa/aaa/aaa/aaa/aaa/Aaaa.1.0.dsdl";
 
 #[test]
 fn paths(rt: HostRuntime) {
-    let rows: [(&str, Result<(&str, u8, u8, Option<u16>), NameError>); 16] = [
+    let rows: [(&str, Result<(&str, u8, u8, Option<u16>), NameError>); 17] = [
         (
             "uavcan/node/7509.Heartbeat.1.0.dsdl",
             Ok(("uavcan.node.Heartbeat", 1, 0, Some(7509))),
@@ -27,6 +41,7 @@ fn paths(rt: HostRuntime) {
         ("a/B.256.0.dsdl", Err(NameError::BadVersion)),
         ("a/8192.B.1.0.dsdl", Err(NameError::BadPort)),
         ("a/100000.B.1.0.dsdl", Err(NameError::BadPort)),
+        (LONGEST, Ok((LONGEST_NAME, 1, 0, None))),
         (LONG, Err(NameError::TooLong)),
     ];
     for (path, want) in rows {
@@ -67,4 +82,18 @@ fn types(rt: HostRuntime) {
             _ => assert!(rt; false, "at {text}"),
         }
     }
+}
+
+#[test]
+fn types_are_ordered_by_name_and_version(rt: HostRuntime) -> Result<(), NameError> {
+    let ascending = ["a.B.1.10", "a.B.2.0", "a.B.10.0", "a.B_.0.1", "a.b.C.0.1"];
+    for i in 1..ascending.len() {
+        let lower = parse_type_id(rt.alloc(), ascending[i - 1])?;
+        let upper = parse_type_id(rt.alloc(), ascending[i])?;
+        assert!(rt; lower.cmp(&upper) == Ordering::Less, "at {i}");
+        assert!(rt; upper.cmp(&lower) == Ordering::Greater, "at {i}");
+        let copy: TypeId = upper.copy(rt.alloc())?;
+        assert!(rt; copy == upper && copy != lower, "at {i}");
+    }
+    Ok(())
 }
