@@ -1,7 +1,8 @@
 //! Reading the names of files and types.
-ghost use Rattle.std.specs.Prelude.{◌≡◌, ◌≢◌, ◌≤◌, ◌∷◌, [], ◌++◌, Err, IfSome};
+ghost use Rattle.std.specs.Prelude.{◌≡◌, ◌≢◌, ◌≤◌, ◌∷◌, [], ◌++◌, Err, IfOk, IfSome};
 ghost use Rattle.dsdl_names.specs.Parts.{parts_of, dotted};
 ghost use Rattle.dsdl_names.specs.Words.{number_to};
+ghost use Rattle.dsdl_names.specs.Types.{IsType, IsPort};
 ghost use Rattle.dsdl_names.specs.Names.{version_in, some_port, with_name, type_file, ended, file_of, file_name_of, id_only, type_id_of};
 
 use crate::number::number_to;
@@ -13,7 +14,8 @@ use std::alloc::Global;
 /// The type and the port of a file, by its path below the folder of all types: folders, and then
 /// `Short.major.minor.dsdl`, with `port.` before it where the type has a port.
 pub fn parse_file_name(alloc: Global, path: &str) -> Result<FileName, NameError>
-    ensures { result ≢ Err NameError.NoMemory → result ≡ file_name_of path.now }
+    ensures answer { result ≢ Err NameError.NoMemory → result ≡ file_name_of path.now }
+    ensures is_type { IfOk result (λ file. IsType file.id × IsPort file.port) }
 {
     match cut_last(b'/', path.as_bytes()) {
         Some((folders, file)) => file_of(alloc, folders, file),
@@ -23,7 +25,8 @@ pub fn parse_file_name(alloc: Global, path: &str) -> Result<FileName, NameError>
 
 /// The type of a dotted name with its version, as `uavcan.node.Heartbeat.1.0`.
 pub fn parse_type_id(alloc: Global, text: &str) -> Result<TypeId, NameError>
-    ensures { result ≢ Err NameError.NoMemory → result ≡ type_id_of text.now }
+    ensures answer { result ≢ Err NameError.NoMemory → result ≡ type_id_of text.now }
+    ensures is_type { IfOk result IsType }
 {
     let Some((front, minor)) = cut_last(b'.', text.as_bytes()) else {
         return Err(NameError::BadName);
