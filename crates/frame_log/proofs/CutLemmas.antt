@@ -13,7 +13,7 @@ abbrev pub longer : ℕ → List ℕ × List ℕ → Option (List ℕ × List �
 longer x p = Some (x ∷ p.0, p.1)
 
 -- a byte that isn't b
-cut-other : (b x : ℕ) (xs : List ℕ) → (x == b) ≡ false → cut b (x ∷ xs) ≡ (cut b xs >>= longer x)
+pub cut-other : (b x : ℕ) (xs : List ℕ) → (x == b) ≡ false → cut b (x ∷ xs) ≡ (cut b xs >>= longer x)
 cut-other b x xs h = sym (no (x == b) (Some ([], xs)) (cut b xs >>= longer x) h)
 
 pub cut-none : (b : ℕ) (s : List ℕ) → ((k : ℕ) → k < length s → (get_or s k 0 == b) ≡ true → ⊥) → cut b s ≡ None

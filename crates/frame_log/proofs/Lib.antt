@@ -4,3 +4,4 @@ pub mod CutLemmas
 pub mod LogLemmas
 pub mod OrderLemmas
 pub mod FitLemmas
+pub mod UsedLemmas

@@ -47,15 +47,15 @@ parts-line buses true line ls tail at = refl
 parts-line buses false line ls tail at = refl
 
 -- a line in front
-abbrev with_line : List ℕ → List (List ℕ) × List ℕ → List (List ℕ) × List ℕ
+abbrev pub with_line : List ℕ → List (List ℕ) × List ℕ → List (List ℕ) × List ℕ
 with_line line p = (line ∷ p.0, p.1)
 
-record CutAt (x : ℕ) (xs line behind : List ℕ) : Type 0 where
-  more : List ℕ
-  line_is : line ≡ x ∷ more
-  rest : cut 10 xs ≡ Some (more, behind)
+pub record CutAt (x : ℕ) (xs line behind : List ℕ) : Type 0 where
+  pub more : List ℕ
+  pub line_is : line ≡ x ∷ more
+  pub rest : cut 10 xs ≡ Some (more, behind)
 
-further : (x : ℕ) (xs line behind : List ℕ) (o : Option (List ℕ × List ℕ)) → cut 10 xs ≡ o → (o >>= longer x) ≡ Some (line, behind) → CutAt x xs line behind
+pub further : (x : ℕ) (xs line behind : List ℕ) (o : Option (List ℕ × List ℕ)) → cut 10 xs ≡ o → (o >>= longer x) ≡ Some (line, behind) → CutAt x xs line behind
 further x xs line behind None e h = absurd cc
 further x xs line behind (Some p) e h = let k : (x ∷ p.0, p.1) ≡ (line, behind) = some_is _ _ h in record {
   more = p.0;
@@ -63,13 +63,13 @@ further x xs line behind (Some p) e h = let k : (x ∷ p.0, p.1) ≡ (line, behi
   rest = e ∙ ap (λ t. Some (p.0, t)) (ap (λ (q : List ℕ × List ℕ). q.1) k);
 }
 
-lines_of-newline : (x : ℕ) (s : List ℕ) → (x == 10) ≡ true → lines_of (x ∷ s) ≡ with_line [] (lines_of s)
+pub lines_of-newline : (x : ℕ) (s : List ℕ) → (x == 10) ≡ true → lines_of (x ∷ s) ≡ with_line [] (lines_of s)
 lines_of-newline x s h = sym (yes (x == 10) (with_line [] (lines_of s)) (with_byte x (lines_of s)) h)
 
-lines_of-byte : (x : ℕ) (s : List ℕ) → (x == 10) ≡ false → lines_of (x ∷ s) ≡ with_byte x (lines_of s)
+pub lines_of-byte : (x : ℕ) (s : List ℕ) → (x == 10) ≡ false → lines_of (x ∷ s) ≡ with_byte x (lines_of s)
 lines_of-byte x s h = sym (no (x == 10) (with_line [] (lines_of s)) (with_byte x (lines_of s)) h)
 
-lines_of-line : (s line behind rest : List ℕ) → cut 10 s ≡ Some (line, behind) → lines_of (s ++ rest) ≡ with_line line (lines_of (behind ++ rest))
+pub lines_of-line : (s line behind rest : List ℕ) → cut 10 s ≡ Some (line, behind) → lines_of (s ++ rest) ≡ with_line line (lines_of (behind ++ rest))
 lines_of-line [] line behind rest h = absurd cc
 lines_of-line (x ∷ xs) line behind rest h = go (λ m k. lines_of-line xs m behind rest k) (x == 10) refl
   where

@@ -5,3 +5,5 @@ pub mod Log
 pub mod Order
 pub mod Steps
 pub mod Reader
+pub mod Used
+pub mod UsedSteps

@@ -53,6 +53,7 @@ impl LogReader {
     ghost use Rattle.frame_log.specs.Log.{log_of, start};
     ghost use Rattle.frame_log.specs.Order.{IsFit};
     ghost use Rattle.frame_log.specs.Reader.{buses_of, place_of, held_of, bytes_left, saw_end, answer_of, log_behind, IsNext, IsNextHeld, kept, kept_held, answered};
+    ghost use Rattle.frame_log.specs.Used.{Uses, IsBefore, IsBeforeHeld};
     ghost use Rattle.frame_log.specs.declared.error.LogError.TheVariants as error;
     ghost use Rattle.frame_log.specs.declared.reader.turn.Turn.TheVariants as turn;
     ghost use Rattle.frame_log.specs.declared.reader.step.Step.TheVariants as step;
@@ -82,6 +83,10 @@ impl LogReader {
         // What the log gives that is left: the bytes held, those that came in this call, and any rest.
         ensures next { answer_of self.old ≡ None → (came : List ℕ) × Took (L.left input.old) (L.left input.new) came
             × ((rest : List ℕ) → (saw_end self.new ≡ true → rest ≡ []) → IsNext (log_behind self.old (came ++ rest)) result (log_behind self.new rest)) }
+
+        // What was held and what came are whole lines that give no record, and behind them at most 8,192 bytes.
+        ensures used { answer_of self.old ≡ None → (came : List ℕ) × Took (L.left input.old) (L.left input.new) came
+            × Uses (buses_of self.old) (place_of self.old) (held_of self.old ++ came) (IsBefore result self.new) }
 
         // It has ended only where the input has.
         ensures end { saw_end self.old ≡ false → saw_end self.new ≡ true → IsAtEnd (L.left input.new) }
@@ -149,6 +154,7 @@ impl LogReader {
         // What the log gives that is left, whatever comes behind the bytes held.
         ensures next { answer_of self.old ≡ None → (rest : List ℕ) → IsNextHeld (log_behind self.old rest) result (log_behind self.new rest) }
         ensures none { answer_of self.old ≡ None → result ≡ Ok None → cut 10 (held_of self.new) ≡ None }
+        ensures used { answer_of self.old ≡ None → Uses (buses_of self.old) (place_of self.old) (held_of self.old) (IsBeforeHeld result self.new) }
         ensures input { answer_of self.old ≡ None → ¬ (result ≡ Err error.Failed) }
 
         // A refusal stays.

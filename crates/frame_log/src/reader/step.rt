@@ -4,7 +4,9 @@ ghost use Rattle.frame_log.specs.Line.{cut};
 ghost use Rattle.frame_log.specs.Found.{said_by};
 ghost use Rattle.frame_log.specs.Log.{given_by, ended};
 ghost use Rattle.frame_log.specs.Steps.{IsLine, IsGiven, IsStep, IsAt};
-ghost use Rattle.frame_log.specs.Reader.{place_of, log_behind, bytes_left};
+ghost use Rattle.frame_log.specs.Reader.{place_of, buses_of, log_behind, bytes_left};
+ghost use Rattle.frame_log.specs.Used.{Uses};
+ghost use Rattle.frame_log.specs.UsedSteps.{IsUsed, IsBeforeStep};
 ghost use Rattle.frame_log.specs.declared.error.LogError.TheVariants as error;
 ghost use Rattle.frame_log.specs.declared.reader.step.Step.TheVariants as step;
 
@@ -78,6 +80,7 @@ impl LogReader {
     #[inline(always)]
     fn step_line(&mut self, written: &mut Record) -> Step
         ensures next { (rest : List ℕ) → IsStep (log_behind self.old rest) result written.new (log_behind self.new rest) }
+        ensures used { IsUsed (buses_of self.old) (place_of self.old) self.old.held result written.new (place_of self.new) self.new.held }
         ensures none { result ≡ step.NoLine → (cut 10 self.new.held ≡ None) × (place_of self.new ≡ place_of self.old) × (self.new.held ≡ self.old.held) }
         ensures less { result ≡ step.Record → length self.new.held < length self.old.held }
         ensures skipped { result ≡ step.Skipped → length self.new.held < length self.old.held }
@@ -103,6 +106,7 @@ impl LogReader {
     #[inline(always)]
     pub fn from_held(&mut self, written: &mut Record) -> Step
         ensures next { (rest : List ℕ) → IsStep (log_behind self.old rest) result written.new (log_behind self.new rest) }
+        ensures used { Uses (buses_of self.old) (place_of self.old) self.old.held (IsBeforeStep result written.new self.new) }
         ensures none { result ≡ step.NoLine → cut 10 self.new.held ≡ None }
         ensures whole { ¬ (result ≡ step.Skipped) }
         ensures less { result ≡ step.Record → length self.new.held < length self.old.held }

@@ -4,7 +4,9 @@ ghost use Rattle.cy_outside.specs.Outside.{Rose};
 ghost use Rattle.frame_log.specs.Input.{Took, IsAtEnd};
 ghost use Rattle.frame_log.specs.Line.{cut};
 ghost use Rattle.frame_log.specs.Steps.{IsTurn, IsAt};
-ghost use Rattle.frame_log.specs.Reader.{place_of, log_behind, bytes_left};
+ghost use Rattle.frame_log.specs.Reader.{place_of, buses_of, log_behind, bytes_left};
+ghost use Rattle.frame_log.specs.Used.{Uses};
+ghost use Rattle.frame_log.specs.UsedSteps.{IsBeforeTurn};
 ghost use Rattle.frame_log.specs.declared.error.LogError.TheVariants as error;
 ghost use Rattle.frame_log.specs.declared.reader.turn.Turn.TheVariants as turn;
 
@@ -81,6 +83,8 @@ impl LogReader {
         requires short { length self.old.held ≤ 4096 }
         ensures next { (came : List ℕ) × Took (L.left input.old) (L.left input.new) came
             × ((rest : List ℕ) → (self.new.is_ended ≡ true → rest ≡ []) → IsTurn (log_behind self.old (came ++ rest)) result written.new (log_behind self.new rest)) }
+        ensures used { (came : List ℕ) × Took (L.left input.old) (L.left input.new) came
+            × Uses (buses_of self.old) (place_of self.old) (self.old.held ++ came) (IsBeforeTurn result written.new self.new) }
         ensures again { result ≡ turn.Again → (self.new.room < self.old.room) × (self.new.is_ended ≡ false) }
         ensures whole { result ≡ turn.Whole → self.new.is_ended ≡ true }
         ensures input { ¬ (result ≡ turn.Refused error.Failed) }
@@ -118,6 +122,8 @@ impl LogReader {
     pub fn turn<L: Source>(&mut self, input: &mut L, written: &mut Record) -> Turn
         ensures next { (came : List ℕ) × Took (L.left input.old) (L.left input.new) came
             × ((rest : List ℕ) → (self.new.is_ended ≡ true → rest ≡ []) → IsTurn (log_behind self.old (came ++ rest)) result written.new (log_behind self.new rest)) }
+        ensures used { (came : List ℕ) × Took (L.left input.old) (L.left input.new) came
+            × Uses (buses_of self.old) (place_of self.old) (self.old.held ++ came) (IsBeforeTurn result written.new self.new) }
         ensures again { result ≡ turn.Again → (self.new.room < self.old.room) × (self.new.is_ended ≡ false) }
         ensures whole { result ≡ turn.Whole → self.new.is_ended ≡ true }
         ensures input { ¬ (result ≡ turn.Refused error.Failed) }
@@ -148,7 +154,7 @@ impl LogReader {
 
 /// Whether the input has one byte more.
 fn has_more<L: Source>(input: &mut L) -> Result<bool, Failed>
-    ensures more { result ≡ Ok true → (came : List ℕ) × (0 < length came) × Took (L.left input.old) (L.left input.new) came }
+    ensures more { result ≡ Ok true → (came : List ℕ) × (length came ≡ 1) × Took (L.left input.old) (L.left input.new) came }
     ensures end { result ≡ Ok false → Took (L.left input.old) (L.left input.new) [] × IsAtEnd (L.left input.new) }
     ensures err { OnErr result (L.left input.new ≡ L.left input.old) }
     ensures cause { OnErr result (Rose (L.faults input.old) (L.faults input.new)) }

@@ -1,10 +1,12 @@
 use Rattle.std.proofs.Common.{◌≡◌, ◌≤◌, List, ℕ, length}
-use Rattle.frame_log.specs.Reader.{log_behind}
+use Rattle.frame_log.specs.Reader.{buses_of, place_of, log_behind}
+use Rattle.frame_log.specs.Used.{Passes}
 use Rattle.frame_log.proofs.reader.LogReader.from_held.Given as goal
 
 abbrev pub invariant-loop-step : goal.invariant-loop-step
 invariant-loop-step l = record {
   next : (rest : List ℕ) → log_behind l.fn.self rest ≡ log_behind l.self rest;
+  passes : Passes (buses_of l.fn.self) (place_of l.fn.self) l.fn.self.held (place_of l.self) l.self.held;
   within : length l.self.held ≤ length l.fn.self.held;
   same : (l.self.buses ≡ l.fn.self.buses) × (l.self.room ≡ l.fn.self.room) × (l.self.is_ended ≡ l.fn.self.is_ended) × (l.self.done ≡ l.fn.self.done);
 }

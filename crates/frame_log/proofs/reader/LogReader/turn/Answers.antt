@@ -1,9 +1,14 @@
-use Rattle.std.proofs.Common.{◌≡◌, ◌∙◌, ◌<◌, List, [], ℕ, None, refl, subst, sym, length}
+use Rattle.std.proofs.Common.{◌≡◌, ◌∙◌, ◌<◌, ◌≤◌, ◌++◌, List, [], ℕ, None, refl, subst, sym, length, length-append, append-nil, arith}
+use Rattle.frame_log.specs.Input.{Took}
 use Rattle.frame_log.specs.Line.{cut}
-use Rattle.frame_log.specs.Log.{Log}
-use Rattle.frame_log.specs.Reader.{place_of, log_behind}
+use Rattle.frame_log.specs.Log.{Log, Place}
+use Rattle.frame_log.specs.declared.reader.step.Step.{Step}
+use Rattle.frame_log.specs.Reader.{place_of, buses_of, log_behind}
 use Rattle.frame_log.specs.Steps.{IsTurn}
+use Rattle.frame_log.specs.Used.{Passes, Gives, Uses}
+use Rattle.frame_log.specs.UsedSteps.{IsBeforeStep, IsBeforeTurn}
 use Rattle.frame_log.proofs.LogLemmas.{log_from-long, step-no_line, is_no_line, Took-none}
+use Rattle.frame_log.proofs.UsedLemmas.{uses-here, uses-same, uses-none, passes-to, came-uses}
 use Rattle.frame_log.proofs.reader.LogReader.turn.Goals as goal
 
 pub returns-then-as_slice-gt4096-clause-next : goal.returns-then-as_slice-gt4096-clause-next
@@ -35,3 +40,37 @@ pub returns-then-as_slice-gt4096-clause-ended : goal.returns-then-as_slice-gt409
 unfolding returns-then-as_slice-gt4096-clause-next
 returns-then-as_slice-gt4096-clause-ended g c is_ended =
     (refl, c.from_held.ensures.same.2 ∙ is_ended, (returns-then-as_slice-gt4096-clause-next g c).2 [] (λ _. refl))
+
+pub returns-in-Record-clause-next : goal.returns-in-Record-clause-next
+returns-in-Record-clause-next g c = ([], Took-none (g.L.Source.left c.args.input.now), λ rest _. c.in-Record.ensures.next rest)
+
+pub returns-in-Record-clause-used : goal.returns-in-Record-clause-used
+returns-in-Record-clause-used g c =
+    let old = c.args.self.now in
+    let new = c.from_held.new.self in
+    let There : Place → List ℕ → Type 0 = λ at bytes. Gives (buses_of new) at bytes c.from_held.new.written (place_of new) new.held in (
+      [],
+      Took-none (g.L.Source.left c.args.input.now),
+      uses-none (buses_of old) (place_of old) old.held _ (uses-same (buses_of old) (place_of old) old.held There _ (λ at bytes gives _. gives) c.in-Record.ensures.used),
+    )
+
+pub returns-in-Refused-clause-used : goal.returns-in-Refused-clause-used
+returns-in-Refused-clause-used g c =
+    let old = c.args.self.now in
+    let near : length (old.held ++ []) ≤ 8192 = omega (arith, length-append old.held [], old.near) in
+    ([], Took-none (g.L.Source.left c.args.input.now), uses-here (buses_of old) (place_of old) (old.held ++ []) _ near tt)
+
+pub returns-clause-used : goal.returns-clause-used
+returns-clause-used g c =
+    let old = c.args.self.now in
+    let mid = c.from_held.new.self in
+    let left = g.L.Source.left in
+    let step = c.from_held.result in
+    let new = c.read_turn.new.self in
+    let none = is_no_line step c.in-Skipped.is c.from_held.ensures.whole in
+    let passes = passes-to (buses_of old) (place_of old) (place_of mid) old.held mid.held
+    (subst (λ (s : Step). Uses (buses_of old) (place_of old) old.held (IsBeforeStep s c.from_held.new.written mid)) none c.from_held.ensures.used) in
+    let read = subst (λ (b : List (List ℕ)). (came : List ℕ) × Took (left c.args.input.now) (left c.read_turn.new.input) came × Uses b (place_of mid) (mid.held ++ came) (IsBeforeTurn c.read_turn.result c.read_turn.new.written new))
+    c.from_held.ensures.same.0 c.read_turn.ensures.used in
+    came-uses (left c.args.input.now) (left c.args.input.now) (left c.read_turn.new.input) (buses_of old) (place_of old) (place_of mid) old.held mid.held (IsBeforeTurn c.read_turn.result c.read_turn.new.written new)
+    ([], Took-none (left c.args.input.now), subst (λ (b : List ℕ). Passes (buses_of old) (place_of old) b (place_of mid) mid.held) (sym (append-nil old.held)) passes) read

@@ -1,0 +1,30 @@
+-- What the steps of a reader use of its bytes.
+use Rattle.std.specs.Prelude.{◌≡◌, ℕ, false, List, ⊤}
+use Rattle.tail_frame.specs.declared.logged.Record.{Record}
+use Rattle.frame_log.specs.declared.reader.LogReader.{LogReader}
+use Rattle.frame_log.specs.declared.reader.step.Step.{Step}
+use Rattle.frame_log.specs.declared.reader.step.Step.TheVariants as step
+use Rattle.frame_log.specs.declared.reader.turn.Turn.{Turn}
+use Rattle.frame_log.specs.declared.reader.turn.Turn.TheVariants as turn
+use Rattle.frame_log.specs.Log.{Place}
+use Rattle.frame_log.specs.Reader.{buses_of, place_of, held_of, saw_end}
+use Rattle.frame_log.specs.Used.{Passes, Gives}
+
+-- the first line of these bytes is used, where it is no refusal
+abbrev pub IsUsed : List (List ℕ) → Place → List ℕ → Step → Record → Place → List ℕ → Type 0
+IsUsed buses at bytes step.Skipped written new behind = Passes buses at bytes new behind
+IsUsed buses at bytes step.Record written new behind = Gives buses at bytes written new behind
+IsUsed buses at bytes other written new behind = ⊤
+
+-- what stands behind the lines that give no record, where a step found no further line or a record
+abbrev pub IsBeforeStep : Step → Record → LogReader → Place → List ℕ → Type 0
+IsBeforeStep step.NoLine written new at bytes = (at ≡ place_of new) × (bytes ≡ held_of new)
+IsBeforeStep step.Record written new at bytes = Gives (buses_of new) at bytes written (place_of new) (held_of new)
+IsBeforeStep other written new at bytes = ⊤
+
+-- what stands behind the lines that give no record, where a turn found nothing yet or a record
+abbrev pub IsBeforeTurn : Turn → Record → LogReader → Place → List ℕ → Type 0
+IsBeforeTurn turn.Again written new at bytes = (at ≡ place_of new) × (bytes ≡ held_of new)
+IsBeforeTurn turn.Failed written new at bytes = (at ≡ place_of new) × (bytes ≡ held_of new)
+IsBeforeTurn turn.Record written new at bytes = saw_end new ≡ false → Gives (buses_of new) at bytes written (place_of new) (held_of new)
+IsBeforeTurn other written new at bytes = ⊤
