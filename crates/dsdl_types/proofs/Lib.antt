@@ -1,4 +1,5 @@
 pub mod SchemaRules
+pub mod Views
 pub mod Primitives
 pub mod Lengths
 pub mod Steps
@@ -9,6 +10,7 @@ pub mod Evolving
 pub mod Longer
 pub mod Cuts
 pub mod Padding
+pub mod Finding
 pub mod Comparing
 pub mod Greatest
 pub mod Rows

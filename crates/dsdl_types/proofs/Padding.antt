@@ -5,11 +5,13 @@ use Rattle.dsdl_types.specs.Schemas.{Sch, Simple, Fixed, Var, Struct, Union, is_
 use Rattle.dsdl_types.specs.Values.{Val}
 use Rattle.dsdl_types.specs.Reading.{Read, Got, Bad, Step, Why, own}
 use Rattle.dsdl_types.specs.Greatest.{longest}
-use Rattle.dsdl_types.specs.Laws.{Reads, ZerosLaw, CutLaw, PaddedLaw}
+use Rattle.dsdl_types.specs.Laws.{KeepsReadings, Reads, ZerosLaw, CutLaw, PaddedLaw}
 use Rattle.std.proofs.lemmas.List.{take-append-le}
 use Rattle.std.proofs.lemmas.Bool.{cases_lt}
 use Rattle.std.proofs.Common.{inl, inr, min}
 use Rattle.cy_bits.proofs.BitFacts.{bits-append, bits_zero, length_bits_of}
+use Rattle.dsdl_types.specs.Rules.{IsSchema}
+use Rattle.dsdl_types.proofs.SchemaRules.{schema_sound}
 use Rattle.dsdl_types.proofs.Lengths.{up_whole}
 use Rattle.dsdl_types.proofs.Longer.{longer_own}
 use Rattle.dsdl_types.proofs.Cuts.{CutTo, cuts_own}
@@ -73,3 +75,12 @@ padded_law s b i c w v r k =
         | inr long ↦ subst (λ x. Reads s x v) (sym (take-append-le n b (replicate k 0) long)) ((cut_law s b i c w).reads v r)
       ],
     )
+
+pub keeps_readings : (s : Sch) → IsSchema s → is_composite s ≡ true → KeepsReadings s
+keeps_readings s h composite =
+    let sound = schema_sound s h in
+    record {
+      cut = λ b fit. cut_law s b sound composite fit;
+      zeros = λ b. zeros_law s b;
+      zeros_cut = λ b fit v reads k. (padded_law s b sound composite fit v reads k).1;
+    }

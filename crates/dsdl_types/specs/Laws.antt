@@ -72,3 +72,9 @@ CutLaw s b = IsSound s → is_composite s ≡ true → CountsFit s 0 (bits b) �
 -- zeros behind and that cut to the extent read as one value.
 abbrev pub PaddedLaw : Sch → List ℕ → Type 0
 PaddedLaw s b = IsSound s → is_composite s ≡ true → CountsFit s 0 (bits b) → (v : Val) → Reads s b v → (k : ℕ) → Reads s (with_zeros b k) v × Reads s (take (extent_of s / 8) (with_zeros b k)) v
+
+-- What cutting a payload to the extent, and zeros behind it, keep of how it reads.
+pub record KeepsReadings (s : Sch) : Type 0 where
+  pub cut : (b : List ℕ) → CountsFit s 0 (bits b) → SameReading s b (take (extent_of s / 8) b)
+  pub zeros : (b : List ℕ) (v : Val) → Reads s b v → (k : ℕ) → Reads s (with_zeros b k) v
+  pub zeros_cut : (b : List ℕ) → CountsFit s 0 (bits b) → (v : Val) → Reads s b v → (k : ℕ) → Reads s (take (extent_of s / 8) (with_zeros b k)) v

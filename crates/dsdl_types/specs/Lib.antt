@@ -14,3 +14,5 @@ pub mod Newer
 pub mod Difference
 pub mod DelimiterCounts
 pub mod Laws
+pub mod Views
+pub mod Finding

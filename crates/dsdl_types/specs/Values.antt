@@ -54,3 +54,8 @@ on_items f (More v vs) = More (f v) (on_items f vs)
 abbrev pub same_items : ℕ → Val → Vals
 same_items zero v = None
 same_items (suc n) v = More v (same_items n v)
+
+-- one list of values behind the other
+abbrev pub join : Vals → Vals → Vals
+join None ws = ws
+join (More v vs) ws = More v (join vs ws)

@@ -1,15 +1,18 @@
 //! The laws of schemas, values and their serialized form. Each is the contract of a function that does
 //! nothing, for the schemas of `specs/Schemas.antt`.
+
 ghost use Rattle.std.specs.Prelude.{ℕ, List, ◌≤◌};
 ghost use Rattle.dsdl_types.specs.Schemas.{Sch};
 ghost use Rattle.dsdl_types.specs.Rules.{IsSchema};
 ghost use Rattle.dsdl_types.specs.Sound.{IsSound};
-ghost use Rattle.dsdl_types.specs.Laws.{ReadsOnce, RoundTrip, Evolution, ZerosLaw, CutLaw, PaddedLaw};
+ghost use Rattle.dsdl_types.specs.Laws.{ReadsOnce, RoundTrip, Evolution, ZerosLaw, CutLaw, PaddedLaw, KeepsReadings};
 ghost use Rattle.dsdl_types.specs.Lengths.{Length};
 ghost use Rattle.dsdl_types.specs.Greatest.{longest};
 ghost use Rattle.dsdl_types.specs.Reach.{Reaches, reach};
 ghost use Rattle.dsdl_types.specs.Reading.{own};
 ghost use Rattle.dsdl_types.specs.Difference.{Compares};
+
+use crate::shape::Shape;
 
 /// A schema that keeps the rules of the language is one that these laws hold of.
 pub fn rules_suffice()
@@ -62,3 +65,13 @@ pub fn greatest_length()
 pub fn reaches()
     ensures { (s : Sch) → Reaches (λ p x. own s p x) (reach s) }
 {}
+
+/// The laws of a shape. Where no delimiter header counts more than its part's extent, a payload and the same
+/// cut to the extent read as the same value or are refused alike. A payload that can be read is read with
+/// zeros behind as the same value, and, where no delimiter header counts more than its part's extent, also
+/// with zeros behind and then cut to the extent.
+pub fn shape_laws<S: Shape>(shape: &S)
+    ensures { KeepsReadings (S.shape shape.now) }
+{
+    let _schema = shape.schema();
+}

@@ -1,4 +1,5 @@
 ghost use Rattle.std.specs.Prelude.{◌≡◌, IfOk};
+ghost use Rattle.dsdl_types.specs.Views.{kind_of, is_padding};
 
 use cy_bits::{Boxed, List, NoMemory, Text, TryCopy};
 use std::alloc::Global;
@@ -82,6 +83,15 @@ pub struct Field {
     pub name: Text,
     /// Its type.
     pub schema: Schema,
+}
+
+impl Schema {
+    /// Whether it is padding, and no type of values.
+    pub fn is_padding(&self) -> bool
+        ensures { result ≡ is_padding (kind_of self.now) }
+    {
+        matches!(self, Schema::Void { .. })
+    }
 }
 
 impl TryCopy for Schema {
