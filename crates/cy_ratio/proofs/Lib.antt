@@ -3,3 +3,5 @@ pub mod PartLemmas
 pub mod PowerLemmas
 pub mod OrderLemmas
 pub mod ValueLemmas
+pub mod OneLemmas
+pub mod RestLemmas

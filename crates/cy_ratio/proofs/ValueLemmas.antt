@@ -2,42 +2,29 @@
 use Rattle.std.proofs.Common.{◌≡◌, ℕ, zero, suc, ◌*◌, ◌/◌, ℤ, pos, negsuc, neg_ℤ, ◌*ℤ◌, ◌+ℤ◌, ◌-ℤ◌, unsigned_abs, int_div, Bool, true, false, List, [], ◌∷◌, Result, Ok, Err, refl, sym, ap, ◌∙◌, subst, arith}
 use Rattle.std.specs.Int.{◌∣◌}
 use Rattle.std.proofs.lemmas.Int.{ints}
-use Rattle.std.proofs.Math.IntN.{*ℤ_comm, *ℤ-zero, *ℤ-negsuc, suc_ℤ-*ℤ, neg_ℤ-neg_ℤ}
-use Rattle.std.proofs.Math.Nat.{mul_assoc, mul_comm, zero-mul, div-mul_cancel}
+use Rattle.std.proofs.Math.IntN.{*ℤ-zero, *ℤ-negsuc, neg_ℤ-neg_ℤ}
+use Rattle.std.proofs.Math.Nat.{mul_assoc, mul_comm, div-mul_cancel}
 use Rattle.cy_ratio.specs.Fraction.{Fraction, gcd, fits, where_fit, lowest, negated, fraction_of, sum_of, difference_of, product_of, reciprocal_of, turned, quotient_of, and_then}
 use Rattle.cy_ratio.specs.Value.{IsWorth}
+use Rattle.cy_ratio.specs.Order.{neg_scale, scale_assoc, one_more, none_at_all}
 use Rattle.cy_ratio.specs.declared.RatioError.{RatioError}
 use Rattle.cy_ratio.proofs.PartLemmas.{refusal}
 use Rattle.cy_ratio.proofs.GcdLemmas.{IsGcd-gcd}
-
-neg_scale : (n b : ℕ) → neg_ℤ (pos n) *ℤ pos b ≡ neg_ℤ (pos (n * b))
-neg_scale zero b = rw zero-mul refl
-neg_scale (suc n) b = refl
-
-pub scale_assoc : (r : ℤ) (a b : ℕ) → (r *ℤ pos a) *ℤ pos b ≡ r *ℤ pos (a * b)
-scale_assoc (pos m) a b = ap pos (mul_assoc m a b)
-scale_assoc (negsuc m) a b = neg_scale (suc m * a) b ∙ ap (λ n. neg_ℤ (pos n)) (mul_assoc (suc m) a b)
 
 back : (n : ℤ) (g : ℕ) → g ∣ unsigned_abs n → int_div n (pos g) *ℤ pos g ≡ n
 back (pos m) g d = ap pos (div-mul_cancel g d)
 back (negsuc m) g d = neg_scale (suc m / g) g ∙ ap (λ n. neg_ℤ (pos n)) (div-mul_cancel g d)
 
-one_more : (x : ℤ) (g : ℕ) → x *ℤ pos (suc g) ≡ x *ℤ pos g +ℤ x
-one_more x g = *ℤ_comm x (pos (suc g)) ∙ suc_ℤ-*ℤ (pos g) x ∙ ap (λ z. z +ℤ x) (*ℤ_comm (pos g) x)
-
-none_at_all : (x : ℤ) → x *ℤ pos 0 ≡ pos 0
-none_at_all x = *ℤ-zero x
-
 add_scale : (x y : ℤ) (g : ℕ) → (x +ℤ y) *ℤ pos g ≡ (x *ℤ pos g) +ℤ (y *ℤ pos g)
 add_scale x y zero = omega (arith, ints, none_at_all x, none_at_all y, none_at_all (x +ℤ y))
 add_scale x y (suc g) = omega (arith, ints, one_more x g, one_more y g, one_more (x +ℤ y) g, add_scale x y g)
 
-sub_scale : (x y : ℤ) (g : ℕ) → (x -ℤ y) *ℤ pos g ≡ (x *ℤ pos g) -ℤ (y *ℤ pos g)
+pub sub_scale : (x y : ℤ) (g : ℕ) → (x -ℤ y) *ℤ pos g ≡ (x *ℤ pos g) -ℤ (y *ℤ pos g)
 sub_scale x y zero = omega (arith, ints, none_at_all x, none_at_all y, none_at_all (x -ℤ y))
 sub_scale x y (suc g) = omega (arith, ints, one_more x g, one_more y g, one_more (x -ℤ y) g, sub_scale x y g)
 
 -- numbers that fit don't change the answer
-passed : (named : List ℤ) (answer : Result Fraction RatioError) (r : Fraction) → where_fit named answer ≡ Ok r → answer ≡ Ok r
+pub passed : (named : List ℤ) (answer : Result Fraction RatioError) (r : Fraction) → where_fit named answer ≡ Ok r → answer ≡ Ok r
 passed [] answer r h = h
 passed (z ∷ named) answer r h = by_test (fits z) refl (passed named answer r)
   where
@@ -51,7 +38,7 @@ lowest_worth n d =
     let h = IsGcd-gcd (unsigned_abs n) d in
     ap (λ k. int_div n (pos g) *ℤ pos k) (sym (div-mul_cancel g h.1) ∙ mul_comm (d / g) g) ∙ sym (scale_assoc (int_div n (pos g)) g (d / g)) ∙ ap (λ z. z *ℤ pos (d / g)) (back n g h.0)
 
-neg_times : (x : ℤ) (k : ℕ) → neg_ℤ x *ℤ pos k ≡ neg_ℤ (x *ℤ pos k)
+pub neg_times : (x : ℤ) (k : ℕ) → neg_ℤ x *ℤ pos k ≡ neg_ℤ (x *ℤ pos k)
 neg_times (pos n) k = neg_scale n k
 neg_times (negsuc n) k = sym (neg_ℤ-neg_ℤ (pos (suc n * k))) ∙ ap neg_ℤ (neg_scale (suc n) k)
 
@@ -135,7 +122,7 @@ product_worth x y r h =
     regroup : (a k b g : ℕ) → a * k * (b * g) ≡ g * k * (a * b)
     regroup a k b g = omega arith
 
-after : (p : Result Fraction RatioError) (next : Fraction → Result Fraction RatioError) (r : Fraction) → and_then p next ≡ Ok r → (t : Fraction) × (p ≡ Ok t) × (next t ≡ Ok r)
+pub after : (p : Result Fraction RatioError) (next : Fraction → Result Fraction RatioError) (r : Fraction) → and_then p next ≡ Ok r → (t : Fraction) × (p ≡ Ok t) × (next t ≡ Ok r)
 after (Ok t) next r h = (t, refl, h)
 after (Err e) next r h = absurd (let k : Err e ≡ Ok r = h in cc)
 

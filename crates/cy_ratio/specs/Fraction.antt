@@ -131,6 +131,11 @@ abbrev pub power_of : Fraction → ℤ → Result Fraction RatioError
 power_of x (pos n) = if nat_lt n 128 then raised x n else Err Range
 power_of x (negsuc n) = if nat_lt n 127 then and_then (raised x (suc n)) reciprocal_of else Err Range
 
+-- a denominator, which is never 0
+abbrev pub divisor : ℕ → ℕ
+divisor zero = 1
+divisor (suc d) = suc d
+
 -- the order of fractions: that of the products across
 abbrev pub order_of : Fraction → Fraction → Ordering
-order_of x y = int_cmp (x.num *ℤ pos y.den) (y.num *ℤ pos x.den)
+order_of x y = int_cmp (x.num *ℤ pos (divisor y.den)) (y.num *ℤ pos (divisor x.den))

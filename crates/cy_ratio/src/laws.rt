@@ -1,7 +1,9 @@
 //! Laws of the operations.
 
-ghost use Rattle.std.specs.Prelude.{◌≡◌, ◌*◌, ℤ, pos, ◌*ℤ◌, ◌+ℤ◌, ◌-ℤ◌, Ok};
-ghost use Rattle.cy_ratio.specs.Fraction.{Fraction, fraction_of, sum_of, difference_of, product_of, quotient_of};
+ghost use Rattle.std.specs.Prelude.{◌≡◌, ◌*◌, ◌^◌, ◌<◌, ℕ, ℤ, pos, negsuc, ◌*ℤ◌, ◌+ℤ◌, ◌-ℤ◌, suc, Ok};
+ghost use Rattle.std.specs.Ordering.{int_cmp};
+ghost use Rattle.std.specs.declared.cmp.Ordering.TheVariants.{Equal};
+ghost use Rattle.cy_ratio.specs.Fraction.{Fraction, IsReduced, fraction_of, sum_of, difference_of, product_of, quotient_of, remainder_of, floor_of, power, power_of, order_of};
 ghost use Rattle.cy_ratio.specs.Value.{IsWorth};
 
 /// `new(n, d)` is worth n / d.
@@ -30,4 +32,27 @@ pub fn product_worth()
 pub fn quotient_worth()
     ensures { (x y r : Fraction) → quotient_of x y ≡ Ok r →
         IsWorth r (x.num *ℤ pos y.den) (pos x.den *ℤ y.num) }
+{}
+
+/// `rem` is worth x - y * f, where f is the greatest whole number not above x / y.
+pub fn remainder_worth()
+    ensures { (x y r : Fraction) → IsReduced x → IsReduced y → remainder_of x y ≡ Ok r →
+        (q : Fraction) × (quotient_of x y ≡ Ok q) × IsWorth r ((x.num *ℤ pos y.den) -ℤ ((y.num *ℤ (floor_of q).num) *ℤ pos x.den)) (pos (x.den * y.den)) }
+{}
+
+/// `pow` is worth the product of as many factors as the exponent says, or below 0 its reciprocal.
+pub fn power_worth()
+    ensures whole { (x r : Fraction) (n : ℕ) → power_of x (pos n) ≡ Ok r → IsWorth r (power x.num n) (pos (x.den ^ n)) }
+    ensures reciprocal { (x r : Fraction) (n : ℕ) → power_of x (negsuc n) ≡ Ok r → IsWorth r (pos (x.den ^ suc n)) (power x.num (suc n)) }
+{}
+
+/// Fractions in lowest terms that are worth the same are equal.
+pub fn one_fraction()
+    ensures worth { (x y : Fraction) → IsReduced x → IsReduced y → IsWorth x y.num (pos y.den) → x ≡ y }
+    ensures order { (x y : Fraction) → IsReduced x → IsReduced y → order_of x y ≡ Equal → x ≡ y }
+{}
+
+/// Fractions are ordered as their products across.
+pub fn order_worth()
+    ensures { (x y : Fraction) → 0 < x.den → 0 < y.den → order_of x y ≡ int_cmp (x.num *ℤ pos y.den) (y.num *ℤ pos x.den) }
 {}

@@ -1,7 +1,7 @@
 //! The fraction and its operations.
 
 ghost use Rattle.std.specs.Prelude.{◌≡◌, ◌*◌, ◌/◌, ◌^◌, ◌<◌, pos, ◌+ℤ◌, ◌*ℤ◌, neg_ℤ, unsigned_abs, int_div};
-ghost use Rattle.cy_ratio.specs.Fraction.{IsReduced, fraction_of, lowest, sum_of, difference_of, product_of, reciprocal_of, quotient_of, floor_of, remainder_of, power_of, raised, order_of};
+ghost use Rattle.cy_ratio.specs.Fraction.{IsReduced, fraction_of, lowest, sum_of, difference_of, product_of, reciprocal_of, quotient_of, floor_of, remainder_of, power_of, raised};
 
 use crate::RatioError;
 use crate::named::{denominator, denominators, gcd, minus, plus, quotient, scaled, signed, times};
@@ -10,7 +10,7 @@ use std::cmp::Ordering;
 use std::marker::Model;
 
 /// A fraction in lowest terms, with its numerator in i128 and its denominator from 1 to 2^127 - 1.
-#[derive(Clone, Copy, Debug, PartialEq, Eq)]
+#[derive(Clone, Copy, Debug)]
 pub struct Ratio {
     num: i128,
     den: u128,
@@ -101,13 +101,6 @@ impl Ratio {
         }
     }
 
-    /// How the two compare, exactly: as their products across.
-    pub fn compare(self, o: Ratio) -> Ordering
-        ensures { result ≡ order_of self o }
-    {
-        compare(self.num, self.den, o.num, o.den)
-    }
-
     /// The greatest whole number not above this.
     fn floor(self) -> Ratio
         ensures { result ≡ floor_of self }
@@ -132,6 +125,64 @@ impl Ratio {
         ensures reduced { IsReduced self }
     {
         self.den as i128
+    }
+}
+
+impl PartialEq for Ratio {
+    ghost use Rattle.std.specs.Ordering.{eq_by_cmp};
+    ghost use Rattle.std.specs.Cmp.{partial_equiv_from_equiv};
+    ghost use Rattle.std.proofs.lemmas.Cmp.{eq_by_cmp_equiv};
+    ghost use Rattle.cy_ratio.specs.Fraction.{order_of};
+    ghost use Rattle.cy_ratio.specs.Order.{order_total};
+
+    ghost eq = { eq_by_cmp order_of };
+
+    ghost laws = { partial_equiv_from_equiv (eq_by_cmp_equiv order_total) };
+
+    fn eq(&self, other: &Ratio) -> bool {
+        self.cmp(other) == Ordering::Equal
+    }
+}
+
+impl Eq for Ratio {
+    ghost use Rattle.std.proofs.lemmas.Cmp.{eq_by_cmp_equiv};
+    ghost use Rattle.cy_ratio.specs.Order.{order_total};
+
+    ghost laws = { eq_by_cmp_equiv order_total };
+}
+
+impl PartialOrd for Ratio {
+    ghost use Rattle.std.specs.Prelude.{refl};
+    ghost use Rattle.std.specs.Ordering.{as_partial_cmp};
+    ghost use Rattle.std.specs.Cmp.{po};
+    ghost use Rattle.cy_ratio.specs.Fraction.{order_of};
+    ghost use Rattle.cy_ratio.specs.Order.{order_total};
+
+    ghost partial_cmp = { as_partial_cmp order_of };
+
+    ghost laws = { po order_total (λ x y. refl) };
+
+    fn partial_cmp(&self, other: &Ratio) -> Option<Ordering> {
+        Some(self.cmp(other))
+    }
+}
+
+impl Ord for Ratio {
+    ghost use Rattle.std.specs.Prelude.{refl};
+    ghost use Rattle.cy_ratio.specs.Fraction.{order_of};
+    ghost use Rattle.cy_ratio.specs.Order.{order_total};
+
+    ghost cmp = { order_of };
+
+    ghost total = { order_total };
+
+    ghost matches_partial_cmp = { λ x y. refl };
+
+    ghost matches_eq = { λ x y. refl };
+
+    /// How the two compare, exactly: as their products across.
+    fn cmp(&self, other: &Ratio) -> Ordering {
+        compare(self.num, self.den, other.num, other.den)
     }
 }
 

@@ -22,12 +22,14 @@ fn known_answers(rt: HostRuntime) {
         (i128, i128),
         (i128, i128),
         Result<(i128, i128), RatioError>,
-    ); 14] = [
+    ); 20] = [
         (b'+', (1, 3), (1, 6), Ok((1, 2))),
         (b'-', (1, 2), (2, 4), Ok((0, 1))),
         (b'*', (2, 3), (-3, 4), Ok((-1, 2))),
         (b'/', (8, 1), (0, 1), Err(RatioError::Zero)),
+        (b'/', (3, 4), (-9, 8), Ok((-2, 3))),
         (b'/', (least, 1), (least, 1), Err(RatioError::Range)),
+        (b'-', (0, 1), (least, 1), Err(RatioError::Range)),
         (b'%', (7, 1), (-2, 1), Ok((-1, 1))),
         (b'%', (-7, 2), (2, 1), Ok((1, 2))),
         (b'^', (2, 1), (-2, 1), Ok((1, 4))),
@@ -35,6 +37,10 @@ fn known_answers(rt: HostRuntime) {
         (b'^', (2, 1), (127, 1), Err(RatioError::Range)),
         (b'^', (1, 2), (127, 1), Err(RatioError::Range)),
         (b'^', (1, 1), (128, 1), Err(RatioError::Range)),
+        (b'^', (1, 1), (-128, 1), Err(RatioError::Range)),
+        (b'^', (0, 1), (least, 1), Err(RatioError::Range)),
+        (b'^', (-1, 1), (-127, 1), Ok((-1, 1))),
+        (b'^', (-7, 3), (0, 1), Ok((1, 1))),
         (b'^', (0, 1), (0, 1), Ok((1, 1))),
         (b'^', (0, 1), (-1, 1), Err(RatioError::Zero)),
     ];
@@ -46,13 +52,45 @@ fn known_answers(rt: HostRuntime) {
     }
 }
 
-/// Fractions whose products across pass 128 bits.
+/// Whole numbers over one another.
 #[test]
-fn close_fractions(rt: HostRuntime) {
+fn fractions_in_lowest_terms(rt: HostRuntime) {
+    let least = i128::MIN;
+    let rows: [((i128, i128), Result<(i128, i128), RatioError>); 7] = [
+        ((6, -4), Ok((-3, 2))),
+        ((0, -5), Ok((0, 1))),
+        ((least, least), Ok((1, 1))),
+        ((least, 1), Ok((least, 1))),
+        ((least, -1), Err(RatioError::Range)),
+        ((1, least), Err(RatioError::Range)),
+        ((1, 0), Err(RatioError::Zero)),
+    ];
+    for ((n, d), want) in rows {
+        let got = Ratio::new(n, d).map(|r| (r.num(), r.den()));
+        assert!(rt; got == want, "at {n} / {d}");
+    }
+}
+
+/// Fractions in ascending order; the products across of the last ones pass 128 bits.
+#[test]
+fn ascending_fractions(rt: HostRuntime) {
     let most = i128::MAX;
-    let x = Ratio::new(most, most - 1).expect(&rt, "a fraction");
-    let y = Ratio::new(most - 1, most - 2).expect(&rt, "a fraction");
-    assert!(rt; x.compare(y) == Ordering::Less);
-    assert!(rt; y.compare(x) == Ordering::Greater);
-    assert!(rt; x.compare(x) == Ordering::Equal);
+    let rows = [
+        (i128::MIN, 1),
+        (-1, 2),
+        (-1, 3),
+        (0, 1),
+        (1, 3),
+        (most, most - 1),
+        (most - 1, most - 2),
+        (most, 1),
+    ];
+    for i in 1..rows.len() {
+        let x = Ratio::new(rows[i - 1].0, rows[i - 1].1).expect(&rt, "a fraction");
+        let y = Ratio::new(rows[i].0, rows[i].1).expect(&rt, "a fraction");
+        assert!(rt; x.cmp(&y) == Ordering::Less, "at {i}");
+        assert!(rt; y.cmp(&x) == Ordering::Greater, "at {i}");
+        assert!(rt; x.cmp(&x) == Ordering::Equal, "at {i}");
+        assert!(rt; x < y && x != y && y == y, "at {i}");
+    }
 }
