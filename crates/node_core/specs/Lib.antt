@@ -1,3 +1,4 @@
+pub mod Front
 pub mod Heard
 pub mod Held
 pub mod InTime

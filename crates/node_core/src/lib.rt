@@ -3,8 +3,10 @@
 
 mod fed;
 mod heard;
+mod hex_digits;
 pub mod laws;
 pub mod line;
+mod line_buffer;
 pub mod node;
 pub mod numbers;
 pub mod port_shape;

@@ -34,7 +34,7 @@ pub struct Stepped {
 }
 
 impl Node {
-    ghost use Rattle.std.specs.Prelude.{◌≡◌, ◌≤◌, ◌++◌, ◌∷◌, [], List as ListOf, IfOk, OnOk, OnErr};
+    ghost use Rattle.std.specs.Prelude.{◌≡◌, ◌≤◌, ◌++◌, ◌∷◌, [], List as ListOf, IfOk, OnOk, OnErr, length, take};
     ghost use Rattle.tail_frame.specs.Frames.{seen};
     ghost use Rattle.tail_frame.specs.declared.logged.Record.{Record as RecordOf};
     ghost use Rattle.node_plan.specs.Bound.{bound_of};
@@ -71,6 +71,7 @@ impl Node {
         ensures stands { OnOk result ((past : ListOf RecordOf) → Stands self.old past → Stands self.new (rec.now ∷ past)) }
         ensures lines { OnOk result ((past : ListOf RecordOf) → Stands self.old past → lines.new ≡ lines.old ++ got self.old.plan rec.now past) }
         ensures badcrc { IfOk result (λ step. (past : ListOf RecordOf) → Stands self.old past → step.badcrc ≡ is_bad_at self.old.plan rec.now past) }
+        ensures behind { take (length lines.old) lines.new ≡ lines.old }
         ensures err { OnErr result (lines.new ≡ lines.old) }
     {
         match frame_for(self.plan.node, rec) {
@@ -87,6 +88,7 @@ impl Node {
         ensures stands { OnOk result ((log : ListOf KeyedFrame) → StandsAt self.old log → StandsAt self.new (logged (seen frame.now) log)) }
         ensures lines { OnOk result ((log : ListOf KeyedFrame) → StandsAt self.old log → lines.new ≡ lines.old ++ on_port self.old.plan.timeout (seen frame.now) log (port_on (ports_of self.old.plan) (seen frame.now))) }
         ensures badcrc { IfOk result (λ step. (log : ListOf KeyedFrame) → StandsAt self.old log → step.badcrc ≡ bad_on_port self.old.plan.timeout (seen frame.now) log (port_on (ports_of self.old.plan) (seen frame.now))) }
+        ensures behind { take (length lines.old) lines.new ≡ lines.old }
         ensures err { OnErr result (lines.new ≡ lines.old) }
     {
         rx_table::laws::outcome_tells();

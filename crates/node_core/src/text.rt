@@ -1,13 +1,18 @@
-ghost use Rattle.std.specs.Prelude.{◌≡◌, ◌<◌, ◌++◌, ◌∷◌, [], ◌*◌, OnOk, decimal, length, slice_index};
-ghost use Rattle.hex.specs.Hex.{encode_upper, upper_digits};
-ghost use Rattle.node_core.specs.Text.{line_text, end_text, moment_text, six_digits, bus_text, kind_text, payload_text, place_words, transfer_words, received_words, spaced};
+ghost use Rattle.std.specs.Prelude.{◌≡◌, ◌<◌, ◌≤◌, ◌+◌, ◌++◌, ◌∷◌, [], OnOk, decimal, length};
+ghost use Rattle.node_core.specs.Text.{line_text, end_text, bus_text, kind_text, source_text, payload_text, reading_text, place_words, received_words, spaced};
+ghost use Rattle.node_core.specs.Front.{in_front, front_words};
 
+use crate::hex_digits::push_hex;
 use crate::line::{Line, Reading, Refused, Rx};
+use crate::line_buffer::LineBuffer;
 use crate::numbers::Numbers;
 use can_id::{Key, Kind};
 use cy_bits::NoMemory;
 use itoa::Buffer;
 use node_plan::BusPlan;
+
+/// The most bytes of a payload that a line's buffer takes.
+const SHORT: usize = 64;
 
 /// Appends the text of a line, with the names of the plan's buses. Where memory is wanting, a part of it
 /// may stand behind the text.
@@ -53,84 +58,6 @@ fn push_label(text: &mut Vec<u8>, label: &[u8], number: u64) -> Result<(), NoMem
     push_number(text, number)
 }
 
-/// Appends the text of a transfer that was received.
-fn push_rx(text: &mut Vec<u8>, buses: &[BusPlan], rx: &Rx) -> Result<(), NoMemory>
-    ensures { OnOk result (text.new.items ≡ text.old.items ++ line_text buses.now (Line.Rx rx.now)) }
-{
-    text.extend_from_slice(b"rx ")?;
-    push_place(text, buses, rx.moment, rx.bus, &rx.key)?;
-    push_transfer(text, rx)?;
-    match rx.reading {
-        Reading::Raw => text.extend_from_slice(b"raw\n")?,
-    }
-    Ok(())
-}
-
-/// Appends what was received, each word with a space behind.
-fn push_transfer(text: &mut Vec<u8>, rx: &Rx) -> Result<(), NoMemory>
-    ensures { OnOk result (text.new.items ≡ text.old.items ++ spaced (transfer_words rx.now)) }
-{
-    push_number(text, rx.priority as u64)?;
-    push_number(text, rx.tid as u64)?;
-    push_number(text, rx.first)?;
-    push_number(text, rx.last)?;
-    push_payload(text, rx.payload.as_slice())
-}
-
-/// Appends the text of a start frame that had no session.
-fn push_refused(text: &mut Vec<u8>, buses: &[BusPlan], refused: &Refused) -> Result<(), NoMemory>
-    ensures { OnOk result (text.new.items ≡ text.old.items ++ line_text buses.now (Line.NoSession refused.now)) }
-{
-    text.extend_from_slice(b"nosession ")?;
-    push_place(text, buses, refused.moment, refused.bus, &refused.key)?;
-    push_last_number(text, refused.line)
-}
-
-/// Appends when, on which bus, at which port and from whom, each word with a space behind.
-fn push_place(
-    text: &mut Vec<u8>,
-    buses: &[BusPlan],
-    moment: u64,
-    bus: u8,
-    key: &Key,
-) -> Result<(), NoMemory>
-    ensures { OnOk result (text.new.items ≡ text.old.items ++ spaced (place_words buses.now moment bus key.now)) }
-{
-    push_moment(text, moment)?;
-    push_bus(text, buses, bus)?;
-    text.extend_from_slice(kind_word(key.kind))?;
-    push_number(text, key.port as u64)?;
-    match key.source {
-        Some(source) => push_number(text, source as u64),
-        None => {
-            text.extend_from_slice(b"- ")?;
-            Ok(())
-        }
-    }
-}
-
-/// The word of a kind, with a space behind.
-fn kind_word(kind: Kind) -> &'static [u8]
-    ensures { result.now ≡ kind_text kind ++ 32 ∷ [] }
-{
-    match kind {
-        Kind::Message => b"msg ",
-        Kind::Request => b"req ",
-        Kind::Response => b"res ",
-    }
-}
-
-/// Appends the name of a bus and a space.
-fn push_bus(text: &mut Vec<u8>, buses: &[BusPlan], bus: u8) -> Result<(), NoMemory>
-    ensures { OnOk result (text.new.items ≡ text.old.items ++ (bus_text buses.now bus ++ 32 ∷ [])) }
-{
-    if let Some(plan) = buses.get(bus as usize) {
-        text.extend_from_slice(plan.name.as_str().as_bytes())?;
-    }
-    text.push(b' ')?;
-    Ok(())
-}
-
 /// Appends a number and a space.
 fn push_number(text: &mut Vec<u8>, number: u64) -> Result<(), NoMemory>
     ensures { OnOk result (text.new.items ≡ text.old.items ++ (decimal number ++ 32 ∷ [])) }
@@ -151,79 +78,134 @@ fn push_last_number(text: &mut Vec<u8>, number: u64) -> Result<(), NoMemory>
     Ok(())
 }
 
-/// Appends a moment in seconds with six digits behind the point, and a space.
-fn push_moment(text: &mut Vec<u8>, moment: u64) -> Result<(), NoMemory>
-    ensures { OnOk result (text.new.items ≡ text.old.items ++ (moment_text moment ++ 32 ∷ [])) }
+/// Appends the text of a transfer that was received.
+fn push_rx(text: &mut Vec<u8>, buses: &[BusPlan], rx: &Rx) -> Result<(), NoMemory>
+    ensures { OnOk result (text.new.items ≡ text.old.items ++ line_text buses.now (Line.Rx rx.now)) }
 {
-    let mut buffer = Buffer::new();
-    text.extend_from_slice(buffer.format(moment / 1_000_000).as_bytes())?;
-    text.extend_from_slice(&fraction((moment % 1_000_000) as u32))?;
+    let payload = rx.payload.as_slice();
+    if payload.len() > SHORT {
+        return push_long(text, buses, rx);
+    }
+    let mut line = LineBuffer::new();
+    line.put(reading_word(rx.reading));
+    put_payload(&mut line, payload);
+    put_transfer(&mut line, buses, rx);
+    text.extend_from_slice(line.as_slice())?;
     Ok(())
 }
 
-/// A point, a number of microseconds as six digits, and a space.
-fn fraction(micros: u32) -> [u8; 8]
-    ensures { result ≡ 46 ∷ six_digits micros ++ 32 ∷ [] }
+/// Appends the text of a transfer whose payload is longer than a line's buffer takes.
+fn push_long(text: &mut Vec<u8>, buses: &[BusPlan], rx: &Rx) -> Result<(), NoMemory>
+    requires { 0 < length rx.now.payload }
+    ensures { OnOk result (text.new.items ≡ text.old.items ++ line_text buses.now (Line.Rx rx.now)) }
 {
-    [
-        b'.',
-        b'0' + (micros / 100_000 % 10) as u8,
-        b'0' + (micros / 10_000 % 10) as u8,
-        b'0' + (micros / 1_000 % 10) as u8,
-        b'0' + (micros / 100 % 10) as u8,
-        b'0' + (micros / 10 % 10) as u8,
-        b'0' + (micros % 10) as u8,
-        b' ',
-    ]
+    let mut line = LineBuffer::new();
+    put_transfer(&mut line, buses, rx);
+    text.extend_from_slice(line.as_slice())?;
+    push_hex(text, rx.payload.as_slice())?;
+    text.extend_from_slice(reading_word(rx.reading))?;
+    Ok(())
 }
 
-/// Appends bytes in hex, or `-` where there is none, and a space.
-fn push_payload(text: &mut Vec<u8>, payload: &[u8]) -> Result<(), NoMemory>
-    ensures { OnOk result (text.new.items ≡ text.old.items ++ (payload_text payload.now ++ 32 ∷ [])) }
+/// Puts the words before the payload in front.
+#[inline(always)]
+fn put_transfer(line: &mut LineBuffer, buses: &[BusPlan], rx: &Rx)
+    requires { length line.old ≤ 133 }
+    ensures { line.new ≡ in_front (front_words buses.now rx.now) line.old }
+{
+    line.put_number_word(rx.last);
+    line.put_number_word(rx.first);
+    line.put_number_word(rx.tid as u64);
+    line.put_number_word(rx.priority as u64);
+    put_place(line, buses, rx.moment, rx.bus, &rx.key);
+    line.put(b"rx ");
+}
+
+/// Puts a payload in front, in hex, or `-` where there is none.
+#[inline(always)]
+fn put_payload(line: &mut LineBuffer, payload: &[u8])
+    requires { (length payload.now ≤ 64) × (length line.old ≤ 5) }
+    ensures text { line.new ≡ payload_text payload.now ++ line.old }
+    ensures length { length line.new ≤ 133 }
 {
     match payload {
-        [] => text.push(b'-')?,
-        _ => push_hex(text, payload)?,
-    }
-    text.push(b' ')?;
-    Ok(())
-}
-
-/// Appends two hex digits for each byte.
-fn push_hex(text: &mut Vec<u8>, bytes: &[u8]) -> Result<(), NoMemory>
-    ensures { OnOk result (text.new.items ≡ text.old.items ++ encode_upper bytes.now) }
-{
-    let len = text.len();
-    let Some(size) = bytes.len().checked_mul(2) else {
-        return Err(NoMemory);
-    };
-    let Some(end) = len.checked_add(size) else {
-        return Err(NoMemory);
-    };
-    text.resize(end, 0)?;
-    put_hex(&mut text[len..], bytes);
-    Ok(())
-}
-
-/// Writes two hex digits for each byte.
-fn put_hex(digits: &mut [u8], bytes: &[u8])
-    requires { length digits.old ≡ 2 * length bytes.now }
-    ensures { digits.new ≡ encode_upper bytes.now }
-{
-    for i in 0..bytes.len() {
-        digits[2 * i] = hex_digit(bytes[i] / 16);
-        digits[2 * i + 1] = hex_digit(bytes[i] % 16);
+        [] => line.put(b"-"),
+        _ => line.put_hex(payload),
     }
 }
 
-/// A hex digit.
-fn hex_digit(value: u8) -> u8
-    requires { value < 16 }
-    ensures { result ≡ slice_index upper_digits value }
+/// What is behind the payload.
+fn reading_word(reading: Reading) -> &'static [u8]
+    ensures text { result.now ≡ 32 ∷ reading_text reading ++ 10 ∷ [] }
+    ensures length { length result.now ≡ 5 }
 {
-    if value < 10 {
-        b'0' + value
-    } else {
-        b'A' - 10 + value
+    match reading {
+        Reading::Raw => b" raw\n",
+    }
+}
+
+/// Appends the text of a start frame that had no session.
+fn push_refused(text: &mut Vec<u8>, buses: &[BusPlan], refused: &Refused) -> Result<(), NoMemory>
+    ensures { OnOk result (text.new.items ≡ text.old.items ++ line_text buses.now (Line.NoSession refused.now)) }
+{
+    let mut line = LineBuffer::new();
+    line.put(b"\n");
+    line.put_number(refused.line);
+    put_place(&mut line, buses, refused.moment, refused.bus, &refused.key);
+    line.put(b"nosession ");
+    text.extend_from_slice(line.as_slice())?;
+    Ok(())
+}
+
+/// Puts in front when, on which bus, at which port and from whom, each word with a space behind.
+#[inline(always)]
+fn put_place(line: &mut LineBuffer, buses: &[BusPlan], moment: u64, bus: u8, key: &Key)
+    requires { length line.old ≤ 220 }
+    ensures text { line.new ≡ in_front (place_words buses.now moment bus key.now) line.old }
+    ensures length { length line.new ≤ length line.old + 90 }
+{
+    put_source(line, key.source);
+    line.put_number_word(key.port as u64);
+    line.put(kind_word(key.kind));
+    put_bus(line, buses, bus);
+    line.put_moment(moment);
+}
+
+/// Puts the sender and a space in front.
+#[inline(always)]
+fn put_source(line: &mut LineBuffer, source: Option<u8>)
+    requires { length line.old ≤ 220 }
+    ensures text { line.new ≡ source_text source ++ 32 ∷ line.old }
+    ensures length { length line.new ≤ length line.old + 21 }
+{
+    match source {
+        Some(source) => line.put_number_word(source as u64),
+        None => line.put(b"- "),
+    }
+}
+
+/// The word of a kind, with a space behind.
+#[inline(always)]
+fn kind_word(kind: Kind) -> &'static [u8]
+    ensures text { result.now ≡ kind_text kind ++ 32 ∷ [] }
+    ensures length { length result.now ≡ 4 }
+{
+    match kind {
+        Kind::Message => b"msg ",
+        Kind::Request => b"req ",
+        Kind::Response => b"res ",
+    }
+}
+
+/// Puts the name of a bus and a space in front.
+#[inline(always)]
+fn put_bus(line: &mut LineBuffer, buses: &[BusPlan], bus: u8)
+    requires { length line.old ≤ 300 }
+    ensures text { line.new ≡ bus_text buses.now bus ++ 32 ∷ line.old }
+    ensures length { length line.new ≤ length line.old + 16 }
+{
+    line.put(b" ");
+    if let Some(plan) = buses.get(bus as usize) {
+        line.put(plan.name.as_str().as_bytes());
     }
 }

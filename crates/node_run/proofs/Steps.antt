@@ -1,5 +1,7 @@
 -- What one more step adds to a report.
-use Rattle.std.proofs.Common.{◌≡◌, ◌∙◌, ◌+◌, suc, List, [], ◌∷◌, ◌++◌, length, refl, sym, ap, append_assoc, arith, count_by}
+use Rattle.std.proofs.Common.{◌≡◌, ◌∙◌, ◌+◌, suc, Bool, List, [], ◌∷◌, ◌++◌, length, take, drop, refl, sym, ap, append-nil, arith, count_by}
+use Rattle.std.proofs.Math.Seq.{drop-append_seam}
+use Rattle.std.proofs.lemmas.List.{take-append-drop}
 use Rattle.std.proofs.lemmas.List.Sums.{sum_by-append}
 use Rattle.tail_frame.specs.declared.logged.Record.{Record}
 use Rattle.node_plan.specs.declared.plan.Plan.{Plan}
@@ -8,7 +10,6 @@ use Rattle.node_core.specs.declared.line.Line.{Line}
 use Rattle.node_core.specs.declared.numbers.Numbers.{Numbers}
 use Rattle.node_core.specs.Steps.{Heard, steps, records, got, is_bad_at, held_at, badcrcs, one_if, is_rx, is_nosession, lines}
 use Rattle.node_run.specs.declared.report.Report.{Report}
-use Rattle.node_run.specs.Gathered.{IsPart}
 use Rattle.node_run.specs.Ran.{numbers_of, At, Broke}
 
 pub records_steps : (plan : Plan) (past : List Record) → records (steps plan past) ≡ past
@@ -19,30 +20,37 @@ records_steps plan (r ∷ past) = ap (λ t. r ∷ t) (records_steps plan past)
 pub lines_next : (plan : Plan) (r : Record) (past : List Record) → lines plan (steps plan (r ∷ past)) ≡ lines plan (steps plan past) ++ got plan r past
 lines_next plan r past = ap (λ t. lines plan (steps plan past) ++ got plan r t) (records_steps plan past)
 
--- only a part of its lines
-pub broke_part : (plan : Plan) (past : List Record) (r : Record) (report new : Report) (more : List Line) → At plan (steps plan past) report → more ≡ got plan r past
-    → IsPart more report.lines new.lines → numbers_of new ≡ numbers_of report → Broke plan (steps plan (r ∷ past)) new
-broke_part plan past r report new more a e p n =
-    let ls = lines plan (steps plan past) in record {
-      rest = p.rest;
-      reported = lines_next plan r past ∙ (ap (λ t. ls ++ t) (sym e ∙ p.parts) ∙ (sym (append_assoc ls p.front p.rest)
-          ∙ ap (λ t. t ++ p.rest) (ap (λ t. t ++ p.front) (sym a.reported) ∙ sym p.reported)));
-      newer = Heard r ∷ [];
-      past = steps plan past;
-      parts = refl;
-      counted = n ∙ a.counted;
-    }
-
 -- none of its lines
-pub broke_before : (plan : Plan) (past : List Record) (r : Record) (report : Report) → At plan (steps plan past) report → Broke plan (steps plan (r ∷ past)) report
-broke_before plan past r report a = record {
+pub broke_before : (plan : Plan) (past : List Record) (r : Record) (report new : Report) → At plan (steps plan past) report → new.lines ≡ report.lines → numbers_of new ≡ numbers_of report
+    → Broke plan (steps plan (r ∷ past)) new
+broke_before plan past r report new a e n = record {
   rest = got plan r past;
-  reported = lines_next plan r past ∙ ap (λ t. t ++ got plan r past) (sym a.reported);
+  reported = lines_next plan r past ∙ ap (λ t. t ++ got plan r past) (sym a.reported ∙ sym e);
   newer = Heard r ∷ [];
   past = steps plan past;
   parts = refl;
-  counted = a.counted;
+  counted = n ∙ a.counted;
 }
+
+-- all of them, which aren't counted
+pub broke_behind : (plan : Plan) (past : List Record) (r : Record) (report new : Report) → At plan (steps plan past) report → new.lines ≡ report.lines ++ got plan r past
+    → numbers_of new ≡ numbers_of report → Broke plan (steps plan (r ∷ past)) new
+broke_behind plan past r report new a e n = record {
+  rest = [];
+  reported = lines_next plan r past ∙ (ap (λ t. t ++ got plan r past) (sym a.reported) ∙ (sym e ∙ sym (append-nil new.lines)));
+  newer = Heard r ∷ [];
+  past = steps plan past;
+  parts = refl;
+  counted = n ∙ a.counted;
+}
+
+-- the lines that were appended, and how many of them there are of a kind
+pub appended : (old new more : List Line) → new ≡ old ++ more → drop (length old) new ≡ more
+appended old new more e = ap (drop (length old)) e ∙ drop-append_seam old more
+
+pub counted_behind : (f : Line → Bool) (old new : List Line) → take (length old) new ≡ old → count_by f new ≡ count_by f old + count_by f (drop (length old) new)
+counted_behind f old new e =
+    ap (count_by f) (sym (take-append-drop (length old) new)) ∙ (sum_by-append _ (take (length old) new) (drop (length old) new) ∙ ap (λ t. count_by f t + count_by f (drop (length old) new)) e)
 
 -- all of them
 pub at_next : (plan : Plan) (past : List Record) (r : Record) (report new : Report) (more : List Line) → At plan (steps plan past) report → more ≡ got plan r past

@@ -1,29 +1,20 @@
-//! Lines that are reported, and their text, which is gathered before it is written.
+//! The text of lines, which is gathered before it is written.
 ghost use Rattle.std.specs.Prelude.{◌≡◌, ◌++◌, [], OnOk, OnErr};
 ghost use Rattle.cy_outside.specs.Outside.{Rose};
 ghost use Rattle.cy_outside.specs.Written.{behind, Begins};
 ghost use Rattle.node_core.specs.Text.{text};
-ghost use Rattle.node_run.specs.Gathered.{IsPart};
 
-use cy_bits::{List, NoMemory};
+use cy_bits::NoMemory;
 use cy_outside::{Failed, Sink, put_all};
 use node_core::{Line, push_text};
 use node_plan::BusPlan;
 
-/// Reports lines, and gathers their text.
-pub fn gather(
-    gathered: &mut Vec<u8>,
-    buses: &[BusPlan],
-    reported: &mut List<Line>,
-    more: List<Line>,
-) -> Result<(), NoMemory>
-    ensures reported { OnOk result (reported.new ≡ reported.old ++ more) }
-    ensures text { OnOk result (gathered.new.items ≡ gathered.old.items ++ text buses.now more) }
-    ensures err { OnErr result (IsPart more reported.old reported.new) }
+/// Gathers the text of lines.
+pub fn gather(gathered: &mut Vec<u8>, buses: &[BusPlan], lines: &[Line]) -> Result<(), NoMemory>
+    ensures { OnOk result (gathered.new.items ≡ gathered.old.items ++ text buses.now lines.now) }
 {
-    for line in more.into_vec() {
-        push_text(gathered, buses, &line)?;
-        reported.push(line)?;
+    for line in lines {
+        push_text(gathered, buses, line)?;
     }
     Ok(())
 }

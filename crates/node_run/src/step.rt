@@ -9,7 +9,7 @@ ghost use Rattle.node_run.specs.Ran.{At, Broke, IsCounted};
 
 use crate::gather::gather;
 use crate::report::Report;
-use cy_bits::{List, NoMemory};
+use cy_bits::NoMemory;
 use node_core::{Line, Node};
 use std::alloc::Global;
 use tail_frame::Record;
@@ -37,18 +37,14 @@ pub fn record_step(
     ensures kept { OnErr result (report.new.held ≡ report.old.held) }
     ensures bound { report.new.bound ≡ report.old.bound }
 {
-    let mut lines = List::empty(alloc);
-    let Ok(stepped) = node.frame(rec, &mut lines) else {
+    let before = report.lines.len();
+    let Ok(stepped) = node.frame(rec, &mut report.lines) else {
         return Err(NoMemory);
     };
-    let delivered = count_rx(lines.as_slice());
-    let nosession = count_nosession(lines.as_slice());
-    let Ok(()) = gather(
-        gathered,
-        node.plan.buses.as_slice(),
-        &mut report.lines,
-        lines,
-    ) else {
+    let lines = &report.lines.as_slice()[before..];
+    let delivered = count_rx(lines);
+    let nosession = count_nosession(lines);
+    let Ok(()) = gather(gathered, node.plan.buses.as_slice(), lines) else {
         return Err(NoMemory);
     };
     // No count passes the number of lines, and no number of records the line of the last one.

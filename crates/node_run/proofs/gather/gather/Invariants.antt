@@ -1,10 +1,7 @@
-use Rattle.std.proofs.Common.{◌≡◌, ◌++◌}
-use Rattle.node_core.specs.Text.{text}
+use Rattle.std.proofs.Common.{◌≡◌, ◌++◌, take}
+use Rattle.std.specs.List.{flat_map}
+use Rattle.node_core.specs.Text.{line_text}
 use Rattle.node_run.proofs.gather.gather.Given as goal
 
 abbrev pub invariant-loop-line : goal.invariant-loop-line
-invariant-loop-line l = record {
-  whole : l.fn.more ≡ l.yielded ++ l.line-iterator.rest.items;
-  reported : l.reported ≡ l.fn.reported ++ l.yielded;
-  text : l.gathered.items ≡ l.fn.gathered.items ++ text l.buses l.yielded;
-}
+invariant-loop-line l = l.gathered.items ≡ l.fn.gathered.items ++ flat_map (line_text l.buses) (take l.line-index l.line-items)
