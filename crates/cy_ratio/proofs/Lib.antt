@@ -4,4 +4,5 @@ pub mod PowerLemmas
 pub mod OrderLemmas
 pub mod ValueLemmas
 pub mod OneLemmas
-pub mod RestLemmas
+pub mod PowerWorth
+pub mod RemainderLemmas

@@ -15,7 +15,7 @@ back : (n : ℤ) (g : ℕ) → g ∣ unsigned_abs n → int_div n (pos g) *ℤ p
 back (pos m) g d = ap pos (div-mul_cancel g d)
 back (negsuc m) g d = neg_scale (suc m / g) g ∙ ap (λ n. neg_ℤ (pos n)) (div-mul_cancel g d)
 
-add_scale : (x y : ℤ) (g : ℕ) → (x +ℤ y) *ℤ pos g ≡ (x *ℤ pos g) +ℤ (y *ℤ pos g)
+pub add_scale : (x y : ℤ) (g : ℕ) → (x +ℤ y) *ℤ pos g ≡ (x *ℤ pos g) +ℤ (y *ℤ pos g)
 add_scale x y zero = omega (arith, ints, none_at_all x, none_at_all y, none_at_all (x +ℤ y))
 add_scale x y (suc g) = omega (arith, ints, one_more x g, one_more y g, one_more (x +ℤ y) g, add_scale x y g)
 
@@ -97,7 +97,7 @@ difference_worth x y r h =
 crossed : (m g n h : ℕ) → m * g * (n * h) ≡ m * n * (g * h)
 crossed m g n h = omega arith
 
-mul_scale : (x y : ℤ) (g h : ℕ) → (x *ℤ pos g) *ℤ (y *ℤ pos h) ≡ (x *ℤ y) *ℤ pos (g * h)
+pub mul_scale : (x y : ℤ) (g h : ℕ) → (x *ℤ pos g) *ℤ (y *ℤ pos h) ≡ (x *ℤ y) *ℤ pos (g * h)
 mul_scale (pos m) (pos n) g h = ap pos (crossed m g n h)
 mul_scale (pos m) (negsuc n) g h = times_neg (pos (m * g)) (suc n * h) ∙ ap (λ k. neg_ℤ (pos k)) (crossed m g (suc n) h) ∙ sym (neg_scale (m * suc n) (g * h))
 mul_scale (negsuc m) (pos n) g h = neg_scale (suc m * g) (n * h) ∙ ap (λ k. neg_ℤ (pos k)) (crossed (suc m) g n h) ∙ sym (neg_scale (suc m * n) (g * h))

@@ -4,7 +4,7 @@ ghost use Rattle.std.specs.Prelude.{◌≡◌, ◌*◌, ◌^◌, ◌<◌, ℕ, �
 ghost use Rattle.std.specs.Ordering.{int_cmp};
 ghost use Rattle.std.specs.declared.cmp.Ordering.TheVariants.{Equal};
 ghost use Rattle.cy_ratio.specs.Fraction.{Fraction, IsReduced, fraction_of, sum_of, difference_of, product_of, quotient_of, remainder_of, floor_of, power, power_of, order_of};
-ghost use Rattle.cy_ratio.specs.Value.{IsWorth};
+ghost use Rattle.cy_ratio.specs.Value.{IsWorth, IsPart};
 
 /// `new(n, d)` is worth n / d.
 pub fn new_worth()
@@ -38,6 +38,11 @@ pub fn quotient_worth()
 pub fn remainder_worth()
     ensures { (x y r : Fraction) → IsReduced x → IsReduced y → remainder_of x y ≡ Ok r →
         (q : Fraction) × (quotient_of x y ≡ Ok q) × IsWorth r ((x.num *ℤ pos y.den) -ℤ ((y.num *ℤ (floor_of q).num) *ℤ pos x.den)) (pos (x.den * y.den)) }
+{}
+
+/// `rem` has the sign of `y`, or is 0, and is nearer to 0 than `y`.
+pub fn remainder_part()
+    ensures { (x y r : Fraction) → IsReduced x → IsReduced y → remainder_of x y ≡ Ok r → IsPart r y }
 {}
 
 /// `pow` is worth the product of as many factors as the exponent says, or below 0 its reciprocal.

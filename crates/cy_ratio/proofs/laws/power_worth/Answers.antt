@@ -1,4 +1,4 @@
-use Rattle.cy_ratio.proofs.RestLemmas.{power_worth, reciprocal_worth}
+use Rattle.cy_ratio.proofs.PowerWorth.{power_worth, reciprocal_worth}
 use Rattle.cy_ratio.proofs.laws.power_worth.Goals as goal
 
 pub returns-clause-whole : goal.returns-clause-whole
