@@ -1,0 +1,46 @@
+-- Prefixes: op inner | plain.
+use Rattle.std.proofs.Common.{◌≡◌, ℕ, zero, suc, ◌<◌, ◌≤◌, Bool, true, false, not, List, [], ◌∷◌, ◌++◌, length, Option, Some, None, codes, refl, sym, ap, ◌∙◌, subst, inl, inr, append_assoc, length-append, le_refl, arith}
+use Rattle.std.proofs.lemmas.Bool.{cond-true, cond-false}
+use Rattle.std.proofs.lemmas.Option.{none-some, same_Some, some_pair_parts}
+use Rattle.dsdl_parse.specs.declared.expr.Expr.{Expr}
+use Rattle.dsdl_lex.specs.declared.token.TokenKind.{TokenKind}
+use Rattle.dsdl_lex.specs.declared.token.TokenKind.TheVariants as k
+use Rattle.dsdl_parse.specs.Words.{Word, Signs, any_of, is_in, just, logics, orders, bit_signs, plus_minus, times}
+use Rattle.dsdl_parse.specs.Trees.{binary, unary, member, set_of}
+use Rattle.dsdl_parse.specs.Leaves.{IsLeaf}
+use Rattle.dsdl_parse.specs.LeafReading.{read_leaf}
+use Rattle.dsdl_parse.specs.Grammar as g
+use Rattle.dsdl_parse.specs.Grammar.{Rule, Chain, Prefixed, Power, Member, Listed, Atom, one, more, plain, signed, base, raised, alone, dotted, single, another, parens, empty, set, leaf}
+use Rattle.dsdl_parse.specs.Reading.{◌>>=◌, Reader, Readers, chain, read_chain, read_prefixed, raise, read_power, is_name_kind, members, read_member, close, comma, items, read_items, in_items, in_braces, in_parens, end_parens, end_braces, read_atom}
+use Rattle.dsdl_parse.specs.Reading as r
+use Rattle.dsdl_parse.proofs.Basics.{bind_some, bound, chosen, all_fail, apart, in_none, out_of_both, leaf_no_sign, append_nil}
+use Rattle.dsdl_parse.proofs.Reads.{Stops, stops_parts, Begins, begins_more, Reads}
+
+module _ (op : Signs) (inner normal : Reader Expr) (I P : Rule) (goes : Signs) (inside : Reads inner I goes) (plainly : Reads normal P goes)
+    (first : (ws : List Word) (x : Expr) → P ws x → Begins op ws) where
+  pub prefixed_reads : Reads (read_prefixed op inner normal) (Prefixed op I P) goes
+  prefixed_reads = record { sound = sound_at; complete = λ front rest x d s. complete_at d rest s }
+    where
+      sound_at : (ws rest : List Word) (x : Expr) → read_prefixed op inner normal ws ≡ Some (x, rest) →
+          (front : List Word) × (ws ≡ front ++ rest) × Prefixed op I P front x
+      sound_at [] rest x e = let (front, eq, d) = plainly.sound [] rest x e in (front, eq, plain d)
+      sound_at (w ∷ ws) rest x e = elim (chosen (is_in op w) _ _ _ e) [
+        | inr h ↦ let (front, eq, d) = plainly.sound (w ∷ ws) rest x h.1 in (front, eq, plain d)
+        | inl h ↦ go (bind_some _ (inner ws) (x, rest) h.1) h.0
+      ]
+        where
+          go : (v : Expr × List Word) × (inner ws ≡ Some v) × ◌≡◌ {A = Option (Expr × List Word)} (Some (unary w v.0, v.1)) (Some (x, rest)) → is_in op w ≡ true →
+              (front : List Word) × (w ∷ ws ≡ front ++ rest) × Prefixed op I P front x
+          go (v, f, e) h =
+              let (back, eq, d) = inside.sound ws v.1 v.0 f in
+              let p : (unary w v.0 ≡ x) × (v.1 ≡ rest) = some_pair_parts _ _ _ _ e in
+              (w ∷ back, ap (λ l. w ∷ l) (eq ∙ ap (λ l. back ++ l) p.1), subst (λ y. Prefixed op I P (w ∷ back) y) p.0 (signed w h d refl))
+
+      begun : (front rest : List Word) (x : Expr) → Begins op front → normal (front ++ rest) ≡ Some (x, rest) → read_prefixed op inner normal (front ++ rest) ≡ Some (x, rest)
+      begun [] rest x b e = absurd b
+      begun (w ∷ ws) rest x b e = cond-false (is_in op w) _ _ b ∙ e
+
+      complete_at : {front : List Word} {x : Expr} → Prefixed op I P front x → (rest : List Word) → Stops goes rest → read_prefixed op inner normal (front ++ rest) ≡ Some (x, rest)
+      complete_at (plain {ws} {x} d) rest s = begun ws rest x (first ws x d) (plainly.complete ws rest x d s)
+      complete_at (signed {ws} {back} {x} w h d e) rest s =
+          ap (λ l. read_prefixed op inner normal (l ++ rest)) e ∙ cond-true (is_in op w) _ _ h ∙ bound _ _ _ _ (inside.complete back rest x d s) refl

@@ -1,0 +1,37 @@
+-- Whole lists of words.
+use Rattle.std.proofs.Common.{◌≡◌, ℕ, zero, suc, ◌<◌, ◌≤◌, Bool, true, false, not, List, [], ◌∷◌, ◌++◌, length, Option, Some, None, codes, refl, sym, ap, ◌∙◌, subst, inl, inr, append_assoc, length-append, le_refl, arith}
+use Rattle.std.proofs.lemmas.Bool.{cond-true, cond-false}
+use Rattle.std.proofs.lemmas.Option.{none-some, same_Some, some_pair_parts}
+use Rattle.dsdl_parse.specs.declared.expr.Expr.{Expr}
+use Rattle.dsdl_lex.specs.declared.token.TokenKind.{TokenKind}
+use Rattle.dsdl_lex.specs.declared.token.TokenKind.TheVariants as k
+use Rattle.dsdl_parse.specs.Words.{Word, Signs, any_of, is_in, just, logics, orders, bit_signs, plus_minus, times}
+use Rattle.dsdl_parse.specs.Trees.{binary, unary, member, set_of}
+use Rattle.dsdl_parse.specs.Leaves.{IsLeaf}
+use Rattle.dsdl_parse.specs.LeafReading.{read_leaf}
+use Rattle.dsdl_parse.specs.Grammar as g
+use Rattle.dsdl_parse.specs.Grammar.{Rule, Chain, Prefixed, Power, Member, Listed, Atom, one, more, plain, signed, base, raised, alone, dotted, single, another, parens, empty, set, leaf}
+use Rattle.dsdl_parse.specs.Reading.{◌>>=◌, Reader, Readers, chain, read_chain, read_prefixed, raise, read_power, is_name_kind, members, read_member, close, comma, items, read_items, in_items, in_braces, in_parens, end_parens, end_braces, read_atom}
+use Rattle.dsdl_parse.specs.Reading as r
+use Rattle.dsdl_parse.proofs.Basics.{bind_some, bound, chosen, all_fail, apart, in_none, out_of_both, leaf_no_sign, append_nil}
+use Rattle.dsdl_parse.proofs.Reads.{Stops, stops_parts, Begins, begins_more, Reads}
+use Rattle.dsdl_parse.proofs.LevelReads.{reads_expression}
+
+all_read_of : (n : ℕ) (ws : List Word) (x : Expr) → g.IsExpression n ws x → r.expression_of (r.within n) ws ≡ Some (x, [])
+all_read_of n ws x d = ap (r.expression_of (r.within n)) (sym (append_nil ws)) ∙ (reads_expression n).complete ws [] x d tt
+
+is_nil : {A : Type 0} (xs : List A) → length xs ≡ 0 → xs ≡ []
+is_nil [] e = refl
+is_nil (x ∷ xs) e = absurd (omega arith)
+
+pub whole : (n : ℕ) (ws rest : List Word) (x : Expr) → r.expression_of (r.within n) ws ≡ Some (x, rest) → length rest ≡ 0 → g.IsExpression n ws x
+whole n ws rest x e h =
+    let (front, eq, d) = (reads_expression n).sound ws rest x e in
+    subst (λ l. g.IsExpression n l x) (sym (eq ∙ ap (λ l. front ++ l) (is_nil rest h) ∙ append_nil front)) d
+
+pub none_whole : (n : ℕ) (ws : List Word) → r.expression_of (r.within n) ws ≡ None → (x : Expr) → g.IsExpression n ws x → ⊥
+none_whole n ws e x d = none-some (x, []) (sym e ∙ all_read_of n ws x d)
+
+pub not_whole : (n : ℕ) (ws rest : List Word) (y : Expr) → r.expression_of (r.within n) ws ≡ Some (y, rest) → (length rest ≡ 0 → ⊥) → (x : Expr) → g.IsExpression n ws x → ⊥
+not_whole n ws rest y e h x d =
+    let p : (y ≡ x) × (rest ≡ []) = some_pair_parts y x rest [] (sym e ∙ all_read_of n ws x d) in h (ap length p.1)

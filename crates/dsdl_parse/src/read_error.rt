@@ -1,0 +1,21 @@
+use cy_bits::NoMemory;
+
+/// Why words weren't read.
+#[derive(Clone, Copy, Debug, Drop, PartialEq, Eq)]
+pub enum ReadError {
+    /// They aren't what the grammar wants there.
+    Syntax,
+    /// The memory for the tree was refused.
+    NoMemory,
+}
+
+impl From<NoMemory> for ReadError {
+    ghost use Rattle.std.specs.Prelude.{◌≡◌};
+    ghost use Rattle.dsdl_parse.specs.declared.read_error.ReadError.TheVariants as error;
+
+    ghost from_gives = { λ _ e. e ≡ error.NoMemory };
+
+    fn from(_: NoMemory) -> ReadError {
+        ReadError::NoMemory
+    }
+}

@@ -1,0 +1,116 @@
+//! The words of a line that are left.
+ghost use Rattle.std.specs.Prelude.{◌≡◌, ◌≤◌, IfOk, IfSome, length};
+ghost use Rattle.dsdl_lex.specs.Tokens.{IsKind, Lexes};
+ghost use Rattle.dsdl_parse.specs.Words.{words, on_sign, just, first_in};
+ghost use Rattle.dsdl_parse.specs.Taking.{Takes, TakesNext};
+
+use crate::expr::Span;
+use cy_bits::{NoMemory, Text};
+use dsdl_lex::{Token, TokenKind};
+use std::alloc::Global;
+use std::marker::Model;
+
+/// A word of a line: a token with its bytes.
+#[derive(Clone, Copy, Drop)]
+pub struct WordRef<'a> {
+    /// What the token is.
+    pub kind: TokenKind,
+    /// Its bytes.
+    pub text: &'a [u8],
+    /// Its place in the line.
+    pub span: Span,
+}
+
+impl WordRef<'_> {
+    /// The bytes as a text.
+    pub fn to_text(self, alloc: Global) -> Result<Text, NoMemory>
+        requires { IsKind self.kind self.text.now }
+        ensures { IfOk result (λ text. text ≡ self.entry.text.now) }
+    {
+        Text::from_ascii(alloc, self.text)
+    }
+}
+
+/// The words of a line from some place on, which are taken one after another.
+#[derive(Drop)]
+pub struct Words<'a> {
+    line: &'a [u8],
+    rest: &'a [Token],
+}
+
+impl<'a> Model for Words<'a> {
+    ghost use Rattle.std.specs.Prelude.{List};
+    ghost use Rattle.dsdl_parse.specs.Words.{Word, words, AreTokens};
+
+    ghost Value = { List Word };
+
+    ghost view = { λ w. words w.line.now w.rest.now };
+
+    ghost invariant = { λ w. AreTokens w.line.now w.rest.now };
+}
+
+impl<'a> Words<'a> {
+    /// All words of a line.
+    pub fn new(line: &'a [u8], tokens: &'a [Token]) -> Words<'a>
+        requires { Lexes line.now 0 tokens.now }
+        ensures { result ≡ words line.now tokens.now }
+    {
+        Words { line, rest: tokens }
+    }
+
+    /// The number of words that are left.
+    pub fn len(&self) -> usize
+        ensures { result ≡ length self.now }
+    {
+        self.rest.len()
+    }
+
+    /// Takes the next word.
+    pub fn next(&mut self) -> Option<WordRef<'a>>
+        ensures taken { TakesNext self.old result self.new }
+        ensures kind { IfSome result (λ w. IsKind w.kind w.text.now) }
+    {
+        let (token, rest) = self.rest.split_first()?;
+        let text = &self.line[token.from as usize..token.to as usize];
+        let word = WordRef {
+            kind: token.kind,
+            text,
+            span: Span {
+                from: token.from,
+                to: token.to,
+            },
+        };
+        self.rest = rest;
+        Some(word)
+    }
+
+    /// Whether the next word is this sign.
+    pub fn is(&self, sign: &[u8]) -> bool
+        ensures { result ≡ first_in (just sign.now) self.now }
+    {
+        match self.rest.first() {
+            Some(token) => {
+                let text = &self.line[token.from as usize..token.to as usize];
+                is_sign(token.kind, text, sign)
+            }
+            None => false,
+        }
+    }
+
+    /// Takes the next word where it is this sign.
+    pub fn take_sign(&mut self, sign: &[u8]) -> Option<WordRef<'a>>
+        ensures taken { Takes (just sign.now) self.old result self.new }
+        ensures kind { IfSome result (λ w. IsKind w.kind w.text.now) }
+    {
+        if self.is(sign) { self.next() } else { None }
+    }
+}
+
+fn is_sign(kind: TokenKind, text: &[u8], sign: &[u8]) -> bool
+    ensures { result ≡ on_sign (just sign.now) kind text.now }
+{
+    match kind {
+        TokenKind::Sign => text == sign,
+        _ => false,
+    }
+}
