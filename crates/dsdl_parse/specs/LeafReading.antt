@@ -1,10 +1,9 @@
 -- Reading the tree of a single token.
-use Rattle.std.specs.Prelude.{ℕ, Bool, ◌&&◌, not, ◌==◌, if◌then◌else◌, List, Option, Some, None}
-use Rattle.std.specs.List.{list_all}
+use Rattle.std.specs.Prelude.{ℕ, ◌+◌, ◌-◌, Bool, ◌&&◌, ◌==◌, nat_lt, if◌then◌else◌, List, [], ◌∷◌, length, take, drop, Option, Some, None}
+use Rattle.std.specs.List.{list_all, slice_split}
 use Rattle.dsdl_lex.specs.declared.token.TokenKind.{TokenKind}
 use Rattle.dsdl_lex.specs.declared.token.TokenKind.TheVariants as k
 use Rattle.dsdl_lex.specs.Texts.{is_name, is_version, number_of}
-use Rattle.dsdl_names.specs.Parts.{names_of, cut_last}
 use Rattle.dsdl_parse.specs.declared.expr.Expr.{Expr}
 use Rattle.dsdl_parse.specs.declared.expr.ExprNode.{ExprNode}
 use Rattle.dsdl_parse.specs.declared.expr.ExprNode.TheVariants as e
@@ -14,29 +13,35 @@ use Rattle.dsdl_parse.specs.Words.{Word}
 use Rattle.dsdl_parse.specs.Trees.{tree}
 use Rattle.dsdl_parse.specs.Leaves.{unquoted, name_node}
 
--- a path of names, and decimal numbers that aren't both 0
-abbrev pub are_parts : List ℕ → List ℕ → List ℕ → Bool
-are_parts path major minor =
-    list_all is_name (names_of path) && (is_version major && (is_version minor && not (number_of major == 0 && number_of minor == 0)))
+abbrev pub is_point : ℕ → Bool
+is_point b = b == 46
 
-abbrev pub reference_in : List ℕ → List ℕ → List ℕ → Reference
-reference_in path major minor = record { names = names_of path; major = number_of major; minor = number_of minor }
+-- the parts of a text between its points
+abbrev pub parts_of : List ℕ → List (List ℕ)
+parts_of text = slice_split is_point text
 
-abbrev pub checked : List ℕ → List ℕ → List ℕ → Option Reference
-checked path major minor = if are_parts path major minor then Some (reference_in path major minor) else None
+-- names, and decimal numbers that aren't both 0
+abbrev pub are_parts : List (List ℕ) → List ℕ → List ℕ → Bool
+are_parts names major minor =
+    nat_lt 0 (length names) && (list_all is_name names && (is_version major && (is_version minor && nat_lt 0 (number_of major + number_of minor))))
 
--- what stands in front of the last two points, between them and behind them
-abbrev pub with_path : List ℕ → Option (List ℕ × List ℕ) → Option Reference
-with_path minor None = None
-with_path minor (Some p) = checked p.0 p.1 minor
+abbrev pub versioned : List (List ℕ) → List ℕ → List ℕ → Option Reference
+versioned names major minor =
+    if are_parts names major minor then Some (record { names = names; major = number_of major; minor = number_of minor }) else None
 
-abbrev pub with_minor : Option (List ℕ × List ℕ) → Option Reference
-with_minor None = None
-with_minor (Some p) = with_path p.1 (cut_last 46 p.0)
+-- the last two parts are the version
+abbrev pub named : List (List ℕ) → List (List ℕ) → Option Reference
+named names [] = None
+named names (major ∷ []) = None
+named names (major ∷ minor ∷ []) = versioned names major minor
+named names (major ∷ minor ∷ more ∷ rest) = None
+
+abbrev pub reference_in : List (List ℕ) → Option Reference
+reference_in parts = named (take (length parts - 2) parts) (drop (length parts - 2) parts)
 
 -- the reference that a text is
 abbrev pub reference_of : List ℕ → Option Reference
-reference_of text = with_minor (cut_last 46 text)
+reference_of text = reference_in (parts_of text)
 
 abbrev pub reference_node : Option Reference → Option ExprNode
 reference_node None = None

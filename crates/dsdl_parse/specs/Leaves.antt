@@ -1,11 +1,10 @@
 -- The trees of single tokens.
 use Rattle.std.specs.Prelude.{◌≡◌, ℕ, ◌+◌, ◌-◌, ◌<◌, true, false, if◌then◌else◌, List, [], ◌∷◌, ◌++◌, length, codes}
-use Rattle.std.specs.List.{list_all, slice_range}
+use Rattle.std.specs.List.{list_all, slice_range, join_with_byte}
 use Rattle.std.specs.Str.{bytes_eq}
 use Rattle.dsdl_lex.specs.declared.token.TokenKind.{TokenKind}
 use Rattle.dsdl_lex.specs.declared.token.TokenKind.TheVariants as k
 use Rattle.dsdl_lex.specs.Texts.{is_name, is_version, number_of}
-use Rattle.dsdl_names.specs.Parts.{dotted}
 use Rattle.dsdl_parse.specs.declared.expr.Expr.{Expr}
 use Rattle.dsdl_parse.specs.declared.expr.ExprNode.{ExprNode}
 use Rattle.dsdl_parse.specs.declared.expr.ExprNode.TheVariants as e
@@ -13,7 +12,7 @@ use Rattle.dsdl_parse.specs.declared.expr.Reference.{Reference}
 use Rattle.dsdl_parse.specs.Words.{Word}
 use Rattle.dsdl_parse.specs.Trees.{tree}
 
--- the text is the names and the decimal version, points between them all; not version 0.0
+-- the text is the names and the decimal version with points (46) between them all; not version 0.0
 pub record IsReferenceTo (text : List ℕ) (r : Reference) : Type 0 where
   pub major : List ℕ
   pub minor : List ℕ
@@ -24,7 +23,7 @@ pub record IsReferenceTo (text : List ℕ) (r : Reference) : Type 0 where
   pub major_number : r.major ≡ number_of major
   pub minor_number : r.minor ≡ number_of minor
   pub some_version : 0 < r.major + r.minor
-  pub is_text : text ≡ dotted r.names ++ 46 ∷ (major ++ 46 ∷ minor)
+  pub is_text : text ≡ join_with_byte 46 (r.names ++ major ∷ minor ∷ [])
 
 -- what stands between the first byte and the last one
 abbrev pub unquoted : List ℕ → List ℕ

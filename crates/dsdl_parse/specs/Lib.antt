@@ -5,4 +5,5 @@ pub mod Leaves
 pub mod Grammar
 pub mod LeafReading
 pub mod Reading
+pub mod Levels
 pub mod Answers

@@ -149,3 +149,7 @@ nothings = record { room = false; expression = nothing; not = nothing; sign = no
 unfoldable pub within : ℕ → Readers
 within zero = nothings
 within (suc n) = around (within n)
+
+-- what the front of the words is as an expression, at the deepest nesting that is allowed
+abbrev pub read_expression : Reader Expr
+read_expression = expression_of (within 64)

@@ -3,6 +3,13 @@ use Rattle.std.specs.Prelude.{◌≡◌, Bool, true, false, List, [], ◌∷◌,
 use Rattle.dsdl_parse.specs.declared.words.WordRef.{WordRef}
 use Rattle.dsdl_parse.specs.Words.{Word, Signs, is_in, first_in, seen}
 
+-- the next word, where there is one
+abbrev pub IsFirst : List Word → Option WordRef → Type 0
+IsFirst [] None = Unit {0}
+IsFirst [] (Some w) = ⊥
+IsFirst (v ∷ ws) None = ⊥
+IsFirst (v ∷ ws) (Some w) = v ≡ seen w
+
 -- the next word was taken, or none is left
 abbrev pub TakesNext : List Word → Option WordRef → List Word → Type 0
 TakesNext old None new = (old ≡ []) × (new ≡ [])

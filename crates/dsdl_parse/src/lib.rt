@@ -2,8 +2,18 @@
 //! words say.
 #![tactic(auto)]
 
+mod descent;
 mod expr;
+mod leaf;
+mod level;
 mod read_error;
+mod reference;
+#[cfg(test)]
+mod tests;
+mod trees;
+mod whole;
 mod words;
 
 pub use expr::{Expr, ExprNode, Reference, Span};
+pub use read_error::ReadError;
+pub use whole::parse_expression;

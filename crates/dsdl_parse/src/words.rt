@@ -2,7 +2,7 @@
 ghost use Rattle.std.specs.Prelude.{◌≡◌, ◌≤◌, IfOk, IfSome, length};
 ghost use Rattle.dsdl_lex.specs.Tokens.{IsKind, Lexes};
 ghost use Rattle.dsdl_parse.specs.Words.{words, on_sign, just, first_in};
-ghost use Rattle.dsdl_parse.specs.Taking.{Takes, TakesNext};
+ghost use Rattle.dsdl_parse.specs.Taking.{IsFirst, Takes, TakesNext};
 
 use crate::expr::Span;
 use cy_bits::{NoMemory, Text};
@@ -65,22 +65,29 @@ impl<'a> Words<'a> {
         self.rest.len()
     }
 
+    /// The next word, which stays.
+    pub fn peek(&self) -> Option<WordRef<'a>>
+        ensures word { IsFirst self.now result }
+        ensures kind { IfSome result (λ w. IsKind w.kind w.text.now) }
+    {
+        let token = self.rest.first()?;
+        Some(WordRef {
+            kind: token.kind,
+            text: &self.line[token.from as usize..token.to as usize],
+            span: Span {
+                from: token.from,
+                to: token.to,
+            },
+        })
+    }
+
     /// Takes the next word.
     pub fn next(&mut self) -> Option<WordRef<'a>>
         ensures taken { TakesNext self.old result self.new }
         ensures kind { IfSome result (λ w. IsKind w.kind w.text.now) }
     {
-        let (token, rest) = self.rest.split_first()?;
-        let text = &self.line[token.from as usize..token.to as usize];
-        let word = WordRef {
-            kind: token.kind,
-            text,
-            span: Span {
-                from: token.from,
-                to: token.to,
-            },
-        };
-        self.rest = rest;
+        let word = self.peek()?;
+        self.rest = &self.rest[1..];
         Some(word)
     }
 
@@ -88,11 +95,8 @@ impl<'a> Words<'a> {
     pub fn is(&self, sign: &[u8]) -> bool
         ensures { result ≡ first_in (just sign.now) self.now }
     {
-        match self.rest.first() {
-            Some(token) => {
-                let text = &self.line[token.from as usize..token.to as usize];
-                is_sign(token.kind, text, sign)
-            }
+        match self.peek() {
+            Some(word) => is_sign(word.kind, word.text, sign),
             None => false,
         }
     }
