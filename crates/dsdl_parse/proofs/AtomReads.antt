@@ -13,18 +13,18 @@ use Rattle.dsdl_parse.specs.Grammar as g
 use Rattle.dsdl_parse.specs.Grammar.{Rule, Chain, Prefixed, Power, Member, Listed, Atom, one, more, plain, signed, base, raised, alone, dotted, single, another, parens, empty, set, leaf}
 use Rattle.dsdl_parse.specs.Reading.{◌>>=◌, Reader, Readers, chain, read_chain, read_prefixed, raise, read_power, is_name_kind, members, read_member, close, comma, items, read_items, in_items, in_braces, in_parens, end_parens, end_braces, read_atom}
 use Rattle.dsdl_parse.specs.Reading as r
-use Rattle.dsdl_parse.proofs.Basics.{bind_some, bound, chosen, all_fail, apart, in_none, out_of_both, leaf_no_sign, append_nil}
-use Rattle.dsdl_parse.proofs.Reads.{Stops, stops_parts, Begins, begins_more, Reads}
+use Rattle.dsdl_parse.proofs.Basics.{bind_some, bound, chosen, all_fail, apart, in_none, out_of_both, append_nil}
+use Rattle.dsdl_parse.proofs.Readers.{Stops, stops_parts, Begins, begins_more, Reads}
 use Rattle.dsdl_parse.proofs.ListedReads.{items_complete, items_sound, listed_first, commas}
-use Rattle.dsdl_parse.proofs.LeafReads.{leaf_complete, leaf_sound}
+use Rattle.dsdl_parse.proofs.LeafReads.{leaf_complete, leaf_sound, leaf_no_sign}
 
-abbrev opens : Signs
+abbrev pub opens : Signs
 opens = just (codes "(")
 
-abbrev closes : Signs
+abbrev pub closes : Signs
 closes = just (codes ")")
 
-abbrev opens_set : Signs
+abbrev pub opens_set : Signs
 opens_set = just (codes "{")
 
 abbrev pub closes_set : Signs
@@ -67,10 +67,10 @@ module _ (room : Bool) (inner : Reader Expr) (R : Rule) (goes : Signs) (reads : 
       (items_complete inner R goes reads commas_apart d (c ∷ rest) (apart closes_set goes braces_apart c hc) (apart closes_set commas refl c hc)
       (suc (length (inside ++ c ∷ rest))) [] (omega arith))
       hc
-  atom_complete (a_leaf {ws} {x} w l e) rest =
+  atom_complete (leaf {ws} {x} w l e) rest =
       ap (read_atom room inner) (ap (λ l. l ++ rest) e)
       ∙ cond-false (is_in opens w) _ _ (leaf_no_sign opens w x l) ∙ cond-false (is_in opens_set w) _ _ (leaf_no_sign opens_set w x l)
-      ∙ bound _ _ _ _ l refl
+      ∙ bound _ _ _ _ (leaf_complete w x l) refl
 
   abbrev Found : List Word → List Word → Expr → Type 0
   Found ws rest x = (front : List Word) × (ws ≡ front ++ rest) × Atom room R front x
@@ -125,25 +125,20 @@ module _ (room : Bool) (inner : Reader Expr) (R : Rule) (goes : Signs) (reads : 
         | inl h3 ↦ braces_sound w ws rest x h3.0 h2.0 h3.1
         | inr h3 ↦ absurd (none-some _ h3.1)
       ]
-      | inr h2 ↦ go (bind_some _ (leaf w) (x, rest) h2.1)
+      | inr h2 ↦ go (bind_some _ (read_leaf w) (x, rest) h2.1)
     ]
   ]
     where
-      go : (y : Expr) × (leaf w ≡ Some y) × ◌≡◌ {A = Option (Expr × List Word)} (Some (y, ws)) (Some (x, rest)) → Found (w ∷ ws) rest x
+      go : (y : Expr) × (read_leaf w ≡ Some y) × ◌≡◌ {A = Option (Expr × List Word)} (Some (y, ws)) (Some (x, rest)) → Found (w ∷ ws) rest x
       go (y, l, e) = let p : (y ≡ x) × (ws ≡ rest) = some_pair_parts _ _ _ _ e in
-          (w ∷ [], ap (λ l. w ∷ l) p.1, a_leaf w (l ∙ ap Some p.0) refl)
+          (w ∷ [], ap (λ l. w ∷ l) p.1, leaf w (leaf_sound w x (l ∙ ap Some p.0)) refl)
 
   pub atom_reads : Reads (read_atom room inner) (Atom room R) []
   atom_reads = record { sound = atom_sound; complete = λ front rest x d s. atom_complete d rest }
 
-atom_first : (room : Bool) (R : Rule) (not : Signs) → all_fail opens (any_of not) ≡ true → all_fail opens_set (any_of not) ≡ true →
+pub atom_first : (room : Bool) (R : Rule) (not : Signs) → all_fail opens (any_of not) ≡ true → all_fail opens_set (any_of not) ≡ true →
     {ws : List Word} {x : Expr} → Atom room R ws x → Begins not ws
 atom_first room R not a b (parens o c ho d hc e) = subst (Begins not) (sym e) (apart opens not a o ho)
 atom_first room R not a b (empty o c h ho hc e) = subst (Begins not) (sym e) (apart opens_set not b o ho)
 atom_first room R not a b (set o c h ho d hc e) = subst (Begins not) (sym e) (apart opens_set not b o ho)
-atom_first room R not a b (a_leaf {ws} {x} w l e) = subst (Begins not) (sym e) (leaf_no_sign not w x l)
-
-prefixed_first : {I P : Rule} (op not : Signs) → all_fail op (any_of not) ≡ true → ((ws : List Word) (x : Expr) → P ws x → Begins not ws) →
-    {ws : List Word} {x : Expr} → Prefixed op I P ws x → Begins not ws
-prefixed_first op not a f (plain d) = f _ _ d
-prefixed_first op not a f (signed w h d e) = subst (Begins not) (sym e) (apart op not a w h)
+atom_first room R not a b (leaf {ws} {x} w l e) = subst (Begins not) (sym e) (leaf_no_sign not w x l)

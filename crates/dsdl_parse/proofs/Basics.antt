@@ -1,13 +1,11 @@
 -- Small lemmas on options, lists and signs.
+use Rattle.std.proofs.lemmas.Option.{none-some}
 use Rattle.std.proofs.Common.{◌≡◌, ℕ, ◌⊎◌, Bool, true, false, not, ◌&&◌, cond, List, [], ◌∷◌, ◌++◌, Option, Some, None, bytes_eq, refl, ap, ◌∙◌, inl, inr}
 use Rattle.std.proofs.lemmas.Bool.{and_parts, or_cases, or_parts, or_from, not-true}
 use Rattle.std.proofs.lemmas.Slice.Eq.{bytes_eq-Decides}
-use Rattle.std.proofs.lemmas.Option.{none-some}
 use Rattle.dsdl_lex.specs.declared.token.TokenKind.{TokenKind}
 use Rattle.dsdl_lex.specs.declared.token.TokenKind.TheVariants as k
 use Rattle.dsdl_parse.specs.Words.{Word, Signs, any_of, on_sign, is_in}
-use Rattle.dsdl_parse.specs.LeafReading.{read_leaf, leaf_node, with_span}
-use Rattle.dsdl_parse.specs.declared.expr.Expr.{Expr}
 use Rattle.dsdl_parse.specs.Reading.{◌>>=◌}
 
 pub bind_some : {A B : Type 0} (f : A → Option B) (o : Option A) (y : B) → (o >>= f) ≡ Some y → (x : A) × (o ≡ Some x) × (f x ≡ Some y)

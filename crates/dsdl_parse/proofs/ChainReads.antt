@@ -13,8 +13,8 @@ use Rattle.dsdl_parse.specs.Grammar as g
 use Rattle.dsdl_parse.specs.Grammar.{Rule, Chain, Prefixed, Power, Member, Listed, Atom, one, more, plain, signed, base, raised, alone, dotted, single, another, parens, empty, set, leaf}
 use Rattle.dsdl_parse.specs.Reading.{◌>>=◌, Reader, Readers, chain, read_chain, read_prefixed, raise, read_power, is_name_kind, members, read_member, close, comma, items, read_items, in_items, in_braces, in_parens, end_parens, end_braces, read_atom}
 use Rattle.dsdl_parse.specs.Reading as r
-use Rattle.dsdl_parse.proofs.Basics.{bind_some, bound, chosen, all_fail, apart, in_none, out_of_both, leaf_no_sign, append_nil}
-use Rattle.dsdl_parse.proofs.Reads.{Stops, stops_parts, Begins, begins_more, Reads}
+use Rattle.dsdl_parse.proofs.Basics.{bind_some, bound, chosen, all_fail, apart, in_none, out_of_both, append_nil}
+use Rattle.dsdl_parse.proofs.Readers.{Stops, stops_parts, Begins, begins_more, Reads}
 
 module _ (op : Signs) (operand : Reader Expr) (R : Rule) (goes : Signs) (reads : Reads operand R goes) where
   chain_stops : (n : ℕ) (a : Expr) (rest : List Word) → Stops op rest → chain op operand n a rest ≡ Some (a, rest)
@@ -90,7 +90,7 @@ module _ (op : Signs) (operand : Reader Expr) (R : Rule) (goes : Signs) (reads :
             let (back, eq2, c) = chain_sound (length v.1) v.0 x v.1 rest front e (one d) in
             (front ++ back, eq ∙ ap (λ l. front ++ l) eq2 ∙ sym (append_assoc front back rest), c)
 
-chain_first : {op : Signs} {R : Rule} (not : Signs) → ((ws : List Word) (x : Expr) → R ws x → Begins not ws) →
+pub chain_first : {op : Signs} {R : Rule} (not : Signs) → ((ws : List Word) (x : Expr) → R ws x → Begins not ws) →
     {ws : List Word} {x : Expr} → Chain op R ws x → Begins not ws
 chain_first not f (one d) = f _ _ d
 chain_first not f (more {ws} {front} {back} w c isop d e) = subst (Begins not) (sym e) (begins_more not front (w ∷ back) (chain_first not f c))

@@ -13,8 +13,8 @@ use Rattle.dsdl_parse.specs.Grammar as g
 use Rattle.dsdl_parse.specs.Grammar.{Rule, Chain, Prefixed, Power, Member, Listed, Atom, one, more, plain, signed, base, raised, alone, dotted, single, another, parens, empty, set, leaf}
 use Rattle.dsdl_parse.specs.Reading.{◌>>=◌, Reader, Readers, chain, read_chain, read_prefixed, raise, read_power, is_name_kind, members, read_member, close, comma, items, read_items, in_items, in_braces, in_parens, end_parens, end_braces, read_atom}
 use Rattle.dsdl_parse.specs.Reading as r
-use Rattle.dsdl_parse.proofs.Basics.{bind_some, bound, chosen, all_fail, apart, in_none, out_of_both, leaf_no_sign, append_nil}
-use Rattle.dsdl_parse.proofs.Reads.{Stops, stops_parts, Begins, begins_more, Reads}
+use Rattle.dsdl_parse.proofs.Basics.{bind_some, bound, chosen, all_fail, apart, in_none, out_of_both, append_nil}
+use Rattle.dsdl_parse.proofs.Readers.{Stops, stops_parts, Begins, begins_more, Reads}
 use Rattle.dsdl_parse.proofs.ChainReads.{chain_reads, chain_first}
 use Rattle.dsdl_parse.proofs.PrefixedReads.{prefixed_reads, prefixed_first}
 use Rattle.dsdl_parse.proofs.PowerReads.{power_reads, power_first}
@@ -100,9 +100,3 @@ all_read (suc n) = around_read _ _ (all_read n)
 
 pub reads_expression : (n : ℕ) → Reads (r.expression_of (r.within n)) (g.IsExpression n) goes_expression
 reads_expression n = (around_read _ _ (all_read n)).expression
-
--- a whole list of words has at most one tree
-pub one_tree : (n : ℕ) (ws : List Word) (x y : Expr) → g.IsExpression n ws x → g.IsExpression n ws y → x ≡ y
-one_tree n ws x y d e =
-    let reads = reads_expression n in
-    let p : ((x ≡ y) × ([] ≡ [])) = some_pair_parts x y [] [] (sym (reads.complete ws [] x d tt) ∙ reads.complete ws [] y e tt) in p.0

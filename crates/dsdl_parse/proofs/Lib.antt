@@ -1,0 +1,15 @@
+pub mod Basics
+pub mod References
+pub mod LeafReads
+pub mod Readers
+pub mod ChainReads
+pub mod PrefixedReads
+pub mod PowerReads
+pub mod MemberReads
+pub mod ListedReads
+pub mod AtomReads
+pub mod LevelReads
+pub mod WholeReads
+pub mod Versions
+pub mod Tokens
+pub mod Borrowed

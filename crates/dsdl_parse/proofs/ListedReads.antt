@@ -13,10 +13,10 @@ use Rattle.dsdl_parse.specs.Grammar as g
 use Rattle.dsdl_parse.specs.Grammar.{Rule, Chain, Prefixed, Power, Member, Listed, Atom, one, more, plain, signed, base, raised, alone, dotted, single, another, parens, empty, set, leaf}
 use Rattle.dsdl_parse.specs.Reading.{◌>>=◌, Reader, Readers, chain, read_chain, read_prefixed, raise, read_power, is_name_kind, members, read_member, close, comma, items, read_items, in_items, in_braces, in_parens, end_parens, end_braces, read_atom}
 use Rattle.dsdl_parse.specs.Reading as r
-use Rattle.dsdl_parse.proofs.Basics.{bind_some, bound, chosen, all_fail, apart, in_none, out_of_both, leaf_no_sign, append_nil}
-use Rattle.dsdl_parse.proofs.Reads.{Stops, stops_parts, Begins, begins_more, Reads}
+use Rattle.dsdl_parse.proofs.Basics.{bind_some, bound, chosen, all_fail, apart, in_none, out_of_both, append_nil}
+use Rattle.dsdl_parse.proofs.Readers.{Stops, stops_parts, Begins, begins_more, Reads}
 
-abbrev commas : Signs
+abbrev pub commas : Signs
 commas = just (codes ",")
 
 module _ (item : Reader Expr) (I : Rule) (goes : Signs) (reads : Reads item I goes) (disjoint : all_fail commas (any_of goes) ≡ true) where
@@ -24,7 +24,7 @@ module _ (item : Reader Expr) (I : Rule) (goes : Signs) (reads : Reads item I go
   comma_stops next xs [] s = refl
   comma_stops next xs (w ∷ ws) s = cond-false (is_in commas w) _ _ s
 
-  items_complete : {ws : List Word} {ys : List Expr} → Listed I ws ys → (rest : List Word) → Stops goes rest → Stops commas rest →
+  pub items_complete : {ws : List Word} {ys : List Expr} → Listed I ws ys → (rest : List Word) → Stops goes rest → Stops commas rest →
       (n : ℕ) (xs : List Expr) → length (ws ++ rest) < n → items item n xs (ws ++ rest) ≡ Some (xs ++ ys, rest)
   items_complete d rest s t zero xs lt = absurd (omega arith)
   items_complete (single {ws} {x} d) rest s t (suc n) xs lt = bound _ _ _ _ (reads.complete ws rest x d s) (comma_stops (items item n) _ rest t)
@@ -36,7 +36,7 @@ module _ (item : Reader Expr) (I : Rule) (goes : Signs) (reads : Reads item I go
       (cond-true (is_in commas w) _ _ h ∙ items_complete c rest s t n (xs ++ x ∷ []) lt2
       ∙ ap (λ l. Some (l, rest)) (append_assoc xs (x ∷ []) ys))
 
-  items_sound : (n : ℕ) (xs zs : List Expr) (ws rest : List Word) → items item n xs ws ≡ Some (zs, rest) →
+  pub items_sound : (n : ℕ) (xs zs : List Expr) (ws rest : List Word) → items item n xs ws ≡ Some (zs, rest) →
       (front : List Word) × (ys : List Expr) × (ws ≡ front ++ rest) × Listed I front ys × (zs ≡ xs ++ ys)
   items_sound zero xs zs ws rest e = absurd (none-some _ e)
   items_sound (suc n) xs zs ws rest e = go (λ a b. items_sound n a zs b rest) (bind_some _ (item ws) (zs, rest) e)
@@ -67,7 +67,7 @@ module _ (item : Reader Expr) (I : Rule) (goes : Signs) (reads : Reads item I go
           (front : List Word) × (ys : List Expr) × (ws ≡ front ++ rest) × Listed I front ys × (zs ≡ xs ++ ys)
       go again (v, f, e) = let (front, eq, d) = reads.sound ws v.1 v.0 f in behind v.0 front v.1 eq d again e
 
-listed_first : {I : Rule} (not : Signs) → ((ws : List Word) (x : Expr) → I ws x → Begins not ws) →
+pub listed_first : {I : Rule} (not : Signs) → ((ws : List Word) (x : Expr) → I ws x → Begins not ws) →
     {ws : List Word} {ys : List Expr} → Listed I ws ys → Begins not ws
 listed_first not f (single d) = f _ _ d
 listed_first not f (another {ws} {front} {back} w d h c e) = subst (Begins not) (sym e) (begins_more not front (w ∷ back) (f _ _ d))

@@ -13,8 +13,8 @@ use Rattle.dsdl_parse.specs.Grammar as g
 use Rattle.dsdl_parse.specs.Grammar.{Rule, Chain, Prefixed, Power, Member, Listed, Atom, one, more, plain, signed, base, raised, alone, dotted, single, another, parens, empty, set, leaf}
 use Rattle.dsdl_parse.specs.Reading.{◌>>=◌, Reader, Readers, chain, read_chain, read_prefixed, raise, read_power, is_name_kind, members, read_member, close, comma, items, read_items, in_items, in_braces, in_parens, end_parens, end_braces, read_atom}
 use Rattle.dsdl_parse.specs.Reading as r
-use Rattle.dsdl_parse.proofs.Basics.{bind_some, bound, chosen, all_fail, apart, in_none, out_of_both, leaf_no_sign, append_nil}
-use Rattle.dsdl_parse.proofs.Reads.{Stops, stops_parts, Begins, begins_more, Reads}
+use Rattle.dsdl_parse.proofs.Basics.{bind_some, bound, chosen, all_fail, apart, in_none, out_of_both, append_nil}
+use Rattle.dsdl_parse.proofs.Readers.{Stops, stops_parts, Begins, begins_more, Reads}
 
 name_kind : (kind : TokenKind) → kind ≡ k.Name → is_name_kind kind ≡ true
 name_kind kind e = rw e refl
@@ -27,7 +27,7 @@ kind_of_name k.Str e = cc
 kind_of_name k.Split e = cc
 kind_of_name k.Sign e = cc
 
-abbrev dot : Signs
+abbrev pub dot : Signs
 dot = just (codes ".")
 
 module _ (atom : Reader Expr) (A : Rule) (reads : Reads atom A []) where
@@ -92,7 +92,7 @@ module _ (atom : Reader Expr) (A : Rule) (reads : Reads atom A []) where
           let (back, eq2, c) = members_sound (length v.1) v.0 x v.1 rest front e (alone d) in
           (front ++ back, eq ∙ ap (λ l. front ++ l) eq2 ∙ sym (append_assoc front back rest), c)
 
-member_first : {A : Rule} (not : Signs) → ((ws : List Word) (x : Expr) → A ws x → Begins not ws) →
+pub member_first : {A : Rule} (not : Signs) → ((ws : List Word) (x : Expr) → A ws x → Begins not ws) →
     {ws : List Word} {x : Expr} → Member A ws x → Begins not ws
 member_first not f (alone d) = f _ _ d
 member_first not f (dotted {ws} {front} w name c h isname e) = subst (Begins not) (sym e) (begins_more not front (w ∷ name ∷ []) (member_first not f c))

@@ -13,8 +13,8 @@ use Rattle.dsdl_parse.specs.Grammar as g
 use Rattle.dsdl_parse.specs.Grammar.{Rule, Chain, Prefixed, Power, Member, Listed, Atom, one, more, plain, signed, base, raised, alone, dotted, single, another, parens, empty, set, leaf}
 use Rattle.dsdl_parse.specs.Reading.{◌>>=◌, Reader, Readers, chain, read_chain, read_prefixed, raise, read_power, is_name_kind, members, read_member, close, comma, items, read_items, in_items, in_braces, in_parens, end_parens, end_braces, read_atom}
 use Rattle.dsdl_parse.specs.Reading as r
-use Rattle.dsdl_parse.proofs.Basics.{bind_some, bound, chosen, all_fail, apart, in_none, out_of_both, leaf_no_sign, append_nil}
-use Rattle.dsdl_parse.proofs.Reads.{Stops, stops_parts, Begins, begins_more, Reads}
+use Rattle.dsdl_parse.proofs.Basics.{bind_some, bound, chosen, all_fail, apart, in_none, out_of_both, append_nil}
+use Rattle.dsdl_parse.proofs.Readers.{Stops, stops_parts, Begins, begins_more, Reads}
 
 module _ (below exponent : Reader Expr) (B E : Rule) (goes : Signs) (reads : Reads below B goes) (powers : Reads exponent E (just (codes "**") ++ goes))
     (disjoint : all_fail (just (codes "**")) (any_of goes) ≡ true) where
@@ -61,7 +61,7 @@ module _ (below exponent : Reader Expr) (B E : Rule) (goes : Signs) (reads : Rea
           ∙ bound _ _ _ _ (reads.complete front (w ∷ (back ++ rest)) a d (apart (just (codes "**")) goes disjoint w h))
           (cond-true (is_in (just (codes "**")) w) _ _ h ∙ bound _ _ _ _ (powers.complete back rest b c s) refl)
 
-power_first : {B E : Rule} (not : Signs) → ((ws : List Word) (x : Expr) → B ws x → Begins not ws) →
+pub power_first : {B E : Rule} (not : Signs) → ((ws : List Word) (x : Expr) → B ws x → Begins not ws) →
     {ws : List Word} {x : Expr} → Power B E ws x → Begins not ws
 power_first not f (base d) = f _ _ d
 power_first not f (raised {ws} {front} {back} w d h c e) = subst (Begins not) (sym e) (begins_more not front (w ∷ back) (f _ _ d))

@@ -13,8 +13,8 @@ use Rattle.dsdl_parse.specs.Grammar as g
 use Rattle.dsdl_parse.specs.Grammar.{Rule, Chain, Prefixed, Power, Member, Listed, Atom, one, more, plain, signed, base, raised, alone, dotted, single, another, parens, empty, set, leaf}
 use Rattle.dsdl_parse.specs.Reading.{◌>>=◌, Reader, Readers, chain, read_chain, read_prefixed, raise, read_power, is_name_kind, members, read_member, close, comma, items, read_items, in_items, in_braces, in_parens, end_parens, end_braces, read_atom}
 use Rattle.dsdl_parse.specs.Reading as r
-use Rattle.dsdl_parse.proofs.Basics.{bind_some, bound, chosen, all_fail, apart, in_none, out_of_both, leaf_no_sign, append_nil}
-use Rattle.dsdl_parse.proofs.Reads.{Stops, stops_parts, Begins, begins_more, Reads}
+use Rattle.dsdl_parse.proofs.Basics.{bind_some, bound, chosen, all_fail, apart, in_none, out_of_both, append_nil}
+use Rattle.dsdl_parse.proofs.Readers.{Stops, stops_parts, Begins, begins_more, Reads}
 
 module _ (op : Signs) (inner normal : Reader Expr) (I P : Rule) (goes : Signs) (inside : Reads inner I goes) (plainly : Reads normal P goes)
     (first : (ws : List Word) (x : Expr) → P ws x → Begins op ws) where
@@ -44,3 +44,8 @@ module _ (op : Signs) (inner normal : Reader Expr) (I P : Rule) (goes : Signs) (
       complete_at (plain {ws} {x} d) rest s = begun ws rest x (first ws x d) (plainly.complete ws rest x d s)
       complete_at (signed {ws} {back} {x} w h d e) rest s =
           ap (λ l. read_prefixed op inner normal (l ++ rest)) e ∙ cond-true (is_in op w) _ _ h ∙ bound _ _ _ _ (inside.complete back rest x d s) refl
+
+pub prefixed_first : {I P : Rule} (op not : Signs) → all_fail op (any_of not) ≡ true → ((ws : List Word) (x : Expr) → P ws x → Begins not ws) →
+    {ws : List Word} {x : Expr} → Prefixed op I P ws x → Begins not ws
+prefixed_first op not a f (plain d) = f _ _ d
+prefixed_first op not a f (signed w h d e) = subst (Begins not) (sym e) (apart op not a w h)

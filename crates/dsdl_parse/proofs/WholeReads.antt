@@ -13,8 +13,8 @@ use Rattle.dsdl_parse.specs.Grammar as g
 use Rattle.dsdl_parse.specs.Grammar.{Rule, Chain, Prefixed, Power, Member, Listed, Atom, one, more, plain, signed, base, raised, alone, dotted, single, another, parens, empty, set, leaf}
 use Rattle.dsdl_parse.specs.Reading.{◌>>=◌, Reader, Readers, chain, read_chain, read_prefixed, raise, read_power, is_name_kind, members, read_member, close, comma, items, read_items, in_items, in_braces, in_parens, end_parens, end_braces, read_atom}
 use Rattle.dsdl_parse.specs.Reading as r
-use Rattle.dsdl_parse.proofs.Basics.{bind_some, bound, chosen, all_fail, apart, in_none, out_of_both, leaf_no_sign, append_nil}
-use Rattle.dsdl_parse.proofs.Reads.{Stops, stops_parts, Begins, begins_more, Reads}
+use Rattle.dsdl_parse.proofs.Basics.{bind_some, bound, chosen, all_fail, apart, in_none, out_of_both, append_nil}
+use Rattle.dsdl_parse.proofs.Readers.{Stops, stops_parts, Begins, begins_more, Reads}
 use Rattle.dsdl_parse.proofs.LevelReads.{reads_expression}
 
 all_read_of : (n : ℕ) (ws : List Word) (x : Expr) → g.IsExpression n ws x → r.expression_of (r.within n) ws ≡ Some (x, [])
@@ -35,3 +35,9 @@ none_whole n ws e x d = none-some (x, []) (sym e ∙ all_read_of n ws x d)
 pub not_whole : (n : ℕ) (ws rest : List Word) (y : Expr) → r.expression_of (r.within n) ws ≡ Some (y, rest) → (length rest ≡ 0 → ⊥) → (x : Expr) → g.IsExpression n ws x → ⊥
 not_whole n ws rest y e h x d =
     let p : (y ≡ x) × (rest ≡ []) = some_pair_parts y x rest [] (sym e ∙ all_read_of n ws x d) in h (ap length p.1)
+
+-- a whole list of words has at most one tree
+pub one_tree : (n : ℕ) (ws : List Word) (x y : Expr) → g.IsExpression n ws x → g.IsExpression n ws y → x ≡ y
+one_tree n ws x y d e =
+    let reads = reads_expression n in
+    let p : ((x ≡ y) × ([] ≡ [])) = some_pair_parts x y [] [] (sym (reads.complete ws [] x d tt) ∙ reads.complete ws [] y e tt) in p.0

@@ -7,3 +7,4 @@ pub mod LeafReading
 pub mod Reading
 pub mod Levels
 pub mod Answers
+pub mod Laws

@@ -4,6 +4,7 @@
 
 mod descent;
 mod expr;
+mod laws;
 mod leaf;
 mod level;
 mod read_error;
@@ -15,5 +16,6 @@ mod whole;
 mod words;
 
 pub use expr::{Expr, ExprNode, Reference, Span};
+pub use laws::one_tree;
 pub use read_error::ReadError;
 pub use whole::parse_expression;

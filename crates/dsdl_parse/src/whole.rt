@@ -12,6 +12,7 @@ use dsdl_lex::Token;
 use std::alloc::Global;
 
 /// The expression that all tokens of a line together are; Syntax exactly where they are none.
+#[tactic(auto, using(crate::proofs::WholeReads::whole, crate::proofs::WholeReads::none_whole, crate::proofs::WholeReads::not_whole))]
 pub fn parse_expression(alloc: Global, line: &[u8], tokens: &[Token]) -> Result<Expr, ReadError>
     requires { Lexes line.now 0 tokens.now }
     ensures value { IfOk result (λ x. IsExpression 64 (words line.now tokens.now) x) }

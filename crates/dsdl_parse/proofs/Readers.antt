@@ -13,7 +13,7 @@ use Rattle.dsdl_parse.specs.Grammar as g
 use Rattle.dsdl_parse.specs.Grammar.{Rule, Chain, Prefixed, Power, Member, Listed, Atom, one, more, plain, signed, base, raised, alone, dotted, single, another, parens, empty, set, leaf}
 use Rattle.dsdl_parse.specs.Reading.{◌>>=◌, Reader, Readers, chain, read_chain, read_prefixed, raise, read_power, is_name_kind, members, read_member, close, comma, items, read_items, in_items, in_braces, in_parens, end_parens, end_braces, read_atom}
 use Rattle.dsdl_parse.specs.Reading as r
-use Rattle.dsdl_parse.proofs.Basics.{bind_some, bound, chosen, all_fail, apart, in_none, out_of_both, leaf_no_sign, append_nil}
+use Rattle.dsdl_parse.proofs.Basics.{bind_some, bound, chosen, all_fail, apart, in_none, out_of_both, append_nil}
 
 -- what follows does not go on with one of these signs
 abbrev pub Stops : Signs → List Word → Type 0
@@ -29,7 +29,7 @@ abbrev pub Begins : Signs → List Word → Type 0
 Begins not [] = ⊥
 Begins not (w ∷ ws) = is_in not w ≡ false
 
-begins_more : (not : Signs) (front back : List Word) → Begins not front → Begins not (front ++ back)
+pub begins_more : (not : Signs) (front back : List Word) → Begins not front → Begins not (front ++ back)
 begins_more not [] back b = absurd b
 begins_more not (w ∷ ws) back b = b
 
