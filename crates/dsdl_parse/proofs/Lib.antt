@@ -13,3 +13,6 @@ pub mod WholeReads
 pub mod Versions
 pub mod Tokens
 pub mod Borrowed
+pub mod Strings
+pub mod Loops
+pub mod Turns

@@ -1,5 +1,6 @@
 //! The trees of single tokens.
-ghost use Rattle.std.specs.Prelude.{◌≡◌, IfOk};
+ghost use Rattle.std.specs.Prelude.{◌≡◌, true, IfOk};
+ghost use Rattle.dsdl_lex.specs.Texts.{is_string};
 ghost use Rattle.dsdl_lex.specs.Tokens.{IsKind};
 ghost use Rattle.dsdl_parse.specs.Words.{seen};
 ghost use Rattle.dsdl_parse.specs.Leaves.{name_node, unquoted};
@@ -25,10 +26,13 @@ fn name_node(alloc: Global, name: WordRef<'_>) -> Result<ExprNode, NoMemory>
 }
 
 /// The text of a string without its quotes.
-fn unquoted(alloc: Global, text: &[u8]) -> Result<Text, NoMemory>
-    ensures { IfOk result (λ inside. inside ≡ unquoted text.now) }
+#[tactic(auto, using(crate::proofs::Strings::two_quotes))]
+fn unquoted(alloc: Global, string: &[u8]) -> Result<Text, NoMemory>
+    requires { is_string string.now ≡ true }
+    ensures { IfOk result (λ inside. inside ≡ unquoted string.now) }
 {
-    Text::from_ascii(alloc, &text[1..text.len() - 1])
+    dsdl_lex::ascii();
+    Text::from_ascii(alloc, &string[1..string.len() - 1])
 }
 
 fn leaf_node(alloc: Global, word: WordRef<'_>) -> Result<Option<ExprNode>, NoMemory>

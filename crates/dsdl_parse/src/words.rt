@@ -27,6 +27,7 @@ impl WordRef<'_> {
         requires { IsKind self.kind self.text.now }
         ensures { IfOk result (λ text. text ≡ self.entry.text.now) }
     {
+        dsdl_lex::ascii();
         Text::from_ascii(alloc, self.text)
     }
 }
