@@ -1,11 +1,10 @@
 -- The parts of a reference as the code has them: as slices of its text.
 use Rattle.std.proofs.Common.{◌≡◌, ◌≤◌, true, ℕ, List, [], ◌∷◌, ◌++◌, length, map, Some, Bor, sym, ap, ◌∙◌, arith}
 use Rattle.std.proofs.lemmas.List.{length-map, map-append}
-use Rattle.std.specs.List.{All, list_all}
+use Rattle.std.specs.List.{All}
 use Rattle.std.proofs.lemmas.List.Sums.{AllPass-from_list_all}
 use Rattle.std.proofs.lemmas.List.Folds.{list_all-map}
 use Rattle.dsdl_lex.specs.Texts.{is_name, is_version, number_of, IsReference}
-use Rattle.dsdl_parse.specs.declared.expr.Reference.{Reference}
 use Rattle.dsdl_parse.specs.LeafReading.{parts_of, reference_of}
 use Rattle.dsdl_parse.proofs.References.{some_parts, parts_said}
 

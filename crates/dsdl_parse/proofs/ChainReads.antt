@@ -1,19 +1,13 @@
 -- Chains: operand (op operand)*.
-use Rattle.std.proofs.Common.{◌≡◌, ℕ, zero, suc, ◌<◌, ◌≤◌, Bool, true, false, not, List, [], ◌∷◌, ◌++◌, length, Option, Some, None, codes, refl, sym, ap, ◌∙◌, subst, inl, inr, append_assoc, length-append, le_refl, arith}
+use Rattle.std.proofs.Common.{◌≡◌, ℕ, zero, suc, ◌≤◌, true, not, List, [], ◌∷◌, ◌++◌, length, Option, Some, refl, sym, ap, ◌∙◌, subst, inl, inr, append_assoc, length-append, le_refl, arith}
 use Rattle.std.proofs.lemmas.Bool.{cond-true, cond-false}
-use Rattle.std.proofs.lemmas.Option.{none-some, same_Some, some_pair_parts}
+use Rattle.std.proofs.lemmas.Option.{some_pair_parts}
 use Rattle.dsdl_parse.specs.declared.expr.Expr.{Expr}
-use Rattle.dsdl_lex.specs.declared.token.TokenKind.{TokenKind}
-use Rattle.dsdl_lex.specs.declared.token.TokenKind.TheVariants as k
-use Rattle.dsdl_parse.specs.Words.{Word, Signs, any_of, is_in, just, logics, orders, bit_signs, plus_minus, times}
-use Rattle.dsdl_parse.specs.Trees.{binary, unary, member, set_of}
-use Rattle.dsdl_parse.specs.Leaves.{IsLeaf}
-use Rattle.dsdl_parse.specs.LeafReading.{read_leaf}
-use Rattle.dsdl_parse.specs.Grammar as g
-use Rattle.dsdl_parse.specs.Grammar.{Rule, Chain, Prefixed, Power, Member, Listed, Atom, one, more, plain, signed, base, raised, alone, dotted, single, another, parens, empty, set, leaf}
-use Rattle.dsdl_parse.specs.Reading.{◌>>=◌, Reader, Readers, chain, read_chain, read_prefixed, raise, read_power, is_name_kind, members, read_member, close, comma, items, read_items, in_items, in_braces, in_parens, end_parens, end_braces, read_atom}
-use Rattle.dsdl_parse.specs.Reading as r
-use Rattle.dsdl_parse.proofs.Basics.{bind_some, bound, chosen, all_fail, apart, in_none, out_of_both, append_nil}
+use Rattle.dsdl_parse.specs.Words.{Word, Signs, any_of, is_in}
+use Rattle.dsdl_parse.specs.Trees.{binary}
+use Rattle.dsdl_parse.specs.Grammar.{Rule, Chain, one, more}
+use Rattle.dsdl_parse.specs.Reading.{Reader, chain, read_chain}
+use Rattle.dsdl_parse.proofs.Basics.{bind_some, bound, chosen, all_fail, apart, append_nil}
 use Rattle.dsdl_parse.proofs.Readers.{Stops, stops_parts, Begins, begins_more, Reads}
 
 module _ (op : Signs) (operand : Reader Expr) (R : Rule) (goes : Signs) (reads : Reads operand R goes) where

@@ -1,15 +1,12 @@
 -- A leaf is read exactly where a token is one.
-use Rattle.std.proofs.Common.{◌≡◌, ℕ, true, false, List, Option, Some, None, refl, sym, ap, ◌∙◌}
+use Rattle.std.proofs.Common.{◌≡◌, ℕ, false, List, Option, Some, None, refl, sym, ap, ◌∙◌}
 use Rattle.std.proofs.lemmas.Option.{none-some, same_Some}
 use Rattle.dsdl_lex.specs.declared.token.TokenKind.{TokenKind}
 use Rattle.dsdl_lex.specs.declared.token.TokenKind.TheVariants as k
 use Rattle.dsdl_parse.specs.declared.expr.Expr.{Expr}
 use Rattle.dsdl_parse.specs.declared.expr.ExprNode.{ExprNode}
-use Rattle.dsdl_parse.specs.declared.expr.ExprNode.TheVariants as e
 use Rattle.dsdl_parse.specs.declared.expr.Reference.{Reference}
-use Rattle.dsdl_parse.specs.declared.expr.Span.{Span}
 use Rattle.dsdl_parse.specs.Words.{Word, Signs, on_sign, is_in}
-use Rattle.dsdl_parse.specs.Trees.{tree}
 use Rattle.dsdl_parse.specs.Leaves.{IsNode, IsLeaf}
 use Rattle.dsdl_parse.specs.LeafReading.{reference_of, reference_node, leaf_node, with_span, read_leaf}
 use Rattle.dsdl_parse.proofs.References.{reference_sound, reference_complete}

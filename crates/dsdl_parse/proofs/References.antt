@@ -1,7 +1,7 @@
 -- The references that texts are, by the parts between their points.
-use Rattle.std.proofs.Common.{◌≡◌, ℕ, ◌+◌, ◌-◌, ◌<◌, ◌≤◌, Bool, true, false, ◌&&◌, ◌==◌, List, [], ◌∷◌, ◌++◌, length, take, drop, get_or, Option, Some, None, refl, sym, ap, ◌∙◌, subst, inl, inr, append_assoc, length-append, arith}
+use Rattle.std.proofs.Common.{◌≡◌, ℕ, ◌+◌, ◌-◌, ◌<◌, ◌≤◌, Bool, true, false, List, [], ◌∷◌, ◌++◌, length, take, drop, get_or, Some, refl, sym, ap, ◌∙◌, subst, inl, inr, append_assoc, length-append, arith}
 use Rattle.std.specs.Prelude.{nat_lt}
-use Rattle.std.specs.List.{All, list_all, slice_split, join_with_byte}
+use Rattle.std.specs.List.{All, list_all, join_with_byte}
 use Rattle.std.proofs.Math.Seq.{take-append_seam, drop-append_seam}
 use Rattle.std.proofs.lemmas.Bool.{and_parts, and_from, false≢true, ltb-true, lt-ltb, cond-true}
 use Rattle.std.proofs.lemmas.Bool.Decides.{nat_tests}
@@ -100,22 +100,22 @@ reference_sound text r e =
     go names (major ∷ minor ∷ []) s e = elim (chosen (are_parts names major minor) _ _ _ e) [
       | inr h ↦ absurd (none-some _ h.1)
       | inl h ↦
-        let (some_name, h1) = and_parts (nat_lt 0 (length names)) _ h.0 in
-        let (are_names, h2) = and_parts (list_all is_name names) _ h1 in
-        let (is_major, h3) = and_parts (is_version major) _ h2 in
-        let (is_minor, some_version) = and_parts (is_version minor) _ h3 in
-        subst (IsReferenceTo text) (same_Some _ _ h.1) (record {
-          major = major;
-          minor = minor;
-          some_name = ltb-true 0 (length names) some_name;
-          are_names = are_names;
-          is_major = is_major;
-          is_minor = is_minor;
-          major_number = refl;
-          minor_number = refl;
-          some_version = ltb-true 0 (number_of major + number_of minor) some_version;
-          is_text = sym (join_with_byte-slice_split 46 text) ∙ ap (join_with_byte 46) (sym s);
-        })
+          let (some_name, h1) = and_parts (nat_lt 0 (length names)) _ h.0 in
+          let (are_names, h2) = and_parts (list_all is_name names) _ h1 in
+          let (is_major, h3) = and_parts (is_version major) _ h2 in
+          let (is_minor, some_version) = and_parts (is_version minor) _ h3 in
+          subst (IsReferenceTo text) (same_Some _ _ h.1) (record {
+            major = major;
+            minor = minor;
+            some_name = ltb-true 0 (length names) some_name;
+            are_names = are_names;
+            is_major = is_major;
+            is_minor = is_minor;
+            major_number = refl;
+            minor_number = refl;
+            some_version = ltb-true 0 (number_of major + number_of minor) some_version;
+            is_text = sym (join_with_byte-slice_split 46 text) ∙ ap (join_with_byte 46) (sym s);
+          })
     ]
 
 -- names with points between them
@@ -176,9 +176,9 @@ same_ends : (xs ys : List (List ℕ)) (a b c d : List ℕ) → xs ++ a ∷ b ∷
 same_ends xs ys a b c d e =
     let same_length : length xs ≡ length ys = omega (arith, ap length e, length-append xs (a ∷ b ∷ []), length-append ys (c ∷ d ∷ [])) in
     let fronts : xs ≡ ys =
-      sym (take-append_seam xs (a ∷ b ∷ [])) ∙ ap (take (length xs)) e ∙ ap (λ n. take n (ys ++ c ∷ d ∷ [])) same_length ∙ take-append_seam ys (c ∷ d ∷ []) in
+    sym (take-append_seam xs (a ∷ b ∷ [])) ∙ ap (take (length xs)) e ∙ ap (λ n. take n (ys ++ c ∷ d ∷ [])) same_length ∙ take-append_seam ys (c ∷ d ∷ []) in
     let ends : a ∷ b ∷ [] ≡ c ∷ d ∷ [] =
-      sym (drop-append_seam xs (a ∷ b ∷ [])) ∙ ap (drop (length xs)) e ∙ ap (λ n. drop n (ys ++ c ∷ d ∷ [])) same_length ∙ drop-append_seam ys (c ∷ d ∷ []) in
+    sym (drop-append_seam xs (a ∷ b ∷ [])) ∙ ap (drop (length xs)) e ∙ ap (λ n. drop n (ys ++ c ∷ d ∷ [])) same_length ∙ drop-append_seam ys (c ∷ d ∷ []) in
     let (first, second) = one_ends a b c d ends in (fronts, first, second)
 
 pub some_parts : (text : List ℕ) → IsReference text → 2 ≤ length (parts_of text)

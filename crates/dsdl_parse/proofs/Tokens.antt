@@ -1,5 +1,5 @@
 -- The tokens of a line lie in it, and their bytes are of their kinds.
-use Rattle.std.proofs.Common.{◌≡◌, ℕ, ◌+◌, ◌-◌, ◌≤◌, List, take, drop, sym, ap, subst, arith}
+use Rattle.std.proofs.Common.{◌≡◌, ℕ, ◌+◌, ◌-◌, List, take, drop, subst, arith}
 use Rattle.dsdl_lex.specs.declared.token.Token.{Token}
 use Rattle.dsdl_lex.specs.Tokens.{IsKind, Lexes, ends, comment, blank, token}
 use Rattle.dsdl_parse.specs.Words.{AreTokens}

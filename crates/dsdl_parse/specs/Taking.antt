@@ -1,5 +1,5 @@
 -- What taking a word of the line leaves.
-use Rattle.std.specs.Prelude.{◌≡◌, Bool, true, false, List, [], ◌∷◌, Option, Some, None}
+use Rattle.std.specs.Prelude.{◌≡◌, true, false, List, [], ◌∷◌, Option, Some, None}
 use Rattle.dsdl_parse.specs.declared.words.WordRef.{WordRef}
 use Rattle.dsdl_parse.specs.Words.{Word, Signs, is_in, first_in, seen}
 

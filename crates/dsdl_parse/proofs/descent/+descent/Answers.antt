@@ -3,7 +3,6 @@ use Rattle.std.proofs.lemmas.Result.{err_from_is_err_and}
 use Rattle.dsdl_parse.specs.Words.{seen, just, plus_minus}
 use Rattle.dsdl_parse.specs.Trees.{set_of}
 use Rattle.dsdl_parse.specs.Reading as r
-use Rattle.dsdl_parse.specs.Levels.{operand_of, signs_of}
 use Rattle.dsdl_parse.proofs.Turns as turns
 use Rattle.dsdl_parse.proofs.descent.+descent.Goals as goal
 
