@@ -1,7 +1,7 @@
 -- What one more step adds to a report.
-use Rattle.std.proofs.Common.{◌≡◌, ◌∙◌, ◌+◌, suc, Bool, List, [], ◌∷◌, ◌++◌, length, take, drop, refl, sym, ap, append-nil, arith, count_by}
-use Rattle.std.proofs.Math.Seq.{drop-append_seam}
-use Rattle.std.proofs.lemmas.List.{take-append-drop}
+use Rattle.std.proofs.Common.{◌≡◌, ◌∙◌, ◌+◌, ◌-◌, ℕ, suc, Bool, List, [], ◌∷◌, ◌++◌, length, take, drop, refl, sym, ap, append-nil, arith, count_by}
+use Rattle.std.proofs.Math.Seq.{drop-append_seam, take-length}
+use Rattle.std.proofs.lemmas.List.{take-append-drop, length-drop}
 use Rattle.std.proofs.lemmas.List.Sums.{sum_by-append}
 use Rattle.tail_frame.specs.declared.logged.Record.{Record}
 use Rattle.node_plan.specs.declared.plan.Plan.{Plan}
@@ -44,13 +44,26 @@ broke_behind plan past r report new a e n = record {
   counted = n ∙ a.counted;
 }
 
--- the lines that were appended, and how many of them there are of a kind
-pub appended : (old new more : List Line) → new ≡ old ++ more → drop (length old) new ≡ more
-appended old new more e = ap (drop (length old)) e ∙ drop-append_seam old more
+-- what is behind a number of lines
+abbrev pub behind : ℕ → List Line → List Line
+behind n items = take (length items - n) (drop n items)
 
-pub counted_behind : (f : Line → Bool) (old new : List Line) → take (length old) new ≡ old → count_by f new ≡ count_by f old + count_by f (drop (length old) new)
-counted_behind f old new e =
-    ap (count_by f) (sym (take-append-drop (length old) new)) ∙ (sum_by-append _ (take (length old) new) (drop (length old) new) ∙ ap (λ t. count_by f t + count_by f (drop (length old) new)) e)
+behind-is : (n : ℕ) (items : List Line) → behind n items ≡ drop n items
+behind-is n items = ap (λ k. take k (drop n items)) (sym (length-drop n items)) ∙ take-length (drop n items)
+
+-- how many of the lines that were appended are of a kind
+pub count_more : (f : Line → Bool) (old new more items : List Line) (n : ℕ) → n ≡ length old → items ≡ new → new ≡ old ++ more → count_by f (behind n items) ≡ count_by f more
+count_more f old new more items n a b e =
+    ap (count_by f) (behind-is n items) ∙ (ap (λ k. count_by f (drop k items)) a ∙ (ap (λ t. count_by f (drop (length old) t)) (b ∙ e) ∙ ap (count_by f) (drop-append_seam old more)))
+
+-- and how many of all
+pub count_all : (f : Line → Bool) (old new items : List Line) (n was more : ℕ) → was ≡ count_by f old → more ≡ count_by f (behind n items) → n ≡ length old → items ≡ new
+    → take (length old) new ≡ old → was + more ≡ count_by f new
+count_all f old new items n was more e m a b t =
+    let after = m ∙ (ap (count_by f) (behind-is n items) ∙ (ap (λ k. count_by f (drop k items)) a ∙ ap (λ ls. count_by f (drop (length old) ls)) b)) in
+    let before = e ∙ ap (count_by f) (sym t) in
+    let whole = ap (count_by f) (sym (take-append-drop (length old) new)) ∙ sum_by-append _ (take (length old) new) (drop (length old) new) in
+    omega (arith, after, before, whole)
 
 -- all of them
 pub at_next : (plan : Plan) (past : List Record) (r : Record) (report new : Report) (more : List Line) → At plan (steps plan past) report → more ≡ got plan r past

@@ -86,7 +86,7 @@ fn run_records<L: Source, O: Sink>(
             Ok(None) => break,
             Err(stop) => return stopped(stop),
         };
-        let Ok(()) = record_step(alloc, node, &rec, &mut gathered, report) else {
+        let Ok(()) = record_step(node, &rec, &mut gathered, report) else {
             return Status::NoMemory;
         };
     }

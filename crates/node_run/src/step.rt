@@ -11,12 +11,10 @@ use crate::gather::gather;
 use crate::report::Report;
 use cy_bits::NoMemory;
 use node_core::{Line, Node};
-use std::alloc::Global;
 use tail_frame::Record;
 
 /// Takes a record: its lines are reported, their text is gathered, and then they are counted.
 pub fn record_step(
-    alloc: Global,
     node: &mut Node,
     rec: &Record,
     gathered: &mut Vec<u8>,
