@@ -23,14 +23,14 @@ pub struct Rx {
     pub priority: u8,
     /// The transfer-ID, 0 to 31.
     pub tid: u8,
+    /// What the payload says.
+    pub reading: Reading,
     /// The line of the log with its first frame, counted from 1.
     pub first: u64,
     /// The line of the log with its last frame.
     pub last: u64,
     /// The payload, cut to the extent of the port.
     pub payload: Bytes,
-    /// What the payload says.
-    pub reading: Reading,
 }
 
 /// What a payload says.

@@ -82,13 +82,21 @@ fn push_last_number(text: &mut Vec<u8>, number: u64) -> Result<(), NoMemory>
 fn push_rx(text: &mut Vec<u8>, buses: &[BusPlan], rx: &Rx) -> Result<(), NoMemory>
     ensures { OnOk result (text.new.items ≡ text.old.items ++ line_text buses.now (Line.Rx rx.now)) }
 {
-    let payload = rx.payload.as_slice();
-    if payload.len() > SHORT {
-        return push_long(text, buses, rx);
+    if rx.payload.len() > SHORT {
+        push_long(text, buses, rx)
+    } else {
+        push_short(text, buses, rx)
     }
+}
+
+/// Appends the text of a transfer whose payload a line's buffer takes.
+fn push_short(text: &mut Vec<u8>, buses: &[BusPlan], rx: &Rx) -> Result<(), NoMemory>
+    requires { length rx.now.payload ≤ 64 }
+    ensures { OnOk result (text.new.items ≡ text.old.items ++ line_text buses.now (Line.Rx rx.now)) }
+{
     let mut line = LineBuffer::new();
     line.put(reading_word(rx.reading));
-    put_payload(&mut line, payload);
+    put_payload(&mut line, rx.payload.as_slice());
     put_transfer(&mut line, buses, rx);
     text.extend_from_slice(line.as_slice())?;
     Ok(())
