@@ -131,7 +131,7 @@ abbrev pub power_of : Fraction → ℤ → Result Fraction RatioError
 power_of x (pos n) = if nat_lt n 128 then raised x n else Err Range
 power_of x (negsuc n) = if nat_lt n 127 then and_then (raised x (suc n)) reciprocal_of else Err Range
 
--- a denominator, which is never 0
+-- a denominator, which is 1 or more
 abbrev pub divisor : ℕ → ℕ
 divisor zero = 1
 divisor (suc d) = suc d

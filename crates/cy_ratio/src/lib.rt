@@ -1,4 +1,8 @@
 //! Fractions in lowest terms over i128.
+//!
+//! Each operation has a rule that names the numbers on its way. Its answer is exact where they all
+//! lie within i128, and Range where one leaves it. A greatest common divisor is kept unsigned and is
+//! no named number.
 #![tactic(auto)]
 
 pub mod laws;

@@ -29,7 +29,8 @@ impl Model for Ratio {
 }
 
 impl Ratio {
-    /// `num / den` in lowest terms. Zero where `den` is 0; Range where a sign has to be turned that i128 has no room for.
+    /// `num / den` in lowest terms: both by their greatest common divisor, and both negated where `den`
+    /// is below 0. Zero where `den` is 0; Range where a negated number leaves i128.
     pub fn new(num: i128, den: i128) -> Result<Ratio, RatioError>
         ensures { result ≡ fraction_of num den }
     {
@@ -46,28 +47,33 @@ impl Ratio {
         })
     }
 
-    /// The sum. Range where a number that the rule names leaves i128.
+    /// The sum. a/b + c/d names a(d/g), c(b/g), their sum and b(d/g), with g the greatest common
+    /// divisor of b and d. Range where one of them leaves i128.
     pub fn add(self, o: Ratio) -> Result<Ratio, RatioError>
         ensures { result ≡ sum_of self o }
     {
         sum(self.num, self.den, o.num, o.den)
     }
 
-    /// The difference. Range where a number that the rule names leaves i128.
+    /// The difference. a/b - c/d names a(d/g), c(b/g), their difference and b(d/g), with g the greatest
+    /// common divisor of b and d. Range where one of them leaves i128.
     pub fn sub(self, o: Ratio) -> Result<Ratio, RatioError>
         ensures { result ≡ difference_of self o }
     {
         difference(self.num, self.den, o.num, o.den)
     }
 
-    /// The product. Range where a number that the rule names leaves i128.
+    /// The product. a/b * c/d names (a/g)(c/h) and (b/h)(d/g), with g the greatest common divisor of a
+    /// and d, and h that of c and b. Range where one of them leaves i128.
     pub fn mul(self, o: Ratio) -> Result<Ratio, RatioError>
         ensures { result ≡ product_of self o }
     {
         product(self.num, self.den, o.num, o.den)
     }
 
-    /// The quotient: the product with the reciprocal. Zero where `o` is 0; Range where a number that the rule names leaves i128.
+    /// The quotient: the product with the reciprocal of `o`, which is d/c of c/d, both negated where c
+    /// is below 0. Zero where `o` is 0; Range where the reciprocal or the product has a number that
+    /// leaves i128.
     pub fn div(self, o: Ratio) -> Result<Ratio, RatioError>
         ensures { result ≡ quotient_of self o }
     {
@@ -76,7 +82,8 @@ impl Ratio {
     }
 
     /// What is left after the greatest whole number of times that `o` goes into this; it has the sign of `o`.
-    /// Zero where `o` is 0; Range where a number that the rule names leaves i128, also in the quotient.
+    /// It is x - y * f, with f the greatest whole number not above x / y. Zero where `o` is 0; Range where
+    /// the quotient, the product or the difference has a number that leaves i128.
     pub fn rem(self, o: Ratio) -> Result<Ratio, RatioError>
         ensures { result ≡ remainder_of self o }
     {
@@ -86,7 +93,9 @@ impl Ratio {
     }
 
     /// The power with a whole exponent from -127 to 127; with 0 it is 1, also for 0.
-    /// Range where the exponent is another, or one of the powers up to it leaves i128; Zero for 0 under a negative exponent.
+    /// It is the product of as many factors, and below 0 the reciprocal of that. Range where the exponent
+    /// is another, or where the reciprocal or one of the powers from 1 to the exponent's size leaves i128;
+    /// Zero for 0 under a negative exponent.
     pub fn pow(self, e: i128) -> Result<Ratio, RatioError>
         ensures { result ≡ power_of self e }
     {

@@ -22,7 +22,7 @@ fn known_answers(rt: HostRuntime) {
         (i128, i128),
         (i128, i128),
         Result<(i128, i128), RatioError>,
-    ); 20] = [
+    ); 21] = [
         (b'+', (1, 3), (1, 6), Ok((1, 2))),
         (b'-', (1, 2), (2, 4), Ok((0, 1))),
         (b'*', (2, 3), (-3, 4), Ok((-1, 2))),
@@ -40,6 +40,7 @@ fn known_answers(rt: HostRuntime) {
         (b'^', (1, 1), (-128, 1), Err(RatioError::Range)),
         (b'^', (0, 1), (least, 1), Err(RatioError::Range)),
         (b'^', (-1, 1), (-127, 1), Ok((-1, 1))),
+        (b'^', (-2, 1), (-127, 1), Err(RatioError::Range)),
         (b'^', (-7, 3), (0, 1), Ok((1, 1))),
         (b'^', (0, 1), (0, 1), Ok((1, 1))),
         (b'^', (0, 1), (-1, 1), Err(RatioError::Zero)),
