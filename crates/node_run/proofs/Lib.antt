@@ -6,3 +6,5 @@ pub mod Came
 pub mod Runs
 pub mod Starts
 pub mod Taken
+pub mod Comes
+pub mod Streams

@@ -1,13 +1,11 @@
 -- The lines that end among the bytes that were taken.
-use Rattle.std.proofs.Common.{◌≡◌, ◌∙◌, ◌⊎◌, inl, inr, ℕ, ◌+◌, ◌-◌, ◌<◌, ◌≤◌, suc, zero, Bool, true, false, List, [], ◌∷◌, ◌++◌, length, take, drop, Option, Some, None, Result, Err, refl, sym, ap, subst, append-nil, length-append, arith}
+use Rattle.std.proofs.Common.{◌≡◌, ◌∙◌, ◌⊎◌, inl, inr, ℕ, ◌+◌, ◌-◌, ◌<◌, ◌≤◌, suc, zero, Bool, true, false, List, [], ◌∷◌, ◌++◌, length, take, Option, Some, None, refl, sym, ap, subst, append-nil, length-append, arith}
 use Rattle.std.specs.Prelude.{⊤, ◌==◌, if◌then◌else◌, nat_lt}
 use Rattle.std.proofs.lemmas.Bool.{ltb-true, ltb-false, lt-ltb}
 use Rattle.std.proofs.lemmas.List.{take_all, take-append-le}
 use Rattle.std.proofs.Math.Seq.{take-append-add}
-use mathlib.Core.List.{reverse_aux}
-use Rattle.tail_frame.specs.declared.logged.Record.{Record}
 use Rattle.frame_log.specs.Line.{◌>>=◌, cut, said_of_text, without_return, NoForm}
-use Rattle.frame_log.specs.Log.{Log, Place, Given, Skip, Take, Refuse, ended, followed, given, given_by, log_of_lines, lines_of, with_byte, last_line, log_from}
+use Rattle.frame_log.specs.Log.{Log, Place, Given, Skip, Take, Refuse, followed, given, given_by, log_of_lines, lines_of, with_byte, last_line, log_from}
 use Rattle.frame_log.specs.declared.error.LogError.{LogError}
 use Rattle.frame_log.specs.declared.error.LogError.TheVariants as error
 

@@ -2,4 +2,5 @@ pub mod BoundText
 pub mod Gathered
 pub mod Next
 pub mod Ran
+pub mod Streamed
 pub mod Taken

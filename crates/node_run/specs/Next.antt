@@ -1,10 +1,11 @@
 -- What a call for the next record does to the reader, the input, and what is gathered and written.
-use Rattle.std.specs.Prelude.{◌≡◌, ◌<◌, ◌++◌, ℕ, true, List, [], Option, Some, None, Result, Ok, Err, ⊤}
+use Rattle.std.specs.Prelude.{◌≡◌, ◌<◌, ◌++◌, ◌⊎◌, ℕ, true, false, List, [], Option, Some, None, Result, Ok, Err, ⊤}
 use Rattle.tail_frame.specs.declared.logged.Record.{Record}
 use Rattle.cy_outside.specs.Outside.{Rose}
 use Rattle.cy_outside.specs.Written.{Begins}
 use Rattle.frame_log.specs.Input.{Took}
-use Rattle.frame_log.specs.Reader.{bytes_left, saw_end, answer_of, log_behind, IsNext}
+use Rattle.frame_log.specs.Reader.{buses_of, place_of, held_of, bytes_left, saw_end, answer_of, log_behind, IsNext}
+use Rattle.frame_log.specs.Used.{Uses, IsBefore}
 use Rattle.frame_log.specs.declared.error.LogError.{LogError}
 use Rattle.frame_log.specs.declared.error.LogError.TheVariants as error
 use Rattle.frame_log.specs.declared.reader.LogReader.{LogReader}
@@ -24,6 +25,20 @@ abbrev pub GoesOn : LogReader → LogReader → Option (List ℕ) → Option (Li
 GoesOn old new before after (Ok answer) = Goes old new before after (Ok answer)
 GoesOn old new before after (Err (stop.Log error)) = Goes old new before after (Err error)
 GoesOn old new before after (Err stop.Write) = ⊤
+
+-- bytes came only where nothing was gathered any more, and all but the last 8,192 at most were used
+pub record Comes (old new : LogReader) (before after : Option (List ℕ)) (gathered : List ℕ) (answer : Result (Option Record) LogError) : Type 0 where
+  pub came : List ℕ
+  pub took : Took before after came
+  pub ended : saw_end old ≡ true → came ≡ []
+  pub flushed : (came ≡ []) ⊎ (gathered ≡ [])
+  pub used : saw_end old ≡ false → Uses (buses_of old) (place_of old) (held_of old ++ came) (IsBefore answer new)
+
+-- the same; where the output failed, nothing came
+abbrev pub ComesBehind : LogReader → LogReader → Option (List ℕ) → Option (List ℕ) → List ℕ → Result (Option Record) Stop → Type 0
+ComesBehind old new before after gathered (Ok answer) = Comes old new before after gathered (Ok answer)
+ComesBehind old new before after gathered (Err (stop.Log error)) = Comes old new before after gathered (Err error)
+ComesBehind old new before after gathered (Err stop.Write) = after ≡ before
 
 -- behind a record the reader goes on, with fewer bytes
 abbrev pub ReadsOn : LogReader → LogReader → Result (Option Record) Stop → Type 0

@@ -1,5 +1,5 @@
 -- What the input gave whole before it failed.
-use Rattle.std.specs.Prelude.{ℕ, List, [], Option, Some, None, take, ◌^◌}
+use Rattle.std.specs.Prelude.{ℕ, List, Option, Some, None, take, ◌^◌}
 use Rattle.tail_frame.specs.declared.logged.Record.{Record}
 use Rattle.frame_log.specs.Input.{Took}
 use Rattle.frame_log.specs.Log.{log_of_lines, lines_of, start}

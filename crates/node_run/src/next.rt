@@ -4,10 +4,10 @@ ghost use Rattle.cy_outside.specs.Outside.{Rose};
 ghost use Rattle.cy_outside.specs.Written.{Begins};
 ghost use Rattle.frame_log.specs.Input.{IsAtEnd};
 ghost use Rattle.frame_log.specs.Line.{cut};
-ghost use Rattle.frame_log.specs.Reader.{held_of, saw_end, answer_of};
+ghost use Rattle.frame_log.specs.Reader.{buses_of, held_of, saw_end, answer_of};
 ghost use Rattle.frame_log.specs.declared.error.LogError.TheVariants as error;
 ghost use Rattle.node_run.specs.Gathered.{Gathered};
-ghost use Rattle.node_run.specs.Next.{GoesOn, ReadsOn, Writes, HasStopCause};
+ghost use Rattle.node_run.specs.Next.{GoesOn, ComesBehind, ReadsOn, Writes, HasStopCause};
 
 use crate::gather::flush;
 use cy_outside::{Failed, Sink, Source};
@@ -36,7 +36,9 @@ pub fn next<L: Source, O: Sink>(
 ) -> Result<Option<Record>, Stop>
     requires { answer_of reader.old ≡ None }
     ensures log { GoesOn reader.old reader.new (L.left input.old) (L.left input.new) result }
+    ensures came { ComesBehind reader.old reader.new (L.left input.old) (L.left input.new) gathered.new.items result }
     ensures reader { ReadsOn reader.old reader.new result }
+    ensures buses { buses_of reader.new ≡ buses_of reader.old }
     ensures end { saw_end reader.old ≡ false → saw_end reader.new ≡ true → IsAtEnd (L.left input.new) }
     ensures text { Writes gathered.old.items gathered.new.items (O.written out.old) (O.written out.new) result }
     ensures cause { HasStopCause (L.faults input.old) (L.faults input.new) (O.faults out.old) (O.faults out.new) result }
@@ -59,22 +61,24 @@ pub fn next<L: Source, O: Sink>(
     }
 }
 
-/// The next record where none is held.
+/// The next record where none is held, and all text that waits is written first.
 fn next_read<L: Source, O: Sink>(
     reader: &mut LogReader,
     input: &mut L,
     out: &mut O,
-    gathered: &mut Vec<u8>,
+    waiting: &mut Vec<u8>,
 ) -> Result<Option<Record>, Stop>
     requires { answer_of reader.old ≡ None }
     ensures log { GoesOn reader.old reader.new (L.left input.old) (L.left input.new) result }
+    ensures came { ComesBehind reader.old reader.new (L.left input.old) (L.left input.new) waiting.new.items result }
     ensures reader { ReadsOn reader.old reader.new result }
+    ensures buses { buses_of reader.new ≡ buses_of reader.old }
     ensures end { saw_end reader.old ≡ false → saw_end reader.new ≡ true → IsAtEnd (L.left input.new) }
-    ensures text { Writes gathered.old.items gathered.new.items (O.written out.old) (O.written out.new) result }
+    ensures text { Writes waiting.old.items waiting.new.items (O.written out.old) (O.written out.new) result }
     ensures cause { HasStopCause (L.faults input.old) (L.faults input.new) (O.faults out.old) (O.faults out.new) result }
     ensures failed { result ≡ Err (Stop.Log error.Failed) → (cut 10 (held_of reader.new) ≡ None) × (saw_end reader.new ≡ false) }
 {
-    let Ok(()) = flush(out, gathered) else {
+    let Ok(()) = flush(out, waiting) else {
         return Err(Stop::Write);
     };
     match reader.next_record(input) {

@@ -6,10 +6,11 @@ ghost use Rattle.node_plan.specs.Bound.{bound_of};
 ghost use Rattle.node_plan.specs.IsPlan.{IsPlan};
 ghost use Rattle.node_core.specs.Stands.{Stands};
 ghost use Rattle.node_core.specs.Text.{end_text};
-ghost use Rattle.frame_log.specs.Log.{log_of};
-ghost use Rattle.frame_log.specs.Reader.{saw_end, answer_of, log_behind};
+ghost use Rattle.frame_log.specs.Log.{log_of, start};
+ghost use Rattle.frame_log.specs.Reader.{buses_of, place_of, held_of, saw_end, answer_of, log_behind};
 ghost use Rattle.node_run.specs.Ran.{numbers_of, names_of, At, IsCounted, IsEmpty, HasRun, stopped, refused, IsFinish};
 ghost use Rattle.node_run.specs.Taken.{IsOfTaken};
+ghost use Rattle.node_run.specs.Streamed.{IsStreamed};
 
 use crate::gather::flush;
 use crate::next::{Stop, next};
@@ -36,6 +37,7 @@ pub fn run_log<L: Source, O: Sink>(
     requires empty { IsEmpty report.old }
     ensures ran { HasRun plan (L.left input.old) result report.new (O.written out.old) (O.written out.new) }
     ensures taken { result ≡ Status.ReadFault → IsOfTaken plan (L.left input.old) (L.left input.new) report.new (O.written out.old) (O.written out.new) }
+    ensures streamed { IsStreamed plan (L.left input.old) (L.left input.new) result report.new (O.written out.old) (O.written out.new) }
     ensures read { result ≡ Status.ReadFault → Rose (L.faults input.old) (L.faults input.new) }
     ensures write { result ≡ Status.WriteFault → Rose (O.faults out.old) (O.faults out.new) }
     ensures kept { result ≡ Status.Ok → (L.faults input.new ≡ L.faults input.old) × (O.faults out.new ≡ O.faults out.old) }
@@ -65,6 +67,7 @@ fn run_records<L: Source, O: Sink>(
     requires log { (rest : List ℕ) → log_behind reader.old rest ≡ log_of (names_of node.old.plan) rest }
     requires reading { answer_of reader.old ≡ None }
     requires open { saw_end reader.old ≡ false }
+    requires start { (buses_of reader.old ≡ names_of node.old.plan) × (place_of reader.old ≡ start) × (held_of reader.old ≡ []) }
     requires stands { Stands node.old [] }
     requires latest { node.old.latest ≡ 0 }
     requires at { At node.old.plan [] report.old }
@@ -72,6 +75,7 @@ fn run_records<L: Source, O: Sink>(
     requires held { report.old.held ≤ bound_of node.old.plan }
     ensures ran { HasRun node.old.plan (L.left input.old) result report.new (O.written out.old) (O.written out.new) }
     ensures taken { result ≡ Status.ReadFault → IsOfTaken node.old.plan (L.left input.old) (L.left input.new) report.new (O.written out.old) (O.written out.new) }
+    ensures streamed { IsStreamed node.old.plan (L.left input.old) (L.left input.new) result report.new (O.written out.old) (O.written out.new) }
     ensures read { result ≡ Status.ReadFault → Rose (L.faults input.old) (L.faults input.new) }
     ensures write { result ≡ Status.WriteFault → Rose (O.faults out.old) (O.faults out.new) }
     ensures kept { result ≡ Status.Ok → (L.faults input.new ≡ L.faults input.old) × (O.faults out.new ≡ O.faults out.old) }

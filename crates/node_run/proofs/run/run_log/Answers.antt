@@ -1,6 +1,7 @@
 use Rattle.std.proofs.Common.{◌∙◌, [], ap, sym}
 use Rattle.node_plan.specs.Bound.{bound_of}
 use Rattle.node_run.proofs.Starts.{has_none, at_none}
+use Rattle.node_run.proofs.Streams.{streamed_none}
 use Rattle.node_run.proofs.run.run_log.Goals as goal
 
 pub returns-in_default-clause-ran : goal.returns-in_default-clause-ran
@@ -16,3 +17,9 @@ run_records-requires-clause-at g c =
 
 pub run_records-requires-clause-held : goal.run_records-requires-clause-held
 run_records-requires-clause-held g c = c.held-report.ensures.bound [] c.in-Ok-open.ensures.stands
+
+pub returns-in_default-clause-streamed : goal.returns-in_default-clause-streamed
+returns-in_default-clause-streamed g c = streamed_none c.args.plan _ _ _
+
+pub returns-in_default-open-clause-streamed : goal.returns-in_default-open-clause-streamed
+returns-in_default-open-clause-streamed g c = streamed_none c.args.plan _ _ _

@@ -7,7 +7,9 @@ use Rattle.node_run.specs.declared.status.Status.{Status}
 use Rattle.node_run.specs.declared.status.Status.TheVariants as status
 use Rattle.node_run.specs.Gathered.{Gathered}
 use Rattle.node_run.specs.Ran.{names_of, At, Broke, HasRun}
+use Rattle.node_run.specs.Streamed.{IsStreamed}
 use Rattle.node_run.proofs.Came.{reads_none, reads_more, has_log, has_next}
+use Rattle.node_run.proofs.Streams.{streams_none, streams_next, open_before, grew_gathered, streamed_stopped, streamed_wanting, streamed_finished}
 use Rattle.node_run.proofs.Written.{gathered_all, gathered_less}
 use Rattle.node_run.proofs.Runs.{has_stopped, has_taken, not_read_fault, has_begun, has_finished, next_order, gathered_step, begins_step}
 use Rattle.node_run.proofs.run.run_records.Goals as goal
@@ -54,6 +56,10 @@ records-preserved g c =
       past = rec ∷ i.past;
       same = c.record_step.ensures.plan ∙ i.same;
       reads = more;
+      streams = streams_next plan (left c.args.input.now) (left c.records.input) (left c.next.new.input) c.records.reader c.next.new.reader i.past c.next.new.gathered.items (written c.args.out.now) (written c.records.out) (written c.next.new.out)
+          rec i.streams (rw c.in-Ok-Some.field-0-is at c.in-Ok-Some.ensures.came)
+          (open_before c.records.reader c.next.new.reader (left c.records.input) (left c.next.new.input) _ (rw c.in-Ok-Some.field-0-is at c.in-Ok-Some.ensures.log)) c.next.ensures.buses
+          (grew_gathered _ _ (written c.records.out) (written c.next.new.out) (rw c.in-Ok-Some.field-0-is at c.in-Ok-Some.ensures.text)) less;
       reading = (rw c.in-Ok-Some.field-0-is at c.in-Ok-Some.ensures.reader).1;
       stands = step.stands i.past i.stands;
       latest = c.record_step.ensures.latest;
@@ -99,6 +105,7 @@ records-init g c =
       past = [];
       same = refl;
       reads = reads_none (names_of c.args.node.now.plan) (g.L.Source.left c.args.input.now) c.args.reader.now c.requires.log c.requires.open;
+      streams = streams_none c.args.node.now.plan (g.L.Source.left c.args.input.now) c.args.reader.now w c.requires.start;
       reading = c.requires.reading;
       stands = c.requires.stands;
       latest = omega (arith, c.requires.latest);
@@ -121,3 +128,30 @@ returns-in-Err-clause-taken g c e =
 
 pub returns-clause-taken : goal.returns-clause-taken
 returns-clause-taken g c e = absurd (not_read_fault c.finish.result c.finish.ensures.only e)
+
+pub returns-in-Err-clause-streamed : goal.returns-in-Err-clause-streamed
+returns-in-Err-clause-streamed g c =
+    let i = c.records.invariant in
+    let plan = c.args.node.now.plan in
+    let left = g.L.Source.left in
+    let written = g.O.Sink.written in
+    subst (λ (s : Status). IsStreamed plan (left c.args.input.now) (left c.next.new.input) s c.records.report (written c.args.out.now) (written c.next.new.out)) (sym c.stopped.ensures)
+    (streamed_stopped plan (left c.args.input.now) (left c.records.input) (left c.next.new.input) c.records.reader c.next.new.reader i.past c.records.report c.records.gathered.items c.next.new.gathered.items
+    (written c.args.out.now) (written c.records.out) (written c.next.new.out) c.in-Err.stop i.streams c.in-Err.ensures.came i.gathered c.in-Err.ensures.text i.at)
+
+pub returns-in_default-clause-streamed : goal.returns-in_default-clause-streamed
+returns-in_default-clause-streamed g c =
+    let i = c.records.invariant in
+    let left = g.L.Source.left in
+    let written = g.O.Sink.written in
+    streamed_wanting c.args.node.now.plan (left c.args.input.now) (left c.records.input) (left c.next.new.input) c.records.reader c.next.new.reader i.past c.record_step.new.report c.records.gathered.items c.next.new.gathered.items
+    (written c.args.out.now) (written c.records.out) (written c.next.new.out) c.in-Ok-Some.rec i.streams (rw c.in-Ok-Some.field-0-is at c.in-Ok-Some.ensures.came) i.gathered (rw c.in-Ok-Some.field-0-is at c.in-Ok-Some.ensures.text)
+
+pub returns-clause-streamed : goal.returns-clause-streamed
+returns-clause-streamed g c =
+    let i = c.records.invariant in
+    let left = g.L.Source.left in
+    let written = g.O.Sink.written in
+    streamed_finished c.args.node.now.plan (left c.args.input.now) (left c.records.input) (left c.next.new.input) c.records.reader c.next.new.reader i.past c.records.report c.records.gathered.items c.next.new.gathered.items
+    (written c.args.out.now) (written c.records.out) (written c.next.new.out) c.finish.result (written c.finish.new.out) _ i.streams (rw c.in-Ok-None.field-0-is at c.in-Ok-None.ensures.came) i.gathered
+    (rw c.in-Ok-None.field-0-is at c.in-Ok-None.ensures.text).0 i.at c.finish.ensures.only (λ e. (c.finish.ensures.ok e).0) (λ e. (c.finish.ensures.write e).0) c.finish.ensures.memory

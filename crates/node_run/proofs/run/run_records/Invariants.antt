@@ -9,6 +9,7 @@ use Rattle.node_run.specs.Gathered.{Gathered}
 use Rattle.node_run.specs.Ran.{At, IsCounted, names_of}
 use Rattle.node_run.proofs.Logs.{latest_of}
 use Rattle.node_run.proofs.Came.{Reads}
+use Rattle.node_run.proofs.Streams.{Streams}
 use Rattle.node_run.proofs.run.run_records.Given as goal
 
 abbrev pub invariant-records : goal.invariant-records
@@ -16,6 +17,7 @@ invariant-records g l = let s = g.L.Source in let o = g.O.Sink in let plan = l.f
   past : List Record;
   same : l.node.plan ≡ plan;
   reads : Reads (names_of plan) (s.left l.fn.input) (s.left l.input) l.reader past;
+  streams : Streams plan (s.left l.fn.input) (s.left l.input) l.reader past (o.written l.fn.out) (o.written l.out);
   reading : answer_of l.reader ≡ None;
   stands : Stands l.node past;
   latest : l.node.latest ≤ latest_of past;
