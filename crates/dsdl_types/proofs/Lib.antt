@@ -1,5 +1,6 @@
 pub mod SchemaRules
 pub mod Views
+pub mod Equations
 pub mod Primitives
 pub mod Lengths
 pub mod Steps

@@ -1,16 +1,30 @@
 -- A schema that keeps the rules is one that the laws of reading and writing hold of
-use Rattle.std.proofs.Common.{ℕ, zero, suc, ◌*◌, ◌^◌, ◌≤◌, Bool, true, false, inl, inr, arith}
-use Rattle.dsdl_types.specs.Schemas.{Prim, Sch, Flds, Outline, PBool, PUint, PInt, PFloat, Simple, Fixed, Var, Struct, Union, End, Pad, Field, variants}
+use Rattle.std.proofs.Common.{◌==◌, ◌||◌, ◌⊎◌, ◌≡◌, ◌+◌, ◌-◌, ◌%◌, refl, ℕ, zero, suc, ◌*◌, ◌^◌, ◌≤◌, Bool, true, false, inl, inr, arith}
+use Rattle.std.proofs.lemmas.Bool.{eqb-true}
+use Rattle.dsdl_types.specs.Schemas.{Prim, Sch, Flds, Outline, PBool, PUint, PInt, PFloat, Simple, Fixed, Var, Struct, Union, End, Pad, Field, variants, prefix, extent_of}
+use Rattle.dsdl_types.specs.Greatest.{up, longest_fields, longest_variant}
+use Rattle.dsdl_types.proofs.Lengths.{up_whole}
 use Rattle.dsdl_types.specs.Sound.{IsSoundPrim, IsSoundOutline, IsSound, AreSound}
-use Rattle.dsdl_types.specs.Rules.{IsPrim, IsExtent, IsOutline, IsFormed, AreFormed, nodes, nodes_of, IsSchema}
+use Rattle.dsdl_types.specs.Rules.{is_float_width, IsPrim, IsExtent, IsOutline, IsFormed, AreFormed, nodes, nodes_of, IsSchema}
+
+either_true : (a b : Bool) → (a || b) ≡ true → (a ≡ true) ⊎ (b ≡ true)
+either_true true b h = inl refl
+either_true false b h = inr h
+
+float_sound : (w : ℕ) → is_float_width w ≡ true → (1 ≤ w) × (w ≤ 64)
+float_sound w h = elim (either_true (w == 16) _ h) [
+  | inl e ↦ let s : w ≡ 16 = eqb-true w 16 e in (omega arith, omega arith)
+  | inr k ↦ elim (either_true (w == 32) _ k) [
+    | inl e ↦ let s : w ≡ 32 = eqb-true w 32 e in (omega arith, omega arith)
+    | inr e ↦ let s : w ≡ 64 = eqb-true w 64 e in (omega arith, omega arith)
+  ]
+]
 
 prim_sound : (t : Prim) → IsPrim t → IsSoundPrim t
 prim_sound PBool h = tt
 prim_sound (PUint w c) h = h
 prim_sound (PInt w) h = h
-prim_sound (PFloat w c) (inl e) = (omega arith, omega arith)
-prim_sound (PFloat w c) (inr (inl e)) = (omega arith, omega arith)
-prim_sound (PFloat w c) (inr (inr e)) = (omega arith, omega arith)
+prim_sound (PFloat w c) h = float_sound w h
 
 extent_sound : (sealed : Bool) (greatest extent : ℕ) → IsExtent sealed greatest extent → greatest ≤ extent
 extent_sound true greatest extent h = omega arith
@@ -52,3 +66,14 @@ mutual
 
 pub schema_sound : (s : Sch) → IsSchema s → IsSound s
 schema_sound s (formed, nested, few) = formed_sound s formed few
+
+whole_extent : (sealed : Bool) (n extent : ℕ) → IsExtent sealed (up n) extent → extent % 8 ≡ 0
+whole_extent true n extent h = omega (arith, up_whole n)
+whole_extent false n extent h = h.1
+
+pub extent_whole : (s : Sch) → IsSchema s → extent_of s % 8 ≡ 0
+extent_whole (Simple t) h = refl
+extent_whole (Fixed s n) h = refl
+extent_whole (Var s cap) h = refl
+extent_whole (Struct fs o) h = whole_extent o.sealed (longest_fields fs 0) o.extent h.0.0.0
+extent_whole (Union fs o) h = whole_extent o.sealed (prefix (variants fs - 1) + longest_variant fs) o.extent h.0.0.0

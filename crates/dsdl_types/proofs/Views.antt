@@ -30,6 +30,9 @@ body_is b =
     fold_out-Body Kind (Flds × Outline) (List ℕ × Kind) at_schema at_body at_field b
     ∙ ap (λ fs. (in_order fs, record { extent = (out-Body b).extent; sealed = (out-Body b).sealed })) (map_named (out-Body b).fields)
 
+pub extent_is : (b : Body) → (body_of b).1.extent ≡ (out-Body b).extent
+extent_is b = ap (λ x. x.1.extent) (body_is b)
+
 pub zero_fields_end : (vs : List Value) (fields : List Field) (i : ℕ) → length fields ≤ i →
     join (vals vs) (zero_fields (flds (drop i fields))) ≡ zero_fields (flds fields) → vals vs ≡ zero_fields (flds fields)
 zero_fields_end vs fields i h e =

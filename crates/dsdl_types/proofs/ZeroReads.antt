@@ -4,11 +4,13 @@ use Rattle.std.proofs.lemmas.Bool.{cond-true, lt-ltb}
 use Rattle.std.proofs.lemmas.Nat.{pow_pos}
 use Rattle.cy_bits.specs.Bits.{zeros, gap}
 use Rattle.dsdl_types.specs.Schemas.{Prim, PBool, PUint, PInt, PFloat, Sch, Flds, Simple, Fixed, Var, Struct, Union, End, Pad, Field, is_aligned, is_delimited, prefix, width, variants}
-use Rattle.dsdl_types.specs.Values.{Val, Num, Items, Parts, Tagged, None, More, same_items}
+use Rattle.dsdl_types.specs.Values.{Val, Num, Items, Parts, Tagged, None, More, same_items, count}
+use Rattle.dsdl_types.specs.Fits.{Fits, FitFields, FitsVariant, FitsSimple, AllOf}
+use Rattle.dsdl_types.specs.Laws as Laws
 use Rattle.dsdl_types.specs.Reading.{Read, Got, Name, Index, value_of, and_then, under, within, delimited, aligned, align, own, fields, variant, part, row}
 use Rattle.dsdl_types.specs.Zero.{zero_simple, zero_of, zero_fields, zero_variant}
 use Rattle.dsdl_types.specs.Sound.{IsSound, AreSound}
-use Rattle.cy_bits.proofs.BitFacts.{number_take_zeros, drop_zeros}
+use Rattle.cy_bits.proofs.BitFacts.{number_take_zeros, drop_zeros, bits_zero}
 use Rattle.dsdl_types.proofs.Steps.{step_is, under_is, delimited_is, union_is, var_is}
 
 -- it reads as a, up to some place with zeros behind it
@@ -110,3 +112,41 @@ mutual
   zero_variant_read (Field name s fs) i h tag p k =
       let z = zero_delimited (is_delimited s) (own s) (zero_of s) (zero_own s i.0) p k in
       record { place = z.place; left = z.left; is = ap (λ x. under (Name name) x) z.is }
+
+count_same : (n : ℕ) (v : Val) → count (same_items n v) ≡ n
+count_same zero v = refl
+count_same (suc n) v = ap suc (count_same n v)
+
+all_same : (P : Val → Type 0) (n : ℕ) (v : Val) → P v → AllOf P (same_items n v)
+all_same P zero v h = tt
+all_same P (suc n) v h = (h, all_same P n v h)
+
+zero_fits_simple : (t : Prim) → FitsSimple t (zero_simple t)
+zero_fits_simple PBool = tt
+zero_fits_simple (PUint w c) = omega arith
+zero_fits_simple (PInt w) = omega arith
+zero_fits_simple (PFloat w c) = omega (arith, pow_pos w)
+
+mutual
+  zero_fits : (s : Sch) → IsSound s → Fits s (zero_of s)
+  zero_fits (Simple t) h = zero_fits_simple t
+  zero_fits (Fixed s n) h = (count_same n (zero_of s), all_same (λ x. Fits s x) n (zero_of s) (zero_fits s h))
+  zero_fits (Var s cap) h = (omega arith, tt)
+  zero_fits (Struct fs o) h = zero_fields_fit fs h.1
+  zero_fits (Union fs o) h = zero_variant_fits fs h.2 (omega (arith, h.1.0))
+
+  zero_fields_fit : (fs : Flds) → AreSound fs → FitFields fs (zero_fields fs)
+  zero_fields_fit End h = tt
+  zero_fields_fit (Pad n fs) h = zero_fields_fit fs h
+  zero_fields_fit (Field name s fs) h = (zero_fits s h.0, zero_fields_fit fs h.1)
+
+  zero_variant_fits : (fs : Flds) → AreSound fs → 1 ≤ variants fs → FitsVariant fs 0 (zero_variant fs)
+  zero_variant_fits End h one = absurd (omega arith)
+  zero_variant_fits (Pad n fs) h one = zero_variant_fits fs h one
+  zero_variant_fits (Field name s fs) h one = zero_fits s h.0
+
+pub zero_law : (s : Sch) → IsSound s → Laws.ZeroReads s
+zero_law s h = record {
+  fits = zero_fits s h;
+  reads = λ k. let z = zero_own s h 0 (8 * k) in (z.place, zeros z.left, ap (λ x. own s 0 x) (bits_zero k) ∙ z.is);
+}

@@ -1,4 +1,4 @@
--- The serialized form of a value: a list of bits, least significant first.
+-- The serialized form of a value: a list of bits, least significant first (Cyphal Specification, section 3.7).
 use Rattle.std.specs.Prelude.{ℕ, zero, suc, ◌+◌, ◌-◌, ◌^◌, ◌/◌, Bool, true, false, List, [], ◌++◌, length, pos, negsuc}
 use Rattle.cy_bits.specs.Bits.{bits_of, zeros, gap}
 use Rattle.dsdl_types.specs.Schemas.{Prim, Sch, Flds, Simple, Fixed, Var, Struct, Union, End, Pad, Field, is_aligned, is_delimited, prefix, width, variants}

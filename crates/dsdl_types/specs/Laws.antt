@@ -1,5 +1,5 @@
 -- The laws of the serialized form.
-use Rattle.std.specs.Prelude.{◌≡◌, ℕ, ◌/◌, Bool, true, List, ◌++◌, ◌⊎◌, take, replicate}
+use Rattle.std.specs.Prelude.{◌≡◌, ℕ, ◌/◌, ◌≤◌, length, Bool, true, List, ◌++◌, ◌⊎◌, take, replicate}
 use Rattle.cy_bits.specs.Bits.{bits, bytes}
 use Rattle.dsdl_types.specs.Schemas.{Sch, is_composite, extent_of}
 use Rattle.dsdl_types.specs.Values.{Val}
@@ -8,6 +8,7 @@ use Rattle.dsdl_types.specs.Encoding.{own_bits}
 use Rattle.dsdl_types.specs.Fits.{Fits}
 use Rattle.dsdl_types.specs.Cast.{cast}
 use Rattle.dsdl_types.specs.Sound.{IsSound}
+use Rattle.dsdl_types.specs.Zero.{zero_of}
 use Rattle.dsdl_types.specs.Newer.{Newer, as_old, as_new}
 use Rattle.dsdl_types.specs.DelimiterCounts.{CountsFit}
 
@@ -38,6 +39,15 @@ with_zeros b k = b ++ replicate k 0
 -- The bytes of a value read as that value with its numbers in range, also with zeros behind.
 abbrev pub RoundTrip : Sch → Type 0
 RoundTrip s = IsSound s → (v : Val) → Fits s v → (k : ℕ) → Reads s (with_zeros (encoding s v) k) (cast s v)
+
+-- No value of a composite has a serialized form that is longer than the extent.
+abbrev pub WithinExtent : Sch → Type 0
+WithinExtent s = IsSound s → is_composite s ≡ true → (v : Val) → Fits s v → length (encoding s v) ≤ extent_of s / 8
+
+-- The zero of a schema is one of its values, and is what no bytes and zero bytes read as.
+pub record ZeroReads (s : Sch) : Type 0 where
+  pub fits : Fits s (zero_of s)
+  pub reads : (k : ℕ) → Reads s (replicate k 0) (zero_of s)
 
 -- The bytes read as the value, also with zeros behind, and of a composite also cut to so many bytes.
 pub record ReadsPadded (s : Sch) (b : List ℕ) (v : Val) (cut : ℕ) : Type 0 where

@@ -10,6 +10,7 @@ pub mod Greatest
 pub mod Reach
 pub mod Sound
 pub mod Rules
+pub mod OneWay
 pub mod Newer
 pub mod Difference
 pub mod DelimiterCounts

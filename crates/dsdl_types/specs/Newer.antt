@@ -1,4 +1,4 @@
--- Newer versions of a type, and values of one version as values of the other.
+-- Newer versions of a type, and values of one version as values of the other (Cyphal Specification, section 3.8).
 use Rattle.std.specs.Prelude.{◌≡◌, ℕ, zero, suc, true, false, List, []}
 use Rattle.dsdl_types.specs.Schemas.{Prim, Sch, Flds, Outline, Simple, Fixed, Var, Struct, Union, End, Pad, Field, field_count}
 use Rattle.dsdl_types.specs.Values.{Val, Vals, Items, Parts, Tagged, More, items_of, parts_of, tag_of, inner_of, first, others, on_items}

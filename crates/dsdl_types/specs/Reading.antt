@@ -1,5 +1,5 @@
--- What bits read as: a value, or the first place and cause that refuses them. Bits past the end are zeros,
--- since `take` and `drop` give none there and the number of no bits is 0.
+-- What bits read as: a value, or the first place and cause that refuses them (Cyphal Specification, section
+-- 3.7). Bits past the end are zeros, since `take` and `drop` give none there and the number of no bits is 0.
 use Rattle.std.specs.Prelude.{ℕ, zero, suc, ◌+◌, ◌*◌, ◌-◌, ◌^◌, ◌==◌, nat_lt, if◌then◌else◌, Bool, true, false, List, [], ◌∷◌, length, take, drop, pos, negsuc}
 use Rattle.cy_bits.specs.Bits.{number, gap}
 use Rattle.dsdl_types.specs.Schemas.{Prim, Sch, Flds, PBool, PUint, PInt, PFloat, Simple, Fixed, Var, Struct, Union, End, Pad, Field, is_aligned, is_delimited, prefix, width, variants}

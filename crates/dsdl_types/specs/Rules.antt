@@ -1,17 +1,20 @@
--- The rules that a schema keeps.
-use Rattle.std.specs.Prelude.{◌≡◌, ℕ, suc, ◌+◌, ◌*◌, ◌-◌, ◌^◌, ◌%◌, ◌≤◌, ◌⊎◌, max, Bool, true, false}
+-- The rules that a schema keeps (Cyphal Specification, sections 3.4 and 3.6), and the limits of this compiler.
+use Rattle.std.specs.Prelude.{◌≡◌, ℕ, suc, ◌+◌, ◌*◌, ◌-◌, ◌^◌, ◌%◌, ◌≤◌, ◌==◌, ◌||◌, max, Bool, true, false}
 use Rattle.dsdl_types.specs.Schemas.{Prim, Sch, Flds, Outline, PBool, PUint, PInt, PFloat, Simple, Fixed, Var, Struct, Union, End, Pad, Field, prefix, variants}
 use Rattle.dsdl_types.specs.Greatest.{up, longest_fields, longest_variant}
+
+abbrev pub is_float_width : ℕ → Bool
+is_float_width w = (w == 16) || ((w == 32) || (w == 64))
 
 -- An unsigned integer has 1 to 64 bits, a signed one 2 to 64, a float 16, 32 or 64.
 abbrev pub IsPrim : Prim → Type 0
 IsPrim PBool = Unit {0}
 IsPrim (PUint w c) = (1 ≤ w) × (w ≤ 64)
 IsPrim (PInt w) = (2 ≤ w) × (w ≤ 64)
-IsPrim (PFloat w c) = (w ≡ 16) ⊎ ((w ≡ 32) ⊎ (w ≡ 64))
+IsPrim (PFloat w c) = is_float_width w ≡ true
 
 -- The extent of a sealed composite is its greatest length. That of a delimited one is a multiple of 8
--- bits that isn't below it. No extent is above 2^32 bits.
+-- bits that isn't below it. As a limit, no extent is above 2^32 bits.
 abbrev pub IsExtent : Bool → ℕ → ℕ → Type 0
 IsExtent true greatest extent = extent ≡ greatest
 IsExtent false greatest extent = (greatest ≤ extent) × (extent % 8 ≡ 0)
@@ -31,7 +34,7 @@ NoPadding End = Unit {0}
 NoPadding (Pad n fs) = ⊥
 NoPadding (Field name s fs) = NoPadding fs
 
--- An array has 1 to 2^20 items, or that capacity. A union has at least two variants. Padding has 1 to
+-- An array has 1 to 2^20 items, or a capacity of 1 to 2^20. A union has at least two variants. Padding has 1 to
 -- 64 bits.
 abbrev mutual
   pub IsFormed : Sch → Type 0
@@ -75,6 +78,7 @@ abbrev mutual
   nodes_of (Pad n fs) = nodes_of fs
   nodes_of (Field name s fs) = nodes s + nodes_of fs
 
--- Types nest at most 32 deep, and a value has at most 2^20 nodes.
+-- A schema is formed by the rules. As limits, its types nest at most 32 deep, and a value has at most 2^20
+-- nodes.
 abbrev pub IsSchema : Sch → Type 0
 IsSchema s = IsFormed s × (nesting s ≤ 32) × (nodes s ≤ 2 ^ 20)

@@ -1,4 +1,4 @@
--- Schemas: what a data type is once all of its names are resolved.
+-- Schemas: what a data type is once all of its names are resolved (Cyphal Specification, section 3.4).
 use Rattle.std.specs.Prelude.{ℕ, suc, nat_lt, if◌then◌else◌, Bool, true, false, not, List}
 
 -- A primitive type: a truth value, or a number of so many bits. An unsigned integer or a float is

@@ -10,6 +10,10 @@ use Rattle.dsdl_types.specs.declared.schema.Body.{Body, Body-F}
 use Rattle.dsdl_types.specs.declared.schema.Field.{Field, Field-F, out-Field}
 use Rattle.dsdl_types.specs.declared.schema.Schema.TheFolds.{fold-Schema, fold-Body}
 use Rattle.dsdl_types.specs.declared.schema.Schema.TheOpen as open_schema
+use Rattle.dsdl_types.specs.Reading.{Why}
+use Rattle.dsdl_types.specs.Reading as R
+use Rattle.dsdl_types.specs.declared.read_why.ReadWhy.{ReadWhy}
+use Rattle.dsdl_types.specs.declared.read_why.ReadWhy.TheVariants as W
 use Rattle.dsdl_types.specs.declared.value.Value.{Value}
 use Rattle.dsdl_types.specs.declared.value.Value.TheFolds.{fold-Value}
 use Rattle.dsdl_types.specs.declared.value.Value.TheOpen as open_value
@@ -96,3 +100,8 @@ val = fold-Value Val at_value
 -- values of the code, in order
 abbrev pub vals : List Value → Vals
 vals values = in_row (map val values)
+
+abbrev pub why_of : ReadWhy → Why
+why_of (W.BadTag n) = R.BadTag n
+why_of (W.BadLength n) = R.BadLength n
+why_of (W.BadDelimiter n) = R.BadDelimiter n

@@ -1,4 +1,4 @@
-use crate::schema::Schema;
+use crate::Schema;
 use cy_bits::{List, Text};
 use dsdl_names::TypeId;
 

@@ -5,14 +5,14 @@ ghost use Rattle.std.specs.Prelude.{ℕ, List, ◌≤◌};
 ghost use Rattle.dsdl_types.specs.Schemas.{Sch};
 ghost use Rattle.dsdl_types.specs.Rules.{IsSchema};
 ghost use Rattle.dsdl_types.specs.Sound.{IsSound};
-ghost use Rattle.dsdl_types.specs.Laws.{ReadsOnce, RoundTrip, Evolution, ZerosLaw, CutLaw, PaddedLaw, KeepsReadings};
+ghost use Rattle.dsdl_types.specs.Laws.{ReadsOnce, RoundTrip, WithinExtent, ZeroReads, Evolution, ZerosLaw, CutLaw, PaddedLaw, KeepsReadings};
 ghost use Rattle.dsdl_types.specs.Lengths.{Length};
 ghost use Rattle.dsdl_types.specs.Greatest.{longest};
 ghost use Rattle.dsdl_types.specs.Reach.{Reaches, reach};
 ghost use Rattle.dsdl_types.specs.Reading.{own};
 ghost use Rattle.dsdl_types.specs.Difference.{Compares};
 
-use crate::shape::Shape;
+use crate::Shape;
 
 /// A schema that keeps the rules of the language is one that these laws hold of.
 pub fn rules_suffice()
@@ -29,13 +29,25 @@ pub fn round_trip()
     ensures { (s : Sch) → RoundTrip s }
 {}
 
-/// Zeros behind bytes change nothing of what they read as (implicit zero extension).
+/// No value of a composite has a serialized form that is longer than the extent.
+pub fn within_extent()
+    ensures { (s : Sch) → WithinExtent s }
+{}
+
+/// The zero of a schema is one of its values, and is what no bytes and zero bytes read as.
+pub fn zero_reads()
+    ensures { (s : Sch) → IsSound s → ZeroReads s }
+{}
+
+/// Zeros behind bytes change nothing of what they read as (implicit zero extension;
+/// Cyphal Specification, section 3.7.1).
 pub fn zeros_behind()
     ensures { (s : Sch) (b : List ℕ) → ZerosLaw s b }
 {}
 
 /// Where no delimiter header counts more than its part's extent, a cut to the extent changes nothing of
-/// what bytes read as or are refused for (implicit truncation).
+/// what bytes read as or are refused for (implicit truncation;
+/// Cyphal Specification, section 3.7.1).
 pub fn cut_to_extent()
     ensures { (s : Sch) (b : List ℕ) → CutLaw s b }
 {}
@@ -46,7 +58,8 @@ pub fn padded_payload()
     ensures { (s : Sch) (b : List ℕ) → PaddedLaw s b }
 {}
 
-/// A newer version of a type reads what an older one wrote, and the other way round, at any depth.
+/// A newer version of a type reads what an older one wrote, and the other way round, at any depth (Cyphal
+/// Specification, section 3.8).
 pub fn evolution()
     ensures { Evolution }
 {}

@@ -1,12 +1,21 @@
 //! Data types: their schemas and values, the namespace that holds them, and the laws of their serialized form.
 #![tactic(auto)]
 
-pub mod definition;
+mod definition;
 pub mod laws;
-pub mod namespace;
-pub mod schema;
-pub mod shape;
+mod namespace;
+mod read_why;
+mod schema;
+mod shape;
 #[cfg(test)]
 mod tests;
-pub mod value;
-pub mod zero;
+mod value;
+mod zero;
+
+pub use definition::{Definition, Parts};
+pub use namespace::{Namespace, Print};
+pub use read_why::ReadWhy;
+pub use schema::{Body, Cast, Field, Schema};
+pub use shape::Shape;
+pub use value::Value;
+pub use zero::zero_of;

@@ -2,7 +2,7 @@ ghost use Rattle.std.specs.Prelude.{◌≡◌};
 ghost use Rattle.std.specs.Option.{option_copied};
 ghost use Rattle.dsdl_types.specs.Finding.{same_id, definition_of, Finds};
 
-use crate::definition::Definition;
+use crate::Definition;
 use cy_bits::{List, Text};
 use dsdl_names::TypeId;
 

@@ -1,10 +1,12 @@
-ghost use Rattle.std.specs.Prelude.{◌≡◌, IfOk};
-ghost use Rattle.dsdl_types.specs.Views.{kind_of, is_padding};
+ghost use Rattle.std.specs.Prelude.{◌≡◌, ◌*◌, IfOk};
+ghost use Rattle.dsdl_types.specs.Schemas.{extent_of};
+ghost use Rattle.dsdl_types.specs.Rules.{IsSchema};
+ghost use Rattle.dsdl_types.specs.Views.{kind_of, is_padding, sch};
 
 use cy_bits::{Boxed, List, NoMemory, Text, TryCopy};
 use std::alloc::Global;
 
-/// What is done to a number that its type doesn't hold, when it is written.
+/// What is done to a number that its type doesn't hold, when it is written (Cyphal Specification, section 3.4.3).
 #[derive(Clone, Copy, PartialEq, Eq, Debug)]
 pub enum Cast {
     /// The nearest end of the type's range is written.
@@ -13,7 +15,7 @@ pub enum Cast {
     Truncated,
 }
 
-/// A data type in which all names are resolved.
+/// A data type in which all names are resolved (Cyphal Specification, section 3.4).
 #[derive(Drop)]
 #[cycle(schema)]
 pub enum Schema {
@@ -63,7 +65,7 @@ pub enum Schema {
     Union(Body),
 }
 
-/// What is in a composite, which is a structure or a union.
+/// What is in a composite, which is a structure or a union (Cyphal Specification, section 3.4.5).
 #[derive(Drop)]
 #[cycle(schema)]
 pub struct Body {
@@ -91,6 +93,18 @@ impl Schema {
         ensures { result ≡ is_padding (kind_of self.now) }
     {
         matches!(self, Schema::Void { .. })
+    }
+
+    /// The extent of a composite in bytes; 0 of another type.
+    #[tactic(auto, using(crate::proofs::SchemaRules::extent_whole, crate::proofs::Views::extent_is))]
+    pub fn extent_bytes(&self) -> usize
+        requires { IsSchema (sch self.now) }
+        ensures { 8 * result ≡ extent_of (sch self.now) }
+    {
+        match self {
+            Schema::Struct(body) | Schema::Union(body) => (body.extent / 8) as usize,
+            _ => 0,
+        }
     }
 }
 

@@ -3,7 +3,7 @@ ghost use Rattle.dsdl_types.specs.Schemas.{Sch, is_composite, extent_of};
 ghost use Rattle.dsdl_types.specs.Rules.{IsSchema};
 ghost use Rattle.dsdl_types.specs.Views.{sch};
 
-use crate::schema::Schema;
+use crate::Schema;
 
 /// A composite type as its payloads are received: its schema, and to how many bytes they are cut.
 /// `laws::shape_laws` says what of a payload this keeps.

@@ -1,14 +1,19 @@
-use crate::definition::{Definition, Parts};
-use crate::namespace::Namespace;
-use crate::schema::{Body, Cast, Field, Schema};
-use crate::value::Value;
-use crate::zero::zero_of;
+ghost use Rattle.std.specs.Prelude.{◌≡◌, [], true, IfOk};
+ghost use Rattle.dsdl_types.specs.Schemas.{is_composite};
+ghost use Rattle.dsdl_types.specs.Rules.{IsSchema};
+ghost use Rattle.dsdl_types.specs.Views.{sch, kind_of, named};
+ghost use Rattle.dsdl_types.specs.OneWay.{schema_prop};
+
+use crate::laws::shape_laws;
+use crate::{Body, Cast, Definition, Field, Namespace, Parts, Schema, Shape, Value, zero_of};
 use cy_bits::{Boxed, List, NoMemory, Text, TryCopy};
 use dsdl_names::parse_type_id;
 use std::alloc::Global;
 
 /// A field without a name.
-fn field(alloc: Global, schema: Schema) -> Result<Field, NoMemory> {
+fn field(alloc: Global, schema: Schema) -> Result<Field, NoMemory>
+    ensures { IfOk result (λ f. named f ≡ ([], kind_of schema)) }
+{
     Ok(Field {
         name: Text::from_str(alloc, "")?,
         schema,
@@ -121,6 +126,52 @@ fn found(alloc: Global, names: &[&str]) -> Result<Vec<Option<Option<u16>>>, NoMe
         ports.push(namespace.find(&id).map(|definition| definition.port))?;
     }
     Ok(ports)
+}
+
+/// A shape of the test's own.
+#[derive(Drop)]
+struct Own {
+    schema: Schema,
+    ghost rules: { IsSchema (sch schema) } by { schema_prop (sch schema) },
+    ghost composite: { is_composite (sch schema) ≡ true },
+}
+
+impl Shape for Own {
+    ghost shape = { λ own. sch own.schema };
+
+    fn extent_bytes(&self) -> usize {
+        self.schema.extent_bytes()
+    }
+
+    fn schema(&self) -> &Schema {
+        &self.schema
+    }
+}
+
+/// A sealed structure of one truth value.
+fn sealed(alloc: Global) -> Result<Own, NoMemory> {
+    let mut fields = List::empty(alloc);
+    fields.push(field(alloc, Schema::Bool)?)?;
+    let body = Body {
+        fields,
+        extent: 8,
+        sealed: true,
+    };
+    Ok(Own {
+        schema: Schema::Struct(body),
+    })
+}
+
+/// The bytes that a shape keeps, and whether its schema is padding.
+fn kept<S: Shape>(shape: &S) -> (usize, bool) {
+    shape_laws(shape);
+    (shape.extent_bytes(), shape.schema().is_padding())
+}
+
+#[test]
+fn shapes(rt: HostRuntime) {
+    let own = sealed(rt.alloc()).expect(&rt, "memory");
+    assert!(rt; kept(&own) == (1, false), "shape");
 }
 
 #[test]

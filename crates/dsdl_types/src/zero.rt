@@ -3,8 +3,7 @@ ghost use Rattle.dsdl_types.specs.Values.{same_items};
 ghost use Rattle.dsdl_types.specs.Zero.{zero_of, zero_fields, zero_variant};
 ghost use Rattle.dsdl_types.specs.Views.{sch, val, vals, body_of};
 
-use crate::schema::{Body, Schema};
-use crate::value::Value;
+use crate::{Body, Schema, Value};
 use cy_bits::{Boxed, List, NoMemory};
 use std::alloc::Global;
 
