@@ -1,0 +1,138 @@
+-- Sums and padding of runs.
+use Rattle.std.proofs.Common.{◌≡◌, ℕ, ◌+◌, ◌-◌, ◌*◌, ◌/◌, ◌%◌, ◌^◌, ◌<◌, ◌≤◌, ◌⊎◌, ◌↔◌, inl, inr, List, [], length, take, get_or, refl, sym, ap, ◌∙◌, arith, All}
+use Rattle.std.proofs.lemmas.Nat.{div_below}
+use Rattle.std.proofs.lemmas.List.Elements.{All-nil, All-get_or}
+use Rattle.std.proofs.lemmas.List.{take_more}
+use Rattle.std.proofs.Math.Nat.{mul-le-mul_left, add-mul-div_right, add-mul-mod_self_left}
+use Rattle.bit_length.specs.declared.run.Run.{Run}
+use Rattle.bit_length.specs.Lengths.{Numbers, Same, Sums, Pads, padded, SomeLeaves}
+use Rattle.bit_length.specs.Runs.{IsRun, InRun, InSome, Adds, AreRunsOf}
+use Rattle.bit_length.proofs.MemberLemmas.{InSome-push}
+use Rattle.bit_length.proofs.SetLemmas.{no_run, InSome-at}
+
+-- a multiple of `to` passes through padding
+pub padded_past : (to x k : ℕ) → 0 < to → padded to (x + to * k) ≡ padded to x + to * k
+padded_past to x k p =
+    let e : x + to * k + (to - 1) ≡ x + (to - 1) + k * to = omega arith in
+    ap (λ t. t / to * to) e ∙ ap (λ t. t * to) (add-mul-div_right (x + (to - 1)) k p) ∙ omega arith
+
+past_step : (to s x q : ℕ) → 0 < to → s % to ≡ 0 → padded to (x + s * q) ≡ padded to x + s * q
+past_step to s x q p m =
+    let e : s ≡ to * (s / to) = omega arith in
+    let f : s * q ≡ to * (s / to * q) = ap (λ t. t * q) e ∙ omega arith in
+    ap (λ t. padded to (x + t)) f ∙ padded_past to x (s / to * q) p ∙ ap (λ t. padded to x + t) (sym f)
+
+pub padded_residue : (to s x : ℕ) → 0 < to → s % to ≡ 0 → x < s → padded to x ≤ s
+padded_residue to s x p m lt =
+    let e : s ≡ s / to * to = omega arith in
+    let f : (s / to + 1) * to ≡ s / to * to + to = omega arith in
+    let d : (x + (to - 1)) / to < s / to + 1 = div_below (x + (to - 1)) to (s / to + 1) p (omega arith) in
+    let l : to * ((x + (to - 1)) / to) ≤ to * (s / to) = mul-le-mul_left to (omega arith) in
+    omega arith
+
+pub pads_run : (s to : ℕ) (r : Run) (carry : ℕ) → 0 < to → s % to ≡ 0 → s * carry ≤ padded to r.residue →
+    Same (InRun s (record { residue = padded to r.residue - s * carry; first = r.first + carry; last = r.last + carry })) (Pads (InRun s r) to)
+pads_run s to r carry p m c n = (there, back)
+  where
+    there : InRun s (record { residue = padded to r.residue - s * carry; first = r.first + carry; last = r.last + carry }) n → Pads (InRun s r) to n
+    there (q, low, high, e) = (
+      r.residue + s * (q - carry),
+      (q - carry, omega arith, omega arith, refl),
+      let f = past_step to s r.residue (q - carry) p m in
+          let g : s * q ≡ s * (q - carry + carry) = ap (λ t. s * t) (omega arith) in
+          e ∙ (omega arith) ∙ sym f,
+    )
+
+    back : Pads (InRun s r) to n → InRun s (record { residue = padded to r.residue - s * carry; first = r.first + carry; last = r.last + carry }) n
+    back (k, (q, low, high, e), f) =
+        let g = past_step to s r.residue q p m in
+        let h : n ≡ padded to r.residue + s * q = f ∙ ap (padded to) e ∙ g in (q + carry, omega arith, omega arith, omega arith)
+
+pub pads_is_run : (s to : ℕ) (r : Run) (carry : ℕ) → 0 < to → s % to ≡ 0 → IsRun s r → padded to (r.residue + s * r.last) ≤ 2 ^ 32 → s * carry ≤ padded to r.residue → (padded to r.residue < s + s * carry) →
+    IsRun s (record { residue = padded to r.residue - s * carry; first = r.first + carry; last = r.last + carry })
+pads_is_run s to r carry p m (a, b, c) short low high =
+    let f = past_step to s r.residue r.last p m in (omega arith, omega arith, omega arith)
+
+-- ---- lists of runs
+
+pub taken_more : (s : ℕ) (runs : List Run) (i : ℕ) → i < length runs → (n : ℕ) → InSome s (take (i + 1) runs) n ↔ (InSome s (take i runs) n ⊎ InRun s (get_or runs i no_run) n)
+taken_more s runs i lt n =
+    rw (take_more runs i no_run lt) (InSome-push s (take i runs) (get_or runs i no_run) n)
+
+pub sums_more : (s : ℕ) (S : Numbers) (runs : List Run) (i : ℕ) → i < length runs → (n : ℕ) → Sums S (InSome s (take (i + 1) runs)) n ↔ (Sums S (InSome s (take i runs)) n ⊎ Sums S (InRun s (get_or runs i no_run)) n)
+sums_more s S runs i lt n = (there, back)
+  where
+    there : Sums S (InSome s (take (i + 1) runs)) n → Sums S (InSome s (take i runs)) n ⊎ Sums S (InRun s (get_or runs i no_run)) n
+    there (a, b, x, y, e) = elim ((taken_more s runs i lt b).0 y) [
+      | inl k ↦ inl (a, b, x, k, e)
+      | inr k ↦ inr (a, b, x, k, e)
+    ]
+
+    back : Sums S (InSome s (take i runs)) n ⊎ Sums S (InRun s (get_or runs i no_run)) n → Sums S (InSome s (take (i + 1) runs)) n
+    back (inl (a, b, x, y, e)) = (a, b, x, (taken_more s runs i lt b).1 (inl y), e)
+    back (inr (a, b, x, y, e)) = (a, b, x, (taken_more s runs i lt b).1 (inr y), e)
+
+pub sums_more_left : (s : ℕ) (T : Numbers) (runs : List Run) (i : ℕ) → i < length runs → (n : ℕ) → Sums (InSome s (take (i + 1) runs)) T n ↔ (Sums (InSome s (take i runs)) T n ⊎ Sums (InRun s (get_or runs i no_run)) T n)
+sums_more_left s T runs i lt n = (there, back)
+  where
+    there : Sums (InSome s (take (i + 1) runs)) T n → Sums (InSome s (take i runs)) T n ⊎ Sums (InRun s (get_or runs i no_run)) T n
+    there (a, b, x, y, e) = elim ((taken_more s runs i lt a).0 x) [
+      | inl k ↦ inl (a, b, k, y, e)
+      | inr k ↦ inr (a, b, k, y, e)
+    ]
+
+    back : Sums (InSome s (take i runs)) T n ⊎ Sums (InRun s (get_or runs i no_run)) T n → Sums (InSome s (take (i + 1) runs)) T n
+    back (inl (a, b, x, y, e)) = (a, b, (taken_more s runs i lt a).1 (inl x), y, e)
+    back (inr (a, b, x, y, e)) = (a, b, (taken_more s runs i lt a).1 (inr x), y, e)
+
+pub pads_more : (s to : ℕ) (runs : List Run) (i : ℕ) → i < length runs → (n : ℕ) → Pads (InSome s (take (i + 1) runs)) to n ↔ (Pads (InSome s (take i runs)) to n ⊎ Pads (InRun s (get_or runs i no_run)) to n)
+pads_more s to runs i lt n = (there, back)
+  where
+    there : Pads (InSome s (take (i + 1) runs)) to n → Pads (InSome s (take i runs)) to n ⊎ Pads (InRun s (get_or runs i no_run)) to n
+    there (a, x, e) = elim ((taken_more s runs i lt a).0 x) [ inl k ↦ inl (a, k, e) | inr k ↦ inr (a, k, e) ]
+
+    back : Pads (InSome s (take i runs)) to n ⊎ Pads (InRun s (get_or runs i no_run)) to n → Pads (InSome s (take (i + 1) runs)) to n
+    back (inl (a, x, e)) = (a, (taken_more s runs i lt a).1 (inl x), e)
+    back (inr (a, x, e)) = (a, (taken_more s runs i lt a).1 (inr x), e)
+
+pub either_same : (S T U V : Numbers) → Same S V → ((n : ℕ) → U n ↔ (T n ⊎ V n)) → (n : ℕ) → U n ↔ (T n ⊎ S n)
+either_same S T U V e more n = (
+  λ h. elim ((more n).0 h) [ inl k ↦ inl k | inr k ↦ inr ((e n).1 k) ],
+  λ h. (more n).1 (elim h as (λ _. T n ⊎ V n) [ inl k ↦ inl k | inr k ↦ inr ((e n).0 k) ]),
+)
+
+-- what was added to nothing is all
+pub from_nothing : (s : ℕ) (runs : List Run) (S : Numbers) → Adds s [] runs S → AreRunsOf s runs S
+from_nothing s runs S adds = record {
+  each = adds.each (All-nil (IsRun s));
+  same = λ n. (
+    λ h. elim ((adds.same n).0 h) [ inl k ↦ absurd k | inr k ↦ k ],
+    λ h. (adds.same n).1 (inr h),
+  );
+}
+
+-- ---- remainders
+
+pub leaves_again : (s k r : ℕ) (run : Run) → 0 < k → SomeLeaves (InRun s run) k r → (q : ℕ) × (run.first ≤ q) × (q ≤ run.last) × (q < run.first + k) × ((run.residue + s * q) % k ≡ r)
+leaves_again s k r run p (n, (q, low, high, e), f) =
+    let x : ℕ = (q - run.first) % k in
+    let y : ℕ = (q - run.first) / k in
+    let g : q ≡ run.first + (q - run.first) % k + k * ((q - run.first) / k) = omega arith in
+    let h : n ≡ run.residue + s * (run.first + (q - run.first) % k) + k * (s * ((q - run.first) / k)) = e ∙ ap (λ t. run.residue + s * t) g ∙ omega arith in (
+      run.first + (q - run.first) % k,
+      omega arith,
+      omega arith,
+      omega arith,
+      sym (add-mul-mod_self_left (run.residue + s * (run.first + (q - run.first) % k)) k (s * ((q - run.first) / k))) ∙ sym (ap (λ t. t % k) h) ∙ f,
+    )
+
+-- ---- the greatest sums are short
+
+pub sum_short : (s : ℕ) (a b : Run) → ((m n : ℕ) → InRun s a m → InRun s b n → m + n ≤ 2 ^ 32) → a.first ≤ a.last → b.first ≤ b.last → a.residue + s * a.last + (b.residue + s * b.last) ≤ 2 ^ 32
+sum_short s a b short oa ob =
+    short (a.residue + s * a.last) (b.residue + s * b.last) (a.last, oa, omega arith, refl) (b.last, ob, omega arith, refl)
+
+pub pad_short : (s to : ℕ) (runs : List Run) (i : ℕ) → i < length runs → All (IsRun s) runs → ((n : ℕ) → Pads (InSome s runs) to n → n ≤ 2 ^ 32) → padded to ((get_or runs i no_run).residue + s * (get_or runs i no_run).last) ≤ 2 ^ 32
+pad_short s to runs i lt all short =
+    let r : Run = get_or runs i no_run in
+    short (padded to ((get_or runs i no_run).residue + s * (get_or runs i no_run).last)) ((get_or runs i no_run).residue + s * (get_or runs i no_run).last, InSome-at s runs i ((get_or runs i no_run).residue + s * (get_or runs i no_run).last) lt ((get_or runs i no_run).last, (All-get_or (IsRun s) runs i no_run lt all).1, omega arith, refl), refl)

@@ -1,0 +1,70 @@
+-- Runs of one common step, and the numbers that they mean.
+use Rattle.std.specs.Prelude.{◌≡◌, ℕ, zero, suc, ◌+◌, ◌*◌, ◌/◌, ◌%◌, ◌^◌, ◌<◌, ◌≤◌, ◌==◌, ◌⊎◌, nat_le, Bool, ◌&&◌, if◌then◌else◌, List, [], ◌∷◌, ◌++◌, All, AllPairs}
+use Rattle.std.specs.List.{list_any}
+use Rattle.bit_length.specs.declared.run.Run.{Run}
+use Rattle.bit_length.specs.Lengths.{Numbers, Same, Joins}
+
+-- whether a number is in a run
+abbrev pub in_run : ℕ → ℕ → Run → Bool
+in_run step n r = (n % step == r.residue) && (nat_le r.first (n / step) && nat_le (n / step) r.last)
+
+-- a run that a set with this step may have
+abbrev pub IsRun : ℕ → Run → Type 0
+IsRun step r = (r.residue < step) × (r.first ≤ r.last) × (r.residue + step * r.last ≤ 2 ^ 32)
+
+-- the order of runs: by residue, then by the first quotient
+abbrev pub IsAtMost : Run → Run → Type 0
+IsAtMost r s = (r.residue < s.residue) ⊎ ((r.residue ≡ s.residue) × (r.first ≤ s.first))
+
+-- every member of one run stands before every member of the other, or leaves another residue
+abbrev pub IsBefore : Run → Run → Type 0
+IsBefore r s = (r.residue < s.residue) ⊎ ((r.residue ≡ s.residue) × (r.last < s.first))
+
+-- runs without a common member
+pub record AreRuns (step : ℕ) (runs : List Run) : Type 0 where
+  pub each : All (IsRun step) runs
+  pub apart : AllPairs IsBefore runs
+
+-- the numbers below n that pass a test, ascending
+unfoldable pub numbers_below : ℕ → (ℕ → Bool) → List ℕ
+numbers_below zero test = []
+numbers_below (suc n) test = numbers_below n test ++ (if test n then n ∷ [] else [])
+
+-- the members of some runs, ascending
+unfoldable pub members_of : ℕ → List Run → List ℕ
+members_of step runs = numbers_below (2 ^ 32 + 1) (λ n. list_any (in_run step n) runs)
+
+-- the same as a relation: n is of a run
+abbrev pub InRun : ℕ → Run → ℕ → Type 0
+InRun step r n = (q : ℕ) × (r.first ≤ q) × (q ≤ r.last) × (n ≡ r.residue + step * q)
+
+-- n is of some run
+abbrev pub InSome : ℕ → List Run → ℕ → Type 0
+InSome step [] n = ⊥
+InSome step (r ∷ rs) n = InRun step r n ⊎ InSome step rs n
+
+-- each run of the new list can be one of a set, if each of the old could, and the new list means the old numbers and those of S
+pub record Adds (step : ℕ) (old new : List Run) (S : Numbers) : Type 0 where
+  pub each : All (IsRun step) old → All (IsRun step) new
+  pub same : Same (InSome step new) (Joins (InSome step old) S)
+
+-- what merging has made of the runs that it has taken
+pub record MergesInto (step : ℕ) (taken others : List Run) (last : Run) : Type 0 where
+  pub same : Same (InSome step (others ++ last ∷ [])) (InSome step taken)
+  pub each : All (IsRun step) (others ++ last ∷ [])
+  pub apart : AllPairs IsBefore others
+  pub before : All (λ r. IsBefore r last) others
+
+-- one more run, which doesn't stand before the last, is merged
+abbrev pub TakesRun : List Run → Run → Run → List Run → Run → Type 0
+TakesRun others last next new_others new_last =
+    (step : ℕ) (taken : List Run) → MergesInto step taken others last → IsRun step next → IsAtMost last next → MergesInto step (taken ++ next ∷ []) new_others new_last
+
+-- the runs without a common member have the members of the others
+abbrev pub IsMerged : List Run → List Run → Type 0
+IsMerged old new = (step : ℕ) → All (IsRun step) old → AreRuns step new × Same (InSome step new) (InSome step old)
+
+-- some runs and the set of numbers that they mean
+pub record AreRunsOf (step : ℕ) (runs : List Run) (S : Numbers) : Type 0 where
+  pub each : All (IsRun step) runs
+  pub same : Same (InSome step runs) S

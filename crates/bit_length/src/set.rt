@@ -1,0 +1,431 @@
+ghost use Rattle.std.specs.Prelude.{◌≡◌, ◌≢◌, ℕ, ◌+◌, ◌*◌, ◌%◌, ◌/◌, ◌<◌, ◌≤◌, ◌^◌, ◌↔◌, IsTrue, IfOk, Err, length, All};
+ghost use Rattle.bit_length.specs.Lengths.{Has, Same, Only, Delimited, Sums, Joins, Repeats, UpTo, Pads, SomeLeaves, IsLongBeyond, IsGreatest, IsLeast, IsNext};
+ghost use Rattle.bit_length.specs.Runs.{IsRun, InSome, AreRunsOf};
+ghost use Rattle.bit_length.specs.Members.{lesser_of};
+
+use crate::merge::{Merged, merge_runs};
+use crate::parts::{parts_of, push_parts};
+use crate::run::Run;
+use crate::steps::{common_divisor, common_multiple};
+use crate::sums::{pads, sums};
+use crate::{LONGEST, LengthError};
+use cy_bits::NoMemory;
+use std::alloc::Global;
+use std::marker::Model;
+
+/// A finite set of bit lengths that isn't empty, none above `LONGEST`.
+#[derive(Drop)]
+pub struct LengthSet {
+    step: u64,
+    others: Vec<Run>,
+    last: Run,
+}
+
+impl Model for LengthSet {
+    ghost use Rattle.std.specs.Prelude.{List, ℕ};
+    ghost use Rattle.std.specs.Coded.{coded_list, coded_ℕ};
+
+    ghost Value = { List ℕ };
+
+    ghost coded = { coded_list coded_ℕ };
+
+    ghost use Rattle.bit_length.specs.Members.{view_of, IsSet};
+
+    ghost view = { view_of };
+
+    ghost invariant = { IsSet };
+}
+
+impl LengthSet {
+    /// The set of one length. Takes no memory.
+    pub fn of(alloc: Global, n: u64) -> Result<LengthSet, LengthError>
+        ensures members { IfOk result (λ s. Same (Has s) (Only n)) }
+        ensures long { IsLongBeyond result (Only n) }
+        ensures no_memory { result ≢ Err LengthError.NoMemory }
+    {
+        if n > LONGEST {
+            return Err(LengthError::Long { greatest: n });
+        }
+        Ok(LengthSet {
+            step: 1,
+            others: Vec::new(alloc),
+            last: Run {
+                residue: 0,
+                first: n,
+                last: n,
+            },
+        })
+    }
+
+    /// The lengths of a delimited type of an extent in bits: 32, for the delimiter header, and each
+    /// multiple of 8 from 0 to the extent. Takes no memory.
+    pub fn delimited(alloc: Global, extent: u64) -> Result<LengthSet, LengthError>
+        requires whole { extent % 8 ≡ 0 }
+        requires small { extent ≤ 2 ^ 63 }
+        ensures members { IfOk result (λ s. Same (Has s) (Delimited extent)) }
+        ensures long { IsLongBeyond result (Delimited extent) }
+        ensures no_memory { result ≢ Err LengthError.NoMemory }
+    {
+        let greatest = 32 + extent;
+        if greatest > LONGEST {
+            return Err(LengthError::Long { greatest });
+        }
+        Ok(LengthSet {
+            step: 8,
+            others: Vec::new(alloc),
+            last: Run {
+                residue: 0,
+                first: 4,
+                last: greatest / 8,
+            },
+        })
+    }
+
+    /// The least length.
+    pub fn min(&self) -> u64
+        ensures { IsLeast (Has self.now) result }
+    {
+        let mut least = self.last.member(self.step, self.last.first);
+        for run in &self.others {
+            least = least.min(run.member(self.step, run.first));
+        }
+        least
+    }
+
+    /// The greatest length.
+    pub fn max(&self) -> u64
+        ensures greatest { IsGreatest (Has self.now) result }
+        ensures short { result ≤ 2 ^ 32 }
+    {
+        let mut greatest = self.last.member(self.step, self.last.last);
+        for run in &self.others {
+            greatest = greatest.max(run.member(self.step, run.last));
+        }
+        greatest
+    }
+
+    /// The number of lengths.
+    pub fn count(&self) -> u64
+        ensures { result ≡ length self.now }
+    {
+        let mut count = self.last.count();
+        for run in &self.others {
+            count += run.count();
+        }
+        count
+    }
+
+    /// Whether a length is a member.
+    pub fn has(&self, n: u64) -> bool
+        ensures { IsTrue result ↔ Has self.now n }
+    {
+        if self.last.has(self.step, n) {
+            return true;
+        }
+        for run in &self.others {
+            if run.has(self.step, n) {
+                return true;
+            }
+        }
+        false
+    }
+
+    /// The least length that is no less than a number.
+    pub fn next(&self, n: u64) -> Option<u64>
+        ensures { IsNext (Has self.now) n result }
+    {
+        let mut least = self.last.next(self.step, n);
+        for run in &self.others {
+            least = lesser(least, run.next(self.step, n));
+        }
+        least
+    }
+
+    /// Where the set's runs are kept.
+    fn alloc(&self) -> Global {
+        *self.others.allocator()
+    }
+
+    /// The set of the members of some runs of one step, at that step.
+    fn merged(alloc: Global, step: u64, runs: Vec<Run>) -> Result<LengthSet, NoMemory>
+        requires some { (n : ℕ) × InSome step runs.items n }
+        requires each { All (IsRun step) runs.items }
+        ensures { IfOk result (λ s. Same (Has s) (InSome step runs.items)) }
+    {
+        let Merged { others, last } = merge_runs(alloc, runs)?;
+        Ok(LengthSet { step, others, last })
+    }
+
+    /// The set of the members of some runs of one step.
+    fn from_runs(alloc: Global, step: u64, runs: Vec<Run>) -> Result<LengthSet, NoMemory>
+        requires some { (n : ℕ) × InSome step runs.items n }
+        requires each { All (IsRun step) runs.items }
+        ensures { IfOk result (λ s. Same (Has s) (InSome step runs.items)) }
+    {
+        LengthSet::merged(alloc, step, runs)?.simplified()
+    }
+
+    /// The members as runs of a step.
+    fn runs_at(&self, step: u64) -> Result<Vec<Run>, NoMemory>
+        requires { 0 < step }
+        ensures runs { IfOk result (λ r. AreRunsOf step r.items (Has self.now)) }
+        ensures some { IfOk result (λ _. (n : ℕ) × Has self.now n) }
+    {
+        let mut parts = Vec::new(self.alloc());
+        for run in &self.others {
+            push_parts(&mut parts, run, self.step, step)?;
+        }
+        push_parts(&mut parts, &self.last, self.step, step)?;
+        Ok(parts)
+    }
+
+    /// How many runs of a step `runs_at` makes.
+    fn cost(&self, step: u64) -> u64 {
+        let mut cost = parts_of(&self.last, self.step, step);
+        for run in &self.others {
+            cost = cost.saturating_add(parts_of(run, self.step, step));
+        }
+        cost
+    }
+
+    /// Whether each run has one member.
+    fn is_single(&self) -> bool {
+        self.last.first == self.last.last && self.others.iter().all(|run| run.first == run.last)
+    }
+
+    /// The greatest step at which all members leave one residue, where each run has one member; 0
+    /// where there is one member.
+    fn widest_step(&self) -> u64 {
+        let start = self.last.member(self.step, self.last.last);
+        let mut step = 0;
+        for run in &self.others {
+            step = common_divisor(step, start.abs_diff(run.member(self.step, run.last)));
+        }
+        step
+    }
+
+    /// The same set in fewer runs, where each of its runs has one member.
+    fn simplified(self) -> Result<LengthSet, NoMemory>
+        ensures { IfOk result (λ s. Same (Has s) (Has self)) }
+    {
+        if !self.is_single() {
+            return Ok(self);
+        }
+        let step = self.widest_step();
+        if step == 0 {
+            return Ok(self);
+        }
+        LengthSet::merged(self.alloc(), step, self.runs_at(step)?)
+    }
+
+    /// A step at which the runs of two sets are few.
+    fn common_step(&self, o: &LengthSet) -> u64
+        ensures { 0 < result }
+    {
+        if self.is_single() {
+            return o.step;
+        }
+        if o.is_single() {
+            return self.step;
+        }
+        let best = cheaper(self, o, self.step, o.step);
+        match common_multiple(self.step, o.step) {
+            Some(multiple) => cheaper(self, o, best, multiple),
+            None => best,
+        }
+    }
+
+    /// A step that is a multiple of `to`, at which the runs are few.
+    fn step_for(&self, to: u64) -> u64
+        requires { 0 < to }
+        ensures positive { 0 < result }
+        ensures multiple { result % to ≡ 0 }
+    {
+        if self.is_single() {
+            return to;
+        }
+        match common_multiple(self.step, to) {
+            Some(multiple) => multiple,
+            None => to,
+        }
+    }
+
+    /// The set of 0 alone.
+    fn zero(alloc: Global) -> LengthSet
+        ensures { Same (Has result) (Only 0) }
+    {
+        LengthSet {
+            step: 1,
+            others: Vec::new(alloc),
+            last: Run {
+                residue: 0,
+                first: 0,
+                last: 0,
+            },
+        }
+    }
+
+    /// All sums of a member each.
+    fn sum_within(&self, o: &LengthSet) -> Result<LengthSet, NoMemory>
+        requires { (n : ℕ) → Sums (Has self.now) (Has o.now) n → n ≤ 2 ^ 32 }
+        ensures { IfOk result (λ s. Same (Has s) (Sums (Has self.now) (Has o.now))) }
+    {
+        let step = self.common_step(o);
+        let runs = sums(self.alloc(), step, &self.runs_at(step)?, &o.runs_at(step)?)?;
+        LengthSet::from_runs(self.alloc(), step, runs)
+    }
+
+    /// The members of either.
+    fn join_within(&self, o: &LengthSet) -> Result<LengthSet, NoMemory>
+        ensures { IfOk result (λ s. Same (Has s) (Joins (Has self.now) (Has o.now))) }
+    {
+        let step = self.common_step(o);
+        let mut runs = self.runs_at(step)?;
+        runs.extend_from_slice(o.runs_at(step)?.as_slice())?;
+        LengthSet::from_runs(self.alloc(), step, runs)
+    }
+
+    /// All sums of `n` members.
+    fn repeat_within(&self, n: u32) -> Result<LengthSet, NoMemory>
+        requires { (k : ℕ) → Repeats (Has self.now) n k → k ≤ 2 ^ 32 }
+        ensures { IfOk result (λ s. Same (Has s) (Repeats (Has self.now) n)) }
+    {
+        if n == 0 {
+            return Ok(LengthSet::zero(self.alloc()));
+        }
+        let half = self.repeat_within(n / 2)?;
+        let both = half.sum_within(&half)?;
+        if n % 2 == 0 {
+            Ok(both)
+        } else {
+            self.sum_within(&both)
+        }
+    }
+
+    /// Each member, brought up to a multiple of `to`.
+    fn pad_within(&self, to: u64) -> Result<LengthSet, NoMemory>
+        requires positive { 0 < to }
+        requires short { (n : ℕ) → Pads (Has self.now) to n → n ≤ 2 ^ 32 }
+        ensures { IfOk result (λ s. Same (Has s) (Pads (Has self.now) to)) }
+    {
+        let step = self.step_for(to);
+        let runs = pads(self.alloc(), step, to, &self.runs_at(step)?)?;
+        LengthSet::from_runs(self.alloc(), step, runs)
+    }
+
+    /// The set of all sums of a member each.
+    pub fn sum(&self, o: &LengthSet) -> Result<LengthSet, LengthError>
+        ensures members { IfOk result (λ s. Same (Has s) (Sums (Has self.now) (Has o.now))) }
+        ensures long { IsLongBeyond result (Sums (Has self.now) (Has o.now)) }
+    {
+        let greatest = self.max() + o.max();
+        if greatest > LONGEST {
+            return Err(LengthError::Long { greatest });
+        }
+        Ok(self.sum_within(o)?)
+    }
+
+    /// The set of the members of either. Never answers Long.
+    pub fn join(&self, o: &LengthSet) -> Result<LengthSet, LengthError>
+        ensures members { IfOk result (λ s. Same (Has s) (Joins (Has self.now) (Has o.now))) }
+        ensures never_long { (g : ℕ) → result ≢ Err (LengthError.Long g) }
+    {
+        Ok(self.join_within(o)?)
+    }
+
+    /// The set of all sums of `n` members.
+    pub fn repeat(&self, n: u32) -> Result<LengthSet, LengthError>
+        ensures members { IfOk result (λ s. Same (Has s) (Repeats (Has self.now) n)) }
+        ensures long { IsLongBeyond result (Repeats (Has self.now) n) }
+    {
+        let greatest = self.max() * n as u64;
+        if greatest > LONGEST {
+            return Err(LengthError::Long { greatest });
+        }
+        Ok(self.repeat_within(n)?)
+    }
+
+    /// The set of all sums of at most `n` members.
+    pub fn up_to(&self, n: u32) -> Result<LengthSet, LengthError>
+        ensures members { IfOk result (λ s. Same (Has s) (UpTo (Has self.now) n)) }
+        ensures long { IsLongBeyond result (UpTo (Has self.now) n) }
+    {
+        let greatest = self.max() * n as u64;
+        if greatest > LONGEST {
+            return Err(LengthError::Long { greatest });
+        }
+        let zero = LengthSet::zero(self.alloc());
+        Ok(self.join_within(&zero)?.repeat_within(n)?)
+    }
+
+    /// The set of each member, brought up to a multiple of `to` bits.
+    pub fn pad(&self, to: u32) -> Result<LengthSet, LengthError>
+        requires { 0 < to }
+        ensures members { IfOk result (λ s. Same (Has s) (Pads (Has self.now) to)) }
+        ensures long { IsLongBeyond result (Pads (Has self.now) to) }
+    {
+        let to = to as u64;
+        let greatest = (self.max() + (to - 1)) / to * to;
+        if greatest > LONGEST {
+            return Err(LengthError::Long { greatest });
+        }
+        Ok(self.pad_within(to)?)
+    }
+
+    /// The same set. Never answers Long.
+    pub fn copy(&self) -> Result<LengthSet, LengthError>
+        ensures same { IfOk result (λ s. s ≡ self.now) }
+        ensures never_long { (g : ℕ) → result ≢ Err (LengthError.Long g) }
+    {
+        Ok(self.copy_to(self.alloc())?)
+    }
+
+    /// The same set, in memory of its own.
+    fn copy_to(&self, alloc: Global) -> Result<LengthSet, NoMemory>
+        ensures { IfOk result (λ s. s ≡ self.now) }
+    {
+        Ok(LengthSet {
+            step: self.step,
+            others: Vec::from_slice(alloc, self.others.as_slice())?,
+            last: self.last,
+        })
+    }
+
+    /// Whether some member is `r` modulo `k`.
+    pub fn residue(&self, k: u32, r: u32) -> bool
+        requires { 0 < k }
+        ensures { IsTrue result ↔ SomeLeaves (Has self.now) k r }
+    {
+        if self.last.leaves(self.step, k as u64, r as u64) {
+            return true;
+        }
+        for run in &self.others {
+            if run.leaves(self.step, k as u64, r as u64) {
+                return true;
+            }
+        }
+        false
+    }
+}
+
+/// The one of two steps at which two sets have fewer runs, and fewer sums of runs.
+fn cheaper(a: &LengthSet, b: &LengthSet, x: u64, y: u64) -> u64
+    requires x { 0 < x }
+    requires y { 0 < y }
+    ensures { 0 < result }
+{
+    let at_x = a.cost(x).saturating_mul(b.cost(x));
+    let at_y = a.cost(y).saturating_mul(b.cost(y));
+    if at_y < at_x { y } else { x }
+}
+
+/// The lesser of two numbers that may be absent.
+fn lesser(a: Option<u64>, b: Option<u64>) -> Option<u64>
+    ensures { result ≡ lesser_of a b }
+{
+    match (a, b) {
+        (Some(x), Some(y)) => Some(x.min(y)),
+        (Some(x), None) => Some(x),
+        (None, b) => b,
+    }
+}

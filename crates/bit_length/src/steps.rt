@@ -1,0 +1,33 @@
+ghost use Rattle.std.specs.Prelude.{◌≡◌, ℕ, ◌%◌, ◌<◌, IfSome};
+
+use crate::LONGEST;
+
+/// The greatest common divisor of two numbers; the other number where one is 0.
+pub fn common_divisor(a: u64, b: u64) -> u64
+    ensures left { a % result ≡ 0 }
+    ensures right { b % result ≡ 0 }
+    ensures positive { 0 < b → 0 < result }
+{
+    let mut x = a;
+    let mut y = b;
+    while y > 0 {
+        let rest = x % y;
+        x = y;
+        y = rest;
+    }
+    x
+}
+
+/// The least common multiple of two steps, where it is no greater than the greatest length.
+pub fn common_multiple(a: u64, b: u64) -> Option<u64>
+    requires left { 0 < a }
+    requires right { 0 < b }
+    ensures multiple { IfSome result (λ m. m % b ≡ 0) }
+    ensures positive { IfSome result (λ m. 0 < m) }
+{
+    let multiple = (a / common_divisor(a, b)).checked_mul(b)?;
+    if multiple == 0 || multiple > LONGEST {
+        return None;
+    }
+    Some(multiple)
+}
