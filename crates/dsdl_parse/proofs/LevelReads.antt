@@ -4,8 +4,8 @@ use Rattle.std.proofs.lemmas.Option.{none-some}
 use Rattle.dsdl_parse.specs.declared.expr.Expr.{Expr}
 use Rattle.dsdl_parse.specs.Words.{Word, Signs, any_of, just, logics, orders, bit_signs, plus_minus, times}
 use Rattle.dsdl_parse.specs.Grammar as g
-use Rattle.dsdl_parse.specs.Grammar.{Rule, Chain, Prefixed, Power, Member, Listed, Atom, one, more, plain, signed, base, raised, alone, dotted, single, another, parens, empty, set, leaf}
-use Rattle.dsdl_parse.specs.Reading.{◌>>=◌, Reader, Readers, chain, read_chain, read_prefixed, raise, read_power, is_name_kind, members, read_member, close, comma, items, read_items, in_items, in_braces, in_parens, end_parens, end_braces, read_atom}
+use Rattle.dsdl_parse.specs.Grammar.{Atom}
+use Rattle.dsdl_parse.specs.Reading.{Readers, read_atom}
 use Rattle.dsdl_parse.specs.Reading as r
 use Rattle.dsdl_parse.proofs.Basics.{all_fail}
 use Rattle.dsdl_parse.proofs.Readers.{Begins, Reads}
@@ -15,6 +15,7 @@ use Rattle.dsdl_parse.proofs.PowerReads.{power_reads, power_first}
 use Rattle.dsdl_parse.proofs.MemberReads.{member_reads, member_first}
 use Rattle.dsdl_parse.proofs.AtomReads.{atom_reads, atom_first, opens, opens_set, closes_set}
 
+-- the signs by which a text of a level may go on
 abbrev pub goes_power : Signs
 goes_power = just (codes "**") ++ just (codes ".")
 
@@ -33,6 +34,7 @@ goes_compare = orders ++ goes_bits
 abbrev pub goes_expression : Signs
 goes_expression = logics ++ goes_compare
 
+-- the readers one level of nesting further in read the rules there
 pub record AllRead (p : Readers) (i : g.Inner) : Type 0 where
   pub room : p.room ≡ i.room
   pub expression : Reads p.expression i.expression goes_expression

@@ -5,7 +5,7 @@ use Rattle.std.proofs.lemmas.Option.{some_pair_parts}
 use Rattle.dsdl_parse.specs.declared.expr.Expr.{Expr}
 use Rattle.dsdl_parse.specs.Words.{Word, Signs, any_of, is_in}
 use Rattle.dsdl_parse.specs.Trees.{unary}
-use Rattle.dsdl_parse.specs.Grammar.{Rule, Prefixed, plain, signed}
+use Rattle.dsdl_parse.specs.Grammar.{Rule, Prefixed, plain, prefixed}
 use Rattle.dsdl_parse.specs.Reading.{Reader, read_prefixed}
 use Rattle.dsdl_parse.proofs.Basics.{bind_some, bound, chosen, all_fail, apart}
 use Rattle.dsdl_parse.proofs.Readers.{Stops, Begins, Reads}
@@ -28,7 +28,7 @@ module _ (op : Signs) (inner normal : Reader Expr) (I P : Rule) (goes : Signs) (
           go (v, f, e) h =
               let (back, eq, d) = inside.sound ws v.1 v.0 f in
               let p : (unary w v.0 ≡ x) × (v.1 ≡ rest) = some_pair_parts _ _ _ _ e in
-              (w ∷ back, ap (λ l. w ∷ l) (eq ∙ ap (λ l. back ++ l) p.1), subst (λ y. Prefixed op I P (w ∷ back) y) p.0 (signed w h d refl))
+              (w ∷ back, ap (λ l. w ∷ l) (eq ∙ ap (λ l. back ++ l) p.1), subst (λ y. Prefixed op I P (w ∷ back) y) p.0 (prefixed w h d refl))
 
       begun : (front rest : List Word) (x : Expr) → Begins op front → normal (front ++ rest) ≡ Some (x, rest) → read_prefixed op inner normal (front ++ rest) ≡ Some (x, rest)
       begun [] rest x b e = absurd b
@@ -36,10 +36,10 @@ module _ (op : Signs) (inner normal : Reader Expr) (I P : Rule) (goes : Signs) (
 
       complete_at : {front : List Word} {x : Expr} → Prefixed op I P front x → (rest : List Word) → Stops goes rest → read_prefixed op inner normal (front ++ rest) ≡ Some (x, rest)
       complete_at (plain {ws} {x} d) rest s = begun ws rest x (first ws x d) (plainly.complete ws rest x d s)
-      complete_at (signed {ws} {back} {x} w h d e) rest s =
+      complete_at (prefixed {ws} {back} {x} w h d e) rest s =
           ap (λ l. read_prefixed op inner normal (l ++ rest)) e ∙ cond-true (is_in op w) _ _ h ∙ bound _ _ _ _ (inside.complete back rest x d s) refl
 
 pub prefixed_first : {I P : Rule} (op not : Signs) → all_fail op (any_of not) ≡ true → ((ws : List Word) (x : Expr) → P ws x → Begins not ws) →
     {ws : List Word} {x : Expr} → Prefixed op I P ws x → Begins not ws
 prefixed_first op not a f (plain d) = f _ _ d
-prefixed_first op not a f (signed w h d e) = subst (Begins not) (sym e) (apart op not a w h)
+prefixed_first op not a f (prefixed w h d e) = subst (Begins not) (sym e) (apart op not a w h)

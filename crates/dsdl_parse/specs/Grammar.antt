@@ -1,4 +1,5 @@
--- The grammar of expressions: which lists of words are the text of which tree.
+-- The grammar of expressions: which lists of words are the text of which tree. What nests is parentheses,
+-- set literals, `!`, signs and the right sides of `**`.
 use Rattle.std.specs.Prelude.{◌≡◌, ℕ, zero, suc, Bool, true, false, List, [], ◌∷◌, ◌++◌, codes}
 use Rattle.dsdl_lex.specs.declared.token.TokenKind.TheVariants as k
 use Rattle.dsdl_parse.specs.declared.expr.Expr.{Expr}
@@ -19,7 +20,7 @@ pub data Chain (op : Signs) (Operand : Rule) : List Word → Expr → Type 0 whe
 -- op inner | plain
 pub data Prefixed (op : Signs) (Inner Plain : Rule) : List Word → Expr → Type 0 where
   plain : {ws : List Word} {x : Expr} → Plain ws x → Prefixed op Inner Plain ws x
-  signed : {ws back : List Word} {x : Expr} (w : Word) →
+  prefixed : {ws back : List Word} {x : Expr} (w : Word) →
       is_in op w ≡ true → Inner back x → ws ≡ w ∷ back → Prefixed op Inner Plain ws (unary w x)
 
 -- base ["**" exponent]
@@ -40,7 +41,7 @@ pub data Listed (Item : Rule) : List Word → List Expr → Type 0 where
   another : {ws front back : List Word} {x : Expr} {xs : List Expr} (w : Word) →
       Item front x → is_in (just (codes ",")) w ≡ true → Listed Item back xs → ws ≡ front ++ w ∷ back → Listed Item ws (x ∷ xs)
 
--- "(" inner ")" | "{" [inner ("," inner)*] "}" | a leaf
+-- "(" inner ")" | "{" [inner ("," inner)*] "}" | a leaf; a set, an empty one too, needs room for one more level of nesting
 pub data Atom (room : Bool) (Inner : Rule) : List Word → Expr → Type 0 where
   parens : {ws inside : List Word} {x : Expr} (o c : Word) →
       is_in (just (codes "(")) o ≡ true → Inner inside x → is_in (just (codes ")")) c ≡ true → ws ≡ o ∷ (inside ++ c ∷ []) → Atom room Inner ws x
@@ -50,9 +51,9 @@ pub data Atom (room : Bool) (Inner : Rule) : List Word → Expr → Type 0 where
       room ≡ true → is_in (just (codes "{")) o ≡ true → Listed Inner inside xs → is_in (just (codes "}")) c ≡ true → ws ≡ o ∷ (inside ++ c ∷ []) → Atom room Inner ws (set_of o xs c)
   leaf : {ws : List Word} {x : Expr} (w : Word) → IsLeaf w x → ws ≡ w ∷ [] → Atom room Inner ws x
 
--- the rules that a production one level of nesting further out names
+-- the rules for what stands one level of nesting further in
 pub record Inner : Type 1 where
-  -- whether there is one more level
+  -- whether there is such a level
   pub room : Bool
   pub expression : Rule
   pub not : Rule
@@ -60,36 +61,47 @@ pub record Inner : Type 1 where
   pub power : Rule
 
 module _ (inner : Inner) where
+  -- atom = "(" expression ")" | "{" [expression ("," expression)*] "}" | number | string | "true" | "false" | reference | name
   abbrev pub AtomOf : Rule
   AtomOf = Atom inner.room inner.expression
 
+  -- member = atom ("." name)*, power = member ["**" sign]
   abbrev pub PowerOf : Rule
   PowerOf = Power (Member AtomOf) inner.sign
 
+  -- sign = ["+" | "-"] power
   abbrev pub SignOf : Rule
   SignOf = Prefixed plus_minus inner.power PowerOf
 
+  -- product = sign (("*" | "/" | "%") sign)*
   abbrev pub ProductOf : Rule
   ProductOf = Chain times SignOf
 
+  -- sum = product (("+" | "-") product)*
   abbrev pub SumOf : Rule
   SumOf = Chain plus_minus ProductOf
 
+  -- bits = sum (("|" | "^" | "&") sum)*
   abbrev pub BitsOf : Rule
   BitsOf = Chain bit_signs SumOf
 
+  -- compare = bits (("==" | "!=" | "<=" | ">=" | "<" | ">") bits)*
   abbrev pub CompareOf : Rule
   CompareOf = Chain orders BitsOf
 
+  -- not = "!" not | compare
   abbrev pub NotOf : Rule
   NotOf = Prefixed (just (codes "!")) inner.not CompareOf
 
+  -- expression = not (("||" | "&&") not)*
   abbrev pub ExpressionOf : Rule
   ExpressionOf = Chain logics NotOf
 
+  -- the rules one level further out
   abbrev pub around : Inner
   around = record { room = true; expression = ExpressionOf; not = NotOf; sign = SignOf; power = PowerOf }
 
+-- no words at all
 abbrev pub nowhere : Rule
 nowhere ws x = ⊥
 

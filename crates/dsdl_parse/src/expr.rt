@@ -1,7 +1,7 @@
 use cy_bits::{Boxed, List, Text};
 
 /// A place in a line, counted in bytes from 0.
-#[derive(Clone, Copy, Debug, Drop, PartialEq, Eq)]
+#[derive(Clone, Copy, Debug, PartialEq, Eq)]
 pub struct Span {
     /// The place of the first byte.
     pub from: u32,

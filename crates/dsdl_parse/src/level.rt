@@ -10,7 +10,7 @@ use crate::words::{WordRef, Words};
 use dsdl_lex::TokenKind;
 
 /// A level of binary operators, from the loosest to the tightest.
-#[derive(Clone, Copy, Debug, Drop, PartialEq, Eq)]
+#[derive(Clone, Copy)]
 pub enum Level {
     /// `||` and `&&`.
     Logic,

@@ -1,7 +1,7 @@
 use cy_bits::NoMemory;
 
 /// Why words weren't read.
-#[derive(Clone, Copy, Debug, Drop, PartialEq, Eq)]
+#[derive(Clone, Copy, Debug, PartialEq, Eq)]
 pub enum ReadError {
     /// They aren't what the grammar wants there.
     Syntax,

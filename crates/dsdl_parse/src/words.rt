@@ -11,7 +11,7 @@ use std::alloc::Global;
 use std::marker::Model;
 
 /// A word of a line: a token with its bytes.
-#[derive(Clone, Copy, Drop)]
+#[derive(Clone, Copy)]
 pub struct WordRef<'a> {
     /// What the token is.
     pub kind: TokenKind,
