@@ -83,9 +83,9 @@ mutual
   newer_akin _ _ newer_simple = (akin_simple, akin_simple)
   newer_akin _ _ (newer_fixed {a = a} {b = b} k) = let h = newer_akin a b k in (akin_fixed h.0, akin_fixed h.1)
   newer_akin _ _ (newer_var {a = a} {b = b} k) = let h = newer_akin a b k in (akin_var h.0, akin_var h.1)
-  newer_akin _ _ (sealed_struct {fs = fs} {gs = gs} {f = f} s e) = (akin_struct (same_fields (not f.sealed) fs gs e), akin_struct (same_fields (not f.sealed) gs fs (sym e)))
+  newer_akin _ _ (sealed_struct {fs = fs} {gs = gs} {o = f} s e) = (akin_struct (same_fields (not f.sealed) fs gs e), akin_struct (same_fields (not f.sealed) gs fs (sym e)))
   newer_akin _ _ (sealed_union {fs = fs} {gs = gs} s e) = (akin_union (same_fields false fs gs e), akin_union (same_fields false gs fs (sym e)))
-  newer_akin _ _ (newer_struct {fs = fs} {gs = gs} {f = f} s k) =
+  newer_akin _ _ (newer_struct {fs = fs} {gs = gs} {o = f} s k) =
       let h = newer_akin_fields fs gs k in
       let open_ : true ≡ not f.sealed = ap not (sym s) in
       (akin_struct (subst (λ l. AkinFields l fs gs) open_ h.0), akin_struct (subst (λ l. AkinFields l gs fs) open_ h.1))

@@ -176,12 +176,12 @@ mutual
   newer_same _ _ (newer_simple {t = t}) = unless_is (same_prim t t) Kind Nothing (prim_self t)
   newer_same _ _ (newer_fixed {a = a} {b = b} {n = n} k) = unless_is (n == n) Kind (below Item (difference a b)) (same_self n) ∙ ap (below Item) (newer_same a b k)
   newer_same _ _ (newer_var {a = a} {b = b} {n = n} k) = unless_is (n == n) Kind (below Item (difference a b)) (same_self n) ∙ ap (below Item) (newer_same a b k)
-  newer_same _ _ (sealed_struct {fs = fs} {gs = gs} {f = f} s e) = sealed_same f (same_fields fs gs) (cond (nat_lt (field_count fs) (field_count gs)) (here Count) (difference_fields fs gs)) s (bare_same_fields fs gs e)
-  newer_same _ _ (sealed_union {fs = fs} {gs = gs} {f = f} s e) = sealed_same f (same_fields fs gs) (unless (field_count fs == field_count gs) Count (difference_fields fs gs)) s (bare_same_fields fs gs e)
-  newer_same _ _ (newer_struct {fs = fs} {gs = gs} {f = f} s k) =
+  newer_same _ _ (sealed_struct {fs = fs} {gs = gs} {o = f} s e) = sealed_same f (same_fields fs gs) (cond (nat_lt (field_count fs) (field_count gs)) (here Count) (difference_fields fs gs)) s (bare_same_fields fs gs e)
+  newer_same _ _ (sealed_union {fs = fs} {gs = gs} {o = f} s e) = sealed_same f (same_fields fs gs) (unless (field_count fs == field_count gs) Count (difference_fields fs gs)) s (bare_same_fields fs gs e)
+  newer_same _ _ (newer_struct {fs = fs} {gs = gs} {o = f} s k) =
       open_same f (same_fields fs gs) (cond (nat_lt (field_count fs) (field_count gs)) (here Count) (difference_fields fs gs)) s
       (cond-false (nat_lt (field_count fs) (field_count gs)) (here Count) (difference_fields fs gs) (le-ltb (field_count fs) (field_count gs) (fields_at_least fs gs k)) ∙ newer_fields_same fs gs k)
-  newer_same _ _ (newer_union {fs = fs} {gs = gs} {f = f} s e k) =
+  newer_same _ _ (newer_union {fs = fs} {gs = gs} {o = f} s e k) =
       open_same f (same_fields fs gs) (unless (field_count fs == field_count gs) Count (difference_fields fs gs)) s
       (unless_is (field_count fs == field_count gs) Count (difference_fields fs gs) (eq-eqb (field_count fs) (field_count gs) e) ∙ newer_fields_same fs gs k)
 

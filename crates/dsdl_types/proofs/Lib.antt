@@ -14,5 +14,6 @@ pub mod Padding
 pub mod Finding
 pub mod Comparing
 pub mod Greatest
+pub mod MetLengths
 pub mod Rows
 pub mod Reaching

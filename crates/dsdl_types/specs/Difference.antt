@@ -33,7 +33,7 @@ same_prim (PFloat w c) (PFloat v d) = (w == v) && same_bool c d
 same_prim _ _ = false
 
 abbrev pub same_outline : Outline → Outline → Bool
-same_outline f g = (f.extent == g.extent) && same_bool f.sealed g.sealed
+same_outline o p = (o.extent == p.extent) && same_bool o.sealed p.sealed
 
 -- equal, names aside
 abbrev mutual
@@ -41,8 +41,8 @@ abbrev mutual
   same (Simple t) (Simple u) = same_prim t u
   same (Fixed a n) (Fixed b m) = (n == m) && same a b
   same (Var a n) (Var b m) = (n == m) && same a b
-  same (Struct fs f) (Struct gs g) = same_outline f g && same_fields fs gs
-  same (Union fs f) (Union gs g) = same_outline f g && same_fields fs gs
+  same (Struct fs o) (Struct gs p) = same_outline o p && same_fields fs gs
+  same (Union fs o) (Union gs p) = same_outline o p && same_fields fs gs
   same _ _ = false
 
   pub same_fields : Flds → Flds → Bool
@@ -75,7 +75,7 @@ or_else (Some c) d = Some c
 -- Of two composites of one kind: their sealing, their extents, and then of sealed ones whether they are
 -- equal, of delimited ones their fields.
 abbrev pub outlined : Outline → Outline → Bool → Option Difference → Option Difference
-outlined f g equal d = unless (same_bool f.sealed g.sealed) Sealing (unless (f.extent == g.extent) Extent (if f.sealed then unless equal Sealed Nothing else d))
+outlined o p equal d = unless (same_bool o.sealed p.sealed) Sealing (unless (o.extent == p.extent) Extent (if o.sealed then unless equal Sealed Nothing else d))
 
 -- the first difference of a new and an old schema
 abbrev mutual
@@ -83,8 +83,8 @@ abbrev mutual
   difference (Simple t) (Simple u) = unless (same_prim t u) Kind Nothing
   difference (Fixed a n) (Fixed b m) = unless (n == m) Kind (below Item (difference a b))
   difference (Var a n) (Var b m) = unless (n == m) Kind (below Item (difference a b))
-  difference (Struct fs f) (Struct gs g) = outlined f g (same_fields fs gs) (if nat_lt (field_count fs) (field_count gs) then here Count else difference_fields fs gs)
-  difference (Union fs f) (Union gs g) = outlined f g (same_fields fs gs) (unless (field_count fs == field_count gs) Count (difference_fields fs gs))
+  difference (Struct fs o) (Struct gs p) = outlined o p (same_fields fs gs) (if nat_lt (field_count fs) (field_count gs) then here Count else difference_fields fs gs)
+  difference (Union fs o) (Union gs p) = outlined o p (same_fields fs gs) (unless (field_count fs == field_count gs) Count (difference_fields fs gs))
   difference _ _ = here Kind
 
   -- Fields go in order. Further fields of the new structure are no difference.

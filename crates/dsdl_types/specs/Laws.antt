@@ -1,4 +1,5 @@
--- The laws of the serialized form.
+-- The laws of the serialized form. They hold of each schema that is sound (`Sound.antt`), and so of each that
+-- keeps the rules (`Rules.antt`).
 use Rattle.std.specs.Prelude.{◌≡◌, ℕ, ◌/◌, ◌≤◌, length, Bool, true, List, ◌++◌, ◌⊎◌, take, replicate}
 use Rattle.cy_bits.specs.Bits.{bits, bytes}
 use Rattle.dsdl_types.specs.Schemas.{Sch, is_composite, extent_of}
@@ -61,6 +62,7 @@ pub record Evolves (new old : Sch) : Type 0 where
   pub to_old : (v : Val) → Fits new v → ReadsPadded old (encoding new v) (as_old new old (cast new v)) (extent_of new / 8)
   pub to_new : (w : Val) → Fits old w → ReadsPadded new (encoding old w) (as_new new old (cast old w)) (extent_of new / 8)
 
+-- Values of a newer and an older version of a type read as one another, at any depth.
 abbrev pub Evolution : Type 0
 Evolution = (new old : Sch) → IsSound new → IsSound old → Newer new old → Evolves new old
 

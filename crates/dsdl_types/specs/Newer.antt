@@ -10,8 +10,8 @@ abbrev mutual
   bare (Simple t) = Simple t
   bare (Fixed s n) = Fixed (bare s) n
   bare (Var s n) = Var (bare s) n
-  bare (Struct fs f) = Struct (bare_fields fs) f
-  bare (Union fs f) = Union (bare_fields fs) f
+  bare (Struct fs o) = Struct (bare_fields fs) o
+  bare (Union fs o) = Union (bare_fields fs) o
 
   pub bare_fields : Flds → Flds
   bare_fields End = End
@@ -27,10 +27,10 @@ mutual
     newer_simple : {t : Prim} → Newer (Simple t) (Simple t)
     newer_fixed : {a b : Sch} {n : ℕ} → Newer a b → Newer (Fixed a n) (Fixed b n)
     newer_var : {a b : Sch} {n : ℕ} → Newer a b → Newer (Var a n) (Var b n)
-    sealed_struct : {fs gs : Flds} {f : Outline} → f.sealed ≡ true → bare_fields fs ≡ bare_fields gs → Newer (Struct fs f) (Struct gs f)
-    sealed_union : {fs gs : Flds} {f : Outline} → f.sealed ≡ true → bare_fields fs ≡ bare_fields gs → Newer (Union fs f) (Union gs f)
-    newer_struct : {fs gs : Flds} {f : Outline} → f.sealed ≡ false → NewerFields fs gs → Newer (Struct fs f) (Struct gs f)
-    newer_union : {fs gs : Flds} {f : Outline} → f.sealed ≡ false → field_count fs ≡ field_count gs → NewerFields fs gs → Newer (Union fs f) (Union gs f)
+    sealed_struct : {fs gs : Flds} {o : Outline} → o.sealed ≡ true → bare_fields fs ≡ bare_fields gs → Newer (Struct fs o) (Struct gs o)
+    sealed_union : {fs gs : Flds} {o : Outline} → o.sealed ≡ true → bare_fields fs ≡ bare_fields gs → Newer (Union fs o) (Union gs o)
+    newer_struct : {fs gs : Flds} {o : Outline} → o.sealed ≡ false → NewerFields fs gs → Newer (Struct fs o) (Struct gs o)
+    newer_union : {fs gs : Flds} {o : Outline} → o.sealed ≡ false → field_count fs ≡ field_count gs → NewerFields fs gs → Newer (Union fs o) (Union gs o)
 
   -- at least the fields of the second, and these are newer
   pub data NewerFields : Flds → Flds → Type 0 where
@@ -44,8 +44,8 @@ abbrev mutual
   pub convert : Sch → Sch → Val → Val
   convert (Fixed a n) (Fixed b m) v = Items (on_items (λ x. convert a b x) (items_of v))
   convert (Var a n) (Var b m) v = Items (on_items (λ x. convert a b x) (items_of v))
-  convert (Struct fs f) (Struct gs g) v = Parts (convert_fields fs gs (parts_of v))
-  convert (Union fs f) (Union gs g) v = Tagged (tag_of v) (convert_variant fs gs (tag_of v) (inner_of v))
+  convert (Struct fs o) (Struct gs p) v = Parts (convert_fields fs gs (parts_of v))
+  convert (Union fs o) (Union gs p) v = Tagged (tag_of v) (convert_variant fs gs (tag_of v) (inner_of v))
   convert _ _ v = v
 
   pub convert_fields : Flds → Flds → Vals → Vals

@@ -37,6 +37,7 @@ abbrev pub with_field : List ℕ → Kind → Flds → Flds
 with_field name (Typed s) fs = S.Field name s fs
 with_field name (Padding n) fs = Pad n fs
 
+-- fields in order
 abbrev pub in_order : List (List ℕ × Kind) → Flds
 in_order [] = End
 in_order (f ∷ fs) = with_field f.0 f.1 (in_order fs)
@@ -45,6 +46,8 @@ abbrev pub is_saturated : Cast → Bool
 is_saturated Saturated = true
 is_saturated Truncated = false
 
+-- One layer of a schema, with what its parts stand for in their places: an item or a field's schema as its
+-- kind, a body as its fields and outline, a field with its name.
 abbrev pub at_schema : open_schema.Schema-F Kind (Flds × Outline) (List ℕ × Kind) → Kind
 at_schema open_schema.Bool = Typed (Simple PBool)
 at_schema (open_schema.Uint bits cast) = Typed (Simple (PUint bits (is_saturated cast)))
@@ -62,6 +65,7 @@ at_body b = (in_order b.fields, record { extent = b.extent; sealed = b.sealed })
 abbrev pub at_field : Field-F Kind (Flds × Outline) (List ℕ × Kind) → List ℕ × Kind
 at_field f = (f.name, f.schema)
 
+-- what a schema of the code stands for
 abbrev pub kind_of : Schema → Kind
 kind_of = fold-Schema Kind (Flds × Outline) (List ℕ × Kind) at_schema at_body at_field
 
@@ -85,6 +89,7 @@ abbrev pub in_row : List Val → Vals
 in_row [] = None
 in_row (v ∷ vs) = More v (in_row vs)
 
+-- one layer of a value, with its parts as values of the definitions
 abbrev pub at_value : open_value.Value-F Val → Val
 at_value (open_value.Bool truth) = Truth truth
 at_value (open_value.Num number) = Num number
@@ -101,6 +106,7 @@ val = fold-Value Val at_value
 abbrev pub vals : List Value → Vals
 vals values = in_row (map val values)
 
+-- a cause of the code as one of the definitions
 abbrev pub why_of : ReadWhy → Why
 why_of (W.BadTag n) = R.BadTag n
 why_of (W.BadLength n) = R.BadLength n

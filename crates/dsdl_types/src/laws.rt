@@ -1,8 +1,11 @@
 //! The laws of schemas, values and their serialized form. Each is the contract of a function that does
 //! nothing, for the schemas of `specs/Schemas.antt`.
 
-ghost use Rattle.std.specs.Prelude.{ℕ, List, ◌≤◌};
+ghost use Rattle.std.specs.Prelude.{ℕ, List, ◌≤◌, length};
 ghost use Rattle.dsdl_types.specs.Schemas.{Sch};
+ghost use Rattle.dsdl_types.specs.Values.{Val};
+ghost use Rattle.dsdl_types.specs.Fits.{Fits};
+ghost use Rattle.dsdl_types.specs.Encoding.{own_bits};
 ghost use Rattle.dsdl_types.specs.Rules.{IsSchema};
 ghost use Rattle.dsdl_types.specs.Sound.{IsSound};
 ghost use Rattle.dsdl_types.specs.Laws.{ReadsOnce, RoundTrip, WithinExtent, ZeroReads, Evolution, ZerosLaw, CutLaw, PaddedLaw, KeepsReadings};
@@ -69,9 +72,15 @@ pub fn comparison()
     ensures { (new old : Sch) → Compares new old }
 {}
 
-/// No length of a schema is above the greatest.
+/// The serialized form of a value has a length of its type.
+pub fn encoded_length()
+    ensures { (s : Sch) → IsSound s → (v : Val) → Fits s v → Length s (length (own_bits s v)) }
+{}
+
+/// The greatest length of a schema is one of its lengths, and none is above it.
 pub fn greatest_length()
-    ensures { (s : Sch) (n : ℕ) → Length s n → n ≤ longest s }
+    ensures most { (s : Sch) (n : ℕ) → Length s n → n ≤ longest s }
+    ensures met { (s : Sch) → IsSchema s → Length s (longest s) }
 {}
 
 /// Reading ends at most so many bits past the end of what is read.
