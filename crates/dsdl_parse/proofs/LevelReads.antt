@@ -96,3 +96,10 @@ all_read (suc n) = around_read _ _ (all_read n)
 
 pub reads_expression : (n : ℕ) → Reads (r.expression_of (r.within n)) (g.IsExpression n) goes_expression
 reads_expression n = (around_read _ _ (all_read n)).expression
+
+-- an expression begins with a word, and with none of these signs where no operand and no sign in front of one does
+pub expression_first : (n : ℕ) (not : Signs) → all_fail opens (any_of not) ≡ true → all_fail opens_set (any_of not) ≡ true →
+    all_fail plus_minus (any_of not) ≡ true → all_fail (just (codes "!")) (any_of not) ≡ true →
+    (ws : List Word) (x : Expr) → g.IsExpression n ws x → Begins not ws
+expression_first n not a b c d ws x e =
+    chain_first not (λ ws x e. prefixed_first (just (codes "!")) not d (firsts_compare _ _ (all_read n) not a b c) e) e

@@ -16,3 +16,9 @@ pub mod Borrowed
 pub mod Strings
 pub mod Loops
 pub mod Turns
+pub mod ScalarReads
+pub mod FormReads
+pub mod StatementReads
+pub mod LineReads
+pub mod FirstLines
+pub mod Parsed

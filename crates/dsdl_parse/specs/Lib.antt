@@ -8,3 +8,8 @@ pub mod Reading
 pub mod Levels
 pub mod Answers
 pub mod Laws
+pub mod Statement
+pub mod StatementReading
+pub mod Lines
+pub mod Ast
+pub mod LineAnswers

@@ -25,7 +25,8 @@ fn deeper(depth: u32) -> Option<u32>
     if depth == 0 { None } else { Some(depth - 1) }
 }
 
-fn is_name(kind: TokenKind) -> bool
+/// Whether a word of this kind is a name.
+pub fn is_name(kind: TokenKind) -> bool
     ensures { result ≡ r.is_name_kind kind }
 {
     match kind {

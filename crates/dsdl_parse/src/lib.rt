@@ -4,18 +4,26 @@
 
 mod descent;
 mod expr;
+mod form;
 mod laws;
 mod leaf;
 mod level;
+mod line;
 mod read_error;
 mod reference;
+mod scalar;
+mod statement;
+mod syntax;
 #[cfg(test)]
 mod tests;
+mod text;
 mod trees;
 mod whole;
 mod words;
 
 pub use expr::{Expr, ExprNode, Reference, Span};
-pub use laws::one_tree;
+pub use laws::{one_parsing, one_tree};
 pub use read_error::ReadError;
+pub use statement::{Bound, BoundSign, Form, Prefix, Scalar, Statement};
+pub use syntax::{Ast, SyntaxError, parse};
 pub use whole::parse_expression;

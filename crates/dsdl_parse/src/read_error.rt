@@ -1,4 +1,5 @@
 use cy_bits::NoMemory;
+use dsdl_lex::LexError;
 
 /// Why words weren't read.
 #[derive(Clone, Copy, Debug, PartialEq, Eq)]
@@ -17,5 +18,19 @@ impl From<NoMemory> for ReadError {
 
     fn from(_: NoMemory) -> ReadError {
         ReadError::NoMemory
+    }
+}
+
+impl From<LexError> for ReadError {
+    ghost use Rattle.std.specs.Prelude.{◌≡◌};
+    ghost use Rattle.dsdl_parse.specs.LineAnswers.{without_tokens};
+
+    ghost from_gives = { λ why e. e ≡ without_tokens why };
+
+    fn from(why: LexError) -> ReadError {
+        match why {
+            LexError::Lex { column: _ } => ReadError::Syntax,
+            LexError::NoMemory => ReadError::NoMemory,
+        }
     }
 }
