@@ -91,7 +91,7 @@ bound_sound o ws rest b ho e = first (sign_sound ws (read_sign ws).1 (read_sign 
         let same : (record { sign = (read_sign ws).0; expr = u.0.0 } ≡ b) × (u.1 ≡ rest) = some_pair_parts _ _ _ _ e in (
           o ∷ (front ++ (inside ++ u.0.1 ∷ [])),
           ap (λ l. o ∷ l)
-          (eq ∙ ap (λ l. front ++ l) (eq2 ∙ ap (λ l. inside ++ l) (is ∙ ap (λ l. u.0.1 ∷ l) same.1) ∙ sym (append_assoc inside (u.0.1 ∷ []) rest))
+              (eq ∙ ap (λ l. front ++ l) (eq2 ∙ ap (λ l. inside ++ l) (is ∙ ap (λ l. u.0.1 ∷ l) same.1) ∙ sym (append_assoc inside (u.0.1 ∷ []) rest))
               ∙ sym (append_assoc front (inside ++ u.0.1 ∷ []) rest)),
           subst (IsBound (o ∷ (front ++ (inside ++ u.0.1 ∷ [])))) same.0 (brackets o u.0.1 ho d (subst (IsExpression 64 inside) (sym a) f) hc refl),
         )
@@ -132,8 +132,7 @@ array_found : (ws rest front mid : List Word) (o : Word) (s : Scalar) (f : Form)
     (v : Bound × List Word) × (read_bound mid ≡ Some v) × ◌≡◌ {A = Option (Form × List Word)} (Some (record { scalar = s; array = Some v.0 }, v.1)) (Some (f, rest)) → FoundForm ws rest f
 array_found ws rest front mid o s f eq d ho (v, g, e) =
     let (back, is, b) = bound_sound o mid v.1 v.0 ho g in
-    let same : (record { scalar = s; array = Some v.0 } ≡ f) × (v.1 ≡ rest) = some_pair_parts _ _ _ _ e in
-    (
+    let same : (record { scalar = s; array = Some v.0 } ≡ f) × (v.1 ≡ rest) = some_pair_parts _ _ _ _ e in (
       front ++ back,
       eq ∙ ap (λ l. front ++ l) (is ∙ ap (λ l. back ++ l) same.1) ∙ sym (append_assoc front back rest),
       subst (IsForm (front ++ back)) same.0 (several d b refl),

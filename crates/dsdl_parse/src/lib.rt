@@ -11,12 +11,16 @@ mod level;
 mod line;
 mod read_error;
 mod reference;
+#[cfg(test)]
+mod samples;
 mod scalar;
 mod statement;
 mod syntax;
 #[cfg(test)]
 mod tests;
 mod text;
+#[cfg(test)]
+mod text_tests;
 mod trees;
 mod whole;
 mod words;

@@ -59,7 +59,11 @@ fn alone(form: Form) -> Option<Statement>
 }
 
 /// Reads a constant, a field or padding, which begins with this word.
-fn attribute(alloc: Global, first: WordRef<'_>, words: &mut Words<'_>) -> Result<Statement, ReadError>
+fn attribute(
+    alloc: Global,
+    first: WordRef<'_>,
+    words: &mut Words<'_>,
+) -> Result<Statement, ReadError>
     requires { IsKind first.kind first.text.now }
     ensures { Gives (read_attribute (seen first.entry ∷ words.old)) result words.new }
 {
@@ -86,7 +90,13 @@ fn statement(alloc: Global, words: &mut Words<'_>) -> Result<Statement, ReadErro
     };
     match first.kind {
         TokenKind::Split => Ok(Statement::Split),
-        TokenKind::Sign => { if first.text == b"@".as_slice() { directive(alloc, words) } else { Err(ReadError::Syntax) } }
+        TokenKind::Sign => {
+            if first.text == b"@".as_slice() {
+                directive(alloc, words)
+            } else {
+                Err(ReadError::Syntax)
+            }
+        }
         TokenKind::Name => attribute(alloc, first, words),
         TokenKind::Reference => attribute(alloc, first, words),
         TokenKind::Number => Err(ReadError::Syntax),

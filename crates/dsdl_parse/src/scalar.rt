@@ -35,7 +35,11 @@ fn digits_behind<'a>(word: &[u8], text: &'a [u8]) -> Option<&'a [u8]>
     ensures ascii { IfSome result (λ d. IsAscii d.now) }
 {
     let digits = text.strip_prefix(word)?;
-    if are_digits(digits) { Some(digits) } else { None }
+    if are_digits(digits) {
+        Some(digits)
+    } else {
+        None
+    }
 }
 
 /// Whether a name is `bool`, or `uint`, `int` or `float` with digits.
@@ -66,7 +70,11 @@ fn prefix_of(word: WordRef<'_>) -> Option<Prefix>
 }
 
 /// The primitive type with this prefix that a word is.
-fn primitive(alloc: Global, prefix: Option<Prefix>, word: WordRef<'_>) -> Result<Option<Scalar>, NoMemory>
+fn primitive(
+    alloc: Global,
+    prefix: Option<Prefix>,
+    word: WordRef<'_>,
+) -> Result<Option<Scalar>, NoMemory>
     requires { IsKind word.kind word.text.now }
     ensures { IfOk result (λ s. s ≡ primitive_of prefix word.entry.kind word.entry.text.now) }
 {

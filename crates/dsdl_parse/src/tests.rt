@@ -2,7 +2,7 @@ use crate::{Expr, ExprNode, ReadError, Reference, parse_expression};
 use dsdl_lex::tokens_of;
 use std::alloc::{AllocError, Global};
 
-fn write_reference(text: &mut String, r: &Reference) -> Result<(), AllocError> {
+pub fn write_reference(text: &mut String, r: &Reference) -> Result<(), AllocError> {
     for name in r.names.as_slice() {
         write!(text, "{}.", name.as_str())?;
     }
