@@ -1,7 +1,7 @@
 -- The first line of a text, and that a text has its lines in one way.
-use Rattle.std.proofs.Common.{◌≡◌, ◌≢◌, ℕ, zero, suc, ◌+◌, ◌-◌, ◌<◌, ◌≤◌, Bool, true, false, if◌then◌else◌, ◌==◌, List, [], ◌∷◌, ◌++◌, length, take, drop, get_or, All, refl, sym, ap, ◌∙◌, subst, arith, eq-eqb, length-append, length-drop}
+use Rattle.std.proofs.Common.{◌≡◌, ◌≢◌, ℕ, zero, suc, ◌+◌, ◌<◌, ◌≤◌, Bool, true, false, if◌then◌else◌, ◌==◌, List, [], ◌∷◌, ◌++◌, length, take, drop, get_or, refl, sym, ap, ◌∙◌, subst, arith, eq-eqb, length-append, length-drop}
 use Rattle.std.proofs.Math.Seq.{drop-cons, take-length}
-use Rattle.std.proofs.lemmas.Bool.{cond-true, cond-false, false≢true, eqb-true}
+use Rattle.std.proofs.lemmas.Bool.{cond-false, false≢true, eqb-true}
 use Rattle.std.proofs.lemmas.List.{take-append-drop, get_or-take, length-take-le}
 use Rattle.std.proofs.lemmas.List.Elements.{All-from_get_or}
 use Rattle.dsdl_parse.specs.Lines.{NoNewline, without_return, AreLines, none, last, more, IsFirstLine}

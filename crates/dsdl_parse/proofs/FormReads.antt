@@ -1,5 +1,5 @@
 -- A type is read exactly where the grammar has one.
-use Rattle.std.proofs.Common.{◌≡◌, ℕ, Bool, true, false, List, [], ◌∷◌, ◌++◌, Option, Some, None, codes, refl, sym, ap, ◌∙◌, subst, inl, inr, append_assoc}
+use Rattle.std.proofs.Common.{◌≡◌, true, List, [], ◌∷◌, ◌++◌, Option, Some, None, codes, refl, sym, ap, ◌∙◌, subst, inl, inr, append_assoc}
 use Rattle.std.proofs.lemmas.Bool.{cond-true, cond-false}
 use Rattle.std.proofs.lemmas.Option.{none-some, same_Some, some_pair_parts}
 use Rattle.dsdl_parse.specs.declared.expr.Expr.{Expr}
@@ -10,11 +10,11 @@ use Rattle.dsdl_parse.specs.declared.statement.Form.{Form}
 use Rattle.dsdl_parse.specs.declared.statement.Scalar.{Scalar}
 use Rattle.dsdl_parse.specs.Reading.{◌>>=◌, close, read_expression}
 use Rattle.dsdl_parse.specs.Grammar.{IsExpression}
-use Rattle.dsdl_parse.specs.Statement.{IsScalar, IsSign, exact, at_most, below, IsBound, brackets, IsForm, one, several}
+use Rattle.dsdl_parse.specs.Statement.{IsScalar, IsBoundSign, exact, at_most, below, IsBound, brackets, IsForm, one, several}
 use Rattle.dsdl_parse.specs.StatementReading.{read_scalar, read_sign, end_bound, with_sign, read_bound, behind_scalar, read_form}
 use Rattle.dsdl_parse.specs.Words.{Word, Signs, is_in, just}
 use Rattle.dsdl_parse.proofs.Basics.{bind_some, bound, chosen, apart, out_of_both}
-use Rattle.dsdl_parse.proofs.Readers.{Stops, Begins, begins_more, Reads}
+use Rattle.dsdl_parse.proofs.Readers.{Stops, Begins, begins_more}
 use Rattle.dsdl_parse.proofs.LevelReads.{goes_expression, reads_expression, expression_first}
 use Rattle.dsdl_parse.proofs.ScalarReads.{scalar_complete, scalar_sound}
 
@@ -37,19 +37,19 @@ exact_read (w ∷ ws) b =
     let q = out_of_both at_mosts belows w b in
     cond-false (is_in at_mosts w) _ _ q.0 ∙ cond-false (is_in belows w) _ _ q.1
 
-sign_complete : {front : List Word} {s : BoundSign} → IsSign front s → (behind : List Word) → Begins (at_mosts ++ belows) behind → read_sign (front ++ behind) ≡ (s, behind)
+sign_complete : {front : List Word} {s : BoundSign} → IsBoundSign front s → (behind : List Word) → Begins (at_mosts ++ belows) behind → read_sign (front ++ behind) ≡ (s, behind)
 sign_complete (exact e) behind b = ap (λ l. read_sign (l ++ behind)) e ∙ exact_read behind b
 sign_complete (at_most w h e) behind b = ap (λ l. read_sign (l ++ behind)) e ∙ cond-true (is_in at_mosts w) _ _ h
 sign_complete (below w h e) behind b =
     ap (λ l. read_sign (l ++ behind)) e ∙ cond-false (is_in at_mosts w) _ _ (apart belows at_mosts refl w h) ∙ cond-true (is_in belows w) _ _ h
 
-sign_sound : (ws rest : List Word) (s : BoundSign) → read_sign ws ≡ (s, rest) → (front : List Word) × (ws ≡ front ++ rest) × IsSign front s
-sign_sound [] rest s e = ([], ap (λ r. r.1) e, subst (IsSign []) (ap (λ r. r.0) e) (exact refl))
+sign_sound : (ws rest : List Word) (s : BoundSign) → read_sign ws ≡ (s, rest) → (front : List Word) × (ws ≡ front ++ rest) × IsBoundSign front s
+sign_sound [] rest s e = ([], ap (λ r. r.1) e, subst (IsBoundSign []) (ap (λ r. r.0) e) (exact refl))
 sign_sound (w ∷ ws) rest s e = elim (chosen (is_in at_mosts w) _ _ _ e) [
-  | inl h ↦ (w ∷ [], ap (λ r. w ∷ r.1) h.1, subst (IsSign (w ∷ [])) (ap (λ r. r.0) h.1) (at_most w h.0 refl))
+  | inl h ↦ (w ∷ [], ap (λ r. w ∷ r.1) h.1, subst (IsBoundSign (w ∷ [])) (ap (λ r. r.0) h.1) (at_most w h.0 refl))
   | inr h ↦ elim (chosen (is_in belows w) _ _ _ h.1) [
-    | inl g ↦ (w ∷ [], ap (λ r. w ∷ r.1) g.1, subst (IsSign (w ∷ [])) (ap (λ r. r.0) g.1) (below w g.0 refl))
-    | inr g ↦ ([], ap (λ r. r.1) g.1, subst (IsSign []) (ap (λ r. r.0) g.1) (exact refl))
+    | inl g ↦ (w ∷ [], ap (λ r. w ∷ r.1) g.1, subst (IsBoundSign (w ∷ [])) (ap (λ r. r.0) g.1) (below w g.0 refl))
+    | inr g ↦ ([], ap (λ r. r.1) g.1, subst (IsBoundSign []) (ap (λ r. r.0) g.1) (exact refl))
   ]
 ]
 
@@ -60,7 +60,7 @@ with_sign_complete s inside rest x c d h =
     bound _ _ _ _ ((reads_expression 64).complete inside (c ∷ rest) x d (apart closes goes_expression refl c h))
     (bound _ _ _ _ (cond-true (is_in closes c) _ _ h) refl)
 
-bound_complete : (front inside rest : List Word) (s : BoundSign) (x : Expr) (c : Word) → IsSign front s → IsExpression 64 inside x → is_in closes c ≡ true →
+bound_complete : (front inside rest : List Word) (s : BoundSign) (x : Expr) (c : Word) → IsBoundSign front s → IsExpression 64 inside x → is_in closes c ≡ true →
     read_bound ((front ++ (inside ++ c ∷ [])) ++ rest) ≡ Some (record { sign = s; expr = x }, rest)
 bound_complete front inside rest s x c d f h =
     let begins : Begins (at_mosts ++ belows) (inside ++ c ∷ rest) = begins_more (at_mosts ++ belows) inside (c ∷ rest) (expression_first 64 (at_mosts ++ belows) refl refl refl refl inside x f) in
@@ -83,7 +83,7 @@ FoundBound o ws rest b = (back : List Word) × (o ∷ ws ≡ back ++ rest) × Is
 bound_sound : (o : Word) (ws rest : List Word) (b : Bound) → is_in opens o ≡ true → read_bound ws ≡ Some (b, rest) → FoundBound o ws rest b
 bound_sound o ws rest b ho e = first (sign_sound ws (read_sign ws).1 (read_sign ws).0 refl)
   where
-    last : (front : List Word) → ws ≡ front ++ (read_sign ws).1 → IsSign front (read_sign ws).0 →
+    last : (front : List Word) → ws ≡ front ++ (read_sign ws).1 → IsBoundSign front (read_sign ws).0 →
         (v : Expr × List Word) → (inside : List Word) → (read_sign ws).1 ≡ inside ++ v.1 → IsExpression 64 inside v.0 →
         (u : (Expr × Word) × List Word) × (close closes v.0 v.1 ≡ Some u) × ◌≡◌ {A = Option (Bound × List Word)} (Some (record { sign = (read_sign ws).0; expr = u.0.0 }, u.1)) (Some (b, rest)) → FoundBound o ws rest b
     last front eq d v inside eq2 f (u, g, e) =
@@ -96,13 +96,13 @@ bound_sound o ws rest b ho e = first (sign_sound ws (read_sign ws).1 (read_sign 
           subst (IsBound (o ∷ (front ++ (inside ++ u.0.1 ∷ [])))) same.0 (brackets o u.0.1 ho d (subst (IsExpression 64 inside) (sym a) f) hc refl),
         )
 
-    second : (front : List Word) → ws ≡ front ++ (read_sign ws).1 → IsSign front (read_sign ws).0 →
+    second : (front : List Word) → ws ≡ front ++ (read_sign ws).1 → IsBoundSign front (read_sign ws).0 →
         (v : Expr × List Word) × (read_expression (read_sign ws).1 ≡ Some v) × ((close closes v.0 v.1 >>= end_bound (read_sign ws).0) ≡ Some (b, rest)) → FoundBound o ws rest b
     second front eq d (v, f, e) =
         let (inside, eq2, x) = (reads_expression 64).sound (read_sign ws).1 v.1 v.0 f in
         last front eq d v inside eq2 x (bind_some _ (close closes v.0 v.1) (b, rest) e)
 
-    first : (front : List Word) × (ws ≡ front ++ (read_sign ws).1) × IsSign front (read_sign ws).0 → FoundBound o ws rest b
+    first : (front : List Word) × (ws ≡ front ++ (read_sign ws).1) × IsBoundSign front (read_sign ws).0 → FoundBound o ws rest b
     first (front, eq, d) = second front eq d (bind_some _ (read_expression (read_sign ws).1) (b, rest) e)
 
 -- ---- a type

@@ -1,5 +1,5 @@
 -- A line is a statement's in one way, or in none.
-use Rattle.std.proofs.Common.{◌≡◌, ℕ, List, Option, None, Err, Result, refl, sym, ap, ◌∙◌, subst}
+use Rattle.std.proofs.Common.{◌≡◌, ℕ, List, Option, None, Err, Result, refl, sym, subst}
 use Rattle.dsdl_lex.specs.declared.line.LexError.{LexError}
 use Rattle.dsdl_lex.specs.declared.line.LexError.TheVariants as lex
 use Rattle.dsdl_lex.specs.declared.token.Token.{Token}
@@ -11,7 +11,7 @@ use Rattle.dsdl_parse.specs.Answers.{Refuses}
 use Rattle.dsdl_parse.specs.LineAnswers.{without_tokens}
 use Rattle.dsdl_parse.specs.Ast.{IsLine}
 use Rattle.dsdl_parse.specs.Statement.{IsStatement}
-use Rattle.dsdl_parse.specs.Words.{Word, words}
+use Rattle.dsdl_parse.specs.Words.{words}
 use Rattle.dsdl_parse.proofs.StatementReads.{one_statement}
 
 pub syntax_refused : {A : Type 0} (e : ReadError) (o : Option A) → Refuses e o → e ≡ Syntax → o ≡ None

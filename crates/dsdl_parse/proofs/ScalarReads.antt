@@ -1,6 +1,5 @@
 -- The type of one value is read exactly where the grammar has one.
-use Rattle.std.proofs.Common.{◌≡◌, ℕ, ◌<◌, Bool, true, false, ◌&&◌, ◌||◌, List, [], ◌∷◌, ◌++◌, length, take, drop, Option, Some, None, is_some, codes, bytes_eq, refl, sym, ap, ◌∙◌, subst, inl, inr}
-use Rattle.std.proofs.Math.Bool.{or-true}
+use Rattle.std.proofs.Common.{◌≡◌, ℕ, Bool, true, false, ◌&&◌, ◌||◌, List, [], ◌∷◌, ◌++◌, length, take, drop, Option, Some, None, is_some, codes, bytes_eq, refl, sym, ap, ◌∙◌, subst, inl, inr}
 use Rattle.std.proofs.Math.Seq.{take-append_seam, drop-append_seam}
 use Rattle.std.proofs.lemmas.Bool.{cond-true, cond-false, and_parts, or_cases}
 use Rattle.std.proofs.lemmas.List.{take-append-drop}
@@ -14,9 +13,8 @@ use Rattle.dsdl_parse.specs.declared.statement.Prefix.TheVariants as p
 use Rattle.dsdl_parse.specs.declared.statement.Scalar.{Scalar}
 use Rattle.dsdl_parse.specs.declared.statement.Scalar.TheVariants as s
 use Rattle.dsdl_parse.specs.LeafReading.{reference_of}
-use Rattle.dsdl_parse.specs.Reading.{◌>>=◌}
-use Rattle.dsdl_parse.specs.Statement.{are_digits, IsNumbered, IsPrimitive, bool, uint, int, float, IsPrefix, none, saturated, truncated, IsVoid, IsScalar, primitive, reference, void}
-use Rattle.dsdl_parse.specs.StatementReading.{digits_behind, is_primitive, prefix_of, primitive_of, void_of, plain_of, behind_prefix, with_prefix, read_scalar}
+use Rattle.dsdl_parse.specs.Statement.{are_digits, IsNumbered, IsPrimitive, bool, uint, int, float, IsPrefix, none, saturated, truncated, IsScalar, primitive, reference, void}
+use Rattle.dsdl_parse.specs.StatementReading.{digits_behind, is_primitive, prefix_of, primitive_of, plain_of, behind_prefix, with_prefix, read_scalar}
 use Rattle.dsdl_parse.specs.Words.{Word}
 use Rattle.dsdl_parse.proofs.Basics.{bind_some, bound, chosen, same_text}
 use Rattle.dsdl_parse.proofs.References.{reference_complete, reference_sound}

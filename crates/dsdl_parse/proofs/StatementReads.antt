@@ -1,26 +1,23 @@
 -- A statement is read exactly where the grammar has one.
-use Rattle.std.proofs.Common.{◌≡◌, ℕ, Bool, true, false, List, [], ◌∷◌, ◌++◌, length, Option, Some, None, codes, refl, sym, ap, ◌∙◌, subst, inl, inr, append_assoc, arith}
-use Rattle.std.proofs.lemmas.Bool.{cond-true, cond-false}
+use Rattle.std.proofs.Common.{◌≡◌, ℕ, true, false, List, [], ◌∷◌, ◌++◌, length, Option, Some, None, codes, refl, sym, ap, ◌∙◌, subst, inl, inr, append_assoc, arith}
+use Rattle.std.proofs.lemmas.Bool.{cond-true}
 use Rattle.std.proofs.lemmas.Option.{none-some, same_Some, some_pair_parts}
 use Rattle.dsdl_lex.specs.declared.token.TokenKind.{TokenKind}
 use Rattle.dsdl_lex.specs.declared.token.TokenKind.TheVariants as k
 use Rattle.dsdl_parse.specs.declared.expr.Expr.{Expr}
-use Rattle.dsdl_parse.specs.declared.statement.Bound.{Bound}
 use Rattle.dsdl_parse.specs.declared.statement.Form.{Form}
 use Rattle.dsdl_parse.specs.declared.statement.Prefix.{Prefix}
 use Rattle.dsdl_parse.specs.declared.statement.Scalar.{Scalar}
-use Rattle.dsdl_parse.specs.declared.statement.Scalar.TheVariants as scalar
 use Rattle.dsdl_parse.specs.declared.statement.Statement.{Statement}
 use Rattle.dsdl_parse.specs.declared.statement.Statement.TheVariants as s
-use Rattle.dsdl_parse.specs.Reading.{◌>>=◌, is_name_kind, read_expression}
+use Rattle.dsdl_parse.specs.Reading.{is_name_kind, read_expression}
 use Rattle.dsdl_parse.specs.Grammar.{IsExpression}
 use Rattle.dsdl_parse.specs.Statement.{IsPrefix, none, saturated, truncated, IsVoid, IsScalar, primitive, reference, void, IsForm, one, several, IsStatement, empty, split, directive, directive_of, constant, field, padding}
-use Rattle.dsdl_parse.specs.StatementReading.{read_form, read_name, behind_name, alone_of, behind_form, read_attribute, named_directive, read_directive, behind_sign, behind_first, read_statement}
+use Rattle.dsdl_parse.specs.StatementReading.{read_form, read_name, behind_name, alone_of, behind_form, read_attribute, named_directive, read_directive, behind_first, read_statement}
 use Rattle.dsdl_parse.specs.Words.{Word, Signs, any_of, on_sign, is_in, just}
 use Rattle.dsdl_parse.proofs.Basics.{bind_some, bound, chosen, append_nil}
-use Rattle.dsdl_parse.proofs.Readers.{Stops, Begins, Reads}
-use Rattle.dsdl_parse.proofs.LevelReads.{goes_expression, reads_expression, expression_first}
-use Rattle.dsdl_parse.proofs.FormReads.{FoundForm, form_complete, form_sound}
+use Rattle.dsdl_parse.proofs.LevelReads.{reads_expression, expression_first}
+use Rattle.dsdl_parse.proofs.FormReads.{form_complete, form_sound}
 
 abbrev ats : Signs
 ats = just (codes "@")

@@ -56,15 +56,15 @@ pub data IsScalar (ws : List Word) : Scalar → Type 0 where
   void : {digits : List ℕ} → IsVoid ws digits → IsScalar ws (scalar.Void digits)
 
 -- ["<=" | "<"]
-pub data IsSign (ws : List Word) : BoundSign → Type 0 where
-  exact : ws ≡ [] → IsSign ws sign.Exact
-  at_most : (w : Word) → is_in (just (codes "<=")) w ≡ true → ws ≡ w ∷ [] → IsSign ws sign.AtMost
-  below : (w : Word) → is_in (just (codes "<")) w ≡ true → ws ≡ w ∷ [] → IsSign ws sign.Below
+pub data IsBoundSign (ws : List Word) : BoundSign → Type 0 where
+  exact : ws ≡ [] → IsBoundSign ws sign.Exact
+  at_most : (w : Word) → is_in (just (codes "<=")) w ≡ true → ws ≡ w ∷ [] → IsBoundSign ws sign.AtMost
+  below : (w : Word) → is_in (just (codes "<")) w ≡ true → ws ≡ w ∷ [] → IsBoundSign ws sign.Below
 
 -- "[" ["<=" | "<"] expression "]"
 pub data IsBound (ws : List Word) : Bound → Type 0 where
   brackets : {front inside : List Word} {s : BoundSign} {x : Expr} (o c : Word) →
-      is_in (just (codes "[")) o ≡ true → IsSign front s → IsExpression 64 inside x → is_in (just (codes "]")) c ≡ true →
+      is_in (just (codes "[")) o ≡ true → IsBoundSign front s → IsExpression 64 inside x → is_in (just (codes "]")) c ≡ true →
       ws ≡ o ∷ (front ++ (inside ++ c ∷ [])) → IsBound ws (record { sign = s; expr = x })
 
 -- scalar | scalar bound

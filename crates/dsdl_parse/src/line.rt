@@ -47,7 +47,7 @@ fn directive(alloc: Global, words: &mut Words<'_>) -> Result<Statement, ReadErro
     })
 }
 
-/// What a type without a name is: a void is padding.
+/// What a type without a name is: a void alone is padding.
 fn alone(form: Form) -> Option<Statement>
     ensures { result ≡ alone_of form.scalar form.array }
 {
@@ -90,21 +90,13 @@ fn statement(alloc: Global, words: &mut Words<'_>) -> Result<Statement, ReadErro
     };
     match first.kind {
         TokenKind::Split => Ok(Statement::Split),
-        TokenKind::Sign => {
-            if first.text == b"@".as_slice() {
-                directive(alloc, words)
-            } else {
-                Err(ReadError::Syntax)
-            }
-        }
-        TokenKind::Name => attribute(alloc, first, words),
-        TokenKind::Reference => attribute(alloc, first, words),
-        TokenKind::Number => Err(ReadError::Syntax),
-        TokenKind::Str => Err(ReadError::Syntax),
+        TokenKind::Name | TokenKind::Reference => attribute(alloc, first, words),
+        TokenKind::Sign if first.text == b"@".as_slice() => directive(alloc, words),
+        _ => Err(ReadError::Syntax),
     }
 }
 
-/// The statement of a line; Syntax exactly where the line is none.
+/// The statement of a line; `Syntax` exactly where it is no line of the grammar.
 pub fn line_of(alloc: Global, line: &[u8]) -> Result<Statement, ReadError>
     requires { length line.now < 2 ^ 32 }
     ensures statement { IfOk result (λ s. IsLine line.now s) }

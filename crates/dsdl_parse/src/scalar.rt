@@ -23,6 +23,7 @@ fn all_digits(text: &[u8]) -> bool
     text.iter().all(|b| b.is_ascii_digit())
 }
 
+/// Whether a text is decimal digits, at least one.
 fn are_digits(text: &[u8]) -> bool
     ensures { result ≡ are_digits text.now }
 {
@@ -52,6 +53,7 @@ fn is_primitive(name: &[u8]) -> bool
         || digits_behind(b"float", name).is_some()
 }
 
+/// The prefix that a word is, where it is one.
 fn prefix_of(word: WordRef<'_>) -> Option<Prefix>
     ensures { result ≡ prefix_of word.entry.kind word.entry.text.now }
 {
@@ -69,7 +71,7 @@ fn prefix_of(word: WordRef<'_>) -> Option<Prefix>
     }
 }
 
-/// The primitive type with this prefix that a word is.
+/// The primitive type with this prefix that a word is, where it is one.
 fn primitive(
     alloc: Global,
     prefix: Option<Prefix>,
@@ -90,6 +92,7 @@ fn primitive(
     }
 }
 
+/// The void that a name is, where it is one.
 fn void(alloc: Global, text: &[u8]) -> Result<Option<Scalar>, NoMemory>
     ensures { IfOk result (λ s. s ≡ void_of text.now) }
 {
@@ -100,7 +103,7 @@ fn void(alloc: Global, text: &[u8]) -> Result<Option<Scalar>, NoMemory>
     Ok(Some(Scalar::Void { digits }))
 }
 
-/// The type that a word alone is.
+/// The type that a word alone is, where it is one.
 fn plain(alloc: Global, word: WordRef<'_>) -> Result<Option<Scalar>, NoMemory>
     requires { IsKind word.kind word.text.now }
     ensures { IfOk result (λ s. s ≡ plain_of word.entry.kind word.entry.text.now) }
@@ -118,7 +121,7 @@ fn plain(alloc: Global, word: WordRef<'_>) -> Result<Option<Scalar>, NoMemory>
     }
 }
 
-/// The primitive type behind a prefix.
+/// Reads the primitive type behind a prefix.
 fn behind_prefix(alloc: Global, prefix: Prefix, words: &mut Words<'_>) -> Result<Scalar, ReadError>
     ensures { Gives (behind_prefix prefix words.old) result words.new }
 {

@@ -4,7 +4,7 @@ use Rattle.dsdl_parse.specs.declared.expr.Expr.{Expr}
 use Rattle.dsdl_parse.specs.declared.statement.Form.{Form}
 use Rattle.dsdl_parse.specs.declared.statement.Statement.TheVariants as s
 use Rattle.dsdl_parse.specs.Reading.{read_expression}
-use Rattle.dsdl_parse.specs.StatementReading.{read_form, read_name, behind_name, behind_form, read_attribute}
+use Rattle.dsdl_parse.specs.StatementReading.{read_form, read_name, behind_name, read_attribute}
 use Rattle.dsdl_parse.specs.Words.{Word, is_in, just, seen}
 use Rattle.dsdl_parse.proofs.Basics.{bound}
 use Rattle.dsdl_parse.proofs.line.attribute.Goals as goal

@@ -1,4 +1,4 @@
-use Rattle.std.proofs.Common.{◌≡◌, length, sym, ap, ◌∙◌}
+use Rattle.std.proofs.Common.{◌≡◌, sym, ap, ◌∙◌}
 use Rattle.std.proofs.lemmas.Result.{err_from_is_err_and}
 use Rattle.dsdl_parse.specs.declared.read_error.ReadError.TheVariants.{Syntax}
 use Rattle.dsdl_parse.specs.StatementReading.{read_statement}

@@ -1,4 +1,4 @@
-use Rattle.std.proofs.Common.{◌≡◌, ℕ, ◌+◌, length, Err, refl, sym, ap, ◌∙◌, subst}
+use Rattle.std.proofs.Common.{◌≡◌, ℕ, ◌+◌, Err, refl, sym, ap, ◌∙◌, subst}
 use Rattle.dsdl_parse.specs.declared.read_error.ReadError.{ReadError}
 use Rattle.dsdl_parse.specs.declared.read_error.ReadError.TheVariants as read
 use Rattle.dsdl_parse.specs.declared.syntax.SyntaxError.TheVariants.{Syntax}
