@@ -1,6 +1,6 @@
 -- There is no difference exactly where a type is newer
 use Rattle.std.proofs.Common.{◌≡◌, ℕ, ◌≤◌, ◌==◌, Bool, true, false, cond, [], Option, Some, refl, sym, ap, ◌∙◌, subst, arith, inl, inr}
-use Rattle.std.specs.Prelude.{None as Nothing, nat_lt, ◌⊎◌}
+use Rattle.std.specs.Prelude.{None, nat_lt, ◌⊎◌}
 use Rattle.std.proofs.lemmas.Bool.{cond-false, cond-true, le-ltb, ltb-false, cases_Bool, eqb-true, eq-eqb, and_parts, and_from}
 use Rattle.dsdl_types.specs.Schemas.{Prim, Sch, Flds, Outline, PBool, PUint, PInt, PFloat, Simple, Fixed, Var, Struct, Union, End, Pad, Field, field_count}
 use Rattle.dsdl_types.specs.Newer.{bare, bare_fields, Newer, NewerFields, newer_simple, newer_fixed, newer_var, sealed_struct, sealed_union, newer_struct, newer_union, added, newer_pad, newer_field}
@@ -70,65 +70,65 @@ mutual
   bare_same_fields (Field name a fs) (Field name' b gs) e = and_from (same a b) (same_fields fs gs) (bare_same a b (let h : bare a ≡ bare b = cc in h)) (bare_same_fields fs gs (let h : bare_fields fs ≡ bare_fields gs = cc in h))
   bare_same_fields fs gs e = cc
 
-unless_none : (b : Bool) (c : Cause) (d : Option Difference) → unless b c d ≡ Nothing → (b ≡ true) × (d ≡ Nothing)
+unless_none : (b : Bool) (c : Cause) (d : Option Difference) → unless b c d ≡ None → (b ≡ true) × (d ≡ None)
 unless_none true c d e = (refl, e)
 unless_none false c d e = cc
 
 unless_is : (b : Bool) (c : Cause) (d : Option Difference) → b ≡ true → unless b c d ≡ d
 unless_is b c d e = ap (λ x. unless x c d) e
 
-below_none : (t : Turn) (d : Option Difference) → below t d ≡ Nothing → d ≡ Nothing
-below_none t Nothing e = refl
+below_none : (t : Turn) (d : Option Difference) → below t d ≡ None → d ≡ None
+below_none t None e = refl
 below_none t (Some d) e = cc
 
-or_none : (c d : Option Difference) → or_else c d ≡ Nothing → (c ≡ Nothing) × (d ≡ Nothing)
-or_none Nothing d e = (refl, e)
+or_none : (c d : Option Difference) → or_else c d ≡ None → (c ≡ None) × (d ≡ None)
+or_none None d e = (refl, e)
 or_none (Some c) d e = cc
 
-or_is : (c d : Option Difference) → c ≡ Nothing → d ≡ Nothing → or_else c d ≡ Nothing
+or_is : (c d : Option Difference) → c ≡ None → d ≡ None → or_else c d ≡ None
 or_is c d e h = ap (λ x. or_else x d) e ∙ h
 
 -- what a composite that is no different shows
 record Alike (f g : Outline) (equal : Bool) (d : Option Difference) : Type 0 where
   outline : f ≡ g
-  sealed_or : ((f.sealed ≡ true) × (equal ≡ true)) ⊎ ((f.sealed ≡ false) × (d ≡ Nothing))
+  sealed_or : ((f.sealed ≡ true) × (equal ≡ true)) ⊎ ((f.sealed ≡ false) × (d ≡ None))
 
-alike : (f g : Outline) (equal : Bool) (d : Option Difference) → outlined f g equal d ≡ Nothing → Alike f g equal d
+alike : (f g : Outline) (equal : Bool) (d : Option Difference) → outlined f g equal d ≡ None → Alike f g equal d
 alike f g equal d e =
-    let one = unless_none (same_bool f.sealed g.sealed) Sealing (unless (f.extent == g.extent) Extent (cond f.sealed (unless equal Sealed Nothing) d)) e in
-    let two = unless_none (f.extent == g.extent) Extent (cond f.sealed (unless equal Sealed Nothing) d) one.1 in
+    let one = unless_none (same_bool f.sealed g.sealed) Sealing (unless (f.extent == g.extent) Extent (cond f.sealed (unless equal Sealed None) d)) e in
+    let two = unless_none (f.extent == g.extent) Extent (cond f.sealed (unless equal Sealed None) d) one.1 in
     record {
       outline = outline_eq f g (eqb-true f.extent g.extent two.0) (same_bool_is f.sealed g.sealed one.0);
       sealed_or = elim (cases_Bool f.sealed) [
-        | inl y ↦ inl (y, (unless_none equal Sealed Nothing (sym (cond-true f.sealed (unless equal Sealed Nothing) d y) ∙ two.1)).0)
-        | inr n ↦ inr (n, sym (cond-false f.sealed (unless equal Sealed Nothing) d n) ∙ two.1)
+        | inl y ↦ inl (y, (unless_none equal Sealed None (sym (cond-true f.sealed (unless equal Sealed None) d y) ∙ two.1)).0)
+        | inr n ↦ inr (n, sym (cond-false f.sealed (unless equal Sealed None) d n) ∙ two.1)
       ];
     }
 
-outlined_same : (f : Outline) (equal : Bool) (d : Option Difference) → cond f.sealed (unless equal Sealed Nothing) d ≡ Nothing → outlined f f equal d ≡ Nothing
+outlined_same : (f : Outline) (equal : Bool) (d : Option Difference) → cond f.sealed (unless equal Sealed None) d ≡ None → outlined f f equal d ≡ None
 outlined_same f equal d h =
-    unless_is (same_bool f.sealed f.sealed) Sealing (unless (f.extent == f.extent) Extent (cond f.sealed (unless equal Sealed Nothing) d)) (same_bool_self f.sealed)
-    ∙ unless_is (f.extent == f.extent) Extent (cond f.sealed (unless equal Sealed Nothing) d) (same_self f.extent)
+    unless_is (same_bool f.sealed f.sealed) Sealing (unless (f.extent == f.extent) Extent (cond f.sealed (unless equal Sealed None) d)) (same_bool_self f.sealed)
+    ∙ unless_is (f.extent == f.extent) Extent (cond f.sealed (unless equal Sealed None) d) (same_self f.extent)
     ∙ h
 
-sealed_same : (f : Outline) (equal : Bool) (d : Option Difference) → f.sealed ≡ true → equal ≡ true → outlined f f equal d ≡ Nothing
-sealed_same f equal d s e = outlined_same f equal d (cond-true f.sealed (unless equal Sealed Nothing) d s ∙ unless_is equal Sealed Nothing e)
+sealed_same : (f : Outline) (equal : Bool) (d : Option Difference) → f.sealed ≡ true → equal ≡ true → outlined f f equal d ≡ None
+sealed_same f equal d s e = outlined_same f equal d (cond-true f.sealed (unless equal Sealed None) d s ∙ unless_is equal Sealed None e)
 
-open_same : (f : Outline) (equal : Bool) (d : Option Difference) → f.sealed ≡ false → d ≡ Nothing → outlined f f equal d ≡ Nothing
-open_same f equal d s e = outlined_same f equal d (cond-false f.sealed (unless equal Sealed Nothing) d s ∙ e)
+open_same : (f : Outline) (equal : Bool) (d : Option Difference) → f.sealed ≡ false → d ≡ None → outlined f f equal d ≡ None
+open_same f equal d s e = outlined_same f equal d (cond-false f.sealed (unless equal Sealed None) d s ∙ e)
 
 fields_at_least : (fs gs : Flds) → NewerFields fs gs → field_count gs ≤ field_count fs
 fields_at_least _ _ added = omega arith
 fields_at_least _ _ (newer_pad {fs = fs} {gs = gs} k) = omega (arith, fields_at_least fs gs k)
 fields_at_least _ _ (newer_field {fs = fs} {gs = gs} j k) = omega (arith, fields_at_least fs gs k)
 
-not_fewer : (b : Bool) (d : Option Difference) → cond b (here Count) d ≡ Nothing → (b ≡ false) × (d ≡ Nothing)
+not_fewer : (b : Bool) (d : Option Difference) → cond b (here Count) d ≡ None → (b ≡ false) × (d ≡ None)
 not_fewer true d e = cc
 not_fewer false d e = (refl, e)
 
 mutual
-  newer_from : (a b : Sch) → difference a b ≡ Nothing → Newer a b
-  newer_from (Simple t) (Simple u) e = subst (λ x. Newer (Simple t) (Simple x)) (prim_is t u (unless_none (same_prim t u) Kind Nothing e).0) newer_simple
+  newer_from : (a b : Sch) → difference a b ≡ None → Newer a b
+  newer_from (Simple t) (Simple u) e = subst (λ x. Newer (Simple t) (Simple x)) (prim_is t u (unless_none (same_prim t u) Kind None e).0) newer_simple
   newer_from (Fixed a n) (Fixed b m) e =
       let p = unless_none (n == m) Kind (below Item (difference a b)) e in
       subst (λ x. Newer (Fixed a n) (Fixed b x)) (eqb-true n m p.0) (newer_fixed (newer_from a b (below_none Item (difference a b) p.1)))
@@ -158,11 +158,11 @@ mutual
       ])
   newer_from a b e = cc
 
-  newer_fields_from : (fs gs : Flds) → difference_fields fs gs ≡ Nothing → field_count gs ≤ field_count fs → NewerFields fs gs
+  newer_fields_from : (fs gs : Flds) → difference_fields fs gs ≡ None → field_count gs ≤ field_count fs → NewerFields fs gs
   newer_fields_from fs End e h = added
   newer_fields_from (Pad n fs) (Pad m gs) e h =
-      let p = or_none (below (Named []) (unless (n == m) Kind Nothing)) (difference_fields fs gs) e in
-      let q = unless_none (n == m) Kind Nothing (below_none (Named []) (unless (n == m) Kind Nothing) p.0) in
+      let p = or_none (below (Named []) (unless (n == m) Kind None)) (difference_fields fs gs) e in
+      let q = unless_none (n == m) Kind None (below_none (Named []) (unless (n == m) Kind None) p.0) in
       subst (λ x. NewerFields (Pad n fs) (Pad x gs)) (eqb-true n m q.0) (newer_pad (newer_fields_from fs gs p.1 (omega arith)))
   newer_fields_from (Field name a fs) (Field name' b gs) e h =
       let p = or_none (below (Named name) (difference a b)) (difference_fields fs gs) e in
@@ -172,8 +172,8 @@ mutual
   newer_fields_from fs gs e h = cc
 
 mutual
-  newer_same : (a b : Sch) → Newer a b → difference a b ≡ Nothing
-  newer_same _ _ (newer_simple {t = t}) = unless_is (same_prim t t) Kind Nothing (prim_self t)
+  newer_same : (a b : Sch) → Newer a b → difference a b ≡ None
+  newer_same _ _ (newer_simple {t = t}) = unless_is (same_prim t t) Kind None (prim_self t)
   newer_same _ _ (newer_fixed {a = a} {b = b} {n = n} k) = unless_is (n == n) Kind (below Item (difference a b)) (same_self n) ∙ ap (below Item) (newer_same a b k)
   newer_same _ _ (newer_var {a = a} {b = b} {n = n} k) = unless_is (n == n) Kind (below Item (difference a b)) (same_self n) ∙ ap (below Item) (newer_same a b k)
   newer_same _ _ (sealed_struct {fs = fs} {gs = gs} {o = f} s e) = sealed_same f (same_fields fs gs) (cond (nat_lt (field_count fs) (field_count gs)) (here Count) (difference_fields fs gs)) s (bare_same_fields fs gs e)
@@ -185,15 +185,15 @@ mutual
       open_same f (same_fields fs gs) (unless (field_count fs == field_count gs) Count (difference_fields fs gs)) s
       (unless_is (field_count fs == field_count gs) Count (difference_fields fs gs) (eq-eqb (field_count fs) (field_count gs) e) ∙ newer_fields_same fs gs k)
 
-  newer_fields_same : (fs gs : Flds) → NewerFields fs gs → difference_fields fs gs ≡ Nothing
+  newer_fields_same : (fs gs : Flds) → NewerFields fs gs → difference_fields fs gs ≡ None
   newer_fields_same _ _ (added {fs = fs}) = none_added fs
     where
-      none_added : (fs : Flds) → difference_fields fs End ≡ Nothing
+      none_added : (fs : Flds) → difference_fields fs End ≡ None
       none_added End = refl
       none_added (Pad n fs) = refl
       none_added (Field name s fs) = refl
   newer_fields_same _ _ (newer_pad {fs = fs} {gs = gs} {n = n} k) =
-      or_is (below (Named []) (unless (n == n) Kind Nothing)) (difference_fields fs gs) (ap (below (Named [])) (unless_is (n == n) Kind Nothing (same_self n))) (newer_fields_same fs gs k)
+      or_is (below (Named []) (unless (n == n) Kind None)) (difference_fields fs gs) (ap (below (Named [])) (unless_is (n == n) Kind None (same_self n))) (newer_fields_same fs gs k)
   newer_fields_same _ _ (newer_field {name = name} {a = a} {b = b} {fs = fs} {gs = gs} j k) =
       or_is (below (Named name) (difference a b)) (difference_fields fs gs) (ap (below (Named name)) (newer_same a b j)) (newer_fields_same fs gs k)
 

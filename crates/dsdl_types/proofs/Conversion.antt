@@ -5,7 +5,7 @@ use Rattle.std.proofs.lemmas.Bool.{ltb-true, true≢false}
 use Rattle.std.proofs.lemmas.List.{append-nil, length-replicate, drop_at}
 use Rattle.cy_bits.specs.Bits.{number, bits_of, zeros, gap}
 use Rattle.dsdl_types.specs.Schemas.{Prim, Sch, Flds, Outline, Simple, Fixed, Var, Struct, Union, End, Pad, Field, is_aligned, is_delimited, prefix, width, variants}
-use Rattle.dsdl_types.specs.Values.{Val, Vals, Items, Parts, Tagged, None, More, count, on_items}
+use Rattle.dsdl_types.specs.Values.{Val, Vals, Items, Parts, Tagged, Empty, More, count, on_items}
 use Rattle.dsdl_types.specs.Reading.{Read, Got, Name, Index, value_of, and_then, under, delimited, aligned, align, own, fields, variant, part, row}
 use Rattle.dsdl_types.specs.Encoding.{own_bits, field_bits, variant_bits, part_bits, each, counted, padded, lead, simple_bits, raw}
 use Rattle.dsdl_types.specs.Cast.{cast_simple, cast, cast_fields, cast_variant}
@@ -82,7 +82,7 @@ row_reads : (f : ℕ → List Bool → Read Val) (g : Val → List Bool) (c k : 
     ((x : Val) → P x → (p : ℕ) (tail : List Bool) → A p → f p (g x ++ tail) ≡ Got (k (c x)) (p + length (g x)) tail) →
     ((x : Val) (p : ℕ) → A p → A (p + length (g x))) →
     (vs : Vals) → AllOf P vs → (i p : ℕ) (tail : List Bool) → A p → row f (count vs) i p (each g vs ++ tail) ≡ Got (on_items k (on_items c vs)) (p + length (each g vs)) tail
-row_reads f g c k P A h next None a i p tail at = let e : p ≡ p + 0 = omega arith in ap (λ n. Got None n tail) e
+row_reads f g c k P A h next Empty a i p tail at = let e : p ≡ p + 0 = omega arith in ap (λ n. Got Empty n tail) e
 row_reads f g c k P A h next (More v vs) a i p tail at =
     let here = h v a.0 p (each g vs ++ tail) at in
     let rest = row_reads f g c k P A h next vs a.1 (suc i) (p + length (g v)) tail (next v p at) in
@@ -114,7 +114,7 @@ lead_whole : (d : Bool) (p q : ℕ) → p % 8 ≡ q % 8 → d ≡ true → (p + 
 lead_whole false p q h e = cc
 lead_whole true p q h e = omega (arith, length-replicate (gap q) false)
 
-convert_end : (fs : Flds) (vs : Vals) → convert_fields fs End vs ≡ None
+convert_end : (fs : Flds) (vs : Vals) → convert_fields fs End vs ≡ Empty
 convert_end End vs = refl
 convert_end (Pad n fs) vs = refl
 convert_end (Field name s fs) vs = refl
@@ -254,7 +254,7 @@ mutual
             ∙ z.is;
         exact = λ x. let y = z.exact x in (y.0 ∙ place, y.1);
       }
-  fields_read l _ _ (akin_field {name' = name} {a = a} {b = b} {fs = fs} {gs = gs} k m) i j None h p q tail e ends = absurd h
+  fields_read l _ _ (akin_field {name' = name} {a = a} {b = b} {fs = fs} {gs = gs} k m) i j Empty h p q tail e ends = absurd h
   fields_read l _ _ (akin_field {name' = name} {a = a} {b = b} {fs = fs} {gs = gs} k m) i j (More v vs) h p q tail e ends =
       let front = lead (is_aligned a) q in
       let here = part_bits a v in

@@ -6,7 +6,7 @@ use Rattle.std.proofs.lemmas.Bool.{cond-true, cases_lt, lt-ltb, true≢false}
 use Rattle.std.proofs.lemmas.List.{take-take, drop-take}
 use Rattle.cy_bits.specs.Bits.{number, gap}
 use Rattle.dsdl_types.specs.Schemas.{Prim, Sch, Flds, Simple, Fixed, Var, Struct, Union, End, Pad, Field, is_aligned, is_delimited, prefix, width, variants, extent_of}
-use Rattle.dsdl_types.specs.Values.{Val, Vals, Items, Parts, Tagged, None, More}
+use Rattle.dsdl_types.specs.Values.{Val, Vals, Items, Parts, Tagged, Empty, More}
 use Rattle.dsdl_types.specs.Reading.{Read, Got, Bad, Step, Name, Index, BadDelimiter, BadLength, value_of, and_then, under, within, delimited, aligned, align, own, fields, variant, part, row}
 use Rattle.dsdl_types.specs.Greatest.{longest, longest_fields, longest_variant, as_part, up, from_lead}
 use Rattle.dsdl_types.specs.DelimiterCounts.{on_got, count_fits, at_aligned, row_fits, CountsFit, FieldsFit, VariantFits}
@@ -113,7 +113,7 @@ cut_map e b P k (Got a q y) r' z = (z.0, z.1, ap (λ r. and_then r (λ a. Got (k
 cut_map e b P k (Bad path why) r' z = ap (λ r. and_then r (λ a. Got (k a))) z
 
 cuts_row : (f : ℕ → List Bool → Read Val) (W : ℕ → List Bool → Type 0) (A : ℕ → Type 0) (m : ℕ) → Cuts f W A A (λ p. p + m) → (n i : ℕ) → Cuts (row f n i) (row_fits f W n) A A (λ p. p + n * m)
-cuts_row f W A m h zero i = λ p e x at w b. cut_more e p (p + 0 * m) A A (row f 0 i p x) (row f 0 i p (take (e - p) x)) (omega arith) (λ q a. a) (cut_got e p A None x at)
+cuts_row f W A m h zero i = λ p e x at w b. cut_more e p (p + 0 * m) A A (row f 0 i p x) (row f 0 i p (take (e - p) x)) (omega arith) (λ q a. a) (cut_got e p A Empty x at)
 cuts_row f W A m h (suc n) i = λ p e x at w b.
     let times : suc n * m ≡ m + n * m = grind arith in
     cut_then e (p + m) (p + suc n * m) A A (λ v q y. and_then (row f n (suc i) q y) (λ vs. Got (More v vs))) (λ v q y. Unit {0}) (under (Index i) (f p x)) (under (Index i) (f p (take (e - p) x)))
@@ -245,7 +245,7 @@ mutual
       (cuts_variant fs n n (p + k) e (drop k x) (sum_whole p k whole (prefix_whole (variants fs - 1))) w (omega arith))))
 
   pub cuts_fields : (fs : Flds) → Cuts (fields fs) (FieldsFit fs) (λ _. Unit {0}) (λ _. Unit {0}) (λ p. longest_fields fs p)
-  cuts_fields End = λ p e x at w b. cut_got e p (λ _. Unit {0}) None x tt
+  cuts_fields End = λ p e x at w b. cut_got e p (λ _. Unit {0}) Empty x tt
   cuts_fields (Pad n fs) = λ p e x at w b.
       subst (λ z. CutTo e (longest_fields fs (p + n)) (λ _. Unit {0}) (fields fs (p + n) (drop n x)) (fields fs (p + n) z)) (sym (drop_cut n p e x (omega (arith, fields_from fs (p + n)))))
       (cuts_fields fs (p + n) e (drop n x) tt w b)

@@ -4,7 +4,7 @@ use Rattle.std.proofs.Math.Seq.{take-append-add}
 use Rattle.std.specs.Prelude.{◌⊎◌}
 use Rattle.cy_bits.specs.Bits.{bits, bytes, bytes_up_to, zeros}
 use Rattle.dsdl_types.specs.Schemas.{Sch, Flds, Simple, Fixed, Var, Struct, Union, End, Pad, Field, is_aligned, is_composite, is_delimited, extent_of}
-use Rattle.dsdl_types.specs.Values.{Val, Vals, Items, Parts, Tagged, None, More, on_items}
+use Rattle.dsdl_types.specs.Values.{Val, Vals, Items, Parts, Tagged, Empty, More, on_items}
 use Rattle.dsdl_types.specs.Reading.{Read, Got, Bad, Step, Why, own}
 use Rattle.dsdl_types.specs.Encoding.{own_bits}
 use Rattle.dsdl_types.specs.Fits.{Fits, FitFields, FitsVariant, AllOf}
@@ -110,7 +110,7 @@ bad_why : (path path' : List Step) (why why' : Why) → bad path why ≡ bad pat
 bad_why path path' why why' e = cc
 
 items_same : (s : Sch) → ((v : Val) → Fits s v → convert s s (cast s v) ≡ cast s v) → (vs : Vals) → AllOf (Fits s) vs → on_items (convert s s) (on_items (cast s) vs) ≡ on_items (cast s) vs
-items_same s h None f = refl
+items_same s h Empty f = refl
 items_same s h (More v vs) f = λ i. More (h v f.0 i) (items_same s h vs f.1 i)
 
 -- A type reads its own values back
@@ -129,7 +129,7 @@ mutual
   fields_same : (fs : Flds) (vs : Vals) → FitFields fs vs → convert_fields fs fs (cast_fields fs vs) ≡ cast_fields fs vs
   fields_same End vs f = refl
   fields_same (Pad n fs) vs f = fields_same fs vs f
-  fields_same (Field name s fs) None f = absurd f
+  fields_same (Field name s fs) Empty f = absurd f
   fields_same (Field name s fs) (More v vs) f = λ i. More (own_same s v f.0 i) (fields_same fs vs f.1 i)
 
   variant_same : (fs : Flds) (k : ℕ) (v : Val) → FitsVariant fs k v → convert_variant fs fs k (cast_variant fs k v) ≡ cast_variant fs k v

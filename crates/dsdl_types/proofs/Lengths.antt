@@ -5,7 +5,7 @@ use Rattle.std.proofs.Math.Nat.{mul-le-mul_right}
 use Rattle.std.specs.Prelude.{nat_lt}
 use Rattle.cy_bits.specs.Bits.{bits_of, zeros, gap}
 use Rattle.dsdl_types.specs.Schemas.{Prim, Sch, Flds, Simple, Fixed, Var, Struct, Union, End, Pad, Field, is_aligned, is_delimited, prefix, width, variants, extent_of}
-use Rattle.dsdl_types.specs.Values.{Val, Vals, Items, Parts, Tagged, None, More, count, items_of, parts_of, tag_of, inner_of}
+use Rattle.dsdl_types.specs.Values.{Val, Vals, Items, Parts, Tagged, Empty, More, count, items_of, parts_of, tag_of, inner_of}
 use Rattle.dsdl_types.specs.Encoding.{own_bits, field_bits, variant_bits, part_bits, each, counted, padded, lead, raw}
 use Rattle.dsdl_types.specs.Fits.{Fits, FitFields, FitsVariant, AreItems, AllOf}
 use Rattle.dsdl_types.specs.Greatest.{longest, longest_fields, longest_variant, as_part, up, from_lead}
@@ -50,7 +50,7 @@ counted_whole false l h = h
 counted_whole true l h = omega (arith, counted_length true l)
 
 pub each_whole : (f : Val → List Bool) → ((v : Val) → length (f v) % 8 ≡ 0) → (vs : Vals) → length (each f vs) % 8 ≡ 0
-each_whole f h None = refl
+each_whole f h Empty = refl
 each_whole f h (More v vs) = omega (arith, length-append (f v) (each f vs), h v, each_whole f h vs)
 
 -- what is aligned takes whole bytes
@@ -91,7 +91,7 @@ suc_times : (n m : ℕ) → suc n * m ≡ m + n * m
 suc_times n m = grind arith
 
 each_most : (f : Val → List Bool) (P : Val → Type 0) (m : ℕ) → ((v : Val) → P v → length (f v) ≤ m) → (vs : Vals) → AllOf P vs → length (each f vs) ≤ count vs * m
-each_most f P m h None a = omega arith
+each_most f P m h Empty a = omega arith
 each_most f P m h (More v vs) a = omega (arith, length-append (f v) (each f vs), h v a.0, each_most f P m h vs a.1, suc_times (count vs) m)
 
 items_most : (f : Val → List Bool) (P : Val → Type 0) (N : ℕ → Type 0) (m n : ℕ) → ((v : Val) → P v → length (f v) ≤ m) → ((k : ℕ) → N k → k ≤ n) → (v : Val) → AreItems N P v → length (each f (items_of v)) ≤ n * m
@@ -125,7 +125,7 @@ mutual
   fields_most End p q vs i h k = omega arith
   fields_most (Pad n fs) p q vs i h k =
       omega (arith, length-append (zeros n) (field_bits fs (p + n) vs), length-replicate n false, fields_most fs (p + n) (q + n) vs i h (omega arith))
-  fields_most (Field name s fs) p q None i h k = absurd h
+  fields_most (Field name s fs) p q Empty i h k = absurd h
   fields_most (Field name s fs) p q (More v vs) i h k =
       let l = length (lead (is_aligned s) p) in
       let m = length (part_bits s v) in

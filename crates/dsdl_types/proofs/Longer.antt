@@ -5,7 +5,7 @@ use Rattle.std.proofs.lemmas.Bool.{ltb-false}
 use Rattle.std.proofs.lemmas.List.{take-append-le, drop-append-le}
 use Rattle.cy_bits.specs.Bits.{number, zeros, gap}
 use Rattle.dsdl_types.specs.Schemas.{Prim, Sch, Flds, Simple, Fixed, Var, Struct, Union, End, Pad, Field, is_aligned, is_delimited, prefix, width, variants}
-use Rattle.dsdl_types.specs.Values.{Val, Items, Parts, Tagged, None, More}
+use Rattle.dsdl_types.specs.Values.{Val, Items, Parts, Tagged, Empty, More}
 use Rattle.dsdl_types.specs.Reading.{Read, Got, Bad, Step, Name, Index, Why, BadDelimiter, BadLength, value_of, and_then, under, within, delimited, aligned, align, own, fields, variant, part, row}
 use Rattle.cy_bits.proofs.BitFacts.{number_zeros, drop_zeros, take_zeros}
 use Rattle.dsdl_types.proofs.Steps.{step_is, delimited_is}
@@ -126,7 +126,7 @@ longer_align : {A B : Type 0} (g : A → B) (a : A) → Longer (align (g a))
 longer_align g a = longer_skip gap (λ p x. Got (g a) p x) (longer_got g a)
 
 longer_row : (f : ℕ → List Bool → Read Val) → Longer f → (n i : ℕ) → Longer (row f n i)
-longer_row f h zero i = longer_got (λ vs. vs) None
+longer_row f h zero i = longer_got (λ vs. vs) Empty
 longer_row f h (suc n) i =
     longer_then (λ p x. under (Index i) (f p x)) (λ v p x. and_then (row f n (suc i) p x) (λ vs. Got (More v vs)))
     (longer_under (Index i) f h)
@@ -146,7 +146,7 @@ mutual
       (λ n. longer_then (variant fs n n) (λ v. align (Tagged n v)) (longer_variant fs n n) (λ v. longer_align (λ u. Tagged n u) v))
 
   pub longer_fields : (fs : Flds) → Longer (fields fs)
-  longer_fields End = longer_got (λ vs. vs) None
+  longer_fields End = longer_got (λ vs. vs) Empty
   longer_fields (Pad n fs) = longer_skip (λ _. n) (fields fs) (longer_fields fs)
   longer_fields (Field name s fs) =
       longer_then (λ p x. under (Name name) (aligned (is_aligned s) (part s) p x)) (λ v p x. and_then (fields fs p x) (λ vs. Got (More v vs)))

@@ -5,7 +5,7 @@ use Rattle.std.proofs.lemmas.List.{length-replicate}
 use Rattle.cy_bits.specs.Bits.{bits_of, zeros, gap}
 use Rattle.cy_bits.proofs.BitFacts.{length_bits_of}
 use Rattle.dsdl_types.specs.Schemas.{Prim, Sch, Flds, Simple, Fixed, Var, Struct, Union, End, Pad, Field, is_aligned, is_delimited, prefix, width, variants, extent_of}
-use Rattle.dsdl_types.specs.Values.{Val, Vals, Items, Parts, Tagged, None, More, count, items_of}
+use Rattle.dsdl_types.specs.Values.{Val, Vals, Items, Parts, Tagged, Empty, More, count, items_of}
 use Rattle.dsdl_types.specs.Cast.{cast_simple}
 use Rattle.dsdl_types.specs.Fits.{Fits, FitFields, FitsVariant, AreItems, AllOf}
 use Rattle.dsdl_types.specs.Encoding.{own_bits, field_bits, variant_bits, part_bits, each, counted, lead, raw}
@@ -26,7 +26,7 @@ part_size s v i f h =
     (λ d. (own_whole s v (delimited_aligned s d), omega (arith, own_most s v i f, longest_extent s i d))) h
 
 each_in_row : (f : Val → List Bool) (P : Val → Type 0) (Q : ℕ → Type 0) → ((v : Val) → P v → Q (length (f v))) → (vs : Vals) → AllOf P vs → InRow Q (count vs) (length (each f vs))
-each_in_row f P Q h None a = refl
+each_in_row f P Q h Empty a = refl
 each_in_row f P Q h (More v vs) a = (length (f v), length (each f vs), h v a.0, each_in_row f P Q h vs a.1, length-append (f v) (each f vs))
 
 items_in_row : (f : Val → List Bool) (P : Val → Type 0) (N : ℕ → Type 0) (Q : ℕ → Type 0) → ((v : Val) → P v → Q (length (f v))) → (v : Val) → AreItems N P v →
@@ -69,7 +69,7 @@ mutual
       omega (arith, length-append (zeros n) (field_bits fs (p + n) vs), length-replicate n false)
       in
       subst (λ m. EndsAt fs (p + n) m) e (fields_end fs (p + n) vs i h)
-  fields_end (Field name s fs) p None i h = absurd h
+  fields_end (Field name s fs) p Empty i h = absurd h
   fields_end (Field name s fs) p (More v vs) i h =
       let l = length (lead (is_aligned s) p) in
       let m = length (part_bits s v) in

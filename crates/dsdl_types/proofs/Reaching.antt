@@ -6,7 +6,7 @@ use Rattle.std.proofs.lemmas.List.{length-drop}
 use Rattle.std.proofs.Math.Nat.{mul-le-mul_right}
 use Rattle.cy_bits.specs.Bits.{number, gap}
 use Rattle.dsdl_types.specs.Schemas.{Prim, Sch, Flds, Simple, Fixed, Var, Struct, Union, End, Pad, Field, is_aligned, is_delimited, prefix, width, variants}
-use Rattle.dsdl_types.specs.Values.{Val, Items, Parts, Tagged, None, More}
+use Rattle.dsdl_types.specs.Values.{Val, Items, Parts, Tagged, Empty, More}
 use Rattle.dsdl_types.specs.Reading.{Read, Got, Bad, Step, Name, Index, BadDelimiter, BadLength, value_of, and_then, under, within, delimited, aligned, align, own, fields, variant, part, row}
 use Rattle.dsdl_types.specs.Reach.{header_or, reach, reach_fields, reach_variant, Reaches}
 use Rattle.dsdl_types.proofs.Longer.{first_of_two, under_got, cond_got, within_got}
@@ -58,7 +58,7 @@ reach_align : {A B : Type 0} (g : A → B) (a : A) → Reaches (align (g a)) 7
 reach_align g a = reach_skip gap 7 (λ p x. Got (g a) p x) 0 gap_most (reach_got g a)
 
 reach_row : (f : ℕ → List Bool → Read Val) (m : ℕ) → Reaches f m → (n i : ℕ) → Reaches (row f n i) (n * m)
-reach_row f m h zero i = more_reach (row f 0 i) 0 (0 * m) (omega arith) (reach_got (λ vs. vs) None)
+reach_row f m h zero i = more_reach (row f 0 i) 0 (0 * m) (omega arith) (reach_got (λ vs. vs) Empty)
 reach_row f m h (suc n) i =
     let times : suc n * m ≡ m + (n * m + 0) = grind arith in
     more_reach (row f (suc n) i) (m + (n * m + 0)) (suc n * m) (omega arith)
@@ -90,7 +90,7 @@ mutual
       (λ n. reach_then (variant fs n n) (λ v. align (Tagged n v)) (reach_variant fs) 7 (variant_reach fs n n) (λ v. reach_align (λ u. Tagged n u) v))
 
   pub fields_reach : (fs : Flds) → Reaches (fields fs) (reach_fields fs)
-  fields_reach End = reach_got (λ vs. vs) None
+  fields_reach End = reach_got (λ vs. vs) Empty
   fields_reach (Pad n fs) = reach_skip (λ _. n) n (fields fs) (reach_fields fs) (λ p. omega arith) (fields_reach fs)
   fields_reach (Field name s fs) =
       let m = header_or (is_delimited s) (reach s) in

@@ -3,7 +3,7 @@ use Rattle.std.proofs.Common.{◌≡◌, ℕ, Bool, true, false, [], ◌∷◌, 
 use Rattle.std.specs.Prelude.{pos, Some}
 use Rattle.cy_bits.specs.Bits.{bits, number, bits_of, bytes}
 use Rattle.dsdl_types.specs.Schemas.{PUint, Simple, Sch, Var, Struct, Union, End, Field, Outline}
-use Rattle.dsdl_types.specs.Values.{Val, Num, Items, Parts, Tagged, None, More}
+use Rattle.dsdl_types.specs.Values.{Val, Num, Items, Parts, Tagged, Empty, More}
 use Rattle.dsdl_types.specs.Reading.{Read, Got, Bad, Name, BadDelimiter, BadTag, BadLength, own}
 use Rattle.dsdl_types.specs.Encoding.{own_bits}
 use Rattle.dsdl_types.specs.Difference.{difference, Named, Count}
@@ -34,15 +34,15 @@ is (Got v p rest) w = v ≡ w
 is (Bad path why) w = ⊥
 
 -- 03 00 00 00 05 34 12 09 as both versions, and the older bytes as the newer one
-newer_bytes : is (own (outer inner11) 0 (bits (3 ∷ 0 ∷ 0 ∷ 0 ∷ 5 ∷ 0x34 ∷ 0x12 ∷ 9 ∷ []))) (Parts (More (Parts (More (n 5) (More (n 4660) None))) (More (n 9) None)))
+newer_bytes : is (own (outer inner11) 0 (bits (3 ∷ 0 ∷ 0 ∷ 0 ∷ 5 ∷ 0x34 ∷ 0x12 ∷ 9 ∷ []))) (Parts (More (Parts (More (n 5) (More (n 4660) Empty))) (More (n 9) Empty)))
 unfolding number bits_of
 newer_bytes = refl
 
-as_older : is (own (outer inner10) 0 (bits (3 ∷ 0 ∷ 0 ∷ 0 ∷ 5 ∷ 0x34 ∷ 0x12 ∷ 9 ∷ []))) (Parts (More (Parts (More (n 5) None)) (More (n 9) None)))
+as_older : is (own (outer inner10) 0 (bits (3 ∷ 0 ∷ 0 ∷ 0 ∷ 5 ∷ 0x34 ∷ 0x12 ∷ 9 ∷ []))) (Parts (More (Parts (More (n 5) Empty)) (More (n 9) Empty)))
 unfolding number bits_of
 as_older = refl
 
-older_bytes : is (own (outer inner11) 0 (bits (1 ∷ 0 ∷ 0 ∷ 0 ∷ 5 ∷ 9 ∷ []))) (Parts (More (Parts (More (n 5) (More (n 0) None))) (More (n 9) None)))
+older_bytes : is (own (outer inner11) 0 (bits (1 ∷ 0 ∷ 0 ∷ 0 ∷ 5 ∷ 9 ∷ []))) (Parts (More (Parts (More (n 5) (More (n 0) Empty))) (More (n 9) Empty)))
 unfolding number bits_of
 older_bytes = refl
 
@@ -53,7 +53,7 @@ too_long = refl
 abbrev choice : Sch
 choice = Union (Field (97 ∷ []) u8 (Field (98 ∷ []) (Var u16 2) End)) (outline 48 true)
 
-chosen : is (own choice 0 (bits (1 ∷ 2 ∷ 1 ∷ 0 ∷ 2 ∷ 0xFF ∷ []))) (Tagged 1 (Items (More (n 1) (More (n 65282) None))))
+chosen : is (own choice 0 (bits (1 ∷ 2 ∷ 1 ∷ 0 ∷ 2 ∷ 0xFF ∷ []))) (Tagged 1 (Items (More (n 1) (More (n 65282) Empty))))
 unfolding number bits_of
 chosen = refl
 
@@ -65,7 +65,7 @@ too_many : own choice 0 (bits (1 ∷ 3 ∷ [])) ≡ Bad (Name (98 ∷ []) ∷ []
 unfolding number bits_of
 too_many = refl
 
-written : bytes (own_bits (outer inner11) (Parts (More (Parts (More (n 5) (More (n 4660) None))) (More (n 9) None)))) ≡ 3 ∷ 0 ∷ 0 ∷ 0 ∷ 5 ∷ 0x34 ∷ 0x12 ∷ 9 ∷ []
+written : bytes (own_bits (outer inner11) (Parts (More (Parts (More (n 5) (More (n 4660) Empty))) (More (n 9) Empty)))) ≡ 3 ∷ 0 ∷ 0 ∷ 0 ∷ 5 ∷ 0x34 ∷ 0x12 ∷ 9 ∷ []
 unfolding number bits_of
 written = refl
 

@@ -1,7 +1,7 @@
 -- Lists of values and fields as those of the definitions
 use Rattle.std.proofs.Common.{◌≡◌, ◌<◌, ◌≤◌, ◌+◌, ◌∙◌, sym, drop, length, map, ◌-◌, ℕ, suc, arith, List, [], ◌∷◌, ◌++◌, refl, ap}
 use Rattle.std.proofs.lemmas.List.{drop_all}
-use Rattle.dsdl_types.specs.Values.{Val, Vals, None, More, same_items, join}
+use Rattle.dsdl_types.specs.Values.{Val, Vals, Empty, More, same_items, join}
 use Rattle.dsdl_types.specs.Schemas.{Flds, Outline}
 use Rattle.dsdl_types.specs.Zero.{zero_fields}
 use Rattle.dsdl_types.specs.Views.{Kind, val, vals, body_of, named, flds, in_order, at_schema, at_body, at_field}
@@ -10,8 +10,8 @@ use Rattle.dsdl_types.specs.declared.schema.Body.{Body, out-Body}
 use Rattle.dsdl_types.specs.declared.schema.Field.{Field}
 use Rattle.dsdl_types.specs.declared.value.Value.{Value}
 
-pub join_none : (vs : Vals) → join vs None ≡ vs
-join_none None = refl
+pub join_none : (vs : Vals) → join vs Empty ≡ vs
+join_none Empty = refl
 join_none (More v vs) = ap (λ ws. More v ws) (join_none vs)
 
 pub join_push : (vs : List Value) (v : Value) (ws : Vals) → join (vals (vs ++ v ∷ [])) ws ≡ join (vals vs) (More (val v) ws)

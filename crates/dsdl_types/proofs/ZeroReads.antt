@@ -4,7 +4,7 @@ use Rattle.std.proofs.lemmas.Bool.{cond-true, lt-ltb}
 use Rattle.std.proofs.lemmas.Nat.{pow_pos}
 use Rattle.cy_bits.specs.Bits.{zeros, gap}
 use Rattle.dsdl_types.specs.Schemas.{Prim, PBool, PUint, PInt, PFloat, Sch, Flds, Simple, Fixed, Var, Struct, Union, End, Pad, Field, is_aligned, is_delimited, prefix, width, variants}
-use Rattle.dsdl_types.specs.Values.{Val, Num, Items, Parts, Tagged, None, More, same_items, count}
+use Rattle.dsdl_types.specs.Values.{Val, Num, Items, Parts, Tagged, Empty, More, same_items, count}
 use Rattle.dsdl_types.specs.Fits.{Fits, FitFields, FitsVariant, FitsSimple, AllOf}
 use Rattle.dsdl_types.specs.Laws as Laws
 use Rattle.dsdl_types.specs.Reading.{Read, Got, Name, Index, value_of, and_then, under, within, delimited, aligned, align, own, fields, variant, part, row}
@@ -69,7 +69,7 @@ mutual
   zero_own (Var s c) i p k = record {
     place = p + prefix c;
     left = k - prefix c;
-    is = var_is s c p (zeros k) 0 (number_take_zeros (prefix c) k) (omega arith) ∙ ap (λ x. Got (Items None) (p + prefix c) x) (drop_zeros (prefix c) k);
+    is = var_is s c p (zeros k) 0 (number_take_zeros (prefix c) k) (omega arith) ∙ ap (λ x. Got (Items Empty) (p + prefix c) x) (drop_zeros (prefix c) k);
   }
   zero_own (Struct fs f) i p k =
       let z = zero_fields_read fs i.1 p k in

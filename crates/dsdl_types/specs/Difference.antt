@@ -1,6 +1,6 @@
 -- Where and why a type first fails to be newer than another.
 use Rattle.std.specs.Prelude.{◌≡◌, ℕ, ◌==◌, ◌&&◌, nat_lt, if◌then◌else◌, Bool, true, false, List, [], ◌∷◌, Option, Some}
-use Rattle.std.specs.Prelude.{None as Nothing, ◌↔◌}
+use Rattle.std.specs.Prelude.{None, ◌↔◌}
 use Rattle.dsdl_types.specs.Schemas.{Prim, Sch, Flds, Outline, PBool, PUint, PInt, PFloat, Simple, Fixed, Var, Struct, Union, End, Pad, Field, field_count}
 use Rattle.dsdl_types.specs.Newer.{Newer}
 
@@ -65,22 +65,22 @@ unless false c d = here c
 
 -- at a part
 abbrev pub below : Turn → Option Difference → Option Difference
-below t Nothing = Nothing
+below t None = None
 below t (Some d) = Some (record { path = t ∷ d.path; cause = d.cause })
 
 abbrev pub or_else : Option Difference → Option Difference → Option Difference
-or_else Nothing d = d
+or_else None d = d
 or_else (Some c) d = Some c
 
 -- Of two composites of one kind: their sealing, their extents, and then of sealed ones whether they are
 -- equal, of delimited ones their fields.
 abbrev pub outlined : Outline → Outline → Bool → Option Difference → Option Difference
-outlined o p equal d = unless (same_bool o.sealed p.sealed) Sealing (unless (o.extent == p.extent) Extent (if o.sealed then unless equal Sealed Nothing else d))
+outlined o p equal d = unless (same_bool o.sealed p.sealed) Sealing (unless (o.extent == p.extent) Extent (if o.sealed then unless equal Sealed None else d))
 
 -- the first difference of a new and an old schema
 abbrev mutual
   pub difference : Sch → Sch → Option Difference
-  difference (Simple t) (Simple u) = unless (same_prim t u) Kind Nothing
+  difference (Simple t) (Simple u) = unless (same_prim t u) Kind None
   difference (Fixed a n) (Fixed b m) = unless (n == m) Kind (below Item (difference a b))
   difference (Var a n) (Var b m) = unless (n == m) Kind (below Item (difference a b))
   difference (Struct fs o) (Struct gs p) = outlined o p (same_fields fs gs) (if nat_lt (field_count fs) (field_count gs) then here Count else difference_fields fs gs)
@@ -89,14 +89,14 @@ abbrev mutual
 
   -- Fields go in order. Further fields of the new structure are no difference.
   pub difference_fields : Flds → Flds → Option Difference
-  difference_fields End _ = Nothing
-  difference_fields (Pad n fs) End = Nothing
-  difference_fields (Pad n fs) (Pad m gs) = or_else (below (Named []) (unless (n == m) Kind Nothing)) (difference_fields fs gs)
+  difference_fields End _ = None
+  difference_fields (Pad n fs) End = None
+  difference_fields (Pad n fs) (Pad m gs) = or_else (below (Named []) (unless (n == m) Kind None)) (difference_fields fs gs)
   difference_fields (Pad n fs) (Field name' b gs) = below (Named []) (here Kind)
-  difference_fields (Field name a fs) End = Nothing
+  difference_fields (Field name a fs) End = None
   difference_fields (Field name a fs) (Pad m gs) = below (Named name) (here Kind)
   difference_fields (Field name a fs) (Field name' b gs) = or_else (below (Named name) (difference a b)) (difference_fields fs gs)
 
 -- there is none exactly where the first is newer
 abbrev pub Compares : Sch → Sch → Type 0
-Compares new old = (difference new old ≡ Nothing) ↔ Newer new old
+Compares new old = (difference new old ≡ None) ↔ Newer new old

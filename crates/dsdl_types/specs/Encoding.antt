@@ -2,7 +2,7 @@
 use Rattle.std.specs.Prelude.{ℕ, zero, suc, ◌+◌, ◌-◌, ◌^◌, ◌/◌, Bool, true, false, List, [], ◌++◌, length, pos, negsuc}
 use Rattle.cy_bits.specs.Bits.{bits_of, zeros, gap}
 use Rattle.dsdl_types.specs.Schemas.{Prim, Sch, Flds, Simple, Fixed, Var, Struct, Union, End, Pad, Field, is_aligned, is_delimited, prefix, width, variants}
-use Rattle.dsdl_types.specs.Values.{Val, Vals, Truth, Num, Raw, None, More, count, items_of, parts_of, tag_of, inner_of, first, others}
+use Rattle.dsdl_types.specs.Values.{Val, Vals, Truth, Num, Raw, Empty, More, count, items_of, parts_of, tag_of, inner_of, first, others}
 use Rattle.dsdl_types.specs.Cast.{cast_simple}
 
 -- The raw bits of a value in the range of w bits, as a number. A negative number is in two's
@@ -20,7 +20,7 @@ simple_bits t v = bits_of (width t) (raw (width t) (cast_simple t v))
 
 -- the bits of one value after the other
 abbrev pub each : (Val → List Bool) → Vals → List Bool
-each f None = []
+each f Empty = []
 each f (More v vs) = f v ++ each f vs
 
 -- bits behind a delimiter header, if they have one: their number of bytes, in 32 bits

@@ -1,7 +1,7 @@
 -- Which values a schema has.
 use Rattle.std.specs.Prelude.{◌≡◌, ℕ, zero, suc, ◌^◌, ◌≤◌, ◌<◌, ℤ, pos, negsuc}
 use Rattle.dsdl_types.specs.Schemas.{Prim, Sch, Flds, PBool, PUint, PInt, PFloat, Simple, Fixed, Var, Struct, Union, End, Pad, Field}
-use Rattle.dsdl_types.specs.Values.{Val, Vals, Truth, Num, Raw, Items, Parts, Tagged, None, More, count}
+use Rattle.dsdl_types.specs.Values.{Val, Vals, Truth, Num, Raw, Items, Parts, Tagged, Empty, More, count}
 
 -- a whole number from -2^63 to 2^64 - 1
 abbrev pub IsNumber : ℤ → Type 0
@@ -19,7 +19,7 @@ FitsSimple (PFloat w c) (Raw n) = n < 2 ^ w
 FitsSimple _ _ = ⊥
 
 abbrev pub AllOf : (Val → Type 0) → Vals → Type 0
-AllOf P None = Unit {0}
+AllOf P Empty = Unit {0}
 AllOf P (More v vs) = P v × AllOf P vs
 
 -- the items of an array, of which the number and each one are as said
@@ -36,12 +36,12 @@ IsTagged P (Tagged t v) = P t v
 IsTagged P _ = ⊥
 
 abbrev pub IsFirst : (Val → Type 0) → (Vals → Type 0) → Vals → Type 0
-IsFirst P Q None = ⊥
+IsFirst P Q Empty = ⊥
 IsFirst P Q (More v vs) = P v × Q vs
 
-abbrev pub IsNone : Vals → Type 0
-IsNone None = Unit {0}
-IsNone (More v vs) = ⊥
+abbrev pub IsEmpty : Vals → Type 0
+IsEmpty Empty = Unit {0}
+IsEmpty (More v vs) = ⊥
 
 -- A fixed array has exactly its number of items, a variable one at most its capacity. A structure has
 -- a value for each field that isn't padding. A union has a tag below its number of variants, and a
@@ -55,7 +55,7 @@ abbrev mutual
   Fits (Union fs o) v = IsTagged (λ t x. FitsVariant fs t x) v
 
   pub FitFields : Flds → Vals → Type 0
-  FitFields End vs = IsNone vs
+  FitFields End vs = IsEmpty vs
   FitFields (Pad n fs) vs = FitFields fs vs
   FitFields (Field name s fs) vs = IsFirst (λ v. Fits s v) (λ ws. FitFields fs ws) vs
 

@@ -3,7 +3,7 @@
 use Rattle.std.specs.Prelude.{ℕ, zero, suc, ◌+◌, ◌*◌, ◌-◌, ◌^◌, ◌==◌, nat_lt, if◌then◌else◌, Bool, true, false, List, [], ◌∷◌, length, take, drop, pos, negsuc}
 use Rattle.cy_bits.specs.Bits.{number, gap}
 use Rattle.dsdl_types.specs.Schemas.{Prim, Sch, Flds, PBool, PUint, PInt, PFloat, Simple, Fixed, Var, Struct, Union, End, Pad, Field, is_aligned, is_delimited, prefix, width, variants}
-use Rattle.dsdl_types.specs.Values.{Val, Vals, Truth, Num, Raw, Items, Parts, Tagged, None, More}
+use Rattle.dsdl_types.specs.Values.{Val, Vals, Truth, Num, Raw, Items, Parts, Tagged, Empty, More}
 
 -- a step of the path to a part: a field or variant by its name, or an item by its place
 pub data Step : Type 0 where
@@ -64,7 +64,7 @@ delimited true f p rest =
 
 -- so many items in a row, of which the next has the number i
 abbrev pub row : (ℕ → List Bool → Read Val) → ℕ → ℕ → ℕ → List Bool → Read Vals
-row f zero i p rest = Got None p rest
+row f zero i p rest = Got Empty p rest
 row f (suc n) i p rest = and_then (under (Index i) (f p rest)) (λ v q more. and_then (row f n (suc i) q more) (λ vs. Got (More v vs)))
 
 -- The cases of the serialized form.
@@ -84,7 +84,7 @@ abbrev mutual
       and_then (variant fs n n (p + prefix (variants fs - 1)) (drop (prefix (variants fs - 1)) rest)) (λ v q more. align (Tagged n v) q more)
 
   pub fields : Flds → ℕ → List Bool → Read Vals
-  fields End p rest = Got None p rest
+  fields End p rest = Got Empty p rest
   fields (Pad n fs) p rest = fields fs (p + n) (drop n rest)
   fields (Field name s fs) p rest =
       and_then (under (Name name) (aligned (is_aligned s) (delimited (is_delimited s) (own s)) p rest))

@@ -13,21 +13,21 @@ mutual
     Tagged : ℕ → Val → Val
 
   pub data Vals : Type 0 where
-    None : Vals
+    Empty : Vals
     More : Val → Vals → Vals
 
 abbrev pub count : Vals → ℕ
-count None = 0
+count Empty = 0
 count (More v vs) = suc (count vs)
 
 -- Of a value of another kind the parts are none, and the tag is 0.
 abbrev pub items_of : Val → Vals
 items_of (Items vs) = vs
-items_of _ = None
+items_of _ = Empty
 
 abbrev pub parts_of : Val → Vals
 parts_of (Parts vs) = vs
-parts_of _ = None
+parts_of _ = Empty
 
 abbrev pub tag_of : Val → ℕ
 tag_of (Tagged t v) = t
@@ -38,24 +38,24 @@ inner_of (Tagged t v) = v
 inner_of v = v
 
 abbrev pub first : Vals → Val
-first None = Items None
+first Empty = Items Empty
 first (More v vs) = v
 
 abbrev pub others : Vals → Vals
-others None = None
+others Empty = Empty
 others (More v vs) = vs
 
 -- a function of each value
 abbrev pub on_items : (Val → Val) → Vals → Vals
-on_items f None = None
+on_items f Empty = Empty
 on_items f (More v vs) = More (f v) (on_items f vs)
 
 -- one value so many times
 abbrev pub same_items : ℕ → Val → Vals
-same_items zero v = None
+same_items zero v = Empty
 same_items (suc n) v = More v (same_items n v)
 
 -- one list of values behind the other
 abbrev pub join : Vals → Vals → Vals
-join None ws = ws
+join Empty ws = ws
 join (More v vs) ws = More v (join vs ws)

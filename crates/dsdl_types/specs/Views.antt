@@ -2,7 +2,7 @@
 use Rattle.std.specs.Prelude.{ℕ, Bool, true, false, List, [], ◌∷◌, map}
 use Rattle.dsdl_types.specs.Schemas.{Prim, PBool, PUint, PInt, PFloat, Sch, Flds, Outline, Simple, End, Pad}
 use Rattle.dsdl_types.specs.Schemas as S
-use Rattle.dsdl_types.specs.Values.{Val, Vals, None, More, Truth, Num, Raw, Items, Parts, Tagged}
+use Rattle.dsdl_types.specs.Values.{Val, Vals, Empty, More, Truth, Num, Raw, Items, Parts, Tagged}
 use Rattle.dsdl_types.specs.declared.schema.Cast.{Cast}
 use Rattle.dsdl_types.specs.declared.schema.Cast.TheVariants.{Saturated, Truncated}
 use Rattle.dsdl_types.specs.declared.schema.Schema.{Schema}
@@ -86,7 +86,7 @@ abbrev pub flds : List Field → Flds
 flds fields = in_order (map named fields)
 
 abbrev pub in_row : List Val → Vals
-in_row [] = None
+in_row [] = Empty
 in_row (v ∷ vs) = More v (in_row vs)
 
 -- one layer of a value, with its parts as values of the definitions

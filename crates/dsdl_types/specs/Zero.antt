@@ -1,7 +1,7 @@
 -- The zero of a schema: what no bits read as.
 use Rattle.std.specs.Prelude.{false, pos}
 use Rattle.dsdl_types.specs.Schemas.{Prim, Sch, Flds, PBool, PUint, PInt, PFloat, Simple, Fixed, Var, Struct, Union, End, Pad, Field}
-use Rattle.dsdl_types.specs.Values.{Val, Vals, Truth, Num, Raw, Items, Parts, Tagged, None, More, same_items}
+use Rattle.dsdl_types.specs.Values.{Val, Vals, Truth, Num, Raw, Items, Parts, Tagged, Empty, More, same_items}
 
 abbrev pub zero_simple : Prim → Val
 zero_simple PBool = Truth false
@@ -15,17 +15,17 @@ abbrev mutual
   pub zero_of : Sch → Val
   zero_of (Simple t) = zero_simple t
   zero_of (Fixed s n) = Items (same_items n (zero_of s))
-  zero_of (Var s cap) = Items None
+  zero_of (Var s cap) = Items Empty
   zero_of (Struct fs o) = Parts (zero_fields fs)
   zero_of (Union fs o) = Tagged 0 (zero_variant fs)
 
   pub zero_fields : Flds → Vals
-  zero_fields End = None
+  zero_fields End = Empty
   zero_fields (Pad n fs) = zero_fields fs
   zero_fields (Field name s fs) = More (zero_of s) (zero_fields fs)
 
   -- the zero of the first variant
   pub zero_variant : Flds → Val
-  zero_variant End = Items None
+  zero_variant End = Items Empty
   zero_variant (Pad n fs) = zero_variant fs
   zero_variant (Field name s fs) = zero_of s
