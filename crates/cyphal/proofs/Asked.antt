@@ -1,5 +1,5 @@
 -- What was asked for, from what was found.
-use Rattle.std.proofs.Common.{◌≡◌, ◌∙◌, ◌⊎◌, inl, inr, ℕ, Bool, true, false, List, Option, Some, None, IfSome, option_map, take, refl, sym, ap, subst}
+use Rattle.std.proofs.Common.{◌≡◌, ◌∙◌, ◌⊎◌, inl, inr, ℕ, true, false, List, Option, Some, None, IfSome, option_map, take, refl, sym, ap, subst}
 use Rattle.std.specs.FinMap as map
 use Rattle.cy_outside.specs.Files.{Files, ReadsFront}
 use Rattle.node_plan.specs.Plan.{PlanIs, Good, Bad, plan_of}
@@ -8,7 +8,6 @@ use Rattle.node_plan.specs.declared.plan.PlanError.{PlanError}
 use Rattle.node_plan.specs.declared.plan.PlanError.TheVariants as plan_error
 use Rattle.node_plan.specs.declared.plan.PlanWhy.{PlanWhy}
 use Rattle.frame_log.specs.Log.{Log, log_of}
-use Rattle.frame_log.specs.declared.error.LogError.{LogError}
 use Rattle.node_run.specs.BoundText.{HasBound}
 use Rattle.node_run.specs.Ran.{Ran, HasRun, names_of, refused, refusal_of}
 use Rattle.node_run.specs.declared.report.Report.{Report}

@@ -82,13 +82,17 @@ one_plan path tree a b x y =
     let text : x.0 ≡ y.0 = cc in
     let g : Good a ≡ Good b = sym x.2 ∙ (ap plan_of text ∙ y.2) in cc
 
+-- a plan at the path that the words name is the one that is asked for
+pub the_plan : (words : List (List ℕ)) (files : Option Files) (input : Option (List ℕ)) (path : List ℕ) (found plan : Plan) (bytes : List ℕ) → command_of words ≡ Some (Run path) → PlanAt path files found → Asked words files input plan bytes → found ≡ plan
+the_plan words files input path found plan bytes e at a =
+    let same : path ≡ a.path = one_path words path a.path e a.command in
+    one_plan a.path a.tree found plan (subst (λ t. PlanAt t (Some a.tree) found) same (subst (λ f. PlanAt path f found) a.is_tree at)) a.is_plan
+
 -- a run of a told plan over a told input
 ran : (words : List (List ℕ)) (files : Option Files) (input : Option (List ℕ)) (stat : Status) (report : Report) (before after : Option (List ℕ)) (plan : Plan) (bytes : List ℕ)
     → WasRun words files input stat report before after → Asked words files input plan bytes → Ran plan (log_of (names_of plan) bytes) stat report before after
 ran words files input stat report before after plan bytes w a =
-    let path : w.path ≡ a.path = one_path words w.path a.path w.asked a.command in
-    let at : PlanAt a.path (Some a.tree) w.run.plan = subst (λ t. PlanAt t (Some a.tree) w.run.plan) path (subst (λ f. PlanAt w.path f w.run.plan) a.is_tree w.run.is) in
-    let same : w.run.plan ≡ plan = one_plan a.path a.tree w.run.plan plan at a.is_plan in
+    let same : w.run.plan ≡ plan = the_plan words files input w.path w.run.plan plan bytes w.asked w.run.is a in
     let told : HasRun plan (Some bytes) stat report before after = subst (λ (q : Plan). HasRun q (Some bytes) stat report before after) same (subst (λ i. HasRun w.run.plan i stat report before after) a.is_input w.run.run) in
     subst (λ (b : List ℕ). Ran plan (log_of (names_of plan) b) stat report before after) told.is told.ran
 

@@ -3,3 +3,4 @@ pub mod Parts
 pub mod Asked
 pub mod Frames
 pub mod Headlines
+pub mod Streaming

@@ -1,5 +1,5 @@
 -- What the words, the files and the input ask for.
-use Rattle.std.specs.Prelude.{◌≡◌, ℕ, Bool, true, false, List, [], Option, Some, None, IfSome, ⊤}
+use Rattle.std.specs.Prelude.{◌≡◌, ℕ, Bool, true, false, List, Option, Some, None, ⊤}
 use Rattle.std.specs.FinMap as map
 use Rattle.cy_outside.specs.Files.{Files}
 use Rattle.node_plan.specs.Plan.{PlanIs, Good, Bad, plan_of}

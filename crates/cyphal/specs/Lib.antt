@@ -3,3 +3,4 @@ pub mod ClapShape
 pub mod ErrorLine
 pub mod Expected
 pub mod Headline
+pub mod Streaming

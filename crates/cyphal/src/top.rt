@@ -7,6 +7,7 @@ ghost use Rattle.cyphal.specs.Words.{Bound, command_of};
 ghost use Rattle.cyphal.specs.ErrorLine.{error_line};
 ghost use Rattle.cyphal.specs.Expected.{expected, is_fault, NotRun, WasRun, WasBound};
 ghost use Rattle.cyphal.specs.Headline.{OnceOf, DueOf};
+ghost use Rattle.cyphal.specs.Streaming.{TakenOf, StreamedOf};
 
 use crate::error_line::put_error;
 use crate::work::work;
@@ -51,6 +52,10 @@ pub fn top<T: Tree, L: Source, O: Sink, E: Sink>(
     // The headline, where the words, the files and the input are told and a sent list explains the records of a session.
     ensures once { OnceOf (map string_bytes words.now) (T.files tree.old) (L.left input.old) result.report }
     ensures due { DueOf (map string_bytes words.now) (T.files tree.old) (L.left input.old) result.status result.report }
+    // How far the input is taken, where the words, the files and the input are told.
+    ensures taken { result.status ≡ Status.ReadFault → ¬ Rose (T.faults tree.old) (T.faults tree.new)
+        → TakenOf (map string_bytes words.now) (T.files tree.old) (L.left input.old) (L.left input.new) result.report (O.written out.old) (O.written out.new) }
+    ensures streamed { StreamedOf (map string_bytes words.now) (T.files tree.old) (L.left input.old) (L.left input.new) result.status result.report (O.written out.old) (O.written out.new) }
     ensures line { Begins (error_line result.status) (E.written err.old) (E.written err.new) }
     ensures whole_line { ¬ Rose (E.faults err.old) (E.faults err.new) → E.written err.new ≡ behind (E.written err.old) (error_line result.status) }
 {

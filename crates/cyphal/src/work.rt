@@ -7,6 +7,7 @@ ghost use Rattle.node_plan.specs.declared.plan.PlanWhy.{PlanWhy as Why};
 ghost use Rattle.node_run.specs.Ran.{IsEmpty};
 ghost use Rattle.node_run.specs.declared.status.Status.{Status as TheStatus};
 ghost use Rattle.cyphal.specs.Words.{Bound, command_of};
+ghost use Rattle.cyphal.specs.Streaming.{TookNothing, TookAt, WasTaken};
 ghost use Rattle.cyphal.specs.Expected.{expected, on_path, on_run, on_bound, is_fault, is_settled, PlanAt, NotRun, HasRunAt, WasRun, HasBoundAt, WasBound};
 
 use crate::words::{CommandName, command_name, plan_words};
@@ -35,6 +36,8 @@ pub fn work<T: Tree, L: Source, O: Sink>(
     ensures ran { NotRun result report.new (O.written out.old) (O.written out.new)
         ⊎ (WasRun (map string_bytes words.now) (T.files tree.old) (L.left input.old) result report.new (O.written out.old) (O.written out.new)
         ⊎ WasBound (map string_bytes words.now) (T.files tree.old) result report.new (O.written out.old) (O.written out.new)) }
+    ensures took { TookNothing result (L.left input.old) (L.left input.new) (T.faults tree.old) (T.faults tree.new)
+        ⊎ WasTaken (map string_bytes words.now) (T.files tree.old) (L.left input.old) (L.left input.new) result report.new (O.written out.old) (O.written out.new) }
     ensures held { report.new.held ≤ report.new.bound }
 {
     let Some(command) = command_name(words) else {
@@ -66,6 +69,8 @@ fn run_plan<T: Tree, L: Source, O: Sink>(
     ensures kept { result ≡ Status.Ok → (T.faults tree.new ≡ T.faults tree.old) × (L.faults input.new ≡ L.faults input.old) × (O.faults out.new ≡ O.faults out.old) }
     ensures ran { NotRun result report.new (O.written out.old) (O.written out.new)
         ⊎ HasRunAt path.now (T.files tree.old) (L.left input.old) result report.new (O.written out.old) (O.written out.new) }
+    ensures took { TookNothing result (L.left input.old) (L.left input.new) (T.faults tree.old) (T.faults tree.new)
+        ⊎ TookAt path.now (T.files tree.old) (L.left input.old) (L.left input.new) result report.new (O.written out.old) (O.written out.new) }
     ensures held { report.new.held ≤ report.new.bound }
 {
     let plan = match plan_at(alloc, path, tree) {

@@ -164,11 +164,11 @@ pub record Streams (plan : Plan) (told left : Option (List ℕ)) (reader : LogRe
   pub used : saw_end reader ≡ false → Used (names_of plan) taken reader past
   pub far : AllFar plan taken past before after
 
--- nothing has a front
-far_none : (plan : Plan) (past : List Record) (before after : Option (List ℕ)) → AllFar plan [] past before after
-far_none plan past before after front more e long =
+-- no bytes have such a front
+no_front : (front more : List ℕ) → [] ≡ front ++ more → 8192 < length more → ⊥
+no_front front more e long =
     let size : length {A = ℕ} [] ≡ length (front ++ more) = ap (λ (l : List ℕ). length l) e in
-    let sum : length (front ++ more) ≡ length front + length more = length-append front more in absurd (omega arith)
+    let sum : length (front ++ more) ≡ length front + length more = length-append front more in omega arith
 
 -- at the start nothing was taken
 pub streams_none : (plan : Plan) (left : Option (List ℕ)) (reader : LogReader) (before : Option (List ℕ)) → (buses_of reader ≡ names_of plan) × (place_of reader ≡ start) × (held_of reader ≡ []) → Streams plan left left reader [] before before
@@ -177,7 +177,7 @@ streams_none plan left reader before h = record {
   took = Took-none left;
   buses = h.0;
   used = λ e. record { used = []; parts = sym h.2; whole = record { whole = refl; leads = λ refusal ls. ap (log_of_lines (names_of plan) refusal ls) (sym h.1) } };
-  far = far_none plan [] before before;
+  far = λ front more e long. absurd (no_front front more e long);
 }
 
 -- lines that gave no record came behind
@@ -292,9 +292,14 @@ streamed plan told left stat report past taken before after t far at = record {
     of_far : {old : List Record} → At plan (steps plan past) report → Far plan old past before after → (more : List Line) × (report.lines ≡ lines plan (steps plan old) ++ more)
     of_far {old} a f = let l = lines_front plan old f.newer in (l.0, a.reported ∙ (ap (λ (p : List Record). lines plan (steps plan p)) f.parts ∙ l.1))
 
--- where memory was wanting before the first read
-pub streamed_none : (plan : Plan) (left : Option (List ℕ)) (report : Report) (before : Option (List ℕ)) → IsStreamed plan left left status.NoMemory report before before
-streamed_none plan left report before = streamed plan left left status.NoMemory report [] [] before before (Took-none left) (far_none plan [] before before) (λ some. absurd (some refl))
+-- a run that took nothing
+pub streamed_none : (plan : Plan) (left : Option (List ℕ)) (stat : Status) (report : Report) (before after : Option (List ℕ)) → IsStreamed plan left left stat report before after
+streamed_none plan left stat report before after = record {
+  taken = [];
+  took = Took-none left;
+  written = λ front more e long. absurd (no_front front more e long);
+  reported = λ _ front more e long. absurd (no_front front more e long);
+}
 
 module _ (plan : Plan) (told left next_left : Option (List ℕ)) (old new : LogReader) (past : List Record) (report : Report) (gathered rest : List ℕ) (before mid after : Option (List ℕ)) where
   abbrev all_text : List ℕ

@@ -1,5 +1,6 @@
 use Rattle.cyphal.proofs.Headlines.{once_of, due_of}
 use Rattle.cyphal.proofs.Asked.{completed}
+use Rattle.cyphal.proofs.Streaming.{taken_of, streamed_of}
 use Rattle.cyphal.proofs.Parts.{begins_either}
 use Rattle.cyphal.proofs.top.top.Goals as goal
 
@@ -14,3 +15,9 @@ returns-clause-once g c = once_of c.reported.ensures c.wire_explains_fields.ensu
 
 pub returns-clause-due : goal.returns-clause-due
 returns-clause-due g c = due_of c.reported.ensures c.wire_explains_fields.ensures c.due_in_report.ensures _ _ _ _ _ _ _ c.work-status.ensures.ran
+
+pub returns-clause-taken : goal.returns-clause-taken
+returns-clause-taken g c = taken_of _ _ _ _ _ _ _ _ _ _ c.work-status.ensures.took
+
+pub returns-clause-streamed : goal.returns-clause-streamed
+returns-clause-streamed g c = streamed_of _ _ _ _ _ _ _ _ _ _ c.work-status.ensures.took

@@ -1,4 +1,4 @@
-use Rattle.std.proofs.Common.{◌≡◌, ◌∙◌, Some, ap, List, ℕ}
+use Rattle.std.proofs.Common.{◌∙◌, Some, ap, List, ℕ}
 use Rattle.cyphal.proofs.ClapWords.{has, some_now, now_is}
 use Rattle.cyphal.proofs.words.plan_words.Goals as goal
 

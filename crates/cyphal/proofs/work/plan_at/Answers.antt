@@ -1,4 +1,4 @@
-use Rattle.std.proofs.Common.{◌≡◌, List, ℕ, Some, Err, sym, ap, subst}
+use Rattle.std.proofs.Common.{List, ℕ, Some, Err, sym, ap, subst}
 use Rattle.cy_outside.specs.Files.{ReadsFront}
 use Rattle.cyphal.proofs.Asked.{missing_answer, error_answer, plan_there}
 use Rattle.cyphal.proofs.work.plan_at.Goals as goal

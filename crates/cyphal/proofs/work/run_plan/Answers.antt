@@ -15,3 +15,6 @@ returns-clause-kept g c e = let k = c.run_log.ensures.kept e in (c.in-Ok.ensures
 
 pub returns-clause-ran : goal.returns-clause-ran
 returns-clause-ran g c = inr (record { plan = c.in-Ok.plan; is = c.in-Ok.ensures.plan; run = c.run_log.ensures.ran })
+
+pub returns-clause-took : goal.returns-clause-took
+returns-clause-took g c = inr (record { plan = c.in-Ok.plan; is = c.in-Ok.ensures.plan; taken = c.run_log.ensures.taken; streamed = c.run_log.ensures.streamed })

@@ -19,7 +19,7 @@ pub run_records-requires-clause-held : goal.run_records-requires-clause-held
 run_records-requires-clause-held g c = c.held-report.ensures.bound [] c.in-Ok-open.ensures.stands
 
 pub returns-in_default-clause-streamed : goal.returns-in_default-clause-streamed
-returns-in_default-clause-streamed g c = streamed_none c.args.plan _ _ _
+returns-in_default-clause-streamed g c = streamed_none c.args.plan _ _ _ _ _
 
 pub returns-in_default-open-clause-streamed : goal.returns-in_default-open-clause-streamed
-returns-in_default-open-clause-streamed g c = streamed_none c.args.plan _ _ _
+returns-in_default-open-clause-streamed g c = streamed_none c.args.plan _ _ _ _ _
