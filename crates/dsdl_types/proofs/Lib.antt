@@ -17,3 +17,4 @@ pub mod Greatest
 pub mod MetLengths
 pub mod Rows
 pub mod Reaching
+pub mod ReachBound

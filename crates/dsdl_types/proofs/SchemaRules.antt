@@ -38,7 +38,7 @@ item_nodes : (n k : ℕ) → 1 ≤ n → k ≤ n * k
 item_nodes zero k h = absurd (omega arith)
 item_nodes (suc n) k h = omega arith
 
-nodes_some : (s : Sch) → 1 ≤ nodes s
+pub nodes_some : (s : Sch) → 1 ≤ nodes s
 nodes_some (Simple t) = omega arith
 nodes_some (Fixed s n) = omega arith
 nodes_some (Var s cap) = omega arith

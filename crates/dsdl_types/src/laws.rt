@@ -1,8 +1,8 @@
 //! The laws of schemas, values and their serialized form. Each is the contract of a function that does
 //! nothing, for the schemas of `specs/Schemas.antt`.
 
-ghost use Rattle.std.specs.Prelude.{ℕ, List, ◌≤◌, length};
-ghost use Rattle.dsdl_types.specs.Schemas.{Sch};
+ghost use Rattle.std.specs.Prelude.{◌≡◌, ℕ, List, ◌≤◌, ◌^◌, length, true};
+ghost use Rattle.dsdl_types.specs.Schemas.{Sch, is_composite};
 ghost use Rattle.dsdl_types.specs.Values.{Val};
 ghost use Rattle.dsdl_types.specs.Fits.{Fits};
 ghost use Rattle.dsdl_types.specs.Encoding.{own_bits};
@@ -83,9 +83,11 @@ pub fn greatest_length()
     ensures met { (s : Sch) → IsSchema s → Length s (longest s) }
 {}
 
-/// Reading ends at most so many bits past the end of what is read.
+/// Reading ends at most `reach` bits past the end of what is read, which are at most 2^33 for a composite
+/// that keeps the rules.
 pub fn reaches()
-    ensures { (s : Sch) → Reaches (λ p x. own s p x) (reach s) }
+    ensures ends { (s : Sch) → Reaches (λ p x. own s p x) (reach s) }
+    ensures bound { (s : Sch) → IsSchema s → is_composite s ≡ true → reach s ≤ 2 ^ 33 }
 {}
 
 /// The laws of a shape. Where no delimiter header counts more than its part's extent, a payload and the same
