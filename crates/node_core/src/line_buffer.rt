@@ -7,7 +7,7 @@ use itoa::write_digits;
 use std::marker::Model;
 
 /// The most bytes of a text.
-const ROOM: usize = 320;
+const ROOM: usize = 256;
 
 /// A short text that is written from its end to its front, so that the digits of a number are written where
 /// they stay.
@@ -26,7 +26,7 @@ impl Model for LineBuffer {
 
     ghost view = { λ line. drop line.start line.bytes };
 
-    ghost invariant = { λ line. line.start ≤ 320 };
+    ghost invariant = { λ line. line.start ≤ 256 };
 }
 
 impl LineBuffer {
@@ -52,7 +52,7 @@ impl LineBuffer {
     /// Puts bytes in front of the text.
     #[inline(always)]
     pub fn put(&mut self, bytes: &[u8])
-        requires { length self.old + length bytes.now ≤ 320 }
+        requires { length self.old + length bytes.now ≤ 256 }
         ensures text { self.new ≡ bytes.now ++ self.old }
         ensures length { length self.new ≡ length self.old + length bytes.now }
     {
@@ -64,7 +64,7 @@ impl LineBuffer {
     /// Puts a number in front of the text.
     #[inline(always)]
     pub fn put_number(&mut self, number: u64)
-        requires { length self.old + 20 ≤ 320 }
+        requires { length self.old + 20 ≤ 256 }
         ensures text { self.new ≡ decimal number ++ self.old }
         ensures length { length self.new ≤ length self.old + 20 }
     {
@@ -74,7 +74,7 @@ impl LineBuffer {
     /// Puts a number and a space in front of the text.
     #[inline(always)]
     pub fn put_number_word(&mut self, number: u64)
-        requires { length self.old + 21 ≤ 320 }
+        requires { length self.old + 21 ≤ 256 }
         ensures text { self.new ≡ decimal number ++ 32 ∷ self.old }
         ensures length { length self.new ≤ length self.old + 21 }
     {
@@ -85,7 +85,7 @@ impl LineBuffer {
     /// Puts two hex digits for each byte in front of the text.
     #[inline(always)]
     pub fn put_hex(&mut self, bytes: &[u8])
-        requires { length self.old + 2 * length bytes.now ≤ 320 }
+        requires { length self.old + 2 * length bytes.now ≤ 256 }
         ensures text { self.new ≡ encode_upper bytes.now ++ self.old }
         ensures length { length self.new ≡ length self.old + 2 * length bytes.now }
     {
@@ -97,7 +97,7 @@ impl LineBuffer {
     /// Puts a moment in front of the text, in seconds with six digits behind the point, and a space.
     #[inline(always)]
     pub fn put_moment(&mut self, moment: u64)
-        requires { length self.old + 28 ≤ 320 }
+        requires { length self.old + 28 ≤ 256 }
         ensures text { self.new ≡ moment_text moment ++ 32 ∷ self.old }
         ensures length { length self.new ≤ length self.old + 28 }
     {

@@ -12,7 +12,7 @@ use itoa::Buffer;
 use node_plan::BusPlan;
 
 /// The most bytes of a payload that a line's buffer takes.
-const SHORT: usize = 64;
+const SHORT: usize = 32;
 
 /// Appends the text of a line, with the names of the plan's buses. Where memory is wanting, a part of it
 /// may stand behind the text.
@@ -91,7 +91,7 @@ fn push_rx(text: &mut Vec<u8>, buses: &[BusPlan], rx: &Rx) -> Result<(), NoMemor
 
 /// Appends the text of a transfer whose payload a line's buffer takes.
 fn push_short(text: &mut Vec<u8>, buses: &[BusPlan], rx: &Rx) -> Result<(), NoMemory>
-    requires { length rx.now.payload ≤ 64 }
+    requires { length rx.now.payload ≤ 32 }
     ensures { OnOk result (text.new.items ≡ text.old.items ++ line_text buses.now (Line.Rx rx.now)) }
 {
     let mut line = LineBuffer::new();
@@ -118,7 +118,7 @@ fn push_long(text: &mut Vec<u8>, buses: &[BusPlan], rx: &Rx) -> Result<(), NoMem
 /// Puts the words before the payload in front.
 #[inline(always)]
 fn put_transfer(line: &mut LineBuffer, buses: &[BusPlan], rx: &Rx)
-    requires { length line.old ≤ 133 }
+    requires { length line.old ≤ 69 }
     ensures { line.new ≡ in_front (front_words buses.now rx.now) line.old }
 {
     line.put_number_word(rx.last);
@@ -132,9 +132,9 @@ fn put_transfer(line: &mut LineBuffer, buses: &[BusPlan], rx: &Rx)
 /// Puts a payload in front, in hex, or `-` where there is none.
 #[inline(always)]
 fn put_payload(line: &mut LineBuffer, payload: &[u8])
-    requires { (length payload.now ≤ 64) × (length line.old ≤ 5) }
+    requires { (length payload.now ≤ 32) × (length line.old ≤ 5) }
     ensures text { line.new ≡ payload_text payload.now ++ line.old }
-    ensures length { length line.new ≤ 133 }
+    ensures length { length line.new ≤ 69 }
 {
     match payload {
         [] => line.put(b"-"),
@@ -168,7 +168,7 @@ fn push_refused(text: &mut Vec<u8>, buses: &[BusPlan], refused: &Refused) -> Res
 /// Puts in front when, on which bus, at which port and from whom, each word with a space behind.
 #[inline(always)]
 fn put_place(line: &mut LineBuffer, buses: &[BusPlan], moment: u64, bus: u8, key: &Key)
-    requires { length line.old ≤ 220 }
+    requires { length line.old ≤ 156 }
     ensures text { line.new ≡ in_front (place_words buses.now moment bus key.now) line.old }
     ensures length { length line.new ≤ length line.old + 90 }
 {
@@ -182,7 +182,7 @@ fn put_place(line: &mut LineBuffer, buses: &[BusPlan], moment: u64, bus: u8, key
 /// Puts the sender and a space in front.
 #[inline(always)]
 fn put_source(line: &mut LineBuffer, source: Option<u8>)
-    requires { length line.old ≤ 220 }
+    requires { length line.old ≤ 156 }
     ensures text { line.new ≡ source_text source ++ 32 ∷ line.old }
     ensures length { length line.new ≤ length line.old + 21 }
 {
@@ -208,7 +208,7 @@ fn kind_word(kind: Kind) -> &'static [u8]
 /// Puts the name of a bus and a space in front.
 #[inline(always)]
 fn put_bus(line: &mut LineBuffer, buses: &[BusPlan], bus: u8)
-    requires { length line.old ≤ 300 }
+    requires { length line.old ≤ 210 }
     ensures text { line.new ≡ bus_text buses.now bus ++ 32 ∷ line.old }
     ensures length { length line.new ≤ length line.old + 16 }
 {
