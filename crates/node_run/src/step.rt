@@ -1,5 +1,5 @@
 //! One step of a run: what a record gives is reported, and its text gathered.
-ghost use Rattle.std.specs.Prelude.{◌≡◌, ◌++◌, ◌∷◌, ◌<◌, ◌≤◌, ◌+◌, ℕ, List as ListOf, OnOk, OnErr, count_by};
+ghost use Rattle.std.specs.Prelude.{◌≡◌, ◌++◌, ◌∷◌, ◌<◌, ◌≤◌, ◌+◌, ℕ, List as ListOf, IfOk, OnOk, OnErr, count_by};
 ghost use Rattle.tail_frame.specs.declared.logged.Record.{Record};
 ghost use Rattle.node_plan.specs.Bound.{bound_of};
 ghost use Rattle.node_core.specs.Stands.{Stands};
@@ -11,6 +11,7 @@ use crate::gather::gather;
 use crate::report::Report;
 use cy_bits::NoMemory;
 use node_core::{Line, Node};
+use node_plan::BusPlan;
 use tail_frame::Record;
 
 /// Takes a record: its lines are reported, their text is gathered, and then they are counted.
@@ -40,20 +41,46 @@ pub fn record_step(
         return Err(NoMemory);
     };
     let lines = &report.lines.as_slice()[before..];
-    let delivered = count_rx(lines);
-    let nosession = count_nosession(lines);
-    let Ok(()) = gather(gathered, node.plan.buses.as_slice(), lines) else {
+    let Ok(told) = tell(gathered, node.plan.buses.as_slice(), lines) else {
         return Err(NoMemory);
     };
     // No count passes the number of lines, and no number of records the line of the last one.
     let _most = report.lines.len();
     let _line = rec.line;
     report.records += 1;
-    report.delivered += delivered;
-    report.nosession += nosession;
+    report.delivered += told.delivered;
+    report.nosession += told.nosession;
     report.badcrc += one_if(stepped.badcrc);
     report.held = node.held();
     Ok(())
+}
+
+/// How many lines there are of each kind.
+#[derive(Clone, Copy, Debug, PartialEq, Eq)]
+struct Told {
+    /// Those of transfers that were received.
+    delivered: u64,
+    /// Those of start frames that had no session.
+    nosession: u64,
+}
+
+/// Gathers the text of lines, and counts them. Most records give none.
+fn tell(gathered: &mut Vec<u8>, buses: &[BusPlan], lines: &[Line]) -> Result<Told, NoMemory>
+    ensures text { OnOk result (gathered.new.items ≡ gathered.old.items ++ text buses.now lines.now) }
+    ensures delivered { IfOk result (λ told. told.delivered ≡ count_by is_rx lines.now) }
+    ensures nosession { IfOk result (λ told. told.nosession ≡ count_by is_nosession lines.now) }
+{
+    if lines.is_empty() {
+        return Ok(Told {
+            delivered: 0,
+            nosession: 0,
+        });
+    }
+    gather(gathered, buses, lines)?;
+    Ok(Told {
+        delivered: count_rx(lines),
+        nosession: count_nosession(lines),
+    })
 }
 
 /// How many deliveries these lines report.
