@@ -1,4 +1,5 @@
 pub mod SchemaRules
+pub mod RuleTests
 pub mod Views
 pub mod Equations
 pub mod Primitives

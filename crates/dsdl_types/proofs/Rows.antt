@@ -6,6 +6,8 @@ use Rattle.dsdl_types.specs.Schemas.{PUint, Simple, Sch, Var, Struct, Union, End
 use Rattle.dsdl_types.specs.Values.{Val, Num, Items, Parts, Tagged, Empty, More}
 use Rattle.dsdl_types.specs.Reading.{Read, Got, Bad, Name, BadDelimiter, BadTag, BadLength, own}
 use Rattle.dsdl_types.specs.Encoding.{own_bits}
+use Rattle.dsdl_types.specs.Rules.{IsSchema}
+use Rattle.dsdl_types.proofs.RuleTests.{is_schema, rules_kept}
 use Rattle.dsdl_types.specs.Difference.{difference, Named, Count}
 
 abbrev u8 : Sch
@@ -71,3 +73,13 @@ written = refl
 
 fewer : difference (outer inner10) (outer inner11) ≡ Some (record { path = Named (1 ∷ []) ∷ []; cause = Count })
 fewer = refl
+
+-- these are schemas by the rules, and a delimited one whose extent is too small is none
+pub outer_is_schema : IsSchema (outer inner11)
+outer_is_schema = rules_kept (outer inner11) refl
+
+pub choice_is_schema : IsSchema choice
+choice_is_schema = rules_kept choice refl
+
+too_small : is_schema (Struct (Field (97 ∷ []) u16 End) (outline 8 false)) ≡ false
+too_small = refl

@@ -1,9 +1,10 @@
-use Rattle.std.proofs.Common.{rules, ◌≡◌, [], true, refl, sym, ap, ◌∙◌, subst, arith}
+use Rattle.std.proofs.Common.{rules, ◌≡◌, [], true, refl, sym, ap, ◌∙◌, subst}
 use Rattle.dsdl_types.specs.Schemas.{Sch, Flds, PBool, Simple, Struct, Field, End, is_composite}
 use Rattle.dsdl_types.specs.Rules.{IsSchema}
 use Rattle.dsdl_types.specs.Views.{sch, flds, type_of}
 use Rattle.dsdl_types.specs.declared.schema.Schema.TheVariants as S
 use Rattle.dsdl_types.specs.declared.schema.Body.{roll-Body}
+use Rattle.dsdl_types.proofs.RuleTests.{rules_kept}
 use Rattle.dsdl_types.proofs.Equations.{kind_bool, kind_struct}
 use Rattle.dsdl_types.proofs.tests.sealed.Goals as goal
 
@@ -13,9 +14,6 @@ truth fs = Struct fs (record { extent = 8; sealed = true })
 abbrev one : Flds
 one = Field [] (Simple PBool) End
 
-truth_is_schema : IsSchema (truth one)
-truth_is_schema = (((refl, omega arith), (tt, tt)), omega arith, omega arith)
-
 pub invariant_of-result : goal.invariant_of-result
 invariant_of-result c =
     let fields : flds c.push.new.self ≡ one = search (rules, kind_bool) in
@@ -23,6 +21,6 @@ invariant_of-result c =
     ap type_of (kind_struct c.push.new.self 8 true) ∙ ap truth fields
     in
     record {
-      rules = subst IsSchema (sym e) truth_is_schema;
+      rules = subst IsSchema (sym e) (rules_kept (truth one) refl);
       composite = ap is_composite e;
     }
