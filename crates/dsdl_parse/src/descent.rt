@@ -49,6 +49,7 @@ fn chain(alloc: Global, words: &mut Words<'_>, depth: u32, level: Level) -> Resu
     Ok(left)
 }
 
+/// What stands between the operators of a level.
 #[cycle(descent)]
 fn operand(
     alloc: Global,
@@ -68,6 +69,7 @@ fn operand(
     }
 }
 
+/// `!` and what it applies to, or a comparison.
 #[cycle(descent)]
 fn not(alloc: Global, words: &mut Words<'_>, depth: u32) -> Result<Expr, ReadError>
     ensures value { Gives (r.not_of (r.within depth) words.old) result words.new }
@@ -83,6 +85,7 @@ fn not(alloc: Global, words: &mut Words<'_>, depth: u32) -> Result<Expr, ReadErr
     Ok(Expr::unary(alloc, op, inner)?)
 }
 
+/// A sign and what it applies to, or a power.
 #[cycle(descent)]
 fn sign(alloc: Global, words: &mut Words<'_>, depth: u32) -> Result<Expr, ReadError>
     ensures value { Gives (r.sign_of (r.within depth) words.old) result words.new }
@@ -98,6 +101,7 @@ fn sign(alloc: Global, words: &mut Words<'_>, depth: u32) -> Result<Expr, ReadEr
     Ok(Expr::unary(alloc, op, inner)?)
 }
 
+/// A base, and its exponent behind `**` or none.
 #[cycle(descent)]
 fn power(alloc: Global, words: &mut Words<'_>, depth: u32) -> Result<Expr, ReadError>
     ensures value { Gives (r.power_of (r.within depth) words.old) result words.new }
@@ -114,6 +118,7 @@ fn power(alloc: Global, words: &mut Words<'_>, depth: u32) -> Result<Expr, ReadE
     Ok(Expr::binary(alloc, op, left, right)?)
 }
 
+/// An atom with the names behind points that follow it.
 #[cycle(descent)]
 fn member(alloc: Global, words: &mut Words<'_>, depth: u32) -> Result<Expr, ReadError>
     ensures value { Gives (r.read_member (r.atom_of (r.within depth)) words.old) result words.new }
@@ -132,6 +137,7 @@ fn member(alloc: Global, words: &mut Words<'_>, depth: u32) -> Result<Expr, Read
     Ok(left)
 }
 
+/// An expression in parentheses, a set or a leaf.
 #[cycle(descent)]
 fn atom(alloc: Global, words: &mut Words<'_>, depth: u32) -> Result<Expr, ReadError>
     ensures value { Gives (r.atom_of (r.within depth) words.old) result words.new }
@@ -152,7 +158,7 @@ fn atom(alloc: Global, words: &mut Words<'_>, depth: u32) -> Result<Expr, ReadEr
     }
 }
 
-/// What stands behind a `(`.
+/// What stands behind a `(`, with its `)`.
 #[cycle(descent)]
 fn parens(alloc: Global, words: &mut Words<'_>, depth: u32) -> Result<Expr, ReadError>
     ensures value { Gives (r.in_parens (r.within depth).expression words.old) result words.new }
@@ -168,7 +174,7 @@ fn parens(alloc: Global, words: &mut Words<'_>, depth: u32) -> Result<Expr, Read
     }
 }
 
-/// What stands behind the `{` that was taken.
+/// What stands behind the `{` that was taken, with its `}`.
 #[cycle(descent)]
 fn braces(
     alloc: Global,

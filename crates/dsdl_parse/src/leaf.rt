@@ -35,6 +35,7 @@ fn unquoted(alloc: Global, string: &[u8]) -> Result<Text, NoMemory>
     Text::from_ascii(alloc, &string[1..string.len() - 1])
 }
 
+/// What a word is as an expression, where it is one.
 fn leaf_node(alloc: Global, word: WordRef<'_>) -> Result<Option<ExprNode>, NoMemory>
     requires { IsKind word.kind word.text.now }
     ensures { IfOk result (λ node. node ≡ leaf_node word.entry.kind word.entry.text.now) }
