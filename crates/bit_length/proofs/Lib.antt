@@ -5,3 +5,4 @@ pub mod CountLemmas
 pub mod MergeLemmas
 pub mod SumLemmas
 pub mod RepeatLemmas
+pub mod WithinLemmas

@@ -1,5 +1,5 @@
 -- Runs of one common step, and the numbers that they mean.
-use Rattle.std.specs.Prelude.{◌≡◌, ℕ, zero, suc, ◌+◌, ◌*◌, ◌/◌, ◌%◌, ◌^◌, ◌<◌, ◌≤◌, ◌==◌, ◌⊎◌, nat_le, Bool, ◌&&◌, if◌then◌else◌, List, [], ◌∷◌, ◌++◌, All, AllPairs}
+use Rattle.std.specs.Prelude.{◌≡◌, ℕ, zero, suc, ◌+◌, ◌*◌, ◌/◌, ◌%◌, ◌^◌, ◌<◌, ◌≤◌, ◌==◌, ◌⊎◌, nat_le, Bool, ◌&&◌, if◌then◌else◌, List, [], ◌∷◌, ◌++◌, All, AllPairs, Option, MatchOption}
 use Rattle.std.specs.List.{list_any}
 use Rattle.bit_length.specs.declared.run.Run.{Run}
 use Rattle.bit_length.specs.Lengths.{Numbers, Same, Joins}
@@ -68,3 +68,13 @@ IsMerged old new = (step : ℕ) → All (IsRun step) old → AreRuns step new ×
 pub record AreRunsOf (step : ℕ) (runs : List Run) (S : Numbers) : Type 0 where
   pub each : All (IsRun step) runs
   pub same : Same (InSome step runs) S
+
+-- the members at every `period`th quotient of a run, from one on, are of the set
+abbrev pub HasClass : Numbers → ℕ → Run → ℕ → ℕ → Type 0
+HasClass S step r period from =
+    (j : ℕ) → from + period * j ≤ r.last → S (r.residue + step * (from + period * j))
+
+-- an end up to which a number and each further one by a stride are of the set, or none where the number isn't
+abbrev pub IsReach : Numbers → ℕ → ℕ → Option ℕ → Type 0
+IsReach S n stride o =
+    MatchOption o (S n → ⊥) (λ end. (n ≤ end) × (end ≤ 2 ^ 32) × ((k : ℕ) → n + stride * k ≤ end → S (n + stride * k)))

@@ -12,6 +12,8 @@ mod run;
 mod set;
 mod steps;
 mod sums;
+#[cfg(test)]
+mod tests;
 
 use cy_bits::NoMemory;
 pub use set::LengthSet;

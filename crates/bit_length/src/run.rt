@@ -1,4 +1,4 @@
-ghost use Rattle.std.specs.Prelude.{◌≡◌, ℕ, ◌+◌, ◌*◌, ◌%◌, ◌^◌, ◌<◌, ◌≤◌, IsTrue, ◌↔◌};
+ghost use Rattle.std.specs.Prelude.{◌≡◌, ℕ, ◌+◌, ◌*◌, ◌%◌, ◌^◌, ◌<◌, ◌≤◌, IsTrue, ◌↔◌, if◌then◌else◌};
 ghost use Rattle.bit_length.specs.Runs.{in_run, IsRun, InRun};
 ghost use Rattle.bit_length.specs.Lengths.{Same, Only, Sums, Pads, IsNext, SomeLeaves, padded as padded_of};
 
@@ -56,6 +56,18 @@ impl Run {
         ensures { result ≡ in_run step n self.now }
     {
         n % step == self.residue && self.first <= n / step && n / step <= self.last
+    }
+
+    /// The greatest member, or the number itself where further members don't matter.
+    pub fn end(&self, step: u64, n: u64, further: bool) -> u64
+        requires { IsRun step self.now }
+        ensures { result ≡ (if further then self.now.residue + step * self.now.last else n) }
+    {
+        if further {
+            self.member(step, self.last)
+        } else {
+            n
+        }
     }
 
     /// The run of all sums of a member each, at a step.

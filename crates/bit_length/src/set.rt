@@ -1,6 +1,6 @@
 ghost use Rattle.std.specs.Prelude.{◌≡◌, ◌≢◌, ℕ, ◌+◌, ◌*◌, ◌%◌, ◌/◌, ◌<◌, ◌≤◌, ◌^◌, ◌↔◌, IsTrue, IfOk, Err, length, All};
-ghost use Rattle.bit_length.specs.Lengths.{Has, Same, Only, Delimited, Sums, Joins, Repeats, UpTo, Pads, SomeLeaves, IsLongBeyond, IsGreatest, IsLeast, IsNext};
-ghost use Rattle.bit_length.specs.Runs.{IsRun, InSome, AreRunsOf};
+ghost use Rattle.bit_length.specs.Lengths.{Has, Same, Only, Delimited, Sums, Joins, Repeats, UpTo, Pads, SomeLeaves, IsWithin, IsLongBeyond, IsGreatest, IsLeast, IsNext};
+ghost use Rattle.bit_length.specs.Runs.{IsRun, InRun, InSome, AreRunsOf, HasClass, IsReach};
 ghost use Rattle.bit_length.specs.Members.{lesser_of};
 
 use crate::merge::{Merged, merge_runs};
@@ -9,7 +9,7 @@ use crate::run::Run;
 use crate::steps::{common_divisor, common_multiple};
 use crate::sums::{pads, sums};
 use crate::{LONGEST, LengthError};
-use cy_bits::NoMemory;
+use cy_bits::{List, NoMemory, TryCopy};
 use std::alloc::Global;
 use std::marker::Model;
 
@@ -405,6 +405,105 @@ impl LengthSet {
             }
         }
         false
+    }
+
+    /// The members, ascending.
+    pub fn members(&self, alloc: Global) -> Result<List<u64>, NoMemory>
+        ensures { IfOk result (λ r. r ≡ self.now) }
+    {
+        let _ = &self.step;
+        let mut members = Vec::new(alloc);
+        let mut from = 0;
+        while let Some(n) = self.next(from) {
+            members.push(n)?;
+            from = n + 1;
+        }
+        Ok(List::new(members))
+    }
+
+    /// Whether both have the same members.
+    pub fn equals(&self, o: &LengthSet) -> bool
+        ensures { IsTrue result ↔ (self.now ≡ o.now) }
+    {
+        let _ = &self.step;
+        let _ = &o.step;
+        if !self.is_within(o) {
+            return false;
+        }
+        o.is_within(self)
+    }
+
+    /// Whether each member is a member of the other set.
+    pub fn is_within(&self, o: &LengthSet) -> bool
+        ensures { IsTrue result ↔ IsWithin (Has self.now) (Has o.now) }
+    {
+        if !o.has_run(&self.last, self.step) {
+            return false;
+        }
+        for run in &self.others {
+            if !o.has_run(run, self.step) {
+                return false;
+            }
+        }
+        true
+    }
+
+    /// Whether each member of a run is a member of the set.
+    fn has_run(&self, run: &Run, step: u64) -> bool
+        requires { IsRun step run.now }
+        ensures { IsTrue result ↔ IsWithin (InRun step run.now) (Has self.now) }
+    {
+        let period = self.step / common_divisor(step, self.step);
+        let period = period.min(run.count()).max(1);
+        for class in 0..period {
+            if !self.has_class(run, step, period, run.first + class) {
+                return false;
+            }
+        }
+        true
+    }
+
+    /// Whether the members of every `period`th quotient of a run, from one on, are members of the
+    /// set.
+    fn has_class(&self, run: &Run, step: u64, period: u64, from: u64) -> bool
+        requires run { IsRun step run.now }
+        requires period { 0 < period }
+        requires short { step * period < 2 ^ 64 }
+        requires near { period ≤ 2 ^ 33 }
+        ensures { IsTrue result ↔ HasClass (Has self.now) step run.now period from }
+    {
+        let mut quotient = from;
+        while quotient <= run.last {
+            let n = run.member(step, quotient);
+            match self.reach(n, step * period) {
+                Some(end) => quotient += (end - n) / step / period * period + period,
+                None => return false,
+            }
+        }
+        true
+    }
+
+    /// A number up to which a member and each further one by a stride are members.
+    fn reach(&self, n: u64, stride: u64) -> Option<u64>
+        requires { n ≤ 2 ^ 32 }
+        ensures { IsReach (Has self.now) n stride result }
+    {
+        let whole = stride % self.step == 0;
+        if self.last.has(self.step, n) {
+            return Some(self.last.end(self.step, n, whole));
+        }
+        for run in &self.others {
+            if run.has(self.step, n) {
+                return Some(run.end(self.step, n, whole));
+            }
+        }
+        None
+    }
+}
+
+impl TryCopy for LengthSet {
+    fn copy(&self, alloc: Global) -> Result<LengthSet, NoMemory> {
+        self.copy_to(alloc)
     }
 }
 
