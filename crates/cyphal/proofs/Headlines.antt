@@ -22,6 +22,7 @@ use Rattle.node_run.specs.Ran.{Ran, HasRun, names_of, newest_first, steps_of}
 use Rattle.node_run.specs.declared.report.Report.{Report}
 use Rattle.node_run.specs.declared.status.Status.{Status}
 use Rattle.node_run.specs.declared.status.Status.TheVariants as status
+use Rattle.node_core.proofs.Projection.{rxs_append}
 use Rattle.node_run.proofs.Logs.{newest_onto}
 use Rattle.node_run.proofs.Runs.{lines_front}
 use Rattle.node_run.proofs.Steps.{records_steps}
@@ -29,10 +30,6 @@ use Rattle.cyphal.specs.Words.{Run, Bound, command_of}
 use Rattle.cyphal.specs.Expected.{PlanAt, is_settled, NotRun, WasRun, WasBound}
 use Rattle.cyphal.specs.Headline.{heard_as, logged_in, Asked, ExplainsIn, OnceOf, DueOf}
 use Rattle.cyphal.proofs.Frames.{frames_are, are_records, in_order}
-
-rxs_append : (key : SessionKey) (a b : List Line) → rxs key (a ++ b) ≡ rxs key a ++ rxs key b
-rxs_append key [] b = refl
-rxs_append key (l ∷ a) b = ap (λ h. of_line key l ++ h) (rxs_append key a b) ∙ sym (append_assoc (of_line key l) (rxs key a) (rxs key b))
 
 -- a report has the first lines of a log
 abbrev IsFront : Plan → Log → Report → Type 0

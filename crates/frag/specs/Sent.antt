@@ -1,10 +1,9 @@
 -- Sent lists, and logs that they explain. The records of a key are a list with the newest first.
-use Rattle.std.specs.Prelude.{◌≡◌, ℕ, true, ◌==◌, ◌+◌, ◌-◌, ◌<◌, ◌≤◌, ◌⊎◌, List, [], ◌∷◌, ◌++◌, length, get_or, None}
-use Rattle.std.specs.Prelude.{take}
+use Rattle.std.specs.Prelude.{◌≡◌, ℕ, true, ◌==◌, ◌+◌, ◌<◌, ◌≤◌, ◌⊎◌, List, [], ◌∷◌, ◌++◌, length, get_or, None}
 use Rattle.can_id.specs.Identifiers.{IsIdent, bits, key_of, priority_of, destination_of}
 use Rattle.can_id.specs.declared.ident.Ident.{Ident}
 use Rattle.can_id.specs.declared.key.Key.{Key}
-use Rattle.tail_frame.specs.Chains.{KeyRecord, AtEach, chain_bytes, closes_at}
+use Rattle.tail_frame.specs.Chains.{KeyRecord, AtEach, chain_bytes, closes_at, without_crc}
 use Rattle.tail_frame.specs.declared.logged.Record.{Record}
 use Rattle.transfer_crc.specs.Crc.{crc_of}
 use Rattle.frag.specs.Wire.{IsFrameSize, padded, last_frame, is_even, body_at, frame_at}
@@ -89,10 +88,6 @@ InTime records = AtEach (λ r past. AtEach (λ e _. e.moment ≤ r.moment) past)
 -- the start frames on a's bus among these have one transfer-ID
 abbrev pub IsClear : KeyRecord → List KeyRecord → Type 0
 IsClear a between = (tid : ℕ) × AtEach (λ e _. e.start ≡ true → e.bus ≡ a.bus → e.tid ≡ tid) between
-
--- all but the two bytes of the CRC
-abbrev pub without_crc : List ℕ → List ℕ
-without_crc bytes = take (length bytes - 2) bytes
 
 -- no chance match: a clear chain that closes at q, and whose bytes have the CRC 0, has the data of the transfer of its
 -- last record

@@ -65,7 +65,7 @@ port_at-is kind port (q ∷ ps) p h =
       | inr n ↦ port_at-is kind port ps p (sym (cond-false (same_kind kind q.kind && eqb port q.port) (Some q) (port_at kind port ps) n) ∙ h)
     ]
 
-rxs_append : (key : SessionKey) (a b : List Line) → rxs key (a ++ b) ≡ rxs key a ++ rxs key b
+pub rxs_append : (key : SessionKey) (a b : List Line) → rxs key (a ++ b) ≡ rxs key a ++ rxs key b
 rxs_append key [] b = refl
 rxs_append key (l ∷ a) b = ap (λ h. of_line key l ++ h) (rxs_append key a b) ∙ sym (append_assoc (of_line key l) (rxs key a) (rxs key b))
 

@@ -1,9 +1,9 @@
 -- What is due is delivered
 use Rattle.std.proofs.Common.{◌≡◌, ℕ, ◌+◌, ◌-◌, ◌*◌, ◌/◌, ◌<◌, ◌≤◌, ◌⊎◌, Bool, true, false, not, ◌&&◌, ◌||◌, eqb, List, [], ◌∷◌, ◌++◌, length, take, drop, Option, Some, None, refl, sym, ap, ◌∙◌, subst, inl, inr, le_trans, le_refl, take_all, take-add, add-one, arith}
 use Rattle.std.proofs.lemmas.Bool.{eqb-true, eqb-false, eq-eqb, ne_eqb, and_parts, and_from, and_left, and_right, or_left, or_right, cond-true, cond-false, cond_both, cases_Bool, cases_lt}
-use Rattle.tail_frame.specs.Chains.{KeyRecord, AtEach, differs, follows, tip, chain_bytes, closes_at}
+use Rattle.tail_frame.specs.Chains.{KeyRecord, AtEach, differs, follows, tip, chain_bytes, closes_at, without_crc}
 use Rattle.redundancy.specs.Force.{force, heard, late, is_bus}
-use Rattle.rx_table.specs.Received.{Delivery, Run, Got, is_fresh, begins, without_crc, alone, completed, not_begun, after, received}
+use Rattle.rx_table.specs.Received.{Delivery, Run, Got, is_fresh, begins, alone, completed, not_begun, after, received}
 use Rattle.frag.specs.Wire.{IsFrameSize, padded, stream, last_frame, is_even}
 use Rattle.frag.specs.Sent.{Pair, transfer_at, size_on, IsSentList, IsFrame, IsUpTo, IsExplainedAt, Explained}
 use Rattle.frag.specs.declared.sent.Sent.{Sent}

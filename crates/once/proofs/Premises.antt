@@ -8,8 +8,7 @@ use Rattle.can_id.specs.declared.ident.Ident.TheVariants.{Message as Of}
 use Rattle.tail_frame.specs.declared.logged.Record.{Record}
 use Rattle.frag.specs.Raw.{WireExplained}
 use Rattle.once.specs.Raw.{WireExample}
-use Rattle.tail_frame.specs.Chains.{KeyRecord, follows, tip, chain_bytes, closes_at}
-use Rattle.frag.specs.Sent.{without_crc}
+use Rattle.tail_frame.specs.Chains.{KeyRecord, follows, tip, chain_bytes, closes_at, without_crc}
 use Rattle.rx_table.specs.Keys.{SessionKey, KeyedFrame, IsLog}
 use Rattle.frag.specs.Wire.{IsFrameSize, fitting, last_size, padding}
 use Rattle.frag.specs.Sent.{IsIdentOf, Pair, size_on, transfer_at, IsSentList, Explained, NoChanceAt, NoChance}

@@ -3,8 +3,8 @@ use Rattle.std.proofs.Common.{◌≡◌, ℕ, ◌<◌, ◌≤◌, ◌&&◌, eqb,
 use Rattle.std.specs.Prelude.{⊤}
 use mathlib.Core.List.{reverse_aux}
 use Rattle.std.proofs.lemmas.Bool.{eq-eqb, ne_eqb, cond-true, cond-false, cond_both}
-use Rattle.tail_frame.specs.Chains.{KeyRecord, AtEach, chain_bytes, closes_at}
-use Rattle.rx_table.specs.Received.{Delivery, Run, Got, begins, without_crc, alone, not_begun, received}
+use Rattle.tail_frame.specs.Chains.{KeyRecord, AtEach, chain_bytes, closes_at, without_crc}
+use Rattle.rx_table.specs.Received.{Delivery, Run, Got, begins, alone, not_begun, received}
 use Rattle.frag.specs.Sent.{Pair, transfer_at, data_on, InTime}
 use Rattle.frag.specs.declared.sent.Sent.{Sent}
 use Rattle.transfer_crc.specs.Crc.{crc_of}

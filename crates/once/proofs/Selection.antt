@@ -2,9 +2,9 @@
 use Rattle.std.proofs.Common.{◌≡◌, ℕ, ◌+◌, ◌-◌, ◌*◌, ◌/◌, ◌<◌, ◌≤◌, ◌⊎◌, true, false, not, ◌&&◌, ◌||◌, eqb, List, [], ◌∷◌, ◌++◌, length, take, drop, Option, Some, None, refl, sym, ap, ◌∙◌, subst, inl, inr, take_all, arith}
 use Rattle.std.specs.Prelude.{⊤}
 use Rattle.std.proofs.lemmas.Bool.{eqb-true, eqb-false, and_parts, and_right, and_cases, or_cases, or_parts, and_left, cond-true, cond-false, cond_both, both_ways, not-true, not-false, cases_Bool, cases_lt, true≢false}
-use Rattle.tail_frame.specs.Chains.{KeyRecord, AtEach, differs, follows, tip, chain_bytes, closes_at}
+use Rattle.tail_frame.specs.Chains.{KeyRecord, AtEach, differs, follows, tip, chain_bytes, closes_at, without_crc}
 use Rattle.redundancy.specs.Force.{force, heard, late, is_long_after, last_heard}
-use Rattle.rx_table.specs.Received.{Delivery, Run, Got, is_fresh, begins, without_crc, alone, not_begun, received}
+use Rattle.rx_table.specs.Received.{Delivery, Run, Got, is_fresh, begins, alone, not_begun, received}
 use Rattle.frag.specs.Wire.{IsFrameSize, padded, stream, last_frame}
 use Rattle.frag.specs.Sent.{Pair, transfer_at, size_on, data_on, IsSentList, IsFrame, InTime, IsExplainedAt, Explained, IsClear, NoChanceAt, NoChance}
 use Rattle.frag.specs.declared.sent.Sent.{Sent}

@@ -1,7 +1,7 @@
 -- What ends at each record: what is delivered grows by it, and an outcome tells it.
 use Rattle.std.proofs.Common.{◌≡◌, ◌∙◌, ℕ, suc, Bool, true, false, cond, ◌&&◌, eqb, List, [], ◌∷◌, length, Option, Some, None, refl, sym, ap, arith}
-use Rattle.tail_frame.specs.Chains.{KeyRecord, chain_bytes, closes_at}
-use Rattle.rx_table.specs.Received.{Delivery, Run, Got, begins, without_crc, alone, not_begun, received}
+use Rattle.tail_frame.specs.Chains.{KeyRecord, chain_bytes, closes_at, without_crc}
+use Rattle.rx_table.specs.Received.{Delivery, Run, Got, begins, alone, not_begun, received}
 use Rattle.rx_session.specs.Session.{Ignored, Held, BadCrc, Delivered}
 use Rattle.rx_table.specs.Steps.{of_run, add, delivery_at}
 use Rattle.rx_table.specs.Laws.{DeliveredStep, OutcomeTells}

@@ -1,9 +1,9 @@
 -- What begins, and the state after a record.
 use Rattle.std.proofs.Common.{◌≡◌, ℕ, ◌⊎◌, true, false, not, ◌&&◌, ◌||◌, eqb, List, [], ◌∷◌, length, Some, ap, ◌∙◌, inl, inr}
 use Rattle.std.proofs.lemmas.Bool.{eqb-true, and_parts, and_right, and_cases, or_cases, or_parts, and_left, cond-true, cond-false, both_ways, not-true, cases_Bool}
-use Rattle.tail_frame.specs.Chains.{KeyRecord, differs, follows, chain_bytes, closes_at}
+use Rattle.tail_frame.specs.Chains.{KeyRecord, differs, follows, chain_bytes, closes_at, without_crc}
 use Rattle.redundancy.specs.Force.{heard, late, is_long_after, last_heard}
-use Rattle.rx_table.specs.Received.{Delivery, Run, is_fresh, begins, without_crc, alone, completed, not_begun, after, received}
+use Rattle.rx_table.specs.Received.{Delivery, Run, is_fresh, begins, alone, completed, not_begun, after, received}
 
 -- what follows gives
 pub follows_parts : (a l r : KeyRecord) → follows a l r ≡ true → record { open_end : l.end ≡ false; not_start : r.start ≡ false; bus : r.bus ≡ a.bus; tid : r.tid ≡ a.tid; toggle : differs l.toggle r.toggle ≡ true }

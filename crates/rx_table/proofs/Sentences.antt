@@ -2,8 +2,8 @@
 use Rattle.std.proofs.Common.{◌≡◌, ℕ, ◌⊎◌, true, not, ◌&&◌, eqb, List, [], ◌∷◌, ◌++◌, length, Option, Some, None, refl, sym, ap, ◌∙◌, subst, inl, inr}
 use Rattle.std.specs.Prelude.{◌≢◌, ⊤}
 use Rattle.std.proofs.lemmas.Bool.{eqb-true, eqb-false, eq-eqb, ne_eqb, and_parts, and_from, cond-true, cond-false, cond_both, not-true, not_from_false, true≢false}
-use Rattle.tail_frame.specs.Chains.{KeyRecord, chain_bytes, closes_at}
-use Rattle.rx_table.specs.Received.{Delivery, Run, Got, begins, without_crc, alone, not_begun, received}
+use Rattle.tail_frame.specs.Chains.{KeyRecord, chain_bytes, closes_at, without_crc}
+use Rattle.rx_table.specs.Received.{Delivery, Run, Got, begins, alone, not_begun, received}
 use Rattle.rx_table.specs.Meaning.{Since, IsBegun, IsNotBegun, Closes, IsDelivery, DeliveriesAre, IsBadCrc, BadCrcsAre}
 use Rattle.rx_table.specs.Steps.{fails_at, is_bad}
 use Rattle.rx_table.proofs.Runs.{begun_state}

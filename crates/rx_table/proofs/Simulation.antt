@@ -2,9 +2,9 @@
 use Rattle.std.proofs.Common.{◌≡◌, ℕ, ◌^◌, ◌<◌, ◌+◌, ◌-◌, Bool, true, false, cond, not, ◌&&◌, ◌||◌, eqb, List, [], ◌∷◌, ◌++◌, length, take, Option, Some, None, unwrap_or, refl, sym, ap, ◌∙◌, subst, inl, inr, length-append, arith}
 use Rattle.std.specs.Prelude.{⊤}
 use Rattle.std.proofs.lemmas.Bool.{eqb-false, eq-eqb, ne_eqb, and_parts, and_from, and_left, and_right, and_cases, or_from, or_left, or_right, cond-true, cond-false, cond_both, both_ways, not_from_true, not_from_false, not-true, not-false, cases_Bool}
-use Rattle.tail_frame.specs.Chains.{KeyRecord, differs, follows, tip, chain_bytes, closes_at}
+use Rattle.tail_frame.specs.Chains.{KeyRecord, differs, follows, tip, chain_bytes, closes_at, without_crc}
 use Rattle.redundancy.specs.Force.{force, is_bus, heard, last_heard, late}
-use Rattle.rx_table.specs.Received.{Delivery, Run, Got, is_fresh, begins, without_crc, alone, not_begun, after, received}
+use Rattle.rx_table.specs.Received.{Delivery, Run, Got, is_fresh, begins, alone, not_begun, after, received}
 use Rattle.cy_bits.specs.Put.{put_at}
 use Rattle.redundancy.specs.Hear.{hear}
 use Rattle.rx_session.specs.Session.{Part, Session, Outcome, Ignored, Held, BadCrc, Delivered, capped, is_last, begin, take_in, go_on, on_heard, after_hear, accept}

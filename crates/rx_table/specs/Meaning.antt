@@ -1,7 +1,7 @@
 -- A delivery in words of places alone.
 use Rattle.std.specs.Prelude.{◌≡◌, ◌≢◌, ℕ, true, false, ◌⊎◌, List, [], ◌∷◌, ◌++◌, length, ⊤}
-use Rattle.tail_frame.specs.Chains.{KeyRecord, chain_bytes, closes_at}
-use Rattle.rx_table.specs.Received.{Delivery, begins, without_crc, received}
+use Rattle.tail_frame.specs.Chains.{KeyRecord, chain_bytes, closes_at, without_crc}
+use Rattle.rx_table.specs.Received.{Delivery, begins, received}
 use Rattle.rx_table.specs.Steps.{is_bad}
 
 -- P of each record after p, and of what came before it

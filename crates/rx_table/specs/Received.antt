@@ -1,7 +1,7 @@
 -- The deliveries of one key, from its records alone: a list with the newest first. `past` is what came before a
 -- record, and the record's place is the length of that list.
-use Rattle.std.specs.Prelude.{ℕ, Bool, true, not, ◌&&◌, ◌||◌, ◌==◌, ◌-◌, if◌then◌else◌, List, [], ◌∷◌, length, take, Option, Some, None}
-use Rattle.tail_frame.specs.Chains.{KeyRecord, chain_bytes, closes_at}
+use Rattle.std.specs.Prelude.{ℕ, Bool, true, not, ◌&&◌, ◌||◌, ◌==◌, if◌then◌else◌, List, [], ◌∷◌, length, Option, Some, None}
+use Rattle.tail_frame.specs.Chains.{KeyRecord, chain_bytes, closes_at, without_crc}
 use Rattle.redundancy.specs.Force.{heard, late}
 
 -- a delivery: the records that it begins and ends with, the place of the last one, and the payload before any cut
@@ -29,10 +29,6 @@ is_fresh tid (d ∷ ds) = not (d.first.tid == tid)
 -- whether r is begun, after these deliveries: a start frame that is heard, and is late or has a fresh transfer-ID
 abbrev pub begins : ℕ → KeyRecord → List KeyRecord → List Delivery → Bool
 begins timeout r past ds = r.start && (heard timeout r past && (late timeout r past || is_fresh r.tid ds))
-
--- all but the two last bytes
-abbrev pub without_crc : List ℕ → List ℕ
-without_crc bytes = take (length bytes - 2) bytes
 
 module _ (crc : List ℕ → ℕ) (timeout : ℕ) where
   -- what is delivered where r is begun: r alone, if it is also an end

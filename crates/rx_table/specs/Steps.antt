@@ -1,7 +1,7 @@
 -- What ends at one record: a delivery, a transfer with a bad CRC, or nothing.
 use Rattle.std.specs.Prelude.{ℕ, Bool, false, not, ◌&&◌, ◌==◌, if◌then◌else◌, List, ◌∷◌, length, Option, Some, None}
-use Rattle.tail_frame.specs.Chains.{KeyRecord, chain_bytes, closes_at}
-use Rattle.rx_table.specs.Received.{Delivery, Run, begins, without_crc, received}
+use Rattle.tail_frame.specs.Chains.{KeyRecord, chain_bytes, closes_at, without_crc}
+use Rattle.rx_table.specs.Received.{Delivery, Run, begins, received}
 
 -- the deliveries with one more, if there is one
 abbrev pub add : Option Delivery → List Delivery → List Delivery

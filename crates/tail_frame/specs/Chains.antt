@@ -1,5 +1,5 @@
 -- The records of one key, and the chains that they make.
-use Rattle.std.specs.Prelude.{ℕ, Bool, cond, not, ◌&&◌, ◌==◌, if◌then◌else◌, List, [], ◌∷◌, ◌++◌, ⊤}
+use Rattle.std.specs.Prelude.{ℕ, Bool, cond, not, ◌&&◌, ◌==◌, ◌-◌, if◌then◌else◌, List, [], ◌∷◌, ◌++◌, length, take, ⊤}
 
 -- A record of one key, its frame taken apart. What came before it is a list of such records with the newest first,
 -- and its place is the length of that list.
@@ -40,3 +40,7 @@ chain_bytes a (r ∷ since) = if follows a (tip a since) r then chain_bytes a si
 -- whether the chain closes at r, a record after a
 abbrev pub closes_at : KeyRecord → List KeyRecord → KeyRecord → Bool
 closes_at a since r = follows a (tip a since) r && r.end
+
+-- all but the two bytes of the CRC
+abbrev pub without_crc : List ℕ → List ℕ
+without_crc bytes = take (length bytes - 2) bytes
