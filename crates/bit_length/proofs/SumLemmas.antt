@@ -1,9 +1,10 @@
 -- Sums and padding of runs.
-use Rattle.std.proofs.Common.{◌≡◌, ℕ, ◌+◌, ◌-◌, ◌*◌, ◌/◌, ◌%◌, ◌^◌, ◌<◌, ◌≤◌, ◌⊎◌, ◌↔◌, inl, inr, List, [], length, take, get_or, refl, sym, ap, ◌∙◌, arith, All}
+use Rattle.std.proofs.Common.{◌≡◌, ℕ, ◌+◌, ◌-◌, ◌*◌, ◌/◌, ◌%◌, ◌^◌, ◌<◌, ◌≤◌, ◌⊎◌, ◌↔◌, inl, inr, List, [], length, take, get_or, refl, sym, ap, ◌∙◌, arith, All, zero, suc}
 use Rattle.std.proofs.lemmas.Nat.{div_below}
 use Rattle.std.proofs.lemmas.List.Elements.{All-nil, All-get_or}
 use Rattle.std.proofs.lemmas.List.{take_more}
-use Rattle.std.proofs.Math.Nat.{mul-le-mul_left, add-mul-div_right, add-mul-mod_self_left}
+use Rattle.std.proofs.Math.Nat.{mul-le-mul_left, add-mul-div_right, add-mul-mod_self_left, mod-mod_of_dvd}
+use Rattle.std.proofs.lemmas.Nat.Gcd.{dvd_of_mod-eq-zero}
 use Rattle.bit_length.specs.declared.run.Run.{Run}
 use Rattle.bit_length.specs.Lengths.{Numbers, Same, Sums, Pads, padded, SomeLeaves}
 use Rattle.bit_length.specs.Runs.{IsRun, InRun, InSome, Adds, AreRunsOf}
@@ -113,18 +114,37 @@ from_nothing s runs S adds = record {
 
 -- ---- remainders
 
-pub leaves_again : (s k r : ℕ) (run : Run) → 0 < k → SomeLeaves (InRun s run) k r → (q : ℕ) × (run.first ≤ q) × (q ≤ run.last) × (q < run.first + k) × ((run.residue + s * q) % k ≡ r)
-leaves_again s k r run p (n, (q, low, high, e), f) =
-    let x : ℕ = (q - run.first) % k in
-    let y : ℕ = (q - run.first) / k in
-    let g : q ≡ run.first + (q - run.first) % k + k * ((q - run.first) / k) = omega arith in
-    let h : n ≡ run.residue + s * (run.first + (q - run.first) % k) + k * (s * ((q - run.first) / k)) = e ∙ ap (λ t. run.residue + s * t) g ∙ omega arith in (
-      run.first + (q - run.first) % k,
+-- with a common divisor of the step and k, the remainders come again after k / g quotients
+pub leaves_again : (s k r g : ℕ) (run : Run) → 0 < k → s % g ≡ 0 → k % g ≡ 0 → SomeLeaves (InRun s run) k r → (q : ℕ) × (run.first ≤ q) × (q ≤ run.last) × (q < run.first + k / g) × ((run.residue + s * q) % k ≡ r)
+leaves_again s k r g run pk sg kg (n, (q, low, high, e), f) =
+    let p : ℕ = k / g in
+    let ke : k ≡ g * (k / g) = omega arith in
+    let se : s ≡ g * (s / g) = omega arith in
+    let pp : 0 < k / g = positive g (k / g) k (sym ke) pk in
+    let t : s * (k / g) ≡ k * (s / g) = ap (λ x. x * (k / g)) se ∙ turn g (s / g) (k / g) ∙ ap (λ x. x * (s / g)) (sym ke) in
+    let h : q ≡ run.first + (q - run.first) % (k / g) + k / g * ((q - run.first) / (k / g)) = omega arith in
+    let i : s * (k / g) * ((q - run.first) / (k / g)) ≡ k * (s / g) * ((q - run.first) / (k / g)) = ap (λ x. x * ((q - run.first) / (k / g))) t in
+    let j : n ≡ run.residue + s * (run.first + (q - run.first) % (k / g)) + k * (s / g * ((q - run.first) / (k / g))) = e ∙ ap (λ x. run.residue + s * x) h ∙ omega arith in (
+      run.first + (q - run.first) % (k / g),
       omega arith,
       omega arith,
       omega arith,
-      sym (add-mul-mod_self_left (run.residue + s * (run.first + (q - run.first) % k)) k (s * ((q - run.first) / k))) ∙ sym (ap (λ t. t % k) h) ∙ f,
+      sym (add-mul-mod_self_left (run.residue + s * (run.first + (q - run.first) % (k / g))) k (s / g * ((q - run.first) / (k / g)))) ∙ sym (ap (λ x. x % k) j) ∙ f,
     )
+  where
+    positive : (a b c : ℕ) → a * b ≡ c → 0 < c → 0 < b
+    positive a zero c x y = absurd (omega arith)
+    positive a (suc b) c x y = omega arith
+
+    turn : (a b c : ℕ) → a * b * c ≡ a * c * b
+    turn a b c = omega arith
+
+-- every member leaves the residue's remainder modulo a common divisor
+pub leaves_apart : (s k r g : ℕ) (run : Run) → s % g ≡ 0 → k % g ≡ 0 → SomeLeaves (InRun s run) k r → run.residue % g ≡ r % g
+leaves_apart s k r g run sg kg (n, (q, low, high, e), f) =
+    let se : s ≡ g * (s / g) = omega arith in
+    let h : n ≡ run.residue + g * (s / g * q) = e ∙ ap (λ x. run.residue + x * q) se ∙ omega arith in
+    sym (add-mul-mod_self_left run.residue g (s / g * q)) ∙ sym (ap (λ x. x % g) h) ∙ sym (mod-mod_of_dvd g n (dvd_of_mod-eq-zero g kg)) ∙ ap (λ x. x % g) f
 
 -- ---- the greatest sums are short
 

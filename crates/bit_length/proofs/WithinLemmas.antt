@@ -1,14 +1,13 @@
 -- Whether the members of a run are of a set, and equal sets.
-use Rattle.std.proofs.Common.{◌≡◌, ℕ, zero, suc, ◌+◌, ◌-◌, ◌*◌, ◌/◌, ◌%◌, ◌^◌, ◌<◌, ◌≤◌, ◌⊎◌, ◌↔◌, inl, inr, Bool, true, false, cond, List, [], ◌∷◌, ◌++◌, length, take, get_or, refl, sym, ap, ◌∙◌, subst, arith, All, Option, Some, None, add-one}
+use Rattle.std.proofs.Common.{◌≡◌, ℕ, zero, suc, ◌+◌, ◌-◌, ◌*◌, ◌/◌, ◌%◌, ◌^◌, ◌<◌, ◌≤◌, ◌⊎◌, ◌↔◌, inl, inr, Bool, true, false, cond, List, [], ◌∷◌, ◌++◌, refl, sym, ap, ◌∙◌, subst, arith, Some, None, add-one}
 use Rattle.std.specs.List.{list_any}
-use Rattle.std.proofs.lemmas.Bool.{cases_lt, false≢true}
+use Rattle.std.proofs.lemmas.Bool.{cases_lt}
 use Rattle.std.proofs.lemmas.List.{append-nil}
 use Rattle.std.proofs.Math.Nat.{mul-le-mul_left}
 use Rattle.bit_length.specs.declared.run.Run.{Run}
 use Rattle.bit_length.specs.Lengths.{Numbers, Has, Same, IsWithin, IsNext}
-use Rattle.bit_length.specs.Runs.{in_run, IsRun, InRun, InSome, numbers_below, members_of, AreRuns, HasClass, IsReach}
-use Rattle.bit_length.proofs.MemberLemmas.{has-below, below-has, quotient_of, remainder_of}
-use Rattle.bit_length.proofs.SetLemmas.{no_run}
+use Rattle.bit_length.specs.Runs.{in_run, IsRun, InRun, numbers_below, members_of, HasClass}
+use Rattle.bit_length.proofs.MemberLemmas.{has-below, below-has}
 
 -- ---- equal sets
 

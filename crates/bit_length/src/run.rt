@@ -2,6 +2,8 @@ ghost use Rattle.std.specs.Prelude.{◌≡◌, ℕ, ◌+◌, ◌*◌, ◌%◌, �
 ghost use Rattle.bit_length.specs.Runs.{in_run, IsRun, InRun};
 ghost use Rattle.bit_length.specs.Lengths.{Same, Only, Sums, Pads, IsNext, SomeLeaves, padded as padded_of};
 
+use crate::steps::common_divisor;
+
 /// The numbers that leave `residue` when they are divided by a step, and whose quotients are those
 /// from `first` to `last`.
 ///
@@ -136,7 +138,11 @@ impl Run {
         requires small { k ≤ 2 ^ 32 }
         ensures { IsTrue result ↔ SomeLeaves (InRun step self.now) k r }
     {
-        for quotient in self.first..(self.last + 1).min(self.first + k) {
+        let common = common_divisor(step, k);
+        if self.residue % common != r % common {
+            return false;
+        }
+        for quotient in self.first..(self.last + 1).min(self.first + k / common) {
             if self.member(step, quotient) % k == r {
                 return true;
             }

@@ -411,6 +411,7 @@ impl LengthSet {
     pub fn members(&self, alloc: Global) -> Result<List<u64>, NoMemory>
         ensures { IfOk result (λ r. r ≡ self.now) }
     {
+        // The check knows of a field's value that the members ascend.
         let _ = &self.step;
         let mut members = Vec::new(alloc);
         let mut from = 0;
@@ -425,6 +426,7 @@ impl LengthSet {
     pub fn equals(&self, o: &LengthSet) -> bool
         ensures { IsTrue result ↔ (self.now ≡ o.now) }
     {
+        // The check knows of two fields' values that members ascend, so that equal members mean equal lists.
         let _ = &self.step;
         let _ = &o.step;
         if !self.is_within(o) {

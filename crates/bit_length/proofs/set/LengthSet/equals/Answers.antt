@@ -1,4 +1,4 @@
-use Rattle.std.proofs.Common.{◌≡◌, rules, subst}
+use Rattle.std.proofs.Common.{rules, subst}
 use Rattle.bit_length.specs.Lengths.{Has, IsWithin}
 use Rattle.bit_length.specs.Members.{runs_of}
 use Rattle.bit_length.proofs.WithinLemmas.{same_sets}

@@ -1,4 +1,4 @@
-use Rattle.std.proofs.Common.{ℕ, ◌≡◌, ◌+◌, ◌*◌, ◌/◌, ◌-◌, arith, rules, refl, ap, ◌∙◌}
+use Rattle.std.proofs.Common.{ℕ, ◌+◌, ◌*◌, ◌/◌, ◌-◌, arith, rules, refl, ap, ◌∙◌}
 use Rattle.bit_length.specs.Lengths.{Has}
 use Rattle.bit_length.proofs.WithinLemmas.{class_more, class_all}
 use Rattle.bit_length.proofs.set.LengthSet.has_class.Goals as goal

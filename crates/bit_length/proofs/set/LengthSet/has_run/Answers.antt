@@ -1,4 +1,4 @@
-use Rattle.std.proofs.Common.{◌≡◌, ◌+◌, ◌*◌, ◌/◌, ◌-◌, ◌≤◌, ◌<◌, ◌⊎◌, inl, inr, arith, rules, refl}
+use Rattle.std.proofs.Common.{inl, inr, arith, rules}
 use Rattle.std.proofs.lemmas.Bool.{cases_lt}
 use Rattle.bit_length.specs.Lengths.{Has}
 use Rattle.bit_length.proofs.WithinLemmas.{stride_short, classes_step, classes_within}

@@ -1,5 +1,5 @@
-use Rattle.std.proofs.Common.{◌≡◌, ◌+◌, ◌∷◌, [], arith, rules, get_or, length}
-use Rattle.bit_length.specs.Lengths.{Has, IsWithin}
+use Rattle.std.proofs.Common.{◌+◌, ◌∷◌, [], rules, get_or}
+use Rattle.bit_length.specs.Lengths.{Has}
 use Rattle.bit_length.specs.Runs.{InRun, InSome}
 use Rattle.bit_length.proofs.SetLemmas.{front, front_more, value_at, other_run, no_run, only_run, last_member, other_member}
 use Rattle.bit_length.proofs.WithinLemmas.{within_either, within_same}

@@ -1,6 +1,6 @@
-use Rattle.std.proofs.Common.{ℕ, ◌≡◌, ◌<◌, ◌+◌, ◌++◌, ◌∷◌, [], ◌^◌, arith, refl, sym, ◌∙◌, ap, Bool}
+use Rattle.std.proofs.Common.{◌<◌, ◌+◌, ◌++◌, ◌∷◌, [], ◌^◌, arith, sym, ◌∙◌, ap}
 use Rattle.std.specs.List.{list_any}
-use Rattle.bit_length.specs.Runs.{in_run, members_of, numbers_below}
+use Rattle.bit_length.specs.Runs.{in_run, members_of}
 use Rattle.bit_length.specs.Members.{runs_of}
 use Rattle.bit_length.proofs.WithinLemmas.{listed_more, listed_all, below_nothing}
 use Rattle.bit_length.proofs.set.LengthSet.members.Goals as goal

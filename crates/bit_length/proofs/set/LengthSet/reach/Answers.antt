@@ -1,9 +1,8 @@
-use Rattle.std.proofs.Common.{◌≡◌, ◌+◌, ◌%◌, ◌==◌, arith, get_or, length, sym, ◌∙◌, inl, inr}
+use Rattle.std.proofs.Common.{◌%◌, ◌==◌, arith, get_or, sym, ◌∙◌, inl, inr}
 use Rattle.std.proofs.lemmas.Bool.{eqb-true}
 use Rattle.bit_length.specs.Lengths.{Has}
-use Rattle.bit_length.specs.Runs.{InRun}
 use Rattle.bit_length.proofs.MemberLemmas.{InRun-from_test}
-use Rattle.bit_length.proofs.SetLemmas.{front, front_more, value_at, other_run, no_run, last_run, last_member, other_member, not_found}
+use Rattle.bit_length.proofs.SetLemmas.{front_more, value_at, other_run, no_run, last_run, last_member, other_member, not_found}
 use Rattle.bit_length.proofs.WithinLemmas.{reach_of}
 use Rattle.bit_length.proofs.set.LengthSet.reach.Goals as goal
 
