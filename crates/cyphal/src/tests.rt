@@ -14,67 +14,92 @@ const RX: &[u8] = b"rx 0.000000 can0 msg 7509 42 4 0 1 1 01000000000000 raw\n";
 const ALL: &[u8] =
     b"rx 0.000000 can0 msg 7509 42 4 0 1 1 01000000000000 raw\nend records 1 delivered 1 badcrc 0 nosession 0 sent 0 held 7 bound 28\n";
 
-/// Which calls of the tree, the input and the output fail, and what the run comes to.
+/// How many empty lines come behind the log, which calls of the tree, the input and the output fail, and what the
+/// run comes to: among others, how many bytes of the input are left at least.
 #[derive(Clone, Copy)]
 struct Row {
+    empty_lines: usize,
     tree: &'static [u64],
     input: &'static [u64],
     out: &'static [u64],
     code: u8,
     written: &'static [u8],
     line: &'static [u8],
+    left: usize,
 }
 
 #[test]
 fn a_fault_ends_a_run_and_leaves_a_beginning(rt: HostRuntime) -> Result<(), Fail> {
     let rows = [
         Row {
+            empty_lines: 0,
             tree: &[],
             input: &[],
             out: &[],
             code: 0,
             written: ALL,
             line: b"",
+            left: 0,
         },
         Row {
+            empty_lines: 0,
             tree: &[0],
             input: &[],
             out: &[],
             code: 8,
             written: b"",
             line: b"cyphal: read fault\n",
+            left: 0,
         },
         Row {
+            empty_lines: 0,
             tree: &[],
             input: &[0],
             out: &[],
             code: 8,
             written: b"",
             line: b"cyphal: read fault\n",
+            left: 0,
         },
         Row {
+            empty_lines: 0,
             tree: &[],
             input: &[1],
             out: &[],
             code: 8,
             written: RX,
             line: b"cyphal: read fault\n",
+            left: 0,
         },
         Row {
+            empty_lines: 0,
             tree: &[],
             input: &[],
             out: &[0],
             code: 9,
             written: b"",
             line: b"cyphal: write fault\n",
+            left: 0,
         },
         Row {
+            empty_lines: 0,
             tree: &[],
             input: &[],
             out: &[1],
             code: 9,
             written: RX,
             line: b"cyphal: write fault\n",
+            left: 0,
+        },
+        Row {
+            empty_lines: 10_000,
+            tree: &[],
+            input: &[],
+            out: &[0],
+            code: 9,
+            written: b"",
+            line: b"cyphal: write fault\n",
+            left: 1_808,
         },
     ];
     for row in &rows {
@@ -86,7 +111,12 @@ fn a_fault_ends_a_run_and_leaves_a_beginning(rt: HostRuntime) -> Result<(), Fail
         ]?;
         let files = List::new(vec![in alloc; File::new(alloc, "plan", PLAN)?]?);
         let mut tree = MemTree::new(files, row.tree).ok_or(AllocError)?;
-        let mut input = MemSource::new(LOG, row.input);
+        let mut log = Vec::new(alloc);
+        log.extend_from_slice(LOG)?;
+        for _ in 0..row.empty_lines {
+            log.push(b'\n')?;
+        }
+        let mut input = MemSource::new(log.as_slice(), row.input);
         let mut out = MemSink::new(alloc, row.out);
         let mut err = MemSink::new(alloc, &[]);
         let done = top(
@@ -100,6 +130,7 @@ fn a_fault_ends_a_run_and_leaves_a_beginning(rt: HostRuntime) -> Result<(), Fail
         assert_eq!(rt; code_of(&done.status), row.code);
         assert_eq!(rt; out.written.as_slice(), row.written);
         assert_eq!(rt; err.written.as_slice(), row.line);
+        assert_eq!(rt; input.source.left.len() >= row.left, true);
     }
     Ok(())
 }
