@@ -43,7 +43,8 @@ abbrev pub InSome : ℕ → List Run → ℕ → Type 0
 InSome step [] n = ⊥
 InSome step (r ∷ rs) n = InRun step r n ⊎ InSome step rs n
 
--- each run of the new list can be one of a set, if each of the old could, and the new list means the old numbers and those of S
+-- the new list means the old numbers and those of S, and each of its runs can be one of a set, if
+-- each of the old could
 pub record Adds (step : ℕ) (old new : List Run) (S : Numbers) : Type 0 where
   pub each : All (IsRun step) old → All (IsRun step) new
   pub same : Same (InSome step new) (Joins (InSome step old) S)
@@ -74,7 +75,8 @@ abbrev pub HasClass : Numbers → ℕ → Run → ℕ → ℕ → Type 0
 HasClass S step r period from =
     (j : ℕ) → from + period * j ≤ r.last → S (r.residue + step * (from + period * j))
 
--- an end up to which a number and each further one by a stride are of the set, or none where the number isn't
+-- an end up to which a number and each further one by a stride are of the set, or none where the
+-- number isn't
 abbrev pub IsReach : Numbers → ℕ → ℕ → Option ℕ → Type 0
 IsReach S n stride o =
     MatchOption o (S n → ⊥) (λ end. (n ≤ end) × (end ≤ 2 ^ 32) × ((k : ℕ) → n + stride * k ≤ end → S (n + stride * k)))

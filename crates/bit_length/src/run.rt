@@ -76,7 +76,8 @@ impl Run {
     pub fn plus(&self, step: u64, o: &Run) -> Run
         requires run { IsRun step self.now }
         requires other { IsRun step o.now }
-        requires short { self.now.residue + step * self.now.last + (o.now.residue + step * o.now.last) ≤ 2 ^ 32 }
+        requires short { self.now.residue + step * self.now.last
+            + (o.now.residue + step * o.now.last) ≤ 2 ^ 32 }
         ensures run { IsRun step result }
         ensures sums { Same (InRun step result) (Sums (InRun step self.now) (InRun step o.now)) }
     {
@@ -108,7 +109,8 @@ impl Run {
     /// Whether the quotients of another run, which doesn't stand before this one, go on with this
     /// run's.
     pub fn touches(&self, next: &Run) -> bool
-        ensures { IsTrue result ↔ ((next.now.residue ≡ self.now.residue) × (next.now.first ≤ self.now.last + 1)) }
+        ensures { IsTrue result
+            ↔ ((next.now.residue ≡ self.now.residue) × (next.now.first ≤ self.now.last + 1)) }
     {
         next.residue == self.residue && next.first.saturating_sub(1) <= self.last
     }

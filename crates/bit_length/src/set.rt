@@ -13,11 +13,21 @@ use cy_bits::{List, NoMemory, TryCopy};
 use std::alloc::Global;
 use std::marker::Model;
 
-/// A finite set of bit lengths that isn't empty, none above `LONGEST`.
+/// A finite set of bit lengths that isn't empty, none above `LONGEST`: the bit length set of a
+/// serializable type (Cyphal Specification, chapter 3). Contracts see the ascending list of its
+/// members.
+///
+/// It is kept as runs of one step without a common member, in the order of runs. The last stands
+/// in the value itself, so a set of one run takes no memory. A set that would need more than 2^20
+/// runs, or more than 2^22 while it is worked out, is answered as want of memory. Questions about a
+/// set take no memory, but for `members`.
 #[derive(Drop)]
 pub struct LengthSet {
+    /// The step of all runs.
     step: u64,
+    /// The runs before the last.
     others: Vec<Run>,
+    /// The last run.
     last: Run,
 }
 
@@ -426,7 +436,7 @@ impl LengthSet {
     pub fn equals(&self, o: &LengthSet) -> bool
         ensures { IsTrue result ↔ (self.now ≡ o.now) }
     {
-        // The check knows of two fields' values that members ascend, so that equal members mean equal lists.
+        // The check knows of two fields' values that the members ascend.
         let _ = &self.step;
         let _ = &o.step;
         if !self.is_within(o) {

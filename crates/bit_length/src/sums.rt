@@ -13,7 +13,8 @@ fn push_sums(sums: &mut Vec<Run>, step: u64, one: &Run, runs: &[Run]) -> Result<
     requires runs { All (IsRun step) runs.now }
     requires short { (m n : ℕ) → InRun step one.now m → InSome step runs.now n → m + n ≤ 2 ^ 32 }
     ensures { OnOk result
-        (Adds step sums.old.items sums.new.items (Sums (InRun step one.now) (InSome step runs.now))) }
+        (Adds step sums.old.items sums.new.items
+        (Sums (InRun step one.now) (InSome step runs.now))) }
 {
     for run in runs {
         sums.push(one.plus(step, run))?;
