@@ -1,0 +1,12 @@
+pub mod Members
+pub mod Ordered
+pub mod Below
+pub mod Texts
+pub mod Firsts
+pub mod Adding
+pub mod FolderFacts
+pub mod Heads
+pub mod MemberFacts
+pub mod Standing
+pub mod Told
+pub mod Named

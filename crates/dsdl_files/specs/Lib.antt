@@ -1,0 +1,4 @@
+pub mod Order
+pub mod Folders
+pub mod Causes
+pub mod Steps
