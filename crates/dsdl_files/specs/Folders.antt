@@ -27,14 +27,15 @@ is_at_or_below folder path = bytes_eq folder path || is_below folder path
 abbrev pub name_below : List ℕ → List ℕ → List ℕ
 name_below root path = unwrap_or (rest_in root path) (codes ".")
 
--- the files below the root that are compiled, in the order of their paths
+-- the paths of the files below the root that are compiled, in their order
 abbrev pub dsdl_paths : Files → List ℕ → List (List ℕ)
 dsdl_paths files root = filter (λ path. is_below root path && is_dsdl path) (finite.keys files)
 
--- the file at a path
+-- the file at a path, named below the root
 abbrev pub dsdl_file : Files → List ℕ → List ℕ → DsdlFile
 dsdl_file files root path = record { path = name_below root path; text = bytes_at files path }
 
+-- the files below the root that are compiled, in the order of their paths, with their bytes
 abbrev pub dsdl_files : Files → List ℕ → List DsdlFile
 dsdl_files files root = map (dsdl_file files root) (dsdl_paths files root)
 

@@ -13,6 +13,7 @@ by_bytes = slice_cmp nat_cmp
 abbrev pub IsAscending : List (List ℕ) → Type 0
 IsAscending = IsStrictlySortedBy by_bytes
 
+-- a path with nothing beside it
 abbrev pub alone : List ℕ → List ℕ × Unit {0}
 alone path = (path, tt)
 
