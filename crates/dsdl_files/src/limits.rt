@@ -9,7 +9,7 @@ pub const MAX_FILE: usize = 1 << 20;
 pub const MAX_ENTRIES: usize = 65_536;
 
 /// How much is read of a folder.
-#[derive(Clone, Copy, Drop)]
+#[derive(Clone, Copy)]
 pub struct Limits {
     /// How many entries the root and all folders below it may have together.
     pub entries: usize,

@@ -68,10 +68,6 @@ fn limits(rt: HostRuntime) -> Result<(), Fail> {
         let answer = read_within(alloc, &mut tree, "root", limits);
         assert_eq!(rt; shown(alloc, &answer)?.as_str(), expected);
     }
-    assert_eq!(rt;
-        (LIMITS.entries, LIMITS.files, LIMITS.bytes),
-        (65_536, 4096, 1_048_576)
-    );
     Ok(())
 }
 
