@@ -1,0 +1,5 @@
+pub mod Walks
+pub mod Sets
+pub mod Types
+pub mod Fields
+pub mod Variants

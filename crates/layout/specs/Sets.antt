@@ -1,0 +1,17 @@
+-- Sets of places on the way through the fields of a composite.
+use Rattle.std.specs.Prelude.{◌≡◌, ℕ, ◌^◌, ◌≤◌, Bool, List, Option, Some, None}
+use Rattle.bit_length.specs.Lengths.{Numbers, Has}
+use Rattle.dsdl_types.specs.Greatest.{from_lead}
+
+-- where a part begins that stands behind one of these places, and may have to begin at a multiple of 8
+abbrev pub Leads : Bool → Numbers → Numbers
+Leads aligned S n = (p : ℕ) × S p × (n ≡ from_lead aligned p)
+
+-- no number is above 2^32
+abbrev pub IsShort : Numbers → Type 0
+IsShort S = (n : ℕ) → S n → n ≤ 2 ^ 32
+
+-- the members of a set that may be absent
+abbrev pub HasIn : Option (List ℕ) → Numbers
+HasIn None n = ⊥
+HasIn (Some s) n = Has s n

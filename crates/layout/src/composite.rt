@@ -1,0 +1,113 @@
+ghost use Rattle.std.specs.Prelude.{◌≡◌, ℕ, ◌^◌, ◌≤◌, ◌+◌, ◌-◌, true, false, IfOk};
+ghost use Rattle.bit_length.specs.Lengths.{Has, Same};
+ghost use Rattle.dsdl_types.specs.Schemas.{Struct, Union, is_aligned, is_composite, is_delimited, extent_of, prefix};
+ghost use Rattle.dsdl_types.specs.Greatest.{as_part, from_lead, longest};
+ghost use Rattle.dsdl_types.specs.Lengths.{Size};
+ghost use Rattle.dsdl_types.specs.Rules.{IsFormed};
+ghost use Rattle.dsdl_types.specs.Views.{body_of, type_of, named, sch};
+ghost use Rattle.layout.specs.Layouts.{IsLayout, cast_of};
+ghost use Rattle.layout.specs.Sets.{Leads, IsShort};
+
+use crate::lengths::{is_aligned, padding, part_lengths, prefix};
+use crate::row::{Row, cast_of};
+use crate::within::{copy, join, only, pad, sum};
+use bit_length::LengthSet;
+use cy_bits::{List, NoMemory, TryCopy};
+use dsdl_types::{Body, Field, Schema};
+use std::alloc::Global;
+
+/// The rows of a composite, and the lengths that it can have by itself.
+#[derive(Drop)]
+pub struct Composite {
+    pub rows: List<Row>,
+    pub lengths: LengthSet,
+}
+
+/// Of a composite.
+pub fn rows_of(alloc: Global, schema: &Schema) -> Result<Composite, NoMemory>
+    requires formed { IsFormed (sch schema.now) }
+    requires short { longest (sch schema.now) ≤ 2 ^ 32 }
+    requires composite { is_composite (sch schema.now) ≡ true }
+    ensures { IfOk result (λ c. IsLayout (sch schema.now) c.rows c.lengths) }
+{
+    match schema {
+        Schema::Struct(body) => struct_rows(alloc, body),
+        Schema::Union(body) => union_rows(alloc, body),
+        _ => unreachable!(),
+    }
+}
+
+/// Of a structure. Its fields stand in order, and zeros bring its end to a multiple of 8 bits.
+#[cycle(lengths)]
+pub fn struct_rows(alloc: Global, body: &Body) -> Result<Composite, NoMemory>
+    requires formed { IsFormed (Struct (body_of body.now).0 (body_of body.now).1) }
+    requires short { longest (Struct (body_of body.now).0 (body_of body.now).1) ≤ 2 ^ 32 }
+    ensures { IfOk result (λ c. IsLayout (Struct (body_of body.now).0 (body_of body.now).1) c.rows c.lengths) }
+{
+    let mut rows = Vec::new(alloc);
+    let mut ends = only(alloc, 0)?;
+    for field in body.fields.as_slice() {
+        if let Some(bits) = padding(&field.schema) {
+            ends = sum(&ends, &only(alloc, bits)?)?;
+            continue;
+        }
+        let offsets = leads(&ends, is_aligned(&field.schema))?;
+        let row = row_of(alloc, field, offsets)?;
+        ends = sum(&row.offsets, &row.lengths)?;
+        rows.push(row)?;
+    }
+    Ok(Composite {
+        rows: List::new(rows),
+        lengths: pad(&ends)?,
+    })
+}
+
+/// Of a union. Each variant stands behind the tag, and zeros bring its end to a multiple of 8 bits.
+#[cycle(lengths)]
+pub fn union_rows(alloc: Global, body: &Body) -> Result<Composite, NoMemory>
+    requires formed { IsFormed (Union (body_of body.now).0 (body_of body.now).1) }
+    requires short { longest (Union (body_of body.now).0 (body_of body.now).1) ≤ 2 ^ 32 }
+    ensures { IfOk result (λ c. IsLayout (Union (body_of body.now).0 (body_of body.now).1) c.rows c.lengths) }
+{
+    let tag = only(alloc, prefix(body.fields.len() as u64 - 1))?;
+    let mut rows = Vec::new(alloc);
+    let mut lengths = None;
+    for field in body.fields.as_slice() {
+        let row = row_of(alloc, field, copy(&tag)?)?;
+        lengths = Some(join(lengths, &row.lengths)?);
+        rows.push(row)?;
+    }
+    match lengths {
+        Some(lengths) => Ok(Composite {
+            rows: List::new(rows),
+            lengths: pad(&sum(&tag, &lengths)?)?,
+        }),
+        None => unreachable!(),
+    }
+}
+
+/// Where a part begins behind one of these places: a part that has to, at a multiple of 8 bits.
+fn leads(places: &LengthSet, aligned: bool) -> Result<LengthSet, NoMemory>
+    requires { IsShort (Leads aligned (Has places.now)) }
+    ensures { IfOk result (λ s. Same (Has s) (Leads aligned (Has places.now))) }
+{
+    if aligned { pad(places) } else { copy(places) }
+}
+
+/// The row of a field that can stand at these places.
+#[cycle(lengths)]
+fn row_of(alloc: Global, field: &Field, offsets: LengthSet) -> Result<Row, NoMemory>
+    requires formed { IsFormed (type_of (named field.now).1) }
+    requires short { as_part (is_delimited (type_of (named field.now).1)) (extent_of (type_of (named field.now).1)) (longest (type_of (named field.now).1)) ≤ 2 ^ 32 }
+    ensures name { IfOk result (λ r. r.name ≡ (named field.now).0) }
+    ensures offsets { IfOk result (λ r. r.offsets ≡ offsets) }
+    ensures lengths { IfOk result (λ r. Same (Has r.lengths) (Size (type_of (named field.now).1))) }
+    ensures cast { IfOk result (λ r. r.cast ≡ cast_of (type_of (named field.now).1)) }
+{
+    Ok(Row {
+        name: field.name.copy(alloc)?,
+        offsets,
+        lengths: part_lengths(alloc, &field.schema)?,
+        cast: cast_of(&field.schema),
+    })
+}

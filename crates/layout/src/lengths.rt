@@ -1,0 +1,110 @@
+ghost use Rattle.std.specs.Prelude.{◌≡◌, ℕ, ◌^◌, ◌≤◌, true, false, IfOk, MatchOption};
+ghost use Rattle.bit_length.specs.Lengths.{Has, Same};
+ghost use Rattle.dsdl_types.specs.Schemas.{is_aligned, is_delimited, extent_of, prefix};
+ghost use Rattle.dsdl_types.specs.Greatest.{as_part, longest};
+ghost use Rattle.dsdl_types.specs.Lengths.{Length, Size};
+ghost use Rattle.dsdl_types.specs.Rules.{IsFormed};
+ghost use Rattle.dsdl_types.specs.Views.{Padding, is_padding, kind_of, sch};
+
+use crate::composite::{Composite, struct_rows, union_rows};
+use crate::within::{delimited, only, repeat, sum, up_to};
+use bit_length::LengthSet;
+use cy_bits::NoMemory;
+use dsdl_types::Schema;
+use std::alloc::Global;
+
+/// The lengths that a type can have by itself, without a delimiter header.
+#[cycle(lengths)]
+pub fn own_lengths(alloc: Global, schema: &Schema) -> Result<LengthSet, NoMemory>
+    requires formed { IsFormed (sch schema.now) }
+    requires short { longest (sch schema.now) ≤ 2 ^ 32 }
+    ensures { IfOk result (λ s. Same (Has s) (Length (sch schema.now))) }
+{
+    match schema {
+        Schema::Bool => only(alloc, 1),
+        Schema::Uint { bits, .. } => only(alloc, u64::from(*bits)),
+        Schema::Int { bits } => only(alloc, u64::from(*bits)),
+        Schema::Float { bits, .. } => only(alloc, u64::from(*bits)),
+        Schema::Void { .. } => unreachable!(),
+        Schema::Fixed { item, len } => repeat(&part_lengths(alloc, item.get())?, *len),
+        Schema::Var { item, cap } => {
+            let items = up_to(&part_lengths(alloc, item.get())?, *cap)?;
+            sum(&only(alloc, prefix(u64::from(*cap)))?, &items)
+        }
+        Schema::Struct(body) => {
+            let Composite {
+                lengths,
+                rows: _rows,
+            } = struct_rows(alloc, body)?;
+            Ok(lengths)
+        }
+        Schema::Union(body) => {
+            let Composite {
+                lengths,
+                rows: _rows,
+            } = union_rows(alloc, body)?;
+            Ok(lengths)
+        }
+    }
+}
+
+/// The lengths that a type can have as a part of another: those of a delimited type count its delimiter header, and
+/// go to its extent.
+#[cycle(lengths)]
+pub fn part_lengths(alloc: Global, schema: &Schema) -> Result<LengthSet, NoMemory>
+    requires formed { IsFormed (sch schema.now) }
+    requires short { as_part (is_delimited (sch schema.now)) (extent_of (sch schema.now)) (longest (sch schema.now)) ≤ 2 ^ 32 }
+    ensures { IfOk result (λ s. Same (Has s) (Size (sch schema.now))) }
+{
+    match delimited_extent(schema) {
+        Some(extent) => delimited(alloc, extent),
+        None => own_lengths(alloc, schema),
+    }
+}
+
+/// The extent of a delimited composite; of any other type none.
+fn delimited_extent(schema: &Schema) -> Option<u64>
+    ensures { MatchOption result
+        (is_delimited (sch schema.now) ≡ false)
+        (λ e. (is_delimited (sch schema.now) ≡ true) × (e ≡ extent_of (sch schema.now))) }
+{
+    match schema {
+        Schema::Struct(body) | Schema::Union(body) => {
+            if body.sealed { None } else { Some(body.extent) }
+        }
+        _ => None,
+    }
+}
+
+/// The bits of an array's length field for its capacity, or of a union's tag for its number of variants less one.
+pub fn prefix(greatest: u64) -> u64
+    ensures { result ≡ prefix greatest }
+{
+    match greatest {
+        0..0x100 => 8,
+        0x100..0x1_0000 => 16,
+        0x1_0000..0x1_0000_0000 => 32,
+        _ => 64,
+    }
+}
+
+/// Whether a type begins at a multiple of 8 bits: a composite, and an array of such.
+pub fn is_aligned(schema: &Schema) -> bool
+    ensures { result ≡ is_aligned (sch schema.now) }
+{
+    match schema {
+        Schema::Fixed { item, .. } | Schema::Var { item, .. } => is_aligned(item.get()),
+        Schema::Struct(_) | Schema::Union(_) => true,
+        _ => false,
+    }
+}
+
+/// The bits of padding; of a type none.
+pub fn padding(schema: &Schema) -> Option<u64>
+    ensures { MatchOption result (is_padding (kind_of schema.now) ≡ false) (λ n. kind_of schema.now ≡ Padding n) }
+{
+    match schema {
+        Schema::Void { bits } => Some(u64::from(*bits)),
+        _ => None,
+    }
+}

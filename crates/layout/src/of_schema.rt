@@ -1,0 +1,27 @@
+ghost use Rattle.std.specs.Prelude.{◌≡◌, true, IfOk};
+ghost use Rattle.dsdl_types.specs.Schemas.{is_composite};
+ghost use Rattle.dsdl_types.specs.Rules.{IsSchema};
+ghost use Rattle.dsdl_types.specs.Views.{sch};
+ghost use Rattle.layout.specs.Layouts.{IsLayout};
+
+use crate::Layout;
+use crate::composite::{Composite, rows_of};
+use cy_bits::{NoMemory, TryCopy};
+use dsdl_types::Schema;
+use std::alloc::Global;
+
+/// The layout of a structure or a union that keeps the rules: where each field can stand, which lengths it and the
+/// whole can have (Cyphal Specification, section 3.7), and an equal schema. No length is above 2^32 bits.
+pub fn layout_of(alloc: Global, schema: &Schema) -> Result<Layout, NoMemory>
+    requires rules { IsSchema (sch schema.now) }
+    requires composite { is_composite (sch schema.now) ≡ true }
+    ensures layout { IfOk result (λ l. IsLayout (sch schema.now) l.rows l.lengths) }
+    ensures schema { IfOk result (λ l. l.schema ≡ schema.now) }
+{
+    let Composite { rows, lengths } = rows_of(alloc, schema)?;
+    Ok(Layout {
+        rows,
+        lengths,
+        schema: schema.copy(alloc)?,
+    })
+}
