@@ -6,6 +6,8 @@ mod layout;
 mod lengths;
 mod of_schema;
 mod row;
+#[cfg(test)]
+mod tests;
 mod within;
 
 pub use layout::Layout;

@@ -1,6 +1,7 @@
-ghost use Rattle.std.specs.Prelude.{◌≡◌, ◌∷◌, [], ℕ, List, true, false, IfOk};
-ghost use Rattle.dsdl_types.specs.Schemas.{PUint, Simple, Var, Struct, Union, Field, End};
-ghost use Rattle.dsdl_types.specs.Views.{Typed, Padding, kind_of, named, flds, in_order};
+ghost use Rattle.std.specs.Prelude.{◌≡◌, ◌∷◌, [], ℕ, List as ListOf, true, false, IfOk};
+ghost use Rattle.dsdl_types.specs.Schemas.{PUint, Simple, Var, Struct, End};
+ghost use Rattle.dsdl_types.specs.Schemas as schemas;
+ghost use Rattle.dsdl_types.specs.Views.{Typed, kind_of, named, flds, in_order};
 
 use crate::{Layout, Row, layout_of};
 use bit_length::LengthSet;
@@ -70,10 +71,8 @@ fn structure(fields: List<Field>, extent: u64, sealed: bool) -> Schema
 
 /// `uint8 a` with an extent of 64 bits.
 fn inner(alloc: Global) -> Result<Schema, NoMemory>
-    ensures {
-        IfOk result
-            (λ s. (name : List ℕ) × (kind_of s ≡ Typed (Struct (Field name (Simple (PUint 8 true)) End) (record { extent = 64; sealed = false }))))
-    }
+    ensures { IfOk result
+        (λ s. (name : ListOf ℕ) × (kind_of s ≡ Typed (Struct (schemas.Field name (Simple (PUint 8 true)) End) (record { extent = 64; sealed = false })))) }
 {
     let fields = one(alloc, field(alloc, "a", uint(8))?)?;
     Ok(structure(fields, 64, false))
@@ -118,20 +117,80 @@ fn padded(alloc: Global) -> Result<Layout, NoMemory> {
 }
 
 /// Writes at most 16 lengths, or else the least, the greatest and their number.
-fn show_set(text: &mut String, set: &LengthSet) -> Result<(), NoMemory> {
-    let alloc = text.alloc();
+fn write_set(text: &mut String, set: &LengthSet) -> Result<(), NoMemory> {
     if set.count() > 16 {
-        let line = format!(in alloc; "{{{}..{} count {}}}", set.min(), set.max(), set.count())?;
-        text.push_str(line.as_str())?;
+        write!(text, " {}..{} count {}", set.min(), set.max(), set.count())?;
         return Ok(());
     }
-    text.push_str("{")?;
-    let mut next = set.next(0);
-    while let Some(n) = next {
-        let number = format!(in alloc; "{n},")?;
-        text.push_str(number.as_str())?;
-        next = set.next(n + 1);
+    for n in 0..2049 {
+        if set.has(n) {
+            write!(text, " {n}")?;
+        }
     }
-    text.push_str("}")?;
     Ok(())
+}
+
+/// Writes a row in a line.
+fn write_row(text: &mut String, row: &Row) -> Result<(), NoMemory> {
+    text.push_str(row.name.as_str())?;
+    text.push_str(match row.cast {
+        Some(Cast::Saturated) => " saturated",
+        Some(Cast::Truncated) => " truncated",
+        None => "",
+    })?;
+    text.push_str(" at")?;
+    write_set(text, &row.offsets)?;
+    text.push_str(" size")?;
+    write_set(text, &row.lengths)?;
+    text.push_str("\n")?;
+    Ok(())
+}
+
+/// The extent in bytes, the lengths of the whole, and the rows.
+fn text_of(alloc: Global, layout: &Layout) -> Result<String, NoMemory> {
+    let mut text = String::new(alloc);
+    let bytes = layout.extent_bytes();
+    write!(text, "{bytes} lengths")?;
+    write_set(&mut text, &layout.lengths)?;
+    text.push_str("\n")?;
+    for row in layout.rows.as_slice() {
+        write_row(&mut text, row)?;
+    }
+    Ok(text)
+}
+
+/// Layouts, each with its text.
+fn rows(alloc: Global) -> Result<Vec<(Layout, &'static str)>, NoMemory> {
+    let mut rows = Vec::new(alloc);
+    rows.push((alone(alloc)?, "8 lengths 8\na saturated at 0 size 8\n"))?;
+    rows.push((
+        outer(alloc)?,
+        "16 lengths 40 48 56 64 72 80 88 96 104\ninner at 0 size 32 40 48 56 64 72 80 88 96\nz saturated at 32 40 48 56 64 72 80 88 96 size 8\n",
+    ))?;
+    rows.push((
+        arrays(alloc)?,
+        "514 lengths 24..4112 count 512\na saturated at 0 size 16..2064 count 257\nb saturated at 16..2064 count 257 size 8..2048 count 256\n",
+    ))?;
+    rows.push((
+        choice(alloc)?,
+        "6 lengths 16 32 48\na saturated at 8 size 8\nb saturated at 8 size 8 24 40\n",
+    ))?;
+    rows.push((
+        padded(alloc)?,
+        "13 lengths 40 48 56 64 72 80 88 96 104\ns at 8 size 32 40 48 56 64 72 80 88 96\n",
+    ))?;
+    Ok(rows)
+}
+
+#[test]
+fn layouts(rt: HostRuntime) {
+    let rows = rows(rt.alloc()).expect(&rt, "memory");
+    for (layout, want) in &rows {
+        assert!(rt;
+            matches!(layout.schema(), Schema::Struct(_) | Schema::Union(_)),
+            "{want}"
+        );
+        let text = text_of(rt.alloc(), layout).expect(&rt, "memory");
+        assert!(rt; text.as_str() == *want, "{text}");
+    }
 }
