@@ -1,5 +1,5 @@
 -- The schemas of the tests keep the rules
-use Rattle.std.proofs.Common.{◌≡◌, ℕ, Bool, true, false, List, [], ◌∷◌, refl, sym, ap, ◌∙◌, subst, arith}
+use Rattle.std.proofs.Common.{◌≡◌, ℕ, true, false, List, [], ◌∷◌, refl, sym, ap, ◌∙◌, subst, arith}
 use Rattle.dsdl_types.specs.Schemas.{Sch, Flds, Outline, PUint, Simple, Var, Struct, Union, End, Pad, Field as F}
 use Rattle.dsdl_types.specs.Rules.{IsFormed, IsSchema}
 use Rattle.dsdl_types.specs.Views.{Kind, Typed, kind_of, type_of, sch, named, flds, in_order, with_field}

@@ -5,7 +5,7 @@ use Rattle.std.proofs.lemmas.Bool.{false≢true}
 use Rattle.bit_length.specs.Lengths.{Numbers, Has, Same, Only, Delimited, Sums, Repeats, UpTo, Pads, padded, IsLongBeyond}
 use Rattle.bit_length.specs.declared.LengthError.{LengthError}
 use Rattle.bit_length.specs.declared.LengthError.TheVariants as error
-use Rattle.dsdl_types.specs.Schemas.{Sch, Outline, Simple, Fixed, Var, Struct, Union, is_composite, is_delimited, extent_of, prefix, variants}
+use Rattle.dsdl_types.specs.Schemas.{Prim, Sch, Outline, width, Simple, Fixed, Var, Struct, Union, is_composite, is_delimited, extent_of, prefix, variants}
 use Rattle.dsdl_types.specs.Rules.{IsExtent, IsOutline, IsFormed}
 use Rattle.dsdl_types.specs.Greatest.{up, longest, longest_fields, longest_variant, as_part}
 use Rattle.dsdl_types.specs.Lengths.{AsPart, InRow, Length, Size}
@@ -138,3 +138,6 @@ whole_along x y rows lengths e h = subst (λ z. Same (Has lengths) (Length z)) (
 
 pub sizes_are : {E : Type 0} (r : Result (List ℕ) E) (S : Numbers) (x : Sch) → IfOk r (λ s. Same (Has s) S) → Same S (Size x) → IfOk r (λ s. Same (Has s) (Size x))
 sizes_are r S x h k = IfOk-weaker r (λ s. Same (Has s) S) (λ s. Same (Has s) (Size x)) (λ s a. same_trans a k) h
+
+pub only_along : (x : Sch) (t : Prim) → x ≡ Simple t → Same (Only (width t)) (Length x)
+only_along x t e = subst (λ y. Same (Only (width t)) (Length y)) (sym e) (λ n. (λ h. h, λ h. h))

@@ -1,12 +1,12 @@
 ghost use Rattle.std.specs.Prelude.{◌≡◌, ℕ, ◌^◌, ◌≤◌, ◌+◌, ◌-◌, true, false, IfOk};
 ghost use Rattle.bit_length.specs.Lengths.{Has, Same};
-ghost use Rattle.dsdl_types.specs.Schemas.{Struct, Union, is_aligned, is_composite, is_delimited, extent_of, prefix};
-ghost use Rattle.dsdl_types.specs.Greatest.{as_part, from_lead, longest};
+ghost use Rattle.dsdl_types.specs.Schemas.{Struct, Union, is_composite};
+ghost use Rattle.dsdl_types.specs.Greatest.{longest};
 ghost use Rattle.dsdl_types.specs.Lengths.{Size};
 ghost use Rattle.dsdl_types.specs.Rules.{IsFormed};
 ghost use Rattle.dsdl_types.specs.Views.{body_of, type_of, named, sch};
 ghost use Rattle.layout.specs.Layouts.{IsLayout, cast_of};
-ghost use Rattle.layout.specs.Sets.{Leads, IsShort};
+ghost use Rattle.layout.specs.Sets.{Leads, IsShort, IsShortPart};
 
 use crate::lengths::{is_aligned, padding, part_lengths, prefix};
 use crate::row::{Row, cast_of};
@@ -19,11 +19,13 @@ use std::alloc::Global;
 /// The rows of a composite, and the lengths that it can have by itself.
 #[derive(Drop)]
 pub struct Composite {
+    /// A row for each field or variant that isn't padding, in order.
     pub rows: List<Row>,
+    /// The lengths, without a delimiter header.
     pub lengths: LengthSet,
 }
 
-/// Of a composite.
+/// The rows and lengths of a composite.
 pub fn rows_of(alloc: Global, schema: &Schema) -> Result<Composite, NoMemory>
     requires formed { IsFormed (sch schema.now) }
     requires short { longest (sch schema.now) ≤ 2 ^ 32 }
@@ -37,7 +39,7 @@ pub fn rows_of(alloc: Global, schema: &Schema) -> Result<Composite, NoMemory>
     }
 }
 
-/// Of a structure. Its fields stand in order, and zeros bring its end to a multiple of 8 bits.
+/// The rows and lengths of a structure. Its fields stand in order, and zeros bring its end to a multiple of 8 bits.
 #[cycle(lengths)]
 pub fn struct_rows(alloc: Global, body: &Body) -> Result<Composite, NoMemory>
     requires formed { IsFormed (Struct (body_of body.now).0 (body_of body.now).1) }
@@ -62,7 +64,7 @@ pub fn struct_rows(alloc: Global, body: &Body) -> Result<Composite, NoMemory>
     })
 }
 
-/// Of a union. Each variant stands behind the tag, and zeros bring its end to a multiple of 8 bits.
+/// The rows and lengths of a union. Each variant stands behind the tag, and zeros bring its end to a multiple of 8 bits.
 #[cycle(lengths)]
 pub fn union_rows(alloc: Global, body: &Body) -> Result<Composite, NoMemory>
     requires formed { IsFormed (Union (body_of body.now).0 (body_of body.now).1) }
@@ -98,7 +100,7 @@ fn leads(places: &LengthSet, aligned: bool) -> Result<LengthSet, NoMemory>
 #[cycle(lengths)]
 fn row_of(alloc: Global, field: &Field, offsets: LengthSet) -> Result<Row, NoMemory>
     requires formed { IsFormed (type_of (named field.now).1) }
-    requires short { as_part (is_delimited (type_of (named field.now).1)) (extent_of (type_of (named field.now).1)) (longest (type_of (named field.now).1)) ≤ 2 ^ 32 }
+    requires short { IsShortPart (type_of (named field.now).1) }
     ensures name { IfOk result (λ r. r.name ≡ (named field.now).0) }
     ensures offsets { IfOk result (λ r. r.offsets ≡ offsets) }
     ensures lengths { IfOk result (λ r. Same (Has r.lengths) (Size (type_of (named field.now).1))) }

@@ -1,9 +1,10 @@
 ghost use Rattle.std.specs.Prelude.{◌≡◌, ℕ, ◌^◌, ◌≤◌, true, false, IfOk, MatchOption};
 ghost use Rattle.bit_length.specs.Lengths.{Has, Same};
 ghost use Rattle.dsdl_types.specs.Schemas.{is_aligned, is_delimited, extent_of, prefix};
-ghost use Rattle.dsdl_types.specs.Greatest.{as_part, longest};
+ghost use Rattle.dsdl_types.specs.Greatest.{longest};
 ghost use Rattle.dsdl_types.specs.Lengths.{Length, Size};
 ghost use Rattle.dsdl_types.specs.Rules.{IsFormed};
+ghost use Rattle.layout.specs.Sets.{IsShortPart};
 ghost use Rattle.dsdl_types.specs.Views.{Padding, is_padding, kind_of, sch};
 
 use crate::composite::{Composite, struct_rows, union_rows};
@@ -22,9 +23,9 @@ pub fn own_lengths(alloc: Global, schema: &Schema) -> Result<LengthSet, NoMemory
 {
     match schema {
         Schema::Bool => only(alloc, 1),
-        Schema::Uint { bits, .. } => only(alloc, u64::from(*bits)),
-        Schema::Int { bits } => only(alloc, u64::from(*bits)),
-        Schema::Float { bits, .. } => only(alloc, u64::from(*bits)),
+        Schema::Uint { bits, .. } | Schema::Int { bits } | Schema::Float { bits, .. } => {
+            only(alloc, u64::from(*bits))
+        }
         Schema::Void { .. } => unreachable!(),
         Schema::Fixed { item, len } => repeat(&part_lengths(alloc, item.get())?, *len),
         Schema::Var { item, cap } => {
@@ -53,7 +54,7 @@ pub fn own_lengths(alloc: Global, schema: &Schema) -> Result<LengthSet, NoMemory
 #[cycle(lengths)]
 pub fn part_lengths(alloc: Global, schema: &Schema) -> Result<LengthSet, NoMemory>
     requires formed { IsFormed (sch schema.now) }
-    requires short { as_part (is_delimited (sch schema.now)) (extent_of (sch schema.now)) (longest (sch schema.now)) ≤ 2 ^ 32 }
+    requires short { IsShortPart (sch schema.now) }
     ensures { IfOk result (λ s. Same (Has s) (Size (sch schema.now))) }
 {
     match delimited_extent(schema) {

@@ -1,7 +1,8 @@
-use Rattle.std.proofs.Common.{rules, ◌≡◌, ◌++◌, ◌∷◌, [], sym, ap, ◌∙◌, subst, Some, ◌+◌, ◌-◌, drop}
+use Rattle.std.proofs.Common.{refl, inl, inr, rules, ◌≡◌, ◌++◌, ◌∷◌, [], sym, ap, ◌∙◌, subst, Some, ◌+◌, ◌-◌, drop}
 use Rattle.bit_length.specs.Lengths.{Has, Same, Only, Delimited, Sums, Repeats}
-use Rattle.dsdl_types.specs.Schemas.{Struct, Union, Simple, PBool, PUint, PInt, PFloat, prefix, variants}
-use Rattle.dsdl_types.specs.Views.{body_of, sch, flds, is_saturated}
+use Rattle.dsdl_types.specs.Schemas.{Struct, Union, Simple, PBool, prefix, variants}
+use Rattle.dsdl_types.specs.Lengths.{Length}
+use Rattle.dsdl_types.specs.Views.{body_of, sch, flds}
 use Rattle.dsdl_types.specs.declared.schema.Schema.TheFolds.{the_lemmas}
 use Rattle.layout.specs.Layouts.{IsLayout}
 use Rattle.layout.specs.Sets.{Leads, IsShort}
@@ -151,7 +152,7 @@ lengths::own_lengths-sum-requires t c =
     let e = types.var_is c.args.schema.now c.in-Var.item c.get-in-Var.result.now c.in-Var.cap c.in-Var.is c.get-in-Var.ensures in
     let item = sch c.get-in-Var.result.now in
     let prefixes : Same (Has c.in_ok-only-in-Var.field-0) (Only (prefix c.in-Var.cap)) =
-    subst (λ p. Same (Has c.in_ok-only-in-Var.field-0) (Only p)) (c.prefix.ensures ∙ ap prefix c.from-in-Var.ensures) c.in_ok-only-in-Var.ensures
+    subst (λ p. Same (Has c.in_ok-only-in-Var.field-0) (Only p)) (c.prefix.ensures ∙ ap prefix c.from.ensures) c.in_ok-only-in-Var.ensures
     in
     sets.var_short item c.in-Var.cap (Has c.in_ok-part_lengths-in-Var.field-0) (Has c.in_ok-only-in-Var.field-0) (Has c.in_ok-items-in-Var.items) c.in_ok-part_lengths-in-Var.ensures prefixes c.in_ok-items-in-Var.ensures (sets.short_along _ _ e c.requires.short)
 
@@ -160,7 +161,7 @@ lengths::own_lengths-returns-in_ok-only-in-Var t c =
     let e = types.var_is c.args.schema.now c.in-Var.item c.get-in-Var.result.now c.in-Var.cap c.in-Var.is c.get-in-Var.ensures in
     let item = sch c.get-in-Var.result.now in
     let prefixes : Same (Has c.in_ok-only-in-Var.field-0) (Only (prefix c.in-Var.cap)) =
-    subst (λ p. Same (Has c.in_ok-only-in-Var.field-0) (Only p)) (c.prefix.ensures ∙ ap prefix c.from-in-Var.ensures) c.in_ok-only-in-Var.ensures
+    subst (λ p. Same (Has c.in_ok-only-in-Var.field-0) (Only p)) (c.prefix.ensures ∙ ap prefix c.from.ensures) c.in_ok-only-in-Var.ensures
     in
     sets.lengths_are c.sum-in-Var.result (Sums (Has c.in_ok-only-in-Var.field-0) (Has c.in_ok-items-in-Var.items)) _ _ c.sum-in-Var.ensures
     (sets.var_lengths item c.in-Var.cap (Has c.in_ok-part_lengths-in-Var.field-0) (Has c.in_ok-only-in-Var.field-0) (Has c.in_ok-items-in-Var.items) c.in_ok-part_lengths-in-Var.ensures prefixes c.in_ok-items-in-Var.ensures) e
@@ -171,18 +172,17 @@ lengths::own_lengths-returns-in-Bool t c =
 
 pub lengths::own_lengths-returns-in-Uint : goal.lengths::own_lengths-returns-in-Uint
 lengths::own_lengths-returns-in-Uint t c =
-    let same : Same (Only c.from.result) (Only c.in-Uint.bits) = λ n. (λ e. e ∙ c.from.ensures, λ e. e ∙ sym c.from.ensures) in
-    sets.lengths_are c.only-in-Uint.result (Only c.from.result) (Simple (PUint c.in-Uint.bits (is_saturated c.in-Uint.cast))) (sch c.args.schema.now) c.only-in-Uint.ensures same (types.uint_is c.args.schema.now c.in-Uint.bits c.in-Uint.cast c.in-Uint.is)
-
-pub lengths::own_lengths-returns-in-Int : goal.lengths::own_lengths-returns-in-Int
-lengths::own_lengths-returns-in-Int t c =
-    let same : Same (Only c.from-in-Int.result) (Only c.in-Int.bits) = λ n. (λ e. e ∙ c.from-in-Int.ensures, λ e. e ∙ sym c.from-in-Int.ensures) in
-    sets.lengths_are c.only-in-Int.result (Only c.from-in-Int.result) (Simple (PInt c.in-Int.bits)) (sch c.args.schema.now) c.only-in-Int.ensures same (types.int_is c.args.schema.now c.in-Int.bits c.in-Int.is)
-
-pub lengths::own_lengths-returns-in-Float : goal.lengths::own_lengths-returns-in-Float
-lengths::own_lengths-returns-in-Float t c =
-    let same : Same (Only c.from-in-Float.result) (Only c.in-Float.bits) = λ n. (λ e. e ∙ c.from-in-Float.ensures, λ e. e ∙ sym c.from-in-Float.ensures) in
-    sets.lengths_are c.only-in-Float.result (Only c.from-in-Float.result) (Simple (PFloat c.in-Float.bits (is_saturated c.in-Float.cast))) (sch c.args.schema.now) c.only-in-Float.ensures same (types.float_is c.args.schema.now c.in-Float.bits c.in-Float.cast c.in-Float.is)
+    let bits = c.from-in-Uint.ensures in
+    let same : Same (Only c.from-in-Uint.result) (Only c.in-Uint.bits) = λ n. (λ e. e ∙ bits, λ e. e ∙ sym bits) in
+    let whole : Same (Only c.in-Uint.bits) (Length (sch c.args.schema.now)) = elim c.in-Uint.is [
+      | inl (cast, e) ↦ sets.only_along _ _ (types.uint_is c.args.schema.now c.in-Uint.bits cast e)
+      | inr k ↦ elim k [
+        | inl e ↦ sets.only_along _ _ (types.int_is c.args.schema.now c.in-Uint.bits e)
+        | inr (cast, e) ↦ sets.only_along _ _ (types.float_is c.args.schema.now c.in-Uint.bits cast e)
+      ]
+    ]
+    in
+    sets.lengths_are c.only-in-Uint.result (Only c.from-in-Uint.result) (sch c.args.schema.now) (sch c.args.schema.now) c.only-in-Uint.ensures (sets.same_trans same whole) refl
 
 pub lengths::own_lengths-returns-in_ok-_rows-in-Struct :
     goal.lengths::own_lengths-returns-in_ok-_rows-in-Struct
