@@ -1,10 +1,11 @@
-ghost use Rattle.std.specs.Prelude.{◌≡◌, ℕ, ◌^◌, ◌≤◌, ◌+◌, ◌-◌, true, false, IfOk};
+ghost use Rattle.std.specs.Prelude.{◌≡◌, ℕ, ◌^◌, ◌≤◌, true, IfOk};
 ghost use Rattle.bit_length.specs.Lengths.{Has, Same};
-ghost use Rattle.dsdl_types.specs.Schemas.{Struct, Union, is_composite};
+ghost use Rattle.dsdl_types.specs.Schemas.{is_composite};
 ghost use Rattle.dsdl_types.specs.Greatest.{longest};
 ghost use Rattle.dsdl_types.specs.Lengths.{Size};
 ghost use Rattle.dsdl_types.specs.Rules.{IsFormed};
-ghost use Rattle.dsdl_types.specs.Views.{body_of, type_of, named, sch};
+ghost use Rattle.dsdl_types.specs.Views.{type_of, named, sch};
+ghost use Rattle.layout.specs.Bodies.{struct_of, union_of};
 ghost use Rattle.layout.specs.Layouts.{IsLayout, cast_of};
 ghost use Rattle.layout.specs.Sets.{Leads, IsShort, IsShortPart};
 
@@ -42,9 +43,9 @@ pub fn rows_of(alloc: Global, schema: &Schema) -> Result<Composite, NoMemory>
 /// The rows and lengths of a structure. Its fields stand in order, and zeros bring its end to a multiple of 8 bits.
 #[cycle(lengths)]
 pub fn struct_rows(alloc: Global, body: &Body) -> Result<Composite, NoMemory>
-    requires formed { IsFormed (Struct (body_of body.now).0 (body_of body.now).1) }
-    requires short { longest (Struct (body_of body.now).0 (body_of body.now).1) ≤ 2 ^ 32 }
-    ensures { IfOk result (λ c. IsLayout (Struct (body_of body.now).0 (body_of body.now).1) c.rows c.lengths) }
+    requires formed { IsFormed (struct_of body.now) }
+    requires short { longest (struct_of body.now) ≤ 2 ^ 32 }
+    ensures { IfOk result (λ c. IsLayout (struct_of body.now) c.rows c.lengths) }
 {
     let mut rows = Vec::new(alloc);
     let mut ends = only(alloc, 0)?;
@@ -67,9 +68,9 @@ pub fn struct_rows(alloc: Global, body: &Body) -> Result<Composite, NoMemory>
 /// The rows and lengths of a union. Each variant stands behind the tag, and zeros bring its end to a multiple of 8 bits.
 #[cycle(lengths)]
 pub fn union_rows(alloc: Global, body: &Body) -> Result<Composite, NoMemory>
-    requires formed { IsFormed (Union (body_of body.now).0 (body_of body.now).1) }
-    requires short { longest (Union (body_of body.now).0 (body_of body.now).1) ≤ 2 ^ 32 }
-    ensures { IfOk result (λ c. IsLayout (Union (body_of body.now).0 (body_of body.now).1) c.rows c.lengths) }
+    requires formed { IsFormed (union_of body.now) }
+    requires short { longest (union_of body.now) ≤ 2 ^ 32 }
+    ensures { IfOk result (λ c. IsLayout (union_of body.now) c.rows c.lengths) }
 {
     let tag = only(alloc, prefix(body.fields.len() as u64 - 1))?;
     let mut rows = Vec::new(alloc);

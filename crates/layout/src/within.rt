@@ -6,7 +6,7 @@ use bit_length::{LengthError, LengthSet};
 use cy_bits::NoMemory;
 use std::alloc::Global;
 
-/// The set, where it isn't refused as too long.
+/// The set or want of memory, of a set that isn't too long.
 fn short(set: Result<LengthSet, LengthError>) -> Result<LengthSet, NoMemory>
     requires { (g : ℕ) → set ≢ Err (LengthError.Long g) }
     ensures { IfOk result (λ s. set ≡ Ok s) }
