@@ -1,0 +1,7 @@
+pub mod Lists
+pub mod Clear
+pub mod Allowed
+pub mod FieldRules
+pub mod Held
+pub mod Structure
+pub mod Taken

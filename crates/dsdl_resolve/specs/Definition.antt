@@ -1,0 +1,39 @@
+-- What a file defines.
+use Rattle.std.specs.Prelude.{◌≡◌, ℕ, true, List, Ok}
+use Rattle.std.specs.List.{filter_map}
+use Rattle.dsdl_names.specs.Names.{file_name_of}
+use Rattle.dsdl_names.specs.declared.FileName.{FileName}
+use Rattle.dsdl_parse.specs.declared.statement.Statement.{Statement}
+use Rattle.dsdl_types.specs.declared.definition.Definition.{Definition}
+use Rattle.dsdl_types.specs.declared.definition.Parts.{Parts}
+use Rattle.dsdl_types.specs.declared.definition.Parts.TheVariants as parts
+use Rattle.dsdl_types.specs.declared.schema.Body.{roll-Body}
+use Rattle.dsdl_types.specs.declared.schema.Schema.{Schema}
+use Rattle.dsdl_types.specs.declared.schema.Schema.TheVariants as schema
+use Rattle.dsdl_types.specs.Rules.{IsSchema}
+use Rattle.dsdl_types.specs.Views.{sch}
+use Rattle.dsdl_resolve.specs.declared.file.DsdlFile.{DsdlFile}
+use Rattle.dsdl_resolve.specs.Reading.{IsRead}
+use Rattle.dsdl_resolve.specs.Statements.{field_of, type_of}
+use Rattle.dsdl_resolve.specs.Section.{greatest, IsAllowed}
+
+-- the sealed structure of these statements, whose extent is its greatest length
+abbrev pub structure_of : List Statement → Schema
+structure_of ss = schema.Struct (roll-Body (record { fields = filter_map field_of ss; extent = greatest ss; sealed = true }))
+
+-- the definition of these statements under a file's name
+abbrev pub definition_of : FileName → List Statement → Definition
+definition_of name ss = record { id = name.id; port = name.port; types = filter_map type_of ss; parts = parts.Message (structure_of ss) }
+
+-- The file's path is a name, its lines are statements that are compiled, which keep the rules, and they define d.
+abbrev pub Defines : DsdlFile → Definition → Type 0
+Defines file d = (name : FileName) × (ss : List Statement) × (file_name_of file.path ≡ Ok name) × IsRead file.text ss
+    × IsAllowed ss × (d ≡ definition_of name ss)
+
+-- the schema of a message keeps the rules of schemas
+abbrev pub PartsKeepRules : Parts → Type 0
+PartsKeepRules (parts.Message s) = IsSchema (sch s)
+PartsKeepRules (parts.Service request response) = IsSchema (sch request) × IsSchema (sch response)
+
+abbrev pub KeepsRules : Definition → Type 0
+KeepsRules d = PartsKeepRules d.parts

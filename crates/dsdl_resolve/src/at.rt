@@ -1,0 +1,21 @@
+//! Naming the file that is refused.
+ghost use Rattle.std.specs.Prelude.{◌≡◌};
+ghost use Rattle.dsdl_resolve.specs.Refusals.{IsRefusal};
+
+use crate::{DsdlError, DsdlFile, DsdlWhy};
+use cy_bits::TryCopy;
+use std::alloc::Global;
+
+/// The refusal of a file at a line.
+pub fn at(alloc: Global, file: &DsdlFile, line: u32, why: DsdlWhy) -> DsdlError
+    ensures { IsRefusal (λ path at cause. (path ≡ file.now.path) × (at ≡ line) × (cause ≡ why)) result }
+{
+    match file.path.copy(alloc) {
+        Ok(path) => DsdlError::At {
+            file: path,
+            line,
+            why,
+        },
+        Err(_) => DsdlError::NoMemory,
+    }
+}

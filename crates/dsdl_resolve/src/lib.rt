@@ -1,0 +1,21 @@
+//! From the files of a folder to the namespace of the types that they define, or to the first refusal.
+//!
+//! So far a file is a sealed structure of unsigned integers.
+#![tactic(auto)]
+
+mod at;
+mod error;
+mod file;
+mod names;
+mod namespace;
+mod reserved;
+mod rules;
+mod section;
+mod statement;
+mod syntax;
+#[cfg(test)]
+mod tests;
+
+pub use error::{DsdlError, DsdlWhy};
+pub use file::DsdlFile;
+pub use namespace::resolve;
