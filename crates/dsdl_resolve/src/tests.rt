@@ -1,6 +1,8 @@
-use crate::{DsdlError, DsdlFile, DsdlWhy, resolve};
+ghost use Rattle.std.specs.Prelude.{◌≡◌, ◌<◌, ◌^◌, true, length};
+ghost use Rattle.std.specs.List.{All};
+
+use crate::{DsdlError, DsdlFile, resolve};
 use cy_bits::{Bytes, NoMemory, Text};
-use dsdl_names::NameError;
 use dsdl_types::{Namespace, Parts, Schema};
 use std::alloc::{AllocError, Global};
 
@@ -39,18 +41,34 @@ fn write_names(text: &mut String, names: &Namespace) -> Result<(), AllocError> {
     Ok(())
 }
 
+/// Whether no file is large.
+fn are_small(files: &[DsdlFile]) -> bool
+    ensures { result ≡ true → All (λ file. length file.text < 2 ^ 32) files.now }
+{
+    for i in 0..files.len() {
+        let file = &files[i];
+        if file.text.len() > 1_000_000 {
+            return false;
+        }
+    }
+    true
+}
+
 /// What two files are, or one where the second has no path.
 fn answer(alloc: Global, files: [(&str, &str); 2]) -> Result<String, AllocError> {
     let mut text = String::new(alloc);
     let mut list = Vec::new(alloc);
     for (path, lines) in files {
-        if path.is_empty() || lines.len() > 1_000_000 {
+        if path.is_empty() {
             continue;
         }
         match file(alloc, path, lines) {
             Ok(f) => list.push(f)?,
             Err(_) => return Ok(text),
         }
+    }
+    if !are_small(list.as_slice()) {
+        return Ok(text);
     }
     match resolve(alloc, list.as_slice()) {
         Ok(names) => write_names(&mut text, &names)?,
