@@ -1,5 +1,5 @@
 -- A file that passed is refused by no pass.
-use Rattle.std.proofs.Common.{◌≡◌, ◌≢◌, ℕ, ◌+◌, ◌^◌, ◌<◌, ◌≤◌, suc, ◌⊎◌, arith, length-append, inl, inr, true, false, List, [], ◌∷◌, ◌++◌, length, take, drop, get_or, Result, Ok, Err, refl, sym, ap, ◌∙◌, subst}
+use Rattle.std.proofs.Common.{◌≡◌, ◌≢◌, ℕ, ◌<◌, ◌≤◌, suc, arith, length-append, inl, inr, true, false, List, ◌∷◌, ◌++◌, length, take, drop, get_or, Result, Ok, Err, refl, sym, ap, ◌∙◌, subst}
 use Rattle.std.specs.List.{All, AllZip}
 use Rattle.dsdl_names.specs.Names.{file_name_of}
 use Rattle.dsdl_names.specs.declared.FileName.{FileName}
@@ -11,7 +11,7 @@ use Rattle.dsdl_resolve.specs.declared.file.DsdlFile.{DsdlFile}
 use Rattle.dsdl_resolve.specs.Definition.{Defines}
 use Rattle.dsdl_resolve.specs.Passes.{Pass, NameRefuses, SyntaxRefuses, ValuingRefuses, Passes, IsFirst}
 use Rattle.dsdl_resolve.specs.Reading.{IsRead, IsNoText, IsFirstOther}
-use Rattle.dsdl_resolve.specs.Section.{IsRefused, IsAllowed, IsFirstRefused}
+use Rattle.dsdl_resolve.specs.Section.{IsRefused, IsAllowed}
 use Rattle.dsdl_resolve.specs.Statements.{is_compiled}
 use Rattle.dsdl_names.specs.declared.NameError.{NameError}
 use Rattle.dsdl_names.specs.declared.NameError.TheVariants as name_error
@@ -27,7 +27,7 @@ use Rattle.dsdl_resolve.specs.declared.error.DsdlWhy.TheVariants as cause
 use Rattle.dsdl_resolve.specs.declared.section.SectionError.{SectionError}
 use Rattle.dsdl_resolve.specs.declared.section.SectionError.TheVariants as section_error
 use Rattle.dsdl_resolve.specs.Refusals.{IsRefusal, IsSectionRefusal}
-use Rattle.dsdl_resolve.specs.Passes.{FirstRefusal, name, syntax, valuing}
+use Rattle.dsdl_resolve.specs.Passes.{FirstRefusal, syntax, valuing}
 use Rattle.dsdl_resolve.proofs.Lists.{parts_at, all_at, zip_all}
 
 pub name_clear : (f : DsdlFile) (n : FileName) → file_name_of f.path ≡ Ok n → Passes NameRefuses f

@@ -1,5 +1,5 @@
 -- What a field is refused for, from what its name, its width and its size are.
-use Rattle.std.proofs.Common.{◌≡◌, ℕ, suc, get_or, ◌<◌, ◌+◌, ◌^◌, ◌≤◌, ◌&&◌, ◌||◌, not, Bool, true, false, List, [], ◌∷◌, ◌++◌, length, map, drop, Option, Some, None, if◌then◌else◌, refl, sym, ap, ◌∙◌, subst, arith}
+use Rattle.std.proofs.Common.{◌≡◌, ℕ, suc, get_or, ◌<◌, ◌+◌, ◌^◌, ◌≤◌, ◌&&◌, ◌||◌, not, Bool, true, false, List, [], ◌∷◌, ◌++◌, length, drop, Option, Some, None, if◌then◌else◌, refl, sym, ap, ◌∙◌, arith}
 use Rattle.std.specs.Prelude.{is_some, nat_lt}
 use Rattle.std.proofs.Math.Seq.{drop-cons}
 use Rattle.std.proofs.lemmas.Bool.{ltb-false}
@@ -16,7 +16,7 @@ use Rattle.dsdl_resolve.specs.declared.error.DsdlWhy.TheVariants as why
 use Rattle.dsdl_resolve.specs.Holding.{field_names}
 use Rattle.dsdl_resolve.specs.Limits.{name_refusal, size_refusal}
 use Rattle.dsdl_resolve.specs.Section.{refusal_at, node_count, greatest}
-use Rattle.dsdl_resolve.specs.Statements.{uint_of, attribute_of, width_of, width_named, width_of_digits}
+use Rattle.dsdl_resolve.specs.Statements.{uint_of, attribute_of, width_named, width_of_digits}
 
 -- a field of that name is among these
 abbrev pub any_named : List Field → List ℕ → Bool

@@ -1,13 +1,13 @@
 -- The structure of statements keeps the rules of schemas.
-use Rattle.std.proofs.Common.{◌≡◌, ℕ, zero, suc, ◌+◌, ◌*◌, ◌-◌, ◌^◌, ◌≤◌, ◌==◌, ◌||◌, Bool, true, false, if◌then◌else◌, max, List, [], ◌∷◌, ◌++◌, length, map, sum, drop, Option, Some, None, refl, sym, ap, ◌∙◌, subst, arith}
+use Rattle.std.proofs.Common.{◌≡◌, ℕ, zero, suc, ◌+◌, ◌*◌, ◌-◌, ◌^◌, ◌≤◌, ◌==◌, ◌||◌, Bool, true, false, if◌then◌else◌, List, [], ◌∷◌, length, sum, drop, Option, Some, None, refl, sym, ap, ◌∙◌, subst, arith}
 use Rattle.std.proofs.lemmas.Bool.{ltb-false}
 use Rattle.std.specs.Prelude.{nat_lt}
 use Rattle.std.specs.List.{filter_map, cons_option}
 use Rattle.dsdl_parse.specs.declared.statement.Statement.{Statement}
 use Rattle.dsdl_parse.specs.declared.statement.Statement.TheVariants as statement
 use Rattle.dsdl_types.specs.Greatest.{up, longest_fields}
-use Rattle.dsdl_types.specs.Rules.{IsFormed, AreFormed, IsSchema, nesting_of, nodes_of}
-use Rattle.dsdl_types.specs.Schemas.{Sch, Flds, Simple, PUint, Struct, Field, End}
+use Rattle.dsdl_types.specs.Rules.{AreFormed, IsSchema, nesting_of, nodes_of}
+use Rattle.dsdl_types.specs.Schemas.{Flds, Simple, PUint, Struct, Field, End}
 use Rattle.dsdl_types.specs.Views.{sch, flds, type_of, with_field}
 use Rattle.dsdl_types.specs.declared.schema.Cast.TheVariants as cast
 use Rattle.dsdl_types.specs.declared.schema.Field.{roll-Field, Field as FieldOf}
@@ -19,7 +19,7 @@ use Rattle.dsdl_resolve.specs.Holding.{Holds}
 use Rattle.dsdl_resolve.specs.declared.section.Section.{Section}
 use Rattle.dsdl_types.specs.declared.schema.Body.{roll-Body}
 use Rattle.dsdl_resolve.specs.Section.{widths, node_count, greatest}
-use Rattle.dsdl_resolve.specs.Statements.{width_within, width_of_digits, width_named, uint_of, width_of, field_of, uint_field}
+use Rattle.dsdl_resolve.specs.Statements.{width_within, width_of_digits, width_named, uint_of, field_of, uint_field}
 
 within : (n w : ℕ) (a b : Bool) → (n == 0) ≡ a → nat_lt 64 n ≡ b → (if a || b then None else Some n) ≡ Some w → (1 ≤ w) × (w ≤ 64)
 within n w true b e f h = absurd (cc)

@@ -1,7 +1,6 @@
 -- A section takes a statement that is no field.
 use Rattle.std.proofs.Common.{◌≡◌, ℕ, ◌&&◌, ◌||◌, Bool, true, false, if◌then◌else◌, List, [], ◌∷◌, ◌++◌, Option, Some, None, Result, Ok, Err, MatchResult, refl, sym, ap, ◌∙◌, subst, codes}
 use Rattle.std.proofs.Math.Bool.{or-false}
-use Rattle.std.specs.List.{list_any}
 use Rattle.std.specs.Str.{bytes_eq}
 use Rattle.dsdl_parse.specs.declared.expr.Expr.{Expr}
 use Rattle.dsdl_parse.specs.declared.statement.Form.{Form}
@@ -15,7 +14,7 @@ use Rattle.dsdl_resolve.specs.declared.section.SectionError.TheVariants as error
 use Rattle.dsdl_resolve.specs.Holding.{Holds}
 use Rattle.dsdl_resolve.specs.Refusals.{IsSectionRefusal}
 use Rattle.dsdl_resolve.specs.Section.{refusal_at}
-use Rattle.dsdl_resolve.specs.Statements.{is_compiled, is_sealed}
+use Rattle.dsdl_resolve.specs.Statements.{is_compiled}
 use Rattle.dsdl_resolve.proofs.Held.{holds_other}
 
 sealed_name : (name : List ℕ) (expr : Option Expr) → is_compiled (statement.Directive name expr) ≡ true → bytes_eq name (codes "sealed") ≡ true

@@ -1,5 +1,5 @@
 -- What a file defines.
-use Rattle.std.specs.Prelude.{◌≡◌, ℕ, true, List, Ok}
+use Rattle.std.specs.Prelude.{◌≡◌, true, List, Ok}
 use Rattle.std.specs.List.{filter_map}
 use Rattle.dsdl_names.specs.Names.{file_name_of}
 use Rattle.dsdl_names.specs.declared.FileName.{FileName}

@@ -1,5 +1,5 @@
 -- What is kept of the statements of a section.
-use Rattle.std.specs.Prelude.{◌≡◌, ℕ, ◌+◌, ◌^◌, ◌≤◌, List, [], ◌∷◌, length, map, sum}
+use Rattle.std.specs.Prelude.{◌≡◌, ℕ, ◌^◌, ◌≤◌, List, length, map, sum}
 use Rattle.std.specs.List.{list_any, filter_map}
 use Rattle.dsdl_parse.specs.declared.statement.Statement.{Statement}
 use Rattle.dsdl_types.specs.declared.schema.Field.{Field, out-Field}

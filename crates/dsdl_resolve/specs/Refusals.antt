@@ -1,5 +1,5 @@
 -- What is said of answers that aren't Ok.
-use Rattle.std.specs.Prelude.{◌≡◌, ℕ, List}
+use Rattle.std.specs.Prelude.{ℕ, List}
 use Rattle.dsdl_resolve.specs.declared.error.DsdlError.{DsdlError}
 use Rattle.dsdl_resolve.specs.declared.error.DsdlError.TheVariants as error
 use Rattle.dsdl_resolve.specs.declared.error.DsdlWhy.{DsdlWhy}

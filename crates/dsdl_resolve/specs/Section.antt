@@ -1,5 +1,5 @@
 -- The rules on the statements of a section. Each speaks of a statement and of those before it.
-use Rattle.std.specs.Prelude.{◌≡◌, ℕ, ◌+◌, ◌^◌, ◌⊎◌, ◌&&◌, Bool, true, false, not, List, [], ◌∷◌, ◌++◌, length, nat_lt, sum, Option, Some, None, is_some, if◌then◌else◌}
+use Rattle.std.specs.Prelude.{◌≡◌, ℕ, ◌+◌, ◌^◌, ◌⊎◌, ◌&&◌, Bool, false, not, List, [], ◌∷◌, ◌++◌, length, nat_lt, sum, Option, Some, None, is_some, if◌then◌else◌}
 use Rattle.std.specs.List.{list_any, filter_map}
 use Rattle.std.specs.Str.{bytes_eq}
 use Rattle.dsdl_names.specs.Words.{is_reserved}

@@ -1,7 +1,6 @@
 -- What the statements of a structure of unsigned integers say, each by itself.
-use Rattle.std.specs.Prelude.{ℕ, ◌*◌, ◌+◌, ◌-◌, ◌==◌, ◌||◌, Bool, true, false, List, [], ◌∷◌, ◌++◌, length, take, drop, nat_lt, Option, Some, None, is_some, if◌then◌else◌, codes}
+use Rattle.std.specs.Prelude.{ℕ, ◌*◌, ◌+◌, ◌-◌, ◌==◌, ◌||◌, Bool, true, false, List, [], ◌∷◌, ◌++◌, take, drop, nat_lt, Option, Some, None, is_some, if◌then◌else◌, codes}
 use Rattle.std.specs.Str.{bytes_eq}
-use Rattle.dsdl_names.specs.Words.{is_reserved}
 use Rattle.dsdl_parse.specs.declared.statement.Bound.{Bound}
 use Rattle.dsdl_parse.specs.declared.statement.Form.{Form}
 use Rattle.dsdl_parse.specs.declared.statement.Scalar.{Scalar}

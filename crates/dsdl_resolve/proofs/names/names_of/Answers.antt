@@ -1,4 +1,4 @@
-use Rattle.std.proofs.Common.{◌≡◌, Ok, Err, sym, ◌∙◌, ap}
+use Rattle.std.proofs.Common.{◌≡◌, Ok, sym, ◌∙◌, ap}
 use Rattle.dsdl_names.specs.Names.{file_name_of}
 use Rattle.dsdl_resolve.proofs.Clear.{first_name}
 use Rattle.dsdl_resolve.proofs.Lists.{zip_next}

@@ -1,6 +1,3 @@
-use Rattle.std.proofs.Common.{subst, sym, ap, ◌∙◌}
-use Rattle.dsdl_types.specs.Greatest.{up}
-use Rattle.dsdl_types.specs.declared.schema.Body.{roll-Body}
 use Rattle.dsdl_resolve.proofs.Structure.{keeps_section}
 use Rattle.dsdl_resolve.proofs.namespace.define.Goals as goal
 

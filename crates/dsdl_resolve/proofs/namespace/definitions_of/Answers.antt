@@ -1,4 +1,4 @@
-use Rattle.std.proofs.Common.{◌≡◌, ◌<◌, ◌^◌, length, true, Ok, sym, ap, ◌∙◌, subst, arith, List}
+use Rattle.std.proofs.Common.{◌≡◌, ◌<◌, ◌^◌, length, true, Ok, sym, ap, subst, arith}
 use Rattle.std.specs.List.{All}
 use Rattle.dsdl_names.specs.Names.{file_name_of}
 use Rattle.dsdl_resolve.specs.Definition.{Defines, KeepsRules}

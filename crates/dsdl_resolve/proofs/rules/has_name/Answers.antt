@@ -1,4 +1,4 @@
-use Rattle.std.proofs.Common.{◌≡◌, true, false, sym, ◌∙◌, refl}
+use Rattle.std.proofs.Common.{true, false, sym, ◌∙◌}
 use Rattle.dsdl_resolve.proofs.FieldRules.{named_next, named_end}
 use Rattle.dsdl_resolve.proofs.rules.has_name.Goals as goal
 

@@ -1,4 +1,4 @@
-use Rattle.std.proofs.Common.{◌≡◌, refl, sym, subst, take}
+use Rattle.std.proofs.Common.{refl, sym, subst, take}
 use Rattle.std.proofs.lemmas.Result.{err_from_is_err_and}
 use Rattle.dsdl_resolve.specs.Holding.{Holds}
 use Rattle.dsdl_resolve.specs.Section.{AreAllowed}

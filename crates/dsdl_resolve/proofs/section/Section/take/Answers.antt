@@ -1,4 +1,3 @@
-use Rattle.std.proofs.Common.{refl}
 use Rattle.dsdl_resolve.proofs.Taken.{directive_taken, other_taken}
 use Rattle.dsdl_resolve.proofs.section.Section.take.Goals as goal
 
