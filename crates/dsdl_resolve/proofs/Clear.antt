@@ -7,7 +7,7 @@ use Rattle.dsdl_parse.specs.Ast.{IsAst, FirstBad, IsParsedOneWay}
 use Rattle.dsdl_parse.specs.declared.statement.Statement.{Statement}
 use Rattle.dsdl_types.specs.declared.definition.Definition.{Definition}
 use Rattle.dsdl_resolve.specs.declared.error.DsdlWhy.{DsdlWhy}
-use Rattle.dsdl_resolve.specs.declared.file.DsdlFile.{DsdlFile}
+use Rattle.dsdl_files.specs.declared.file.DsdlFile.{DsdlFile}
 use Rattle.dsdl_resolve.specs.Definition.{Defines}
 use Rattle.dsdl_resolve.specs.Passes.{Pass, NameRefuses, SyntaxRefuses, ValuingRefuses, Passes, IsFirst}
 use Rattle.dsdl_resolve.specs.Reading.{IsRead, IsNoText, IsFirstOther}

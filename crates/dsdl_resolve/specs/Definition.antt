@@ -12,7 +12,7 @@ use Rattle.dsdl_types.specs.declared.schema.Schema.{Schema}
 use Rattle.dsdl_types.specs.declared.schema.Schema.TheVariants as schema
 use Rattle.dsdl_types.specs.Rules.{IsSchema}
 use Rattle.dsdl_types.specs.Views.{sch}
-use Rattle.dsdl_resolve.specs.declared.file.DsdlFile.{DsdlFile}
+use Rattle.dsdl_files.specs.declared.file.DsdlFile.{DsdlFile}
 use Rattle.dsdl_resolve.specs.Reading.{IsRead}
 use Rattle.dsdl_resolve.specs.Statements.{field_of, type_of}
 use Rattle.dsdl_resolve.specs.Section.{greatest, IsAllowed}

@@ -8,7 +8,7 @@ use Rattle.dsdl_parse.specs.declared.statement.Statement.{Statement}
 use Rattle.dsdl_types.specs.declared.namespace.Namespace.{Namespace}
 use Rattle.dsdl_resolve.specs.declared.error.DsdlWhy.{DsdlWhy}
 use Rattle.dsdl_resolve.specs.declared.error.DsdlWhy.TheVariants as cause
-use Rattle.dsdl_resolve.specs.declared.file.DsdlFile.{DsdlFile}
+use Rattle.dsdl_files.specs.declared.file.DsdlFile.{DsdlFile}
 use Rattle.dsdl_resolve.specs.Definition.{Defines}
 use Rattle.dsdl_resolve.specs.Reading.{IsNoText}
 use Rattle.dsdl_resolve.specs.Section.{IsRefused}

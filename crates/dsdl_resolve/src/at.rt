@@ -2,8 +2,9 @@
 ghost use Rattle.std.specs.Prelude.{◌≡◌};
 ghost use Rattle.dsdl_resolve.specs.Refusals.{IsRefusal};
 
-use crate::{DsdlError, DsdlFile, DsdlWhy};
+use crate::{DsdlError, DsdlWhy};
 use cy_bits::TryCopy;
+use dsdl_files::DsdlFile;
 use std::alloc::Global;
 
 /// The refusal of a file at a line.

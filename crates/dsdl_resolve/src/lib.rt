@@ -5,7 +5,6 @@
 
 mod at;
 mod error;
-mod file;
 mod names;
 mod namespace;
 mod reserved;
@@ -17,5 +16,4 @@ mod syntax;
 mod tests;
 
 pub use error::{DsdlError, DsdlWhy};
-pub use file::DsdlFile;
 pub use namespace::resolve;

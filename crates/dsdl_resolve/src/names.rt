@@ -6,8 +6,9 @@ ghost use Rattle.dsdl_resolve.specs.Passes.{NameRefuses, IsFirst};
 ghost use Rattle.dsdl_resolve.specs.Refusals.{IsRefusal};
 
 use crate::at::at;
-use crate::{DsdlError, DsdlFile, DsdlWhy};
+use crate::{DsdlError, DsdlWhy};
 use cy_bits::List;
+use dsdl_files::DsdlFile;
 use dsdl_names::{FileName, NameError, parse_file_name};
 use std::alloc::Global;
 

@@ -10,8 +10,9 @@ ghost use Rattle.dsdl_resolve.specs.Statements.{is_compiled};
 
 use crate::at::at;
 use crate::statement::is_compiled;
-use crate::{DsdlError, DsdlFile, DsdlWhy};
+use crate::{DsdlError, DsdlWhy};
 use cy_bits::List;
+use dsdl_files::DsdlFile;
 use dsdl_parse::{Ast, Statement, SyntaxError, one_parsing, parse};
 use std::alloc::Global;
 

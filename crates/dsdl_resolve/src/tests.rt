@@ -1,8 +1,9 @@
 ghost use Rattle.std.specs.Prelude.{◌≡◌, ◌<◌, ◌^◌, true, length};
 ghost use Rattle.std.specs.List.{All};
 
-use crate::{DsdlError, DsdlFile, resolve};
+use crate::{DsdlError, resolve};
 use cy_bits::{Bytes, NoMemory, Text};
+use dsdl_files::DsdlFile;
 use dsdl_types::{Namespace, Parts, Schema};
 use std::alloc::{AllocError, Global};
 
