@@ -9,12 +9,12 @@ ghost use Rattle.dsdl_resolve.specs.Reading.{IsRead};
 ghost use Rattle.dsdl_resolve.specs.Refusals.{IsRefusal};
 ghost use Rattle.dsdl_names.specs.Names.{file_name_of};
 
+use crate::DsdlError;
 use crate::at::at;
 use crate::names::names_of;
 use crate::rules::whole_bytes;
 use crate::section::{Section, SectionError, section_of};
 use crate::syntax::statements_of;
-use crate::DsdlError;
 use cy_bits::{List, NoMemory, TryCopy};
 use dsdl_files::DsdlFile;
 use dsdl_names::FileName;
