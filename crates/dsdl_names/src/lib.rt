@@ -17,6 +17,7 @@ pub use full_name::FullName;
 pub use laws::order_of_types;
 pub use parse::{parse_file_name, parse_type_id};
 use std::alloc::Global;
+pub use word::is_reserved;
 
 /// A type: its full name and its version.
 ///

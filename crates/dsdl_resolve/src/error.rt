@@ -36,6 +36,9 @@ pub enum DsdlWhy {
     Rule(u8),
     /// With this line the greatest length is so many bits, which is above 2^32.
     Long(u64),
+    /// A limit on files is passed: the file, or a folder's listing, is one too many, or the file is too large.
+    /// No line is named.
+    TooBig,
 }
 
 impl From<NoMemory> for DsdlError {

@@ -17,3 +17,4 @@ pub mod DelimiterCounts
 pub mod Laws
 pub mod Views
 pub mod Finding
+pub mod Definitions

@@ -97,6 +97,7 @@ refusal_of line why.TooFar = error.TooFar line
 abbrev pub Ran : Plan → Log → Status → Report → Option (List ℕ) → Option (List ℕ) → Type 0
 Ran plan log status.Ok report before after = (log.refusal ≡ None) × Settled plan (steps_of plan log) log.refusal report before after
 Ran plan log status.Usage report before after = ⊥
+Ran plan log (status.Dsdl file line why) report before after = ⊥
 Ran plan log (status.Plan line why) report before after = ⊥
 Ran plan log (status.Log line why) report before after = (log.refusal ≡ Some (refusal_of line why)) × Settled plan (steps_of plan log) log.refusal report before after
 Ran plan log status.LogLong report before after = (log.refusal ≡ Some error.LogLong) × Settled plan (steps_of plan log) log.refusal report before after

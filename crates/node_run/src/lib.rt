@@ -3,6 +3,7 @@
 
 mod bound_text;
 mod gather;
+mod load;
 pub mod next;
 pub mod report;
 mod run;
@@ -10,6 +11,7 @@ pub mod status;
 mod step;
 
 pub use bound_text::bound;
+pub use load::load;
 pub use report::Report;
 pub use run::run_log;
 pub use status::{LogWhy, Status};

@@ -1,4 +1,5 @@
 use cy_bits::Text;
+use dsdl_resolve::DsdlWhy;
 use node_plan::PlanWhy;
 
 /// How a command ended.
@@ -8,6 +9,15 @@ pub enum Status {
     Ok,
     /// The words are no command.
     Usage,
+    /// A DSDL file is refused.
+    Dsdl {
+        /// Its path below the root, or that of a folder, which is `.` for the root itself.
+        file: Text,
+        /// The line, counted from 1, or 0 where none is named.
+        line: u32,
+        /// The cause.
+        why: DsdlWhy,
+    },
     /// A line of the plan, counted from 1, is refused.
     Plan { line: u32, why: PlanWhy },
     /// A line of the log, counted from 1, is refused.
