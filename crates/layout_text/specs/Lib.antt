@@ -1,0 +1,5 @@
+pub mod Definitions
+pub mod Fields
+pub mod Namespaces
+pub mod Sets
+pub mod Words
