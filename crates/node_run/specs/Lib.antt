@@ -1,5 +1,6 @@
 pub mod BoundText
 pub mod Gathered
+pub mod Layouts
 pub mod Loaded
 pub mod Next
 pub mod Ran

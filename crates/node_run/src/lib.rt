@@ -2,6 +2,7 @@
 #![tactic(auto)]
 
 mod bound_text;
+mod compile;
 mod gather;
 mod load;
 pub mod next;
@@ -11,6 +12,7 @@ pub mod status;
 mod step;
 
 pub use bound_text::bound;
+pub use compile::compile;
 pub use load::load;
 pub use report::Report;
 pub use run::run_log;
