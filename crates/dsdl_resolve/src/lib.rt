@@ -7,7 +7,6 @@ mod at;
 mod error;
 mod names;
 mod namespace;
-mod reserved;
 mod rules;
 mod section;
 mod statement;

@@ -9,8 +9,8 @@ ghost use Rattle.dsdl_resolve.specs.Holding.{field_names};
 ghost use Rattle.dsdl_resolve.specs.Limits.{name_refusal, size_refusal};
 
 use crate::DsdlWhy;
-use crate::reserved::is_reserved;
 use bit_length::LONGEST;
+use dsdl_names::is_reserved;
 use dsdl_types::Field;
 
 /// The most nodes that a value may have.
