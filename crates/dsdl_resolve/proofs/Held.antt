@@ -47,6 +47,7 @@ holds_other section ss s sealed h no_width no_field no_type no_name is =
       all_names = h.all_names ∙ sym (with_none attribute_of ss s no_name);
       all_bits = h.all_bits ∙ ap sum (sym same);
       count = h.count ∙ ap length (sym same);
+      texts = h.texts;
       few = subst (λ ws. 1 + length ws ≤ 2 ^ 20) (sym same) h.few;
       short = subst (λ ws. up (sum ws) ≤ 2 ^ 32) (sym same) h.short;
     }
@@ -97,6 +98,7 @@ module _ (section : Section) (ss : List Statement) (form : Form) (name uint : Li
             ∙ sym (with_one attribute_of ss s (out-Field f).name (ap Some (sym (named f name k made))));
         all_bits = ap (λ n. n + k) h.all_bits ∙ sym (sum_more (widths ss) k) ∙ ap sum (sym more);
         count = omega (arith, ap length more, length-append (widths ss) (k ∷ []), length-append section.fields (f ∷ []), h.count);
+        texts = omega (arith, length-append section.fields (f ∷ []), length-append section.types (t ∷ []), h.texts);
         few = subst (λ n. n ≤ 2 ^ 20) (sym nodes_more) within.0;
         short = subst (λ n. n ≤ 2 ^ 32) (sym greatest_more) within.1;
       }

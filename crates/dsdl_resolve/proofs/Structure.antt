@@ -7,10 +7,12 @@ use Rattle.dsdl_parse.specs.declared.statement.Statement.{Statement}
 use Rattle.dsdl_parse.specs.declared.statement.Statement.TheVariants as statement
 use Rattle.dsdl_types.specs.Greatest.{up, longest_fields}
 use Rattle.dsdl_types.specs.Rules.{AreFormed, IsSchema, nesting_of, nodes_of}
-use Rattle.dsdl_types.specs.Schemas.{Flds, Simple, PUint, Struct, Field, End}
+use Rattle.dsdl_types.specs.Definitions.{IsType, typed_count}
+use Rattle.dsdl_types.specs.Schemas.{Flds, Simple, PUint, Struct, Field, End, variants, is_composite}
 use Rattle.dsdl_types.specs.Views.{sch, flds, type_of, with_field}
 use Rattle.dsdl_types.specs.declared.schema.Cast.TheVariants as cast
 use Rattle.dsdl_types.specs.declared.schema.Field.{roll-Field, Field as FieldOf}
+use Rattle.dsdl_types.specs.declared.schema.Schema.{Schema}
 use Rattle.dsdl_types.specs.declared.schema.Schema.TheVariants as schema
 use Rattle.dsdl_types.proofs.Equations.{kind_uint, kind_struct, named_field}
 use Rattle.std.proofs.lemmas.List.Sums.{sum_by-append}
@@ -50,9 +52,10 @@ record Fine (fs : Flds) (ws : List ℕ) : Type 0 where
   long : (p : ℕ) → longest_fields fs p ≡ p + sum ws
   flat : nesting_of fs ≡ 0
   count : nodes_of fs ≡ length ws
+  typed : variants fs ≡ length ws
 
 fine_none : Fine End []
-fine_none = record { formed = tt; long = λ p. omega arith; flat = refl; count = refl }
+fine_none = record { formed = tt; long = λ p. omega arith; flat = refl; count = refl; typed = refl }
 
 sum_first : (x : ℕ) (xs : List ℕ) → sum (x ∷ xs) ≡ x + sum xs
 sum_first x xs = omega (arith, sum_by-append (λ y. y) (x ∷ []) xs)
@@ -63,6 +66,7 @@ fine_more name k fs ws b h = record {
   long = λ p. omega (arith, h.long (p + k), sum_first k ws);
   flat = omega (arith, h.flat);
   count = omega (arith, h.count);
+  typed = omega (arith, h.typed);
 }
 
 one_field : (name : List ℕ) (k : ℕ) (fields : List FieldOf) →
@@ -92,10 +96,23 @@ keeps_rules ss few short =
     subst IsSchema (sym (ap type_of (kind_struct (filter_map field_of ss) (greatest ss) true)))
     (of_fields (flds (filter_map field_of ss)) (widths ss) (fine ss) few short)
 
--- the same of what a section holds
-pub keeps_section : (section : Section) (ss : List Statement) (extent : ℕ) → Holds section ss → extent ≡ up section.bits →
-    IsSchema (sch (schema.Struct (roll-Body (record { fields = section.fields; extent = extent; sealed = true }))))
+-- the structure of these fields
+abbrev struct_of : List FieldOf → ℕ → Schema
+struct_of fields extent = schema.Struct (roll-Body (record { fields = fields; extent = extent; sealed = true }))
+
+struct_is : (fields : List FieldOf) (extent : ℕ) → sch (struct_of fields extent) ≡ Struct (flds fields) (record { extent = extent; sealed = true })
+struct_is fields extent = ap type_of (kind_struct fields extent true)
+
+keeps_section : (section : Section) (ss : List Statement) (extent : ℕ) → Holds section ss → extent ≡ up section.bits → IsSchema (sch (struct_of section.fields extent))
 keeps_section section ss extent h e =
-    subst (λ n. IsSchema (sch (schema.Struct (roll-Body (record { fields = section.fields; extent = n; sealed = true }))))) (sym (e ∙ ap up h.all_bits))
-    (subst (λ fs. IsSchema (sch (schema.Struct (roll-Body (record { fields = fs; extent = greatest ss; sealed = true }))))) (sym h.all_fields)
-    (keeps_rules ss h.few h.short))
+    subst (λ n. IsSchema (sch (struct_of section.fields n))) (sym (e ∙ ap up h.all_bits))
+    (subst (λ fs. IsSchema (sch (struct_of fs (greatest ss)))) (sym h.all_fields) (keeps_rules ss h.few h.short))
+
+-- what a section holds is a type
+pub is_type : (section : Section) (ss : List Statement) (extent : ℕ) → Holds section ss → extent ≡ up section.bits → IsType (struct_of section.fields extent)
+is_type section ss extent h e = (keeps_section section ss extent h e, ap is_composite (struct_is section.fields extent))
+
+-- it has as many texts of types as fields
+pub text_count : (section : Section) (ss : List Statement) (extent : ℕ) → Holds section ss → length section.types ≡ typed_count (sch (struct_of section.fields extent))
+text_count section ss extent h =
+    h.texts ∙ h.count ∙ sym (fine ss).typed ∙ ap (λ fs. variants (flds fs)) (sym h.all_fields) ∙ sym (ap typed_count (struct_is section.fields extent))

@@ -5,13 +5,10 @@ use Rattle.dsdl_names.specs.Names.{file_name_of}
 use Rattle.dsdl_names.specs.declared.FileName.{FileName}
 use Rattle.dsdl_parse.specs.declared.statement.Statement.{Statement}
 use Rattle.dsdl_types.specs.declared.definition.Definition.{Definition}
-use Rattle.dsdl_types.specs.declared.definition.Parts.{Parts}
 use Rattle.dsdl_types.specs.declared.definition.Parts.TheVariants as parts
 use Rattle.dsdl_types.specs.declared.schema.Body.{roll-Body}
 use Rattle.dsdl_types.specs.declared.schema.Schema.{Schema}
 use Rattle.dsdl_types.specs.declared.schema.Schema.TheVariants as schema
-use Rattle.dsdl_types.specs.Rules.{IsSchema}
-use Rattle.dsdl_types.specs.Views.{sch}
 use Rattle.dsdl_files.specs.declared.file.DsdlFile.{DsdlFile}
 use Rattle.dsdl_resolve.specs.Reading.{IsRead}
 use Rattle.dsdl_resolve.specs.Statements.{field_of, type_of}
@@ -29,11 +26,3 @@ definition_of name ss = record { id = name.id; port = name.port; types = filter_
 abbrev pub Defines : DsdlFile → Definition → Type 0
 Defines file d = (name : FileName) × (ss : List Statement) × (file_name_of file.path ≡ Ok name) × IsRead file.text ss
     × IsAllowed ss × (d ≡ definition_of name ss)
-
--- the schema of a message keeps the rules of schemas
-abbrev pub PartsKeepRules : Parts → Type 0
-PartsKeepRules (parts.Message s) = IsSchema (sch s)
-PartsKeepRules (parts.Service request response) = IsSchema (sch request) × IsSchema (sch response)
-
-abbrev pub KeepsRules : Definition → Type 0
-KeepsRules d = PartsKeepRules d.parts

@@ -19,5 +19,6 @@ pub record Holds (section : Section) (ss : List Statement) : Type 0 where
   pub all_names : field_names section.fields ≡ filter_map attribute_of ss
   pub all_bits : section.bits ≡ sum (widths ss)
   pub count : length section.fields ≡ length (widths ss)
+  pub texts : length section.types ≡ length section.fields
   pub few : node_count ss ≤ 2 ^ 20
   pub short : greatest ss ≤ 2 ^ 32

@@ -2,7 +2,8 @@
 ghost use Rattle.std.specs.Prelude.{◌≡◌, ◌<◌, ◌≤◌, ◌^◌, length, List as ListOf, Ok, IfOk, IfErr};
 ghost use Rattle.std.specs.List.{All, AllZip};
 ghost use Rattle.dsdl_parse.specs.declared.statement.Statement.{Statement};
-ghost use Rattle.dsdl_resolve.specs.Definition.{definition_of, Defines, KeepsRules};
+ghost use Rattle.dsdl_types.specs.Definitions.{IsDefinition, IsNamespace};
+ghost use Rattle.dsdl_resolve.specs.Definition.{definition_of, Defines};
 ghost use Rattle.dsdl_resolve.specs.Holding.{Holds};
 ghost use Rattle.dsdl_resolve.specs.Passes.{ValuingRefuses, IsFirst, FirstRefusal, Compiled};
 ghost use Rattle.dsdl_resolve.specs.Reading.{IsRead};
@@ -31,7 +32,7 @@ use std::alloc::Global;
 pub fn resolve(alloc: Global, files: &[DsdlFile]) -> Result<Namespace, DsdlError>
     requires { All (λ file. length file.text < 2 ^ 32) files.now }
     ensures compiled { IfOk result (Compiled files.now) }
-    ensures rules { IfOk result (λ names. All KeepsRules names.definitions) }
+    ensures sound { IfOk result IsNamespace }
     ensures refused { IfErr result (IsRefusal (FirstRefusal files.now)) }
 {
     one_parsing();
@@ -55,7 +56,7 @@ fn definitions_of(
     requires named { AllZip (λ file name. file_name_of file.path ≡ Ok name) files.now names.now }
     requires read { AllZip (λ file ast. IsRead file.text ast.lines) files.now asts.now }
     ensures defined { IfOk result (AllZip Defines files.now) }
-    ensures rules { IfOk result (All KeepsRules) }
+    ensures sound { IfOk result (All IsDefinition) }
     ensures refused { IfErr result (IsRefusal (IsFirst ValuingRefuses files.now)) }
 {
     one_parsing();
@@ -86,7 +87,7 @@ fn refused(alloc: Global, file: &DsdlFile, error: SectionError) -> DsdlError
 fn define(alloc: Global, name: &FileName, section: Section) -> Result<Definition, NoMemory>
     requires { section.bits ≤ 2 ^ 32 }
     ensures defined { (ss : ListOf Statement) → Holds section ss → IfOk result (λ d. d ≡ definition_of name.now ss) }
-    ensures rules { (ss : ListOf Statement) → Holds section ss → IfOk result KeepsRules }
+    ensures sound { (ss : ListOf Statement) → Holds section ss → IfOk result IsDefinition }
 {
     let Section {
         sealed: _,

@@ -1,11 +1,12 @@
 use Rattle.std.proofs.Common.{◌≡◌, ◌<◌, ◌^◌, length, true, Ok, sym, ap, subst, arith}
 use Rattle.std.specs.List.{All}
 use Rattle.dsdl_names.specs.Names.{file_name_of}
-use Rattle.dsdl_resolve.specs.Definition.{Defines, KeepsRules}
+use Rattle.dsdl_resolve.specs.Definition.{Defines}
 use Rattle.dsdl_resolve.specs.Reading.{IsRead}
 use Rattle.dsdl_resolve.specs.Section.{IsAllowed}
 use Rattle.dsdl_resolve.specs.Holding.{Holds}
 use Rattle.dsdl_resolve.specs.Statements.{is_compiled}
+use Rattle.dsdl_types.specs.Definitions.{IsDefinition}
 use Rattle.dsdl_resolve.proofs.Clear.{first_value, few_statements}
 use Rattle.dsdl_resolve.proofs.Lists.{zip_next, zip_long, zip_here, all_more}
 use Rattle.dsdl_resolve.proofs.namespace.definitions_of.Goals as goal
@@ -51,6 +52,6 @@ loop-i-preserved c =
     record {
       defined = zip_next Defines c.args.files.now c.loop-i.definitions c.push.new.self c.loop-i.i file c.in_ok-define-in-Ok.field-0 c.loop-i-test.true c.index-files-i.is
           c.loop-i.invariant.defined (name, ss, named, read, both.0, c.in_ok-define-in-Ok.ensures.defined ss both.1) c.in_ok-push-in-Ok.ensures.ok;
-      rules = subst (All KeepsRules) (sym c.in_ok-push-in-Ok.ensures.ok)
-          (all_more KeepsRules c.loop-i.definitions c.in_ok-define-in-Ok.field-0 c.loop-i.invariant.rules (c.in_ok-define-in-Ok.ensures.rules ss both.1));
+      sound = subst (All IsDefinition) (sym c.in_ok-push-in-Ok.ensures.ok)
+          (all_more IsDefinition c.loop-i.definitions c.in_ok-define-in-Ok.field-0 c.loop-i.invariant.sound (c.in_ok-define-in-Ok.ensures.sound ss both.1));
     }
