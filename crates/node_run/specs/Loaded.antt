@@ -5,9 +5,12 @@ use Rattle.cy_outside.specs.Files.{Files}
 use Rattle.cy_outside.specs.Outside.{Rose}
 use Rattle.dsdl_files.specs.Folders.{files_of_folder}
 use Rattle.dsdl_files.specs.declared.file.DsdlFile.{DsdlFile}
+use Rattle.dsdl_files.specs.declared.error.FolderError.{FolderError}
 use Rattle.dsdl_files.specs.declared.error.FolderError.TheVariants as folder
 use Rattle.dsdl_types.specs.declared.namespace.Namespace.{Namespace}
 use Rattle.dsdl_resolve.specs.Passes.{Compiled, FirstRefusal}
+use Rattle.dsdl_resolve.specs.declared.error.DsdlError.{DsdlError}
+use Rattle.dsdl_resolve.specs.declared.error.DsdlError.TheVariants as dsdl
 use Rattle.dsdl_resolve.specs.declared.error.DsdlWhy.{DsdlWhy}
 use Rattle.dsdl_resolve.specs.declared.error.DsdlWhy.TheVariants as why
 use Rattle.node_run.specs.declared.status.Status.{Status}
@@ -35,12 +38,12 @@ pub record IsLoaded (root : List ℕ) (told : Option Files) (names : Namespace) 
 -- a root is no folder
 pub record IsMissing (root : List ℕ) (told : Option Files) (path : List ℕ) : Type 0 where
   pub named : path ≡ root
-  pub folder : is_none root ≡ false
+  pub not_none : is_none root ≡ false
   pub missing : IfSome told (λ tree. files_of_folder tree root ≡ Err folder.NotFolder)
 
 -- reading the folder passes a limit at this place, for which no line is named
 pub record IsTooBig (root : List ℕ) (told : Option Files) (path : List ℕ) (line : ℕ) (cause : DsdlWhy) : Type 0 where
-  pub folder : is_none root ≡ false
+  pub not_none : is_none root ≡ false
   pub limit : IfSome told (λ tree. files_of_folder tree root ≡ Err (folder.TooBig path))
   pub no_line : line ≡ 0
   pub is : cause ≡ why.TooBig
@@ -59,8 +62,20 @@ IsNotLoaded root told status.ReadFault = ⊤
 IsNotLoaded root told status.NoMemory = ⊤
 IsNotLoaded root told other = ⊥
 
+-- the status of a folder whose files were not read
+abbrev pub not_read : List ℕ → FolderError → Status
+not_read root folder.NotFolder = status.NoFile root
+not_read root (folder.TooBig path) = status.Dsdl path 0 why.TooBig
+not_read root folder.Failed = status.ReadFault
+not_read root folder.NoMemory = status.NoMemory
+
+-- the status of files that have no namespace
+abbrev pub not_resolved : DsdlError → Status
+not_resolved (dsdl.At path line cause) = status.Dsdl path line cause
+not_resolved dsdl.NoMemory = status.NoMemory
+
 -- a read fault comes only where the tree's count rose; every other answer leaves the count as it was
-abbrev pub HasLoadCause : ℕ → ℕ → Result Namespace Status → Type 0
-HasLoadCause old new (Ok names) = new ≡ old
+abbrev pub HasLoadCause : {T : Type 0} → ℕ → ℕ → Result T Status → Type 0
+HasLoadCause old new (Ok answer) = new ≡ old
 HasLoadCause old new (Err status.ReadFault) = Rose old new
 HasLoadCause old new (Err other) = new ≡ old

@@ -2,9 +2,9 @@
 #![tactic(auto)]
 
 mod bound_text;
-mod compile;
 mod gather;
-mod load;
+mod layouts;
+mod namespace;
 pub mod next;
 pub mod report;
 mod run;
@@ -12,8 +12,8 @@ pub mod status;
 mod step;
 
 pub use bound_text::bound;
-pub use compile::compile;
-pub use load::load;
+pub use layouts::compile;
+pub use namespace::load;
 pub use report::Report;
 pub use run::run_log;
 pub use status::{LogWhy, Status};

@@ -1,7 +1,7 @@
 //! The namespace of a root.
-ghost use Rattle.std.specs.Prelude.{◌≡◌, IfOk, IfErr, codes};
+ghost use Rattle.std.specs.Prelude.{◌≡◌, ◌⊎◌, IfOk, IfErr, codes};
 ghost use Rattle.dsdl_types.specs.Definitions.{IsNamespace};
-ghost use Rattle.node_run.specs.Loaded.{AreFilesOf, IsLoaded, IsNotLoaded, HasLoadCause};
+ghost use Rattle.node_run.specs.Loaded.{AreFilesOf, IsLoaded, IsNotLoaded, not_read, not_resolved, HasLoadCause};
 
 use crate::status::Status;
 use cy_bits::{List, Text};
@@ -41,6 +41,7 @@ pub fn load<T: Tree>(alloc: Global, tree: &mut T, root: &str) -> Result<Namespac
 fn files_of<T: Tree>(alloc: Global, tree: &mut T, root: &str) -> Result<List<DsdlFile>, Status>
     ensures are { IfOk result (AreFilesOf root.now (T.files tree.old)) }
     ensures refused { IfErr result (IsNotLoaded root.now (T.files tree.old)) }
+    ensures cause { HasLoadCause (T.faults tree.old) (T.faults tree.new) result }
     ensures files { T.files tree.new ≡ T.files tree.old }
     ensures unlisted { root.now ≡ codes "none" → tree.new ≡ tree.old }
 {
@@ -54,7 +55,9 @@ fn files_of<T: Tree>(alloc: Global, tree: &mut T, root: &str) -> Result<List<Dsd
 }
 
 /// The status of a folder whose files were not read.
-fn not_read(alloc: Global, root: &str, error: FolderError) -> Status {
+fn not_read(alloc: Global, root: &str, error: FolderError) -> Status
+    ensures { (result ≡ not_read root.now error) ⊎ (result ≡ Status.NoMemory) }
+{
     match error {
         FolderError::NotFolder => match Text::from_str(alloc, root) {
             Ok(path) => Status::NoFile { path },
@@ -71,7 +74,9 @@ fn not_read(alloc: Global, root: &str, error: FolderError) -> Status {
 }
 
 /// The status of files that are refused.
-fn not_resolved(error: DsdlError) -> Status {
+fn not_resolved(error: DsdlError) -> Status
+    ensures { result ≡ not_resolved error }
+{
     match error {
         DsdlError::At { file, line, why } => Status::Dsdl { file, line, why },
         DsdlError::NoMemory => Status::NoMemory,
