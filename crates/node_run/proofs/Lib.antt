@@ -8,3 +8,4 @@ pub mod Starts
 pub mod Taken
 pub mod Comes
 pub mod Streams
+pub mod Roots

@@ -56,7 +56,7 @@ fn files_of<T: Tree>(alloc: Global, tree: &mut T, root: &str) -> Result<List<Dsd
 
 /// The status of a folder whose files were not read.
 fn not_read(alloc: Global, root: &str, error: FolderError) -> Status
-    ensures { (result ≡ not_read root.now error) ⊎ (result ≡ Status.NoMemory) }
+    ensures { (result ≡ not_read root.now error) ⊎ ((error ≡ FolderError.NotFolder) × (result ≡ Status.NoMemory)) }
 {
     match error {
         FolderError::NotFolder => match Text::from_str(alloc, root) {
