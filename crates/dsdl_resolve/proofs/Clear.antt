@@ -27,7 +27,7 @@ use Rattle.dsdl_resolve.specs.declared.error.DsdlWhy.TheVariants as cause
 use Rattle.dsdl_resolve.specs.declared.section.SectionError.{SectionError}
 use Rattle.dsdl_resolve.specs.declared.section.SectionError.TheVariants as section_error
 use Rattle.dsdl_resolve.specs.Refusals.{IsRefusal, IsSectionRefusal}
-use Rattle.dsdl_resolve.specs.Passes.{FirstRefusal, syntax, valuing}
+use Rattle.dsdl_resolve.specs.Passes.{AreWithinLimits, FirstRefusal, name, syntax, valuing}
 use Rattle.dsdl_resolve.proofs.Lists.{parts_at, all_at, zip_all}
 
 pub name_clear : (f : DsdlFile) (n : FileName) → file_name_of f.path ≡ Ok n → Passes NameRefuses f
@@ -97,14 +97,17 @@ module _ (files : List DsdlFile) (i : ℕ) (f : DsdlFile) (lt : i < length files
       first_at ValuingRefuses files i f path line why lt (sym is) (zip_all _ (Passes ValuingRefuses) (valued_clear law) (take i files) ds defined) r.1
       (ss, read, subst (λ l. IsRefused l line why) same (subst (IsSectionRefusal (IsRefused lines)) r.0 answer))) e h
 
-module _ (files : List DsdlFile) (ns : List FileName) (named : AllZip (λ file n. file_name_of file.path ≡ Ok n) files ns) where
+pub name_refusal : (files : List DsdlFile) → AreWithinLimits files → (e : DsdlError) → IsRefusal (IsFirst NameRefuses files) e → IsRefusal (FirstRefusal files) e
+name_refusal files within e h = told _ _ (λ path line why r. name within r) e h
+
+module _ (files : List DsdlFile) (within : AreWithinLimits files) (ns : List FileName) (named : AllZip (λ file n. file_name_of file.path ≡ Ok n) files ns) where
   pub syntax_refusal : (e : DsdlError) → IsRefusal (IsFirst SyntaxRefuses files) e → IsRefusal (FirstRefusal files) e
-  syntax_refusal e h = told _ _ (λ path line why r. syntax (zip_all _ (Passes NameRefuses) name_clear files ns named) r) e h
+  syntax_refusal e h = told _ _ (λ path line why r. syntax within (zip_all _ (Passes NameRefuses) name_clear files ns named) r) e h
 
   pub valuing_refusal : IsParsedOneWay → (asts : List Ast) → AllZip (λ file ast. IsRead file.text ast.lines) files asts → (e : DsdlError) →
       IsRefusal (IsFirst ValuingRefuses files) e → IsRefusal (FirstRefusal files) e
   valuing_refusal law asts read e h =
-      told _ _ (λ path line why r. valuing (zip_all _ (Passes NameRefuses) name_clear files ns named)
+      told _ _ (λ path line why r. valuing within (zip_all _ (Passes NameRefuses) name_clear files ns named)
       (zip_all _ (Passes SyntaxRefuses) (λ file ast. read_clear law file ast.lines) files asts read) r) e h
 
 -- a text has at most as many lines as bytes

@@ -1,4 +1,5 @@
 pub mod Lists
+pub mod Sizes
 pub mod Clear
 pub mod Allowed
 pub mod FieldRules

@@ -1,5 +1,5 @@
 -- The passes over the files, and the first refusal of all.
-use Rattle.std.specs.Prelude.{◌≡◌, ℕ, List, [], ◌∷◌, ◌++◌, Err}
+use Rattle.std.specs.Prelude.{◌≡◌, ℕ, List, [], ◌∷◌, ◌++◌, ◌^◌, Option, Some, None, Err}
 use Rattle.std.specs.List.{All, AllZip}
 use Rattle.dsdl_names.specs.Names.{file_name_of}
 use Rattle.dsdl_names.specs.declared.NameError.{NameError}
@@ -8,10 +8,25 @@ use Rattle.dsdl_parse.specs.declared.statement.Statement.{Statement}
 use Rattle.dsdl_types.specs.declared.namespace.Namespace.{Namespace}
 use Rattle.dsdl_resolve.specs.declared.error.DsdlWhy.{DsdlWhy}
 use Rattle.dsdl_resolve.specs.declared.error.DsdlWhy.TheVariants as cause
+use Rattle.dsdl_files.specs.Folders.{first_too_big}
 use Rattle.dsdl_files.specs.declared.file.DsdlFile.{DsdlFile}
 use Rattle.dsdl_resolve.specs.Definition.{Defines}
 use Rattle.dsdl_resolve.specs.Reading.{IsNoText}
 use Rattle.dsdl_resolve.specs.Section.{IsRefused}
+
+-- the first file that is past the count of 4,096 files, or has more than 2^20 bytes
+abbrev pub first_past_limit : List DsdlFile → Option (List ℕ)
+first_past_limit files = first_too_big 4096 (2 ^ 20) files
+
+-- there is no such file
+abbrev pub AreWithinLimits : List DsdlFile → Type 0
+AreWithinLimits files = first_past_limit files ≡ None
+
+-- TooBig: the first file that passes a limit. No line is named.
+pub record IsTooBig (files : List DsdlFile) (path : List ℕ) (line : ℕ) (why : DsdlWhy) : Type 0 where
+  pub first : first_past_limit files ≡ Some path
+  pub no_line : line ≡ 0
+  pub is : why ≡ cause.TooBig
 
 -- at which line a pass refuses a file, and why
 abbrev pub Pass : Type 1
@@ -43,12 +58,17 @@ pub record IsFirst (refuses : Pass) (files : List DsdlFile) (path : List ℕ) (l
   pub refused : refuses file line why
   pub earlier : All (Passes refuses) before
 
--- The first refusal: the first file that a pass refuses, where the passes before it refuse none.
+-- The first refusal: the first file that passes a limit; where none does, the first file that a pass refuses, where
+-- the passes before it refuse none.
 pub data FirstRefusal (files : List DsdlFile) (path : List ℕ) (line : ℕ) (why : DsdlWhy) : Type 0 where
-  name : IsFirst NameRefuses files path line why → FirstRefusal files path line why
-  syntax : All (Passes NameRefuses) files → IsFirst SyntaxRefuses files path line why → FirstRefusal files path line why
-  valuing : All (Passes NameRefuses) files → All (Passes SyntaxRefuses) files → IsFirst ValuingRefuses files path line why → FirstRefusal files path line why
+  too_big : IsTooBig files path line why → FirstRefusal files path line why
+  name : AreWithinLimits files → IsFirst NameRefuses files path line why → FirstRefusal files path line why
+  syntax : AreWithinLimits files → All (Passes NameRefuses) files → IsFirst SyntaxRefuses files path line why → FirstRefusal files path line why
+  valuing : AreWithinLimits files → All (Passes NameRefuses) files → All (Passes SyntaxRefuses) files → IsFirst ValuingRefuses files path line why →
+      FirstRefusal files path line why
 
 -- No file is refused: each has its definition, in the order of the files, and nothing is printed.
-abbrev pub Compiled : List DsdlFile → Namespace → Type 0
-Compiled files names = AllZip Defines files names.definitions × (names.prints ≡ [])
+pub record Compiled (files : List DsdlFile) (names : Namespace) : Type 0 where
+  pub within : AreWithinLimits files
+  pub defined : AllZip Defines files names.definitions
+  pub printed : names.prints ≡ []

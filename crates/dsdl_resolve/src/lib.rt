@@ -9,6 +9,7 @@ mod names;
 mod namespace;
 mod rules;
 mod section;
+mod size;
 mod statement;
 mod syntax;
 #[cfg(test)]

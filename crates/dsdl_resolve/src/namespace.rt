@@ -15,6 +15,7 @@ use crate::at::at;
 use crate::names::names_of;
 use crate::rules::whole_bytes;
 use crate::section::{Section, SectionError, section_of};
+use crate::size::check_sizes;
 use crate::syntax::statements_of;
 use cy_bits::{List, NoMemory, TryCopy};
 use dsdl_files::DsdlFile;
@@ -26,16 +27,16 @@ use std::alloc::Global;
 /// The namespace of the types that files define, each the definition of its file, in the order of
 /// the files, which is that of their paths.
 ///
-/// The refusals come in passes: the names of all files, then the lines of all files, then the rules,
-/// and within a pass file by file and line by line. `At` is the first of all. Want of memory is
-/// `NoMemory`. The text of a file has fewer than 2^32 bytes.
+/// The refusals come in passes: the number and the sizes of the files, then the names of all files,
+/// then the lines of all files, then the rules, and within a pass file by file and line by line. `At`
+/// is the first of all. Want of memory is `NoMemory`.
 pub fn resolve(alloc: Global, files: &[DsdlFile]) -> Result<Namespace, DsdlError>
-    requires { All (λ file. length file.text < 2 ^ 32) files.now }
     ensures compiled { IfOk result (Compiled files.now) }
     ensures sound { IfOk result IsNamespace }
     ensures refused { IfErr result (IsRefusal (FirstRefusal files.now)) }
 {
     one_parsing();
+    check_sizes(alloc, files)?;
     let names = names_of(alloc, files)?;
     let asts = statements_of(alloc, files)?;
     let definitions = definitions_of(alloc, files, &names, &asts)?;

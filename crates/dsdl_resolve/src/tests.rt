@@ -1,6 +1,3 @@
-ghost use Rattle.std.specs.Prelude.{◌≡◌, ◌<◌, ◌^◌, true, length};
-ghost use Rattle.std.specs.List.{All};
-
 use crate::{DsdlError, resolve};
 use cy_bits::{Bytes, NoMemory, Text};
 use dsdl_files::DsdlFile;
@@ -42,36 +39,10 @@ fn write_names(text: &mut String, names: &Namespace) -> Result<(), AllocError> {
     Ok(())
 }
 
-/// Whether no file is large.
-fn are_small(files: &[DsdlFile]) -> bool
-    ensures { result ≡ true → All (λ file. length file.text < 2 ^ 32) files.now }
-{
-    for i in 0..files.len() {
-        let file = &files[i];
-        if file.text.len() > 1_000_000 {
-            return false;
-        }
-    }
-    true
-}
-
-/// What two files are, or one where the second has no path.
-fn answer(alloc: Global, files: [(&str, &str); 2]) -> Result<String, AllocError> {
+/// What files are resolved to.
+fn answer(alloc: Global, files: &[DsdlFile]) -> Result<String, AllocError> {
     let mut text = String::new(alloc);
-    let mut list = Vec::new(alloc);
-    for (path, lines) in files {
-        if path.is_empty() {
-            continue;
-        }
-        match file(alloc, path, lines) {
-            Ok(f) => list.push(f)?,
-            Err(_) => return Ok(text),
-        }
-    }
-    if !are_small(list.as_slice()) {
-        return Ok(text);
-    }
-    match resolve(alloc, list.as_slice()) {
+    match resolve(alloc, files) {
         Ok(names) => write_names(&mut text, &names)?,
         Err(DsdlError::At { file, line, why }) => write!(
             text,
@@ -81,6 +52,21 @@ fn answer(alloc: Global, files: [(&str, &str); 2]) -> Result<String, AllocError>
         Err(DsdlError::NoMemory) => text.push_str("no memory")?,
     }
     Ok(text)
+}
+
+/// What two files are, or one where the second has no path.
+fn answer_of_texts(alloc: Global, files: [(&str, &str); 2]) -> Result<String, AllocError> {
+    let mut list = Vec::new(alloc);
+    for (path, lines) in files {
+        if path.is_empty() {
+            continue;
+        }
+        match file(alloc, path, lines) {
+            Ok(f) => list.push(f)?,
+            Err(_) => return Ok(String::new(alloc)),
+        }
+    }
+    answer(alloc, list.as_slice())
 }
 
 #[test]
@@ -182,8 +168,29 @@ fn files(rt: HostRuntime) -> Result<(), AllocError> {
         ),
     ];
     for (files, want) in rows {
-        let text = answer(rt.alloc(), files)?;
+        let text = answer_of_texts(rt.alloc(), files)?;
         assert_eq!(rt; text.as_str(), want);
+    }
+    Ok(())
+}
+
+#[test]
+fn sizes(rt: HostRuntime) -> Result<(), AllocError> {
+    let rows = [
+        ((1 << 20) + 1, "A.1.0.dsdl:0: TooBig"),
+        (1 << 20, "A.1.0.dsdl:0: Name(BadName)"),
+    ];
+    for (bytes, want) in rows {
+        let text = vec![in rt.alloc(); b' '; bytes]?;
+        let Ok(path) = Text::from_str(rt.alloc(), "A.1.0.dsdl") else {
+            return Ok(());
+        };
+        let file = DsdlFile {
+            path,
+            text: Bytes::new(text),
+        };
+        let got = answer(rt.alloc(), &[file])?;
+        assert_eq!(rt; got.as_str(), want);
     }
     Ok(())
 }
