@@ -6,3 +6,4 @@ pub mod FieldRules
 pub mod Held
 pub mod Structure
 pub mod Taken
+pub mod OneAnswer

@@ -6,3 +6,4 @@ pub mod Passes
 pub mod Refusals
 pub mod Limits
 pub mod Holding
+pub mod Laws

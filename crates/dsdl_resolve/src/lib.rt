@@ -5,6 +5,7 @@
 
 mod at;
 mod error;
+mod laws;
 mod names;
 mod namespace;
 mod rules;
@@ -16,4 +17,5 @@ mod syntax;
 mod tests;
 
 pub use error::{DsdlError, DsdlWhy};
+pub use laws::one_answer;
 pub use namespace::resolve;
