@@ -13,24 +13,9 @@ use Rattle.dsdl_parse.specs.declared.statement.Statement.TheVariants as statemen
 use Rattle.dsdl_types.specs.declared.schema.Field.{Field, out-Field}
 use Rattle.dsdl_resolve.specs.declared.error.DsdlWhy.{DsdlWhy}
 use Rattle.dsdl_resolve.specs.declared.error.DsdlWhy.TheVariants as why
-use Rattle.dsdl_resolve.specs.Holding.{field_names}
 use Rattle.dsdl_resolve.specs.Limits.{name_refusal, size_refusal}
-use Rattle.dsdl_resolve.specs.Section.{refusal_at, node_count, greatest}
+use Rattle.dsdl_resolve.specs.Section.{refusal_at, node_count, greatest, is_used}
 use Rattle.dsdl_resolve.specs.Statements.{uint_of, attribute_of, width_named, width_of_digits}
-
--- a field of that name is among these
-abbrev pub any_named : List Field → List ℕ → Bool
-any_named fields name = list_any (λ other. bytes_eq other name) (field_names fields)
-
-pub named_next : (fields : List Field) (i : ℕ) (f : Field) (name : List ℕ) (b : Bool) → i < length fields → f ≡ get_or fields i f → b ≡ bytes_eq (out-Field f).name name →
-    any_named (drop i fields) name ≡ (b || any_named (drop (i + 1) fields) name)
-named_next fields i f name b lt is e =
-    let next : suc i ≡ i + 1 = omega arith in
-    ap (λ l. any_named l name) (drop-cons fields i f lt ∙ ap (λ x. x ∷ drop (suc i) fields) (sym is) ∙ ap (λ n. f ∷ drop n fields) next)
-    ∙ ap (λ x. x || any_named (drop (i + 1) fields) name) (sym e)
-
-pub named_end : (fields : List Field) (i : ℕ) (name : List ℕ) → length fields ≤ i → any_named (drop i fields) name ≡ false
-named_end fields i name le = ap (λ l. any_named l name) (drop_all i fields le)
 
 abbrev whole : Bool → Bool → Option (List ℕ) → Option ℕ → ℕ → ℕ → Option DsdlWhy
 whole a b u w n g =
@@ -67,7 +52,7 @@ module _ (ss : List Statement) (form : Form) (name : List ℕ) where
   s = statement.Field form name
 
   abbrev used : Bool
-  used = list_any (λ other. bytes_eq other name) (filter_map attribute_of ss)
+  used = is_used (filter_map attribute_of ss) name
 
   pub refused_name : (r : DsdlWhy) → name_refusal (filter_map attribute_of ss) name ≡ Some r → refusal_at ss (statement.Field form name) ≡ Some r
   refused_name r e = whole_name used (is_reserved name) (uint_of form) (width_named (uint_of form)) (node_count (ss ++ s ∷ [])) (greatest (ss ++ s ∷ [])) r e
@@ -93,9 +78,9 @@ size_by n g false false e f h = (at_most (2 ^ 20) n e, at_most (2 ^ 32) g f)
 pub size_within : (n g : ℕ) → size_refusal n g ≡ None → (n ≤ 2 ^ 20) × (g ≤ 2 ^ 32)
 size_within n g h = size_by n g (nat_lt (2 ^ 20) n) (nat_lt (2 ^ 32) g) refl refl h
 
--- what a call says of these fields and this name
-pub same_name : (a b : List Field) (x y : List ℕ) (r z : Option DsdlWhy) → r ≡ name_refusal (field_names a) x → a ≡ b → x ≡ y → r ≡ z → name_refusal (field_names b) y ≡ z
-same_name a b x y r z e p q f = ap (λ l. name_refusal (field_names l) y) (sym p) ∙ ap (λ t. name_refusal (field_names a) t) (sym q) ∙ sym e ∙ f
+-- what a call says of these names and this one
+pub same_name : (names : List (List ℕ)) (x y : List ℕ) (r z : Option DsdlWhy) → r ≡ name_refusal names x → x ≡ y → r ≡ z → name_refusal names y ≡ z
+same_name names x y r z e p f = ap (name_refusal names) (sym p) ∙ sym e ∙ f
 
 pub same_size : (m n g : ℕ) (r z : Option DsdlWhy) → r ≡ size_refusal (1 + (m + 1)) g → m ≡ n → r ≡ z → size_refusal (1 + (n + 1)) g ≡ z
 same_size m n g r z e p f = ap (λ k. size_refusal (1 + (k + 1)) g) (sym p) ∙ sym e ∙ f

@@ -3,6 +3,7 @@ pub mod Sizes
 pub mod Clear
 pub mod Allowed
 pub mod FieldRules
+pub mod Used
 pub mod Held
 pub mod Structure
 pub mod Taken

@@ -1,22 +1,17 @@
 -- What is kept of the statements of a section.
-use Rattle.std.specs.Prelude.{◌≡◌, ℕ, ◌^◌, ◌≤◌, List, length, map, sum}
+use Rattle.std.specs.Prelude.{◌≡◌, ℕ, ◌^◌, ◌≤◌, List, length, sum}
 use Rattle.std.specs.List.{list_any, filter_map}
 use Rattle.dsdl_parse.specs.declared.statement.Statement.{Statement}
-use Rattle.dsdl_types.specs.declared.schema.Field.{Field, out-Field}
 use Rattle.dsdl_resolve.specs.declared.section.Section.{Section}
-use Rattle.dsdl_resolve.specs.Section.{widths, node_count, greatest}
+use Rattle.dsdl_resolve.specs.Section.{widths, node_count, greatest, is_used}
 use Rattle.dsdl_resolve.specs.Statements.{attribute_of, is_sealed, field_of, type_of}
-
--- the names of fields
-abbrev pub field_names : List Field → List (List ℕ)
-field_names fields = map (λ f. (out-Field f).name) fields
 
 -- what a section is after these statements
 pub record Holds (section : Section) (ss : List Statement) : Type 0 where
   pub sealing : section.sealed ≡ list_any is_sealed ss
   pub all_fields : section.fields ≡ filter_map field_of ss
   pub all_types : section.types ≡ filter_map type_of ss
-  pub all_names : field_names section.fields ≡ filter_map attribute_of ss
+  pub used : (name : List ℕ) → is_used section.names name ≡ is_used (filter_map attribute_of ss) name
   pub all_bits : section.bits ≡ sum (widths ss)
   pub count : length section.fields ≡ length (widths ss)
   pub texts : length section.types ≡ length section.fields

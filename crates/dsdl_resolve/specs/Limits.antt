@@ -1,15 +1,14 @@
 -- What a name and a size are refused for.
 use Rattle.std.specs.Prelude.{ℕ, ◌^◌, List, nat_lt, Option, Some, None, if◌then◌else◌}
-use Rattle.std.specs.List.{list_any}
-use Rattle.std.specs.Str.{bytes_eq}
 use Rattle.dsdl_names.specs.Words.{is_reserved}
 use Rattle.dsdl_resolve.specs.declared.error.DsdlWhy.{DsdlWhy}
 use Rattle.dsdl_resolve.specs.declared.error.DsdlWhy.TheVariants as why
+use Rattle.dsdl_resolve.specs.Section.{is_used}
 
 -- a name behind these
 abbrev pub name_refusal : List (List ℕ) → List ℕ → Option DsdlWhy
 name_refusal names name =
-    if list_any (λ other. bytes_eq other name) names then Some (why.Rule 9) else
+    if is_used names name then Some (why.Rule 9) else
     if is_reserved name then Some (why.Rule 10) else None
 
 -- so many nodes, and this greatest length

@@ -35,9 +35,13 @@ abbrev pub on_name : (List ℕ → Bool) → Option (List ℕ) → Bool
 on_name test None = false
 on_name test (Some name) = test name
 
+-- a name is one of these
+abbrev pub is_used : List (List ℕ) → List ℕ → Bool
+is_used names name = list_any (λ other. bytes_eq other name) names
+
 -- Rule 9: the name of an attribute that one before it has.
 abbrev pub breaks_9 : List Statement → Statement → Bool
-breaks_9 before s = on_name (λ name. list_any (λ other. bytes_eq other name) (filter_map attribute_of before)) (attribute_of s)
+breaks_9 before s = on_name (is_used (filter_map attribute_of before)) (attribute_of s)
 
 -- Rule 10: the name of an attribute that is kept for the language.
 abbrev pub breaks_10 : Statement → Bool

@@ -4,6 +4,7 @@
 #![tactic(auto)]
 
 mod at;
+mod attributes;
 mod error;
 mod laws;
 mod names;

@@ -92,6 +92,7 @@ fn define(alloc: Global, name: &FileName, section: Section) -> Result<Definition
 {
     let Section {
         sealed: _,
+        names: _names,
         fields,
         types,
         bits,

@@ -1,17 +1,13 @@
 //! The rules on a field, by what stands before it.
 ghost use Rattle.std.specs.Prelude.{◌≡◌, ◌+◌, ◌*◌, ◌^◌, ◌≤◌, length, Some, None, if◌then◌else◌, nat_lt};
-ghost use Rattle.std.specs.List.{list_any};
-ghost use Rattle.std.specs.Str.{bytes_eq};
 ghost use Rattle.dsdl_names.specs.Words.{is_reserved};
 ghost use Rattle.dsdl_types.specs.Greatest.{up};
-ghost use Rattle.dsdl_types.specs.declared.schema.Field.{out-Field};
-ghost use Rattle.dsdl_resolve.specs.Holding.{field_names};
 ghost use Rattle.dsdl_resolve.specs.Limits.{name_refusal, size_refusal};
 
 use crate::DsdlWhy;
+use crate::attributes::Attributes;
 use bit_length::LONGEST;
 use dsdl_names::is_reserved;
-use dsdl_types::Field;
 
 /// The most nodes that a value may have.
 const MAX_NODES: usize = 1 << 20;
@@ -24,30 +20,11 @@ pub fn whole_bytes(bits: u64) -> u64
     bits + (bits * 7) % 8
 }
 
-/// Whether a field has that name.
-fn is_named(field: &Field, name: &str) -> bool
-    ensures { result ≡ bytes_eq (out-Field field.now).name name.now }
+/// What the name of a field is refused for, behind attributes of these names.
+pub fn name_refusal(before: &Attributes, name: &str) -> Option<DsdlWhy>
+    ensures { result ≡ name_refusal before.now name.now }
 {
-    field.name.as_str() == name
-}
-
-/// Whether a field of that name is there.
-fn has_name(fields: &[Field], name: &str) -> bool
-    ensures { result ≡ list_any (λ other. bytes_eq other name.now) (field_names fields.now) }
-{
-    for field in fields {
-        if is_named(field, name) {
-            return true;
-        }
-    }
-    false
-}
-
-/// What the name of a field is refused for, behind these fields.
-pub fn name_refusal(fields: &[Field], name: &str) -> Option<DsdlWhy>
-    ensures { result ≡ name_refusal (field_names fields.now) name.now }
-{
-    if has_name(fields, name) {
+    if before.contains(name) {
         return Some(DsdlWhy::Rule(9));
     }
     if is_reserved(name.as_bytes()) {

@@ -9,6 +9,7 @@ ghost use Rattle.dsdl_resolve.specs.Section.{refusal_at, IsAllowed, IsRefused};
 ghost use Rattle.dsdl_resolve.specs.Statements.{is_compiled, uint_field};
 
 use crate::DsdlWhy;
+use crate::attributes::Attributes;
 use crate::rules::{name_refusal, size_refusal};
 use crate::statement::{behind, uint_of, width_of_digits};
 use cy_bits::{List, NoMemory, Text, TryCopy};
@@ -21,6 +22,8 @@ use std::alloc::Global;
 pub struct Section {
     /// Whether `@sealed` stands in it.
     pub sealed: bool,
+    /// The names of its attributes.
+    pub names: Attributes,
     /// Its fields, in order.
     pub fields: List<Field>,
     /// The texts of their types.
@@ -76,6 +79,7 @@ impl Section {
     {
         Section {
             sealed: false,
+            names: Attributes::new(alloc),
             fields: List::empty(alloc),
             types: List::empty(alloc),
             bits: 0,
@@ -132,7 +136,7 @@ impl Section {
         let Some(uint) = uint_of(form) else {
             return Ok(());
         };
-        if let Some(why) = name_refusal(self.fields.as_slice(), name.as_str()) {
+        if let Some(why) = name_refusal(&self.names, name.as_str()) {
             return Err(SectionError::At { line, why });
         }
         let Some(width) = width_of_digits(behind(uint.as_str().as_bytes(), 4)) else {
@@ -145,6 +149,7 @@ impl Section {
         if let Some(why) = size_refusal(self.fields.len() + 1, bits) {
             return Err(SectionError::At { line, why });
         }
+        self.names.insert(alloc, name.as_str())?;
         self.types.push(with_cast(alloc, uint.as_str())?)?;
         self.fields.push(field(alloc, name, width)?)?;
         self.bits = bits;
