@@ -1,4 +1,4 @@
-ghost use Rattle.std.specs.Prelude.{◌≡◌, ◌≢◌, ℕ, ◌+◌, ◌*◌, ◌%◌, ◌/◌, ◌<◌, ◌≤◌, ◌^◌, ◌↔◌, IsTrue, IfOk, Err, length, All};
+ghost use Rattle.std.specs.Prelude.{◌≡◌, ◌≢◌, ℕ, ◌+◌, ◌*◌, ◌%◌, ◌/◌, ◌<◌, ◌≤◌, ◌^◌, ◌↔◌, IsTrue, IfOk, Err, length, All, AllPairs};
 ghost use Rattle.bit_length.specs.Lengths.{Has, Same, Only, Delimited, Sums, Joins, Repeats, UpTo, Pads, SomeLeaves, IsWithin, IsLongBeyond, IsGreatest, IsLeast, IsNext};
 ghost use Rattle.bit_length.specs.Runs.{IsRun, InRun, InSome, AreRunsOf, HasClass, IsReach};
 ghost use Rattle.bit_length.specs.Members.{lesser_of};
@@ -116,7 +116,8 @@ impl LengthSet {
 
     /// The number of lengths.
     pub fn count(&self) -> u64
-        ensures { result ≡ length self.now }
+        ensures count { result ≡ length self.now }
+        ensures ascending { AllPairs (λ (a b : ℕ). a < b) self.now }
     {
         let mut count = self.last.count();
         for run in &self.others {

@@ -1,6 +1,8 @@
-use Rattle.std.proofs.Common.{◌+◌, ◌++◌, ◌∷◌, [], get_or, length, arith, ap, ◌∙◌, sym, subst}
+use Rattle.std.proofs.Common.{◌<◌, AllPairs, ◌+◌, ◌++◌, ◌∷◌, [], get_or, length, arith, ap, ◌∙◌, sym, subst}
+use Rattle.bit_length.specs.Members.{runs_of}
 use Rattle.bit_length.specs.Runs.{AreRuns, members_of}
 use Rattle.bit_length.proofs.CountLemmas.{counted_first, counted_more, counted_short, counted_all}
+use Rattle.bit_length.proofs.MemberLemmas.{members_ascend}
 use Rattle.bit_length.proofs.RunLemmas.{last_bound}
 use Rattle.bit_length.proofs.SetLemmas.{front, other_run, last_run, no_run}
 use Rattle.bit_length.proofs.set.LengthSet.count.Goals as goal
@@ -35,10 +37,13 @@ loop-run-preserved c = λ s last set e.
     let more = counted_more s items last i set c.loop-run-test.true in
     omega (arith, c.count-count-in-loop-run.ensures)
 
-pub returns : goal.returns
-returns c =
+pub returns-clause-count : goal.returns-clause-count
+returns-clause-count c =
     let s = c.self.inside.step in
     let items = c.deref-run-items.result.now in
     let last = c.self.inside.last in
     let set = subst (λ xs. AreRuns s (xs ++ last ∷ [])) (sym c.deref-run-items.ensures.value) c.self.invariant in
     c.loop-run.invariant s last set c.count-count.ensures ∙ counted_all s items last c.loop-run.run-index c.loop-run-test.false ∙ ap (λ xs. length (members_of s (xs ++ last ∷ []))) c.deref-run-items.ensures.value ∙ ap length c.self.view_is
+
+pub returns-clause-ascending : goal.returns-clause-ascending
+returns-clause-ascending c = subst (AllPairs (λ a b. a < b)) c.self.view_is (members_ascend c.self.inside.step (runs_of c.self.inside))
