@@ -1,26 +1,34 @@
 -- The lines of the fields of a composite.
-use Rattle.std.specs.Prelude.{◌≡◌, ℕ, suc, List, [], ◌∷◌, ◌++◌, codes, decimal}
+use Rattle.std.specs.Prelude.{◌≡◌, ℕ, suc, Bool, true, false, List, [], ◌∷◌, ◌++◌, codes, decimal}
 use Rattle.dsdl_types.specs.Schemas.{Sch, Simple, Fixed, Var, Struct, Union}
 use Rattle.dsdl_types.specs.Lengths.{At, Size}
 use Rattle.layout_text.specs.Sets.{IsSetText}
-use Rattle.layout_text.specs.Words.{line_of}
+use Rattle.layout_text.specs.Words.{line_of, spaced}
 
--- of a field its name and its type; of a variant its tag between them, which is its place
-abbrev pub field_words : Sch → List ℕ → ℕ → List ℕ → List (List ℕ)
-field_words (Union fs o) name tag type = codes "variant" ∷ name ∷ decimal tag ∷ type ∷ []
-field_words (Struct fs o) name k type = codes "field" ∷ name ∷ type ∷ []
-field_words (Simple t) name k type = codes "field" ∷ name ∷ type ∷ []
-field_words (Fixed s n) name k type = codes "field" ∷ name ∷ type ∷ []
-field_words (Var s cap) name k type = codes "field" ∷ name ∷ type ∷ []
+abbrev pub is_union : Sch → Bool
+is_union (Simple t) = false
+is_union (Fixed s n) = false
+is_union (Var s cap) = false
+is_union (Struct fs o) = false
+is_union (Union fs o) = true
+
+-- of a field its name; of a variant its name and its tag
+abbrev pub name_words : Bool → ℕ → List ℕ → List (List ℕ)
+name_words true tag name = codes "variant" ∷ name ∷ decimal tag ∷ []
+name_words false tag name = codes "field" ∷ name ∷ []
+
+-- the line of a field or a variant, by its name, the text of its type, and those of where it stands and of its lengths
+abbrev pub field_line : Bool → ℕ → List ℕ → List ℕ → List ℕ → List ℕ → List ℕ
+field_line union tag name type offsets sizes = spaced (name_words union tag name) ++ line_of (type ∷ codes "at" ∷ offsets ∷ codes "size" ∷ sizes ∷ [])
 
 -- The line of field k of a composite, counted without padding, by its name and schema and the text of its type: with
--- the places where it can stand, and its lengths as a part.
+-- the places where it can stand, and its lengths as a part. The tag of a variant is its place.
 pub record IsFieldLine (s : Sch) (k : ℕ) (field : List ℕ × Sch) (type line : List ℕ) : Type 0 where
   pub offsets : List ℕ
   pub sizes : List ℕ
   pub at : IsSetText (At s k) offsets
   pub size : IsSetText (Size field.1) sizes
-  pub is : line ≡ line_of (field_words s field.0 k type ++ codes "at" ∷ offsets ∷ codes "size" ∷ sizes ∷ [])
+  pub is : line ≡ field_line (is_union s) k field.0 type offsets sizes
 
 -- a line for each field, from field k on, by the texts of their types
 abbrev pub AreFieldLines : Sch → ℕ → List (List ℕ × Sch) → List (List ℕ) → List ℕ → Type 0

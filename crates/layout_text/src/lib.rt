@@ -1,6 +1,12 @@
 //! The text of the layouts of a namespace: where the fields of its types can stand, and which lengths they can have.
 #![tactic(auto)]
 
+mod by_name;
+mod definition;
+mod fields;
+mod head;
 mod namespace;
+mod set;
+mod words;
 
 pub use namespace::namespace_text;
