@@ -19,13 +19,21 @@ pub enum Status {
         why: DsdlWhy,
     },
     /// A line of the plan, counted from 1, is refused.
-    Plan { line: u32, why: PlanWhy },
+    Plan {
+        line: u32,
+        why: PlanWhy,
+    },
     /// A line of the log, counted from 1, is refused.
-    Log { line: u64, why: LogWhy },
+    Log {
+        line: u64,
+        why: LogWhy,
+    },
     /// The input has more than 2^28 bytes.
     LogLong,
     /// There is no such file.
-    NoFile { path: Text },
+    NoFile {
+        path: Text,
+    },
     /// The tree or the input failed.
     ReadFault,
     /// The output failed.
