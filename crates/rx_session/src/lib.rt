@@ -3,10 +3,8 @@
 
 pub mod outcome;
 pub mod session;
-pub mod shape;
 #[cfg(test)]
 mod tests;
 
 pub use outcome::{Delivery, Front, Outcome, Step};
 pub use session::{Part, Session};
-pub use shape::Shape;

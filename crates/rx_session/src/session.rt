@@ -2,12 +2,14 @@ ghost use Rattle.std.specs.Prelude.{◌≡◌, ◌≤◌, IfOk, length};
 ghost use Rattle.std.specs.Borrow.{sem};
 ghost use Rattle.std.specs.Io.BufRead.{Rests};
 ghost use Rattle.transfer_crc.specs.Crc.{crc_more};
+ghost use Rattle.rx_session.specs.Extents.{extent_bytes};
 ghost use Rattle.rx_session.specs.Session.{begin, take_in};
 ghost use Rattle.rx_session.specs.Seen.{kept, part_of, fresh, record_of, answer_of, step_answer, accepted};
 ghost use Rattle.rx_session.specs.contracts.session.Session.{the_row};
 
-use crate::{Front, Outcome, Shape, Step};
+use crate::{Front, Outcome, Step};
 use cy_bits::{Bytes, NoMemory};
+use dsdl_types::Shape;
 use redundancy::{Force, Heard};
 use std::alloc::Global;
 use std::marker::PhantomData;
@@ -47,8 +49,9 @@ pub struct Session<S: Shape> {
 
 impl<S: Shape> Session<S> {
     /// A session that has heard no frame, with a buffer of the shape's extent.
+    #[tactic(auto, using(crate::proofs::Extents::bytes_are))]
     pub fn open(alloc: Global, shape: &S) -> Result<Session<S>, NoMemory>
-        ensures { IfOk result (λ s. kept s ≡ fresh (S.extent shape.now)) }
+        ensures { IfOk result (λ s. kept s ≡ fresh (extent_bytes S.shape shape.now)) }
     {
         let buffer = Bytes::zeros(alloc, shape.extent_bytes())?;
         Ok(Session {

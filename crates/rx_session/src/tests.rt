@@ -1,21 +1,46 @@
-ghost use Rattle.std.specs.Prelude.{◌<◌, length};
+ghost use Rattle.std.specs.Prelude.{◌≡◌, ◌<◌, length, true};
+ghost use Rattle.dsdl_types.specs.Schemas.{is_composite};
+ghost use Rattle.dsdl_types.specs.Rules.{IsSchema};
+ghost use Rattle.dsdl_types.specs.Views.{sch};
+ghost use Rattle.dsdl_types.specs.OneWay.{schema_prop};
 
-use crate::{Outcome, Session, Shape};
+use crate::{Outcome, Session};
 use can_id::Ident;
-use cy_bits::NoMemory;
+use cy_bits::{List, NoMemory};
+use dsdl_types::{Body, Schema, Shape};
+use std::alloc::Global;
 use tail_frame::{Frame, Tail};
 
-/// A shape of so many bytes.
+/// A structure without fields, of which so many bytes are kept.
 #[derive(Drop)]
-struct Bytes {
-    extent: usize,
+struct Empty {
+    schema: Schema,
+    ghost rules: { IsSchema (sch schema) } by { schema_prop (sch schema) },
+    ghost composite: { is_composite (sch schema) ≡ true },
 }
 
-impl Shape for Bytes {
-    ghost extent = { λ s. s.extent };
+impl Empty {
+    /// With an extent in bytes.
+    fn new(alloc: Global, extent: u16) -> Empty {
+        Empty {
+            schema: Schema::Struct(Body {
+                fields: List::empty(alloc),
+                extent: 8 * extent as u64,
+                sealed: false,
+            }),
+        }
+    }
+}
+
+impl Shape for Empty {
+    ghost shape = { λ empty. sch empty.schema };
 
     fn extent_bytes(&self) -> usize {
-        self.extent
+        self.schema.extent_bytes()
+    }
+
+    fn schema(&self) -> &Schema {
+        &self.schema
     }
 }
 
@@ -40,7 +65,7 @@ fn frame<'a>(line: u64, data: &'a [u8]) -> Frame<'a>
 
 /// Frames of one session, a letter for what each comes to, and the payload delivered last.
 struct Row {
-    extent: usize,
+    extent: u16,
     frames: &'static [&'static [u8]],
     letters: &'static [u8],
     payload: &'static [u8],
@@ -91,7 +116,7 @@ static ROWS: [Row; 4] = [
 #[test]
 fn puts_frames_together(rt: HostRuntime) -> Result<(), NoMemory> {
     for row in &ROWS {
-        let shape = Bytes { extent: row.extent };
+        let shape = Empty::new(rt.alloc(), row.extent);
         let mut session = Session::open(rt.alloc(), &shape)?;
         let mut line = 0u64;
         for data in row.frames {
