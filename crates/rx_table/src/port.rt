@@ -2,6 +2,7 @@ ghost use Rattle.std.specs.Prelude.{◌≡◌, ◌<◌, IfOk, OnErr, OnOk, lengt
 ghost use Rattle.rx_table.specs.Ports.{sources_of};
 ghost use Rattle.indexmap.specs.IndexMap.{get};
 ghost use Rattle.tail_frame.specs.Frames.{seen};
+ghost use Rattle.rx_session.specs.Extents.{extent_bytes};
 ghost use Rattle.rx_session.specs.Seen.{record_of, step_answer};
 ghost use Rattle.rx_session.specs.declared.outcome.Step.TheVariants.{Delivered};
 ghost use Rattle.rx_table.specs.Keys.{same_kind};
@@ -11,8 +12,9 @@ ghost use Rattle.rx_table.specs.Table.{entries_of, port_of, EntriesHeard, whole,
 use crate::fed::{Fed, PortMet};
 use can_id::Kind;
 use cy_bits::{NoMemory, ShortList};
+use dsdl_types::Shape;
 use indexmap::IndexMap;
-use rx_session::{Front, Outcome, Session, Shape, Step};
+use rx_session::{Front, Outcome, Session, Step};
 use std::alloc::Global;
 use tail_frame::Frame;
 
@@ -34,8 +36,8 @@ pub struct Port<S: Shape> {
 impl<S: Shape> Port<S> {
     /// A subscription that has no source yet.
     pub(crate) fn new(alloc: Global, kind: Kind, port: u16, sources: u16, shape: S) -> Port<S>
-        ensures state { state_of S.extent result
-            ≡ subscribed (record { kind = kind; port = port; sources = sources; extent = S.extent shape }) }
+        ensures state { state_of (extent_bytes S.shape) result
+            ≡ subscribed (record { kind = kind; port = port; sources = sources; extent = extent_bytes S.shape shape }) }
         ensures shape { result.shape ≡ shape }
     {
         Port {
@@ -55,8 +57,9 @@ impl<S: Shape> Port<S> {
     }
 
     /// What an anonymous frame delivers: its body, cut to the extent.
+    #[tactic(auto, using(rx_session::proofs::Extents::bytes_are))]
     pub(crate) fn alone(&self, frame: &Frame) -> Front
-        ensures { step_answer frame.now.body.now (Delivered result) ≡ whole (seen frame.now) (S.extent self.now.shape) }
+        ensures { step_answer frame.now.body.now (Delivered result) ≡ whole (seen frame.now) (extent_bytes S.shape self.now.shape) }
     {
         Front {
             bus: frame.bus,
@@ -70,8 +73,9 @@ impl<S: Shape> Port<S> {
     }
 
     /// The bytes of its sessions' buffers, or 2^64 - 1 where they are more.
+    #[tactic(auto, using(rx_session::proofs::Extents::bytes_are))]
     pub(crate) fn held(&self) -> u64
-        ensures { result ≡ min (length self.now.sessions.entries * S.extent self.now.shape) (2 ^ 64 - 1) }
+        ensures { result ≡ min (length self.now.sessions.entries * extent_bytes S.shape self.now.shape) (2 ^ 64 - 1) }
     {
         (self.sessions.len() as u64).saturating_mul(self.shape.extent_bytes() as u64)
     }
@@ -98,14 +102,14 @@ impl<S: Shape> Port<S> {
         timeout: u64,
     ) -> Result<PortMet, NoMemory>
         requires { EntriesHeard frame.now.moment (entries_of self.old.sessions.entries) }
-        ensures port { port_of S.extent self.new ≡ port_of S.extent self.old }
+        ensures port { port_of (extent_bytes S.shape) self.new ≡ port_of (extent_bytes S.shape) self.old }
         ensures shape { self.new.shape ≡ self.old.shape }
         ensures entries { OnOk result (entries_of self.new.sessions.entries
-            ≡ fed_entries timeout (port_of S.extent self.old) (entries_of self.old.sessions.entries) source (record_of frame.now)) }
+            ≡ fed_entries timeout (port_of (extent_bytes S.shape) self.old) (entries_of self.old.sessions.entries) source (record_of frame.now)) }
         ensures answer { IfOk result (λ m. met_answer (entries_of self.new.sessions.entries) m
-            ≡ fed_answer timeout (port_of S.extent self.old) (entries_of self.old.sessions.entries) source (record_of frame.now)) }
+            ≡ fed_answer timeout (port_of (extent_bytes S.shape) self.old) (entries_of self.old.sessions.entries) source (record_of frame.now)) }
         ensures err { OnErr result (entries_of self.new.sessions.entries ≡ entries_of self.old.sessions.entries) }
-        ensures memory { OnErr result (Adds (port_of S.extent self.old) (entries_of self.old.sessions.entries) source (record_of frame.now)) }
+        ensures memory { OnErr result (Adds (port_of (extent_bytes S.shape) self.old) (entries_of self.old.sessions.entries) source (record_of frame.now)) }
     {
         match self.sessions.get_index_of(&source) {
             Some(index) => {
@@ -125,12 +129,12 @@ impl<S: Shape> Port<S> {
         timeout: u64,
     ) -> Result<PortMet, NoMemory>
         requires { get nat_eq self.old.sessions source ≡ None }
-        ensures port { port_of S.extent self.new ≡ port_of S.extent self.old }
+        ensures port { port_of (extent_bytes S.shape) self.new ≡ port_of (extent_bytes S.shape) self.old }
         ensures shape { self.new.shape ≡ self.old.shape }
         ensures entries { OnOk result (entries_of self.new.sessions.entries
-            ≡ opened timeout (port_of S.extent self.old) (entries_of self.old.sessions.entries) source (record_of frame.now)) }
+            ≡ opened timeout (port_of (extent_bytes S.shape) self.old) (entries_of self.old.sessions.entries) source (record_of frame.now)) }
         ensures answer { IfOk result (λ m. met_answer (entries_of self.new.sessions.entries) m
-            ≡ opened_answer timeout (port_of S.extent self.old) (entries_of self.old.sessions.entries) (record_of frame.now)) }
+            ≡ opened_answer timeout (port_of (extent_bytes S.shape) self.old) (entries_of self.old.sessions.entries) (record_of frame.now)) }
         ensures err { OnErr result (entries_of self.new.sessions.entries ≡ entries_of self.old.sessions.entries) }
         ensures start { OnErr result (frame.now.tail.start ≡ true) }
         ensures room { OnErr result (length self.old.sessions.entries < self.old.sources) }
@@ -152,7 +156,7 @@ impl<S: Shape> Port<S> {
     fn step_at(&mut self, index: usize, frame: &Frame, timeout: u64) -> Step
         requires within { index < length self.old.sessions.entries }
         requires order { EntriesHeard frame.now.moment (entries_of self.old.sessions.entries) }
-        ensures port { port_of S.extent self.new ≡ port_of S.extent self.old }
+        ensures port { port_of (extent_bytes S.shape) self.new ≡ port_of (extent_bytes S.shape) self.old }
         ensures shape { self.new.shape ≡ self.old.shape }
         ensures entries { entries_of self.new.sessions.entries
             ≡ step_nth timeout (entries_of self.old.sessions.entries) index (record_of frame.now) }

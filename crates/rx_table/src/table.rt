@@ -3,6 +3,7 @@ ghost use Rattle.std.specs.Borrow.{sem};
 ghost use Rattle.std.specs.Io.BufRead.{Rests};
 ghost use Rattle.std.specs.List.{position};
 ghost use Rattle.tail_frame.specs.Frames.{seen};
+ghost use Rattle.rx_session.specs.Extents.{extent_bytes};
 ghost use Rattle.rx_session.specs.Seen.{record_of};
 ghost use Rattle.rx_table.specs.Keys.{KeyedFrame, same_kind};
 ghost use Rattle.std.specs.Option.{option_copied};
@@ -17,7 +18,7 @@ use crate::fed::{Fed, Met, SubscribeError};
 use crate::port::Port;
 use can_id::Kind;
 use cy_bits::{NoMemory, ShortList};
-use rx_session::Shape;
+use dsdl_types::Shape;
 use std::alloc::Global;
 use tail_frame::Frame;
 
@@ -38,7 +39,7 @@ impl<S: Shape> Table<S> {
     pub fn new(alloc: Global, timeout: u64) -> Result<Table<S>, NoMemory>
         ensures ports { IfOk result (λ t. t.ports.items ≡ []) }
         ensures timeout { IfOk result (λ t. t.timeout ≡ timeout) }
-        ensures stands { IfOk result (λ t. StandsFor timeout [] (states S.extent t.ports.items)) }
+        ensures stands { IfOk result (λ t. StandsFor timeout [] (states (extent_bytes S.shape) t.ports.items)) }
     {
         Ok(Table {
             alloc,
@@ -63,18 +64,18 @@ impl<S: Shape> Table<S> {
         S: Drop,
         requires some { 0 < sources }
         requires few { sources ≤ 128 }
-        requires small { S.extent shape ≤ 2 ^ 29 }
+        requires small { extent_bytes S.shape shape ≤ 2 ^ 29 }
         requires room { length self.old.ports.items < 2 ^ 16 }
         ensures timeout { self.new.timeout ≡ self.old.timeout }
-        ensures ports { OnOk result (states S.extent self.new.ports.items ≡ states S.extent self.old.ports.items
-            ++ subscribed (record { kind = kind; port = port; sources = sources; extent = S.extent shape }) ∷ []) }
+        ensures ports { OnOk result (states (extent_bytes S.shape) self.new.ports.items ≡ states (extent_bytes S.shape) self.old.ports.items
+            ++ subscribed (record { kind = kind; port = port; sources = sources; extent = extent_bytes S.shape shape }) ∷ []) }
         ensures count { OnOk result (length self.new.ports.items ≡ length self.old.ports.items + 1) }
         ensures shapes { OnOk result (map (λ p. p.shape) self.new.ports.items ≡ map (λ p. p.shape) self.old.ports.items ++ shape ∷ []) }
-        ensures stands { StandsFor self.old.timeout [] (states S.extent self.old.ports.items)
-            → OnOk result (StandsFor self.old.timeout [] (states S.extent self.new.ports.items)) }
-        ensures heard { (now : ℕ) → HeardBy now (states S.extent self.old.ports.items)
-            → OnOk result (HeardBy now (states S.extent self.new.ports.items)) }
-        ensures taken { (result ≡ Err Taken) ↔ (port_at kind port (ports_of (states S.extent self.old.ports.items)) ≢ None) }
+        ensures stands { StandsFor self.old.timeout [] (states (extent_bytes S.shape) self.old.ports.items)
+            → OnOk result (StandsFor self.old.timeout [] (states (extent_bytes S.shape) self.new.ports.items)) }
+        ensures heard { (now : ℕ) → HeardBy now (states (extent_bytes S.shape) self.old.ports.items)
+            → OnOk result (HeardBy now (states (extent_bytes S.shape) self.new.ports.items)) }
+        ensures taken { (result ≡ Err Taken) ↔ (port_at kind port (ports_of (states (extent_bytes S.shape) self.old.ports.items)) ≢ None) }
         ensures err { OnErr result (self.new.ports.items ≡ self.old.ports.items) }
     {
         if self.find(kind, port).is_some() {
@@ -105,17 +106,17 @@ impl<S: Shape> Table<S> {
     /// than it takes: only then is memory taken, and want of it leaves the table as it was. A frame that
     /// isn't a start, of a source with no session, is ignored.
     pub fn feed<'a>(&'a mut self, frame: &Frame<'a>) -> Result<Fed<'a>, NoMemory>
-        requires { HeardBy frame.now.moment (states S.extent self.old.ports.items) }
+        requires { HeardBy frame.now.moment (states (extent_bytes S.shape) self.old.ports.items) }
         ensures* after { sem 𝓛 (Rests (the_row S.row) self.entry (λ new.
-            Keeps S.extent self.old new
-            × ((now : ℕ) → frame.now.moment ≤ now → HeardBy now (states S.extent new.ports.items))
-            × OnOk result ((log : List KeyedFrame) → StandsFor self.old.timeout log (states S.extent self.old.ports.items)
-            → StandsFor self.old.timeout (logged (seen frame.now) log) (states S.extent new.ports.items))
-            × OnErr result (states S.extent new.ports.items ≡ states S.extent self.old.ports.items))) }
-        ensures told { (log : List KeyedFrame) → StandsFor self.old.timeout log (states S.extent self.old.ports.items)
-            → IfOk result (λ fed. Told self.old.timeout (ports_of (states S.extent self.old.ports.items)) (seen frame.now) log (answer_of fed)) }
-        ensures memory { (log : List KeyedFrame) → StandsFor self.old.timeout log (states S.extent self.old.ports.items)
-            → OnErr result (Opens (ports_of (states S.extent self.old.ports.items)) (seen frame.now) log) }
+            Keeps (extent_bytes S.shape) self.old new
+            × ((now : ℕ) → frame.now.moment ≤ now → HeardBy now (states (extent_bytes S.shape) new.ports.items))
+            × OnOk result ((log : List KeyedFrame) → StandsFor self.old.timeout log (states (extent_bytes S.shape) self.old.ports.items)
+            → StandsFor self.old.timeout (logged (seen frame.now) log) (states (extent_bytes S.shape) new.ports.items))
+            × OnErr result (states (extent_bytes S.shape) new.ports.items ≡ states (extent_bytes S.shape) self.old.ports.items))) }
+        ensures told { (log : List KeyedFrame) → StandsFor self.old.timeout log (states (extent_bytes S.shape) self.old.ports.items)
+            → IfOk result (λ fed. Told self.old.timeout (ports_of (states (extent_bytes S.shape) self.old.ports.items)) (seen frame.now) log (answer_of fed)) }
+        ensures memory { (log : List KeyedFrame) → StandsFor self.old.timeout log (states (extent_bytes S.shape) self.old.ports.items)
+            → OnErr result (Opens (ports_of (states (extent_bytes S.shape) self.old.ports.items)) (seen frame.now) log) }
     {
         match self.step(frame) {
             Ok(met) => Ok(self.lend(met, frame)),
@@ -125,17 +126,17 @@ impl<S: Shape> Table<S> {
 
     /// What `feed` does, without borrowing a payload: `lend` tells it, with the same frame.
     pub fn step(&mut self, frame: &Frame) -> Result<Met, NoMemory>
-        requires { HeardBy frame.now.moment (states S.extent self.old.ports.items) }
-        ensures keeps { Keeps S.extent self.old self.new }
-        ensures heard { (now : ℕ) → frame.now.moment ≤ now → HeardBy now (states S.extent self.new.ports.items) }
-        ensures stands { (log : List KeyedFrame) → StandsFor self.old.timeout log (states S.extent self.old.ports.items)
-            → OnOk result (StandsFor self.old.timeout (logged (seen frame.now) log) (states S.extent self.new.ports.items)) }
-        ensures err { OnErr result (states S.extent self.new.ports.items ≡ states S.extent self.old.ports.items) }
-        ensures told { (log : List KeyedFrame) → StandsFor self.old.timeout log (states S.extent self.old.ports.items)
-            → IfOk result (λ met. Told self.old.timeout (ports_of (states S.extent self.old.ports.items)) (seen frame.now) log
-            (table_answer (states S.extent self.new.ports.items) frame.now.body.now met)) }
-        ensures memory { (log : List KeyedFrame) → StandsFor self.old.timeout log (states S.extent self.old.ports.items)
-            → OnErr result (Opens (ports_of (states S.extent self.old.ports.items)) (seen frame.now) log) }
+        requires { HeardBy frame.now.moment (states (extent_bytes S.shape) self.old.ports.items) }
+        ensures keeps { Keeps (extent_bytes S.shape) self.old self.new }
+        ensures heard { (now : ℕ) → frame.now.moment ≤ now → HeardBy now (states (extent_bytes S.shape) self.new.ports.items) }
+        ensures stands { (log : List KeyedFrame) → StandsFor self.old.timeout log (states (extent_bytes S.shape) self.old.ports.items)
+            → OnOk result (StandsFor self.old.timeout (logged (seen frame.now) log) (states (extent_bytes S.shape) self.new.ports.items)) }
+        ensures err { OnErr result (states (extent_bytes S.shape) self.new.ports.items ≡ states (extent_bytes S.shape) self.old.ports.items) }
+        ensures told { (log : List KeyedFrame) → StandsFor self.old.timeout log (states (extent_bytes S.shape) self.old.ports.items)
+            → IfOk result (λ met. Told self.old.timeout (ports_of (states (extent_bytes S.shape) self.old.ports.items)) (seen frame.now) log
+            (table_answer (states (extent_bytes S.shape) self.new.ports.items) frame.now.body.now met)) }
+        ensures memory { (log : List KeyedFrame) → StandsFor self.old.timeout log (states (extent_bytes S.shape) self.old.ports.items)
+            → OnErr result (Opens (ports_of (states (extent_bytes S.shape) self.old.ports.items)) (seen frame.now) log) }
     {
         let key = frame.ident.key();
         let Some(place) = self.find(key.kind, key.port) else {
@@ -150,14 +151,14 @@ impl<S: Shape> Table<S> {
     /// A frame of a source, on the port at a place.
     fn step_at(&mut self, place: usize, source: u8, frame: &Frame) -> Result<Met, NoMemory>
         requires within { place < length self.old.ports.items }
-        requires heard { HeardBy frame.now.moment (states S.extent self.old.ports.items) }
-        ensures keeps { Keeps S.extent self.old self.new }
-        ensures states { OnOk result (states S.extent self.new.ports.items
-            ≡ feed_nth self.old.timeout (states S.extent self.old.ports.items) place source (record_of frame.now)) }
-        ensures answer { IfOk result (λ met. table_answer (states S.extent self.new.ports.items) frame.now.body.now met
-            ≡ answer_nth self.old.timeout (states S.extent self.old.ports.items) place source (record_of frame.now)) }
-        ensures err { OnErr result (states S.extent self.new.ports.items ≡ states S.extent self.old.ports.items) }
-        ensures memory { OnErr result (AddsNth (states S.extent self.old.ports.items) place source (record_of frame.now)) }
+        requires heard { HeardBy frame.now.moment (states (extent_bytes S.shape) self.old.ports.items) }
+        ensures keeps { Keeps (extent_bytes S.shape) self.old self.new }
+        ensures states { OnOk result (states (extent_bytes S.shape) self.new.ports.items
+            ≡ feed_nth self.old.timeout (states (extent_bytes S.shape) self.old.ports.items) place source (record_of frame.now)) }
+        ensures answer { IfOk result (λ met. table_answer (states (extent_bytes S.shape) self.new.ports.items) frame.now.body.now met
+            ≡ answer_nth self.old.timeout (states (extent_bytes S.shape) self.old.ports.items) place source (record_of frame.now)) }
+        ensures err { OnErr result (states (extent_bytes S.shape) self.new.ports.items ≡ states (extent_bytes S.shape) self.old.ports.items) }
+        ensures memory { OnErr result (AddsNth (states (extent_bytes S.shape) self.old.ports.items) place source (record_of frame.now)) }
     {
         let port = &mut self.ports[place];
         match port.meet(self.alloc, source, frame, self.timeout) {
@@ -168,7 +169,7 @@ impl<S: Shape> Table<S> {
 
     /// What a frame came to, with the payload lent from the frame or from a session's buffer.
     pub fn lend<'a>(&'a self, met: Met, frame: &Frame<'a>) -> Fed<'a>
-        ensures { answer_of result ≡ table_answer (states S.extent self.now.ports.items) frame.now.body.now met }
+        ensures { answer_of result ≡ table_answer (states (extent_bytes S.shape) self.now.ports.items) frame.now.body.now met }
     {
         match met {
             Met::NoPort => Fed::NoPort,
@@ -185,10 +186,10 @@ impl<S: Shape> Table<S> {
 
     /// The bytes of all sessions' buffers. The cost is one step for each subscription.
     pub fn held(&self) -> u64
-        ensures held { (log : List KeyedFrame) → StandsFor self.now.timeout log (states S.extent self.now.ports.items)
-            → result ≡ held (ports_of (states S.extent self.now.ports.items)) log }
-        ensures bound { (log : List KeyedFrame) → StandsFor self.now.timeout log (states S.extent self.now.ports.items)
-            → result ≤ bound (ports_of (states S.extent self.now.ports.items)) }
+        ensures held { (log : List KeyedFrame) → StandsFor self.now.timeout log (states (extent_bytes S.shape) self.now.ports.items)
+            → result ≡ held (ports_of (states (extent_bytes S.shape) self.now.ports.items)) log }
+        ensures bound { (log : List KeyedFrame) → StandsFor self.now.timeout log (states (extent_bytes S.shape) self.now.ports.items)
+            → result ≤ bound (ports_of (states (extent_bytes S.shape) self.now.ports.items)) }
     {
         held_by(self.ports.as_slice())
     }
@@ -206,8 +207,8 @@ impl<S: Shape> Table<S> {
     /// The sources of a subscription that have a session, in the order of their first start frames. None
     /// where that kind and port isn't subscribed.
     pub fn sources(&self, kind: Kind, port: u16) -> ShortList<u8, 128>
-        ensures { (log : List KeyedFrame) → StandsFor self.now.timeout log (states S.extent self.now.ports.items)
-            → result ≡ admitted_on (port_at kind port (ports_of (states S.extent self.now.ports.items))) log }
+        ensures { (log : List KeyedFrame) → StandsFor self.now.timeout log (states (extent_bytes S.shape) self.now.ports.items)
+            → result ≡ admitted_on (port_at kind port (ports_of (states (extent_bytes S.shape) self.now.ports.items))) log }
     {
         match self.find(kind, port) {
             Some(place) => self.ports[place].first_sources(),
@@ -225,7 +226,7 @@ impl<S: Shape> Table<S> {
 
 /// The bytes of these subscriptions' buffers, or 2^64 - 1 where they are more.
 fn held_by<S: Shape>(ports: &[Port<S>]) -> u64
-    ensures { result ≡ min (counted (states S.extent ports.now)) (2 ^ 64 - 1) }
+    ensures { result ≡ min (counted (states (extent_bytes S.shape) ports.now)) (2 ^ 64 - 1) }
 {
     let mut sum: u64 = 0;
     for port in ports {

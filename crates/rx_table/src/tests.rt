@@ -1,20 +1,49 @@
-ghost use Rattle.std.specs.Prelude.{◌≡◌};
+ghost use Rattle.std.specs.Prelude.{◌≡◌, ◌^◌, ◌≤◌, true};
+ghost use Rattle.dsdl_types.specs.Schemas.{is_composite};
+ghost use Rattle.dsdl_types.specs.Rules.{IsSchema};
+ghost use Rattle.dsdl_types.specs.Views.{sch};
+ghost use Rattle.dsdl_types.specs.OneWay.{schema_prop};
+ghost use Rattle.rx_session.specs.Extents.{bytes_of};
 
 use crate::{Fed, SubscribeError, Table};
 use can_id::{Ident, Kind};
-use cy_bits::NoMemory;
-use rx_session::{Outcome, Shape};
+use cy_bits::{List, NoMemory};
+use dsdl_types::{Body, Schema, Shape};
+use rx_session::Outcome;
+use std::alloc::Global;
 use tail_frame::{Frame, Tail};
 
-/// A shape of four bytes.
+/// A structure without fields, of which four bytes are kept.
 #[derive(Drop)]
-struct Four;
+struct Four {
+    schema: Schema,
+    ghost rules: { IsSchema (sch schema) } by { schema_prop (sch schema) },
+    ghost composite: { is_composite (sch schema) ≡ true },
+}
+
+impl Four {
+    fn new(alloc: Global) -> Four
+        ensures { bytes_of (sch result.schema) ≤ 2 ^ 29 }
+    {
+        Four {
+            schema: Schema::Struct(Body {
+                fields: List::empty(alloc),
+                extent: 32,
+                sealed: false,
+            }),
+        }
+    }
+}
 
 impl Shape for Four {
-    ghost extent = { λ _. 4 };
+    ghost shape = { λ four. sch four.schema };
 
     fn extent_bytes(&self) -> usize {
-        4
+        self.schema.extent_bytes()
+    }
+
+    fn schema(&self) -> &Schema {
+        &self.schema
     }
 }
 
@@ -60,8 +89,9 @@ fn told(fed: Fed<'_>) -> (u8, usize) {
 #[test]
 fn feeds_two_sources(rt: HostRuntime) -> Result<(), NoMemory> {
     let mut table = Table::new(rt.alloc(), 2_000_000)?;
-    assert_eq!(rt; table.subscribe(Kind::Message, 100, 2, Four), Ok(()));
-    let again = table.subscribe(Kind::Message, 100, 2, Four);
+    let four = || Four::new(rt.alloc());
+    assert_eq!(rt; table.subscribe(Kind::Message, 100, 2, four()), Ok(()));
+    let again = table.subscribe(Kind::Message, 100, 2, four());
     assert_eq!(rt; again, Err(SubscribeError::Taken));
     let rows = [
         (message(100, 1), 0, (b'd', 4)),

@@ -2,6 +2,7 @@ use Rattle.std.proofs.Common.{◌≡◌, ◌∙◌, sym, ap, subst, OnOk, IfOk, 
 use Rattle.std.specs.List.{IsDistinct}
 use Rattle.std.proofs.lemmas.Bool.{cond-true, cond-false}
 use Rattle.transfer_crc.specs.Crc.{crc_more}
+use Rattle.rx_session.specs.Extents.{extent_bytes}
 use Rattle.rx_session.specs.Seen.{record_of}
 use Rattle.rx_table.specs.Admitted.{has}
 use Rattle.rx_table.specs.Ports.{Entry, Answer, OfSession, sources_of, accept_at, outcome_at}
@@ -20,7 +21,7 @@ returns-in-Some-clause-entries g c =
     let at = subst (λ (ks : List ℕ). position (nat_eq c.args.source) ks ≡ Some c.in-Some.index) keys (sym c.in-Some.ensures.index) in
     let unique = subst (λ (ks : List ℕ). IsDistinct nat_eq ks) keys c.in-Some.ensures.unique in
     c.step_at-step.ensures.entries ∙ (known-entries c.args.timeout c.args.source r c.in-Some.index es unique at
-    ∙ sym (cond-true (has c.args.source (sources_of es)) (accept_at crc_more 0xFFFF c.args.timeout c.args.source r es) (opened c.args.timeout (port_of g.S.Shape.extent c.args.self.now) es c.args.source r)
+    ∙ sym (cond-true (has c.args.source (sources_of es)) (accept_at crc_more 0xFFFF c.args.timeout c.args.source r es) (opened c.args.timeout (port_of (extent_bytes g.S.Shape.shape) c.args.self.now) es c.args.source r)
     (known-has c.args.source c.in-Some.index es at)))
 
 pub returns-in-Some-clause-answer : goal.returns-in-Some-clause-answer
@@ -30,7 +31,7 @@ returns-in-Some-clause-answer g c =
     let r = record_of c.args.frame.now in
     let at = subst (λ (ks : List ℕ). position (nat_eq c.args.source) ks ≡ Some c.in-Some.index) keys (sym c.in-Some.ensures.index) in
     ap OfSession (c.step_at-step.ensures.outcome ∙ known-outcome c.args.timeout c.args.source r c.in-Some.index es at)
-    ∙ sym (cond-true (has c.args.source (sources_of es)) (OfSession (outcome_at crc_more 0xFFFF c.args.timeout c.args.source r es)) (opened_answer c.args.timeout (port_of g.S.Shape.extent c.args.self.now) es r)
+    ∙ sym (cond-true (has c.args.source (sources_of es)) (OfSession (outcome_at crc_more 0xFFFF c.args.timeout c.args.source r es)) (opened_answer c.args.timeout (port_of (extent_bytes g.S.Shape.shape) c.args.self.now) es r)
     (known-has c.args.source c.in-Some.index es at))
 
 pub returns-in-None-clause-entries : goal.returns-in-None-clause-entries
@@ -40,7 +41,7 @@ returns-in-None-clause-entries g c =
     let r = record_of c.args.frame.now in
     let at = subst (λ (ks : List ℕ). position (nat_eq c.args.source) ks ≡ None) keys (sym c.in-None.ensures.index) in
     subst (λ (t : List Entry). OnOk c.meet_new.result (entries_of c.meet_new.new.self.sessions.entries ≡ t))
-    (sym (cond-false (has c.args.source (sources_of es)) (accept_at crc_more 0xFFFF c.args.timeout c.args.source r es) (opened c.args.timeout (port_of g.S.Shape.extent c.args.self.now) es c.args.source r)
+    (sym (cond-false (has c.args.source (sources_of es)) (accept_at crc_more 0xFFFF c.args.timeout c.args.source r es) (opened c.args.timeout (port_of (extent_bytes g.S.Shape.shape) c.args.self.now) es c.args.source r)
     (unknown-has c.args.source es at)))
     c.meet_new.ensures.entries
 
@@ -51,7 +52,7 @@ returns-in-None-clause-answer g c =
     let r = record_of c.args.frame.now in
     let at = subst (λ (ks : List ℕ). position (nat_eq c.args.source) ks ≡ None) keys (sym c.in-None.ensures.index) in
     subst (λ (t : Answer). IfOk c.meet_new.result (λ m. met_answer (entries_of c.meet_new.new.self.sessions.entries) m ≡ t))
-    (sym (cond-false (has c.args.source (sources_of es)) (OfSession (outcome_at crc_more 0xFFFF c.args.timeout c.args.source r es)) (opened_answer c.args.timeout (port_of g.S.Shape.extent c.args.self.now) es r)
+    (sym (cond-false (has c.args.source (sources_of es)) (OfSession (outcome_at crc_more 0xFFFF c.args.timeout c.args.source r es)) (opened_answer c.args.timeout (port_of (extent_bytes g.S.Shape.shape) c.args.self.now) es r)
     (unknown-has c.args.source es at)))
     c.meet_new.ensures.answer
 

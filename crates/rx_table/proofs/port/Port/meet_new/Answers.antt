@@ -1,5 +1,6 @@
 use Rattle.std.proofs.Common.{◌∙◌, sym, nat_eq, rules, arith}
 use Rattle.indexmap.proofs.CallerLemmas.{insert_entry-new}
+use Rattle.rx_session.specs.Extents.{extent_bytes}
 use Rattle.rx_session.specs.Seen.{record_of}
 use Rattle.rx_table.specs.Table.{port_of, entries_of}
 use Rattle.rx_table.proofs.NewSources.{length-entries, full-entries, full-answer, put-last}
@@ -9,24 +10,24 @@ pub returns-then-index-self-clause-entries : goal.returns-then-index-self-clause
 returns-then-index-self-clause-entries g c =
     let es = c.args.self.now.sessions.entries in
     let n = length-entries es in
-    sym (full-entries c.args.timeout (port_of g.S.Shape.extent c.args.self.now) (record_of c.args.frame.now) c.args.source (entries_of es) (omega arith))
+    sym (full-entries c.args.timeout (port_of (extent_bytes g.S.Shape.shape) c.args.self.now) (record_of c.args.frame.now) c.args.source (entries_of es) (omega arith))
 
 pub returns-then-index-self-clause-answer : goal.returns-then-index-self-clause-answer
 returns-then-index-self-clause-answer g c =
     let es = c.args.self.now.sessions.entries in
     let n = length-entries es in
-    sym (full-answer c.args.timeout (port_of g.S.Shape.extent c.args.self.now) (record_of c.args.frame.now) (entries_of es) (search rules) (omega arith))
+    sym (full-answer c.args.timeout (port_of (extent_bytes g.S.Shape.shape) c.args.self.now) (record_of c.args.frame.now) (entries_of es) (search rules) (omega arith))
 
 pub returns-clause-entries : goal.returns-clause-entries
 returns-clause-entries g c =
-    (put-last c.args.timeout (port_of g.S.Shape.extent c.args.self.now) (record_of c.args.frame.now) c.args.self.now.sessions.entries c.insert.new.self.entries
+    (put-last c.args.timeout (port_of (extent_bytes g.S.Shape.shape) c.args.self.now) (record_of c.args.frame.now) c.args.self.now.sessions.entries c.insert.new.self.entries
     c.args.source c.len-index.result c.in_ok-session.session c.step-step.new.self c.step-step.result c.if-not-frame.false (search rules) c.if-index-self.false
     c.in_ok-session.ensures c.step-step.ensures.state c.step-step.ensures.outcome
     (c.in_ok-insert.ensures.entries ∙ insert_entry-new nat_eq c.args.self.now.sessions c.args.source c.step-step.new.self c.requires)).entries
 
 pub returns-clause-answer : goal.returns-clause-answer
 returns-clause-answer g c =
-    (put-last c.args.timeout (port_of g.S.Shape.extent c.args.self.now) (record_of c.args.frame.now) c.args.self.now.sessions.entries c.insert.new.self.entries
+    (put-last c.args.timeout (port_of (extent_bytes g.S.Shape.shape) c.args.self.now) (record_of c.args.frame.now) c.args.self.now.sessions.entries c.insert.new.self.entries
     c.args.source c.len-index.result c.in_ok-session.session c.step-step.new.self c.step-step.result c.if-not-frame.false (search rules) c.if-index-self.false
     c.in_ok-session.ensures c.step-step.ensures.state c.step-step.ensures.outcome
     (c.in_ok-insert.ensures.entries ∙ insert_entry-new nat_eq c.args.self.now.sessions c.args.source c.step-step.new.self c.requires)).answer

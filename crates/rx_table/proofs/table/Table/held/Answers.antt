@@ -1,4 +1,5 @@
 use Rattle.std.proofs.Common.{◌∙◌, ap, min, List}
+use Rattle.rx_session.specs.Extents.{extent_bytes}
 use Rattle.rx_table.specs.declared.port.Port.{Port}
 use Rattle.rx_table.specs.Places.{counted}
 use Rattle.rx_table.specs.Table.{states}
@@ -7,10 +8,10 @@ use Rattle.rx_table.proofs.table.Table.held.Goals as goal
 
 pub returns-clause-held : goal.returns-clause-held
 returns-clause-held g c log st =
-    held-is c.args.self.now.timeout c.held_by.result log (states g.S.Shape.extent c.args.self.now.ports.items) st
-    (c.held_by.ensures ∙ ap (λ (ports : List (Port g.row.S.Denot)). min (counted (states g.S.Shape.extent ports)) 18446744073709551615) c.as_slice.ensures.value)
+    held-is c.args.self.now.timeout c.held_by.result log (states (extent_bytes g.S.Shape.shape) c.args.self.now.ports.items) st
+    (c.held_by.ensures ∙ ap (λ (ports : List (Port g.row.S.Denot)). min (counted (states (extent_bytes g.S.Shape.shape) ports)) 18446744073709551615) c.as_slice.ensures.value)
 
 pub returns-clause-bound : goal.returns-clause-bound
 returns-clause-bound g c log st =
-    held-within c.args.self.now.timeout c.held_by.result log (states g.S.Shape.extent c.args.self.now.ports.items) st
-    (c.held_by.ensures ∙ ap (λ (ports : List (Port g.row.S.Denot)). min (counted (states g.S.Shape.extent ports)) 18446744073709551615) c.as_slice.ensures.value)
+    held-within c.args.self.now.timeout c.held_by.result log (states (extent_bytes g.S.Shape.shape) c.args.self.now.ports.items) st
+    (c.held_by.ensures ∙ ap (λ (ports : List (Port g.row.S.Denot)). min (counted (states (extent_bytes g.S.Shape.shape) ports)) 18446744073709551615) c.as_slice.ensures.value)

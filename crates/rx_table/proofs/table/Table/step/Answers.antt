@@ -1,6 +1,7 @@
 use Rattle.std.proofs.Common.{◌∙◌, sym, refl, subst, length, List}
 use Rattle.std.proofs.lemmas.Option.{slice_get_read}
 use Rattle.tail_frame.specs.Frames.{seen}
+use Rattle.rx_session.specs.Extents.{extent_bytes}
 use Rattle.rx_session.specs.Session.{Outcome}
 use Rattle.rx_session.specs.Seen.{record_of}
 use Rattle.rx_table.specs.Ports.{PortState, Answer, Anonymous, ports_of}
@@ -13,45 +14,45 @@ use Rattle.rx_table.proofs.table.Table.step.Goals as goal
 
 pub returns-in_default-clause-heard : goal.returns-in_default-clause-heard
 returns-in_default-clause-heard g c now le =
-    heard-later c.args.frame.now.moment now (states g.S.Shape.extent c.args.self.now.ports.items) le c.requires
+    heard-later c.args.frame.now.moment now (states (extent_bytes g.S.Shape.shape) c.args.self.now.ports.items) le c.requires
 
 pub returns-in_default-clause-stands : goal.returns-in_default-clause-stands
 returns-in_default-clause-stands g c log st =
-    let ps = states g.S.Shape.extent c.args.self.now.ports.items in
+    let ps = states (extent_bytes g.S.Shape.shape) c.args.self.now.ports.items in
     stands-none c.args.self.now.timeout (seen c.args.frame.now) c.key-key.result c.key-key.ensures ps log
-    (not_found g.S.Shape.extent c.key-key.result.kind c.key-key.result.port c.args.self.now.ports.items (sym c.find.ensures ∙ c.in_default.is)) st
+    (not_found (extent_bytes g.S.Shape.shape) c.key-key.result.kind c.key-key.result.port c.args.self.now.ports.items (sym c.find.ensures ∙ c.in_default.is)) st
 
 pub returns-in_default-clause-told : goal.returns-in_default-clause-told
 returns-in_default-clause-told g c log st =
-    let ps = states g.S.Shape.extent c.args.self.now.ports.items in
+    let ps = states (extent_bytes g.S.Shape.shape) c.args.self.now.ports.items in
     told-none c.args.self.now.timeout (seen c.args.frame.now) c.key-key.result c.key-key.ensures ps log
-    (not_found g.S.Shape.extent c.key-key.result.kind c.key-key.result.port c.args.self.now.ports.items (sym c.find.ensures ∙ c.in_default.is))
+    (not_found (extent_bytes g.S.Shape.shape) c.key-key.result.kind c.key-key.result.port c.args.self.now.ports.items (sym c.find.ensures ∙ c.in_default.is))
 
 pub returns-in-None-clause-heard : goal.returns-in-None-clause-heard
 returns-in-None-clause-heard g c now le =
-    heard-later c.args.frame.now.moment now (states g.S.Shape.extent c.args.self.now.ports.items) le c.requires
+    heard-later c.args.frame.now.moment now (states (extent_bytes g.S.Shape.shape) c.args.self.now.ports.items) le c.requires
 
 pub returns-in-None-clause-stands : goal.returns-in-None-clause-stands
 returns-in-None-clause-stands g c log st =
-    let ps = states g.S.Shape.extent c.args.self.now.ports.items in
+    let ps = states (extent_bytes g.S.Shape.shape) c.args.self.now.ports.items in
     stands-anonymous c.args.self.now.timeout (seen c.args.frame.now) c.key-key.result c.key-key.ensures ps log c.in-None.is st
 
 pub returns-in-None-clause-told : goal.returns-in-None-clause-told
 returns-in-None-clause-told g c log st =
     let ports = c.args.self.now.ports.items in
-    let ps = states g.S.Shape.extent ports in
+    let ps = states (extent_bytes g.S.Shape.shape) ports in
     let key = c.key-key.result in
-    let at = found g.S.Shape.extent key.kind key.port ports c.in-Some.place (sym c.find.ensures ∙ c.in-Some.is) in
-    let there = slice_get_read ports (length ports) c.in-Some.place c.index.result.now refl (found_within g.S.Shape.extent key.kind key.port ports c.in-Some.place at) c.index.ensures in
+    let at = found (extent_bytes g.S.Shape.shape) key.kind key.port ports c.in-Some.place (sym c.find.ensures ∙ c.in-Some.is) in
+    let there = slice_get_read ports (length ports) c.in-Some.place c.index.result.now refl (found_within (extent_bytes g.S.Shape.shape) key.kind key.port ports c.in-Some.place at) c.index.ensures in
     subst (λ (o : Outcome). Told c.args.self.now.timeout (ports_of ps) (seen c.args.frame.now) log (Anonymous o)) (sym c.alone.ensures)
-    (told-anonymous c.args.self.now.timeout (seen c.args.frame.now) key c.key-key.ensures ps log (port_of g.S.Shape.extent c.index.result.now) c.in-None.is
-    (found_port g.S.Shape.extent key.kind key.port ports c.in-Some.place c.index.result.now at there))
+    (told-anonymous c.args.self.now.timeout (seen c.args.frame.now) key c.key-key.ensures ps log (port_of (extent_bytes g.S.Shape.shape) c.index.result.now) c.in-None.is
+    (found_port (extent_bytes g.S.Shape.shape) key.kind key.port ports c.in-Some.place c.index.result.now at there))
 
 pub returns-in-Some-source-clause-heard : goal.returns-in-Some-source-clause-heard
 returns-in-Some-source-clause-heard g c now le =
-    let ps = states g.S.Shape.extent c.args.self.now.ports.items in
+    let ps = states (extent_bytes g.S.Shape.shape) c.args.self.now.ports.items in
     let r = record_of c.args.frame.now in
-    heard-later c.args.frame.now.moment now (states g.S.Shape.extent c.step_at.new.self.ports.items) le
+    heard-later c.args.frame.now.moment now (states (extent_bytes g.S.Shape.shape) c.step_at.new.self.ports.items) le
     (in_both c.step_at.result c.step_at.ensures.states c.step_at.ensures.err
     (λ e. subst (λ (qs : List PortState). HeardBy c.args.frame.now.moment qs) (sym e) (feed_nth-heard c.args.self.now.timeout r ps c.in-Some.place c.in-Some-source.source c.requires))
     (λ e. subst (λ (qs : List PortState). HeardBy c.args.frame.now.moment qs) (sym e) c.requires))
@@ -59,9 +60,9 @@ returns-in-Some-source-clause-heard g c now le =
 pub returns-in-Some-source-clause-stands : goal.returns-in-Some-source-clause-stands
 returns-in-Some-source-clause-stands g c log st =
     let ports = c.args.self.now.ports.items in
-    let ps = states g.S.Shape.extent ports in
+    let ps = states (extent_bytes g.S.Shape.shape) ports in
     let key = c.key-key.result in
-    let at = found g.S.Shape.extent key.kind key.port ports c.in-Some.place (sym c.find.ensures ∙ c.in-Some.is) in
+    let at = found (extent_bytes g.S.Shape.shape) key.kind key.port ports c.in-Some.place (sym c.find.ensures ∙ c.in-Some.is) in
     on_ok_then c.step_at.result c.step_at.ensures.states
     (λ e. subst (λ (qs : List PortState). StandsFor c.args.self.now.timeout (logged (seen c.args.frame.now) log) qs) (sym e)
     (stands-found c.args.self.now.timeout (seen c.args.frame.now) key c.key-key.ensures ps log c.in-Some.place c.in-Some-source.source c.in-Some-source.is at st))
@@ -69,9 +70,9 @@ returns-in-Some-source-clause-stands g c log st =
 pub returns-in-Some-source-clause-told : goal.returns-in-Some-source-clause-told
 returns-in-Some-source-clause-told g c log st =
     let ports = c.args.self.now.ports.items in
-    let ps = states g.S.Shape.extent ports in
+    let ps = states (extent_bytes g.S.Shape.shape) ports in
     let key = c.key-key.result in
-    let at = found g.S.Shape.extent key.kind key.port ports c.in-Some.place (sym c.find.ensures ∙ c.in-Some.is) in
+    let at = found (extent_bytes g.S.Shape.shape) key.kind key.port ports c.in-Some.place (sym c.find.ensures ∙ c.in-Some.is) in
     if_ok_then c.step_at.result c.step_at.ensures.answer
     (λ met e. subst (λ (answer : Answer). Told c.args.self.now.timeout (ports_of ps) (seen c.args.frame.now) log answer) (sym e)
     (told-found c.args.self.now.timeout (seen c.args.frame.now) key c.key-key.ensures ps log c.in-Some.place c.in-Some-source.source c.in-Some-source.is at st))
@@ -79,8 +80,8 @@ returns-in-Some-source-clause-told g c log st =
 pub returns-in-Some-source-clause-memory : goal.returns-in-Some-source-clause-memory
 returns-in-Some-source-clause-memory g c log st =
     let ports = c.args.self.now.ports.items in
-    let ps = states g.S.Shape.extent ports in
+    let ps = states (extent_bytes g.S.Shape.shape) ports in
     let key = c.key-key.result in
-    let at = found g.S.Shape.extent key.kind key.port ports c.in-Some.place (sym c.find.ensures ∙ c.in-Some.is) in
+    let at = found (extent_bytes g.S.Shape.shape) key.kind key.port ports c.in-Some.place (sym c.find.ensures ∙ c.in-Some.is) in
     on_err_then c.step_at.result c.step_at.ensures.memory
     (λ a. opens_found c.args.self.now.timeout (seen c.args.frame.now) key c.key-key.ensures ps log c.in-Some.place c.in-Some-source.source c.in-Some-source.is at st a)

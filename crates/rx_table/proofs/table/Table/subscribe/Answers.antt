@@ -1,4 +1,5 @@
 use Rattle.std.proofs.Common.{◌∙◌, sym, ap, refl, subst, List, ◌++◌, ◌∷◌, [], arith}
+use Rattle.rx_session.specs.Extents.{extent_bytes}
 use Rattle.rx_table.specs.declared.port.Port as code
 use Rattle.rx_table.specs.Ports.{Port, PortState}
 use Rattle.rx_table.specs.Table.{states, StandsFor, HeardBy}
@@ -9,45 +10,45 @@ use Rattle.rx_table.proofs.table.Table.subscribe.Goals as goal
 
 pub returns-then-is_some-clause-taken : goal.returns-then-is_some-clause-taken
 returns-then-is_some-clause-taken g c = (
-  λ _ n. taken g.S.Shape.extent c.args.kind c.args.port c.args.self.now.ports.items c.find.result (sym c.find.ensures) (sym c.is_some.ensures ∙ c.if-is_some.true) n,
+  λ _ n. taken (extent_bytes g.S.Shape.shape) c.args.kind c.args.port c.args.self.now.ports.items c.find.result (sym c.find.ensures) (sym c.is_some.ensures ∙ c.if-is_some.true) n,
   λ _. refl,
 )
 
 pub returns-in-Ok-clause-ports : goal.returns-in-Ok-clause-ports
 returns-in-Ok-clause-ports g c =
-    ap (λ (t : List (code.Port g.row.S.Denot)). states g.S.Shape.extent t) c.in-Ok.ensures.ok
-    ∙ (states-append g.S.Shape.extent c.args.self.now.ports.items c.new.result ∙ ap (λ (p : PortState). states g.S.Shape.extent c.args.self.now.ports.items ++ p ∷ []) c.new.ensures.state)
+    ap (λ (t : List (code.Port g.row.S.Denot)). states (extent_bytes g.S.Shape.shape) t) c.in-Ok.ensures.ok
+    ∙ (states-append (extent_bytes g.S.Shape.shape) c.args.self.now.ports.items c.new.result ∙ ap (λ (p : PortState). states (extent_bytes g.S.Shape.shape) c.args.self.now.ports.items ++ p ∷ []) c.new.ensures.state)
 
 pub returns-in-Ok-clause-stands : goal.returns-in-Ok-clause-stands
 returns-in-Ok-clause-stands g c st =
     let ports = c.args.self.now.ports.items in
-    let ps = states g.S.Shape.extent ports in
-    let p : Port = record { kind = c.args.kind; port = c.args.port; sources = c.args.sources; extent = g.S.Shape.extent c.args.shape } in
-    let n = length-states g.S.Shape.extent ports in
+    let ps = states (extent_bytes g.S.Shape.shape) ports in
+    let p : Port = record { kind = c.args.kind; port = c.args.port; sources = c.args.sources; extent = extent_bytes g.S.Shape.shape c.args.shape } in
+    let n = length-states (extent_bytes g.S.Shape.shape) ports in
     subst (λ (qs : List PortState). StandsFor c.args.self.now.timeout [] qs)
-    (sym (ap (λ (t : List (code.Port g.row.S.Denot)). states g.S.Shape.extent t) c.in-Ok.ensures.ok
-    ∙ (states-append g.S.Shape.extent ports c.new.result ∙ ap (λ (q : PortState). ps ++ q ∷ []) c.new.ensures.state)))
+    (sym (ap (λ (t : List (code.Port g.row.S.Denot)). states (extent_bytes g.S.Shape.shape) t) c.in-Ok.ensures.ok
+    ∙ (states-append (extent_bytes g.S.Shape.shape) ports c.new.result ∙ ap (λ (q : PortState). ps ++ q ∷ []) c.new.ensures.state)))
     (stands-subscribed c.args.self.now.timeout ps p (let room = c.requires.room in omega arith) (record { few = c.requires.few; small = c.requires.small })
-    (not_taken g.S.Shape.extent c.args.kind c.args.port ports c.find.result (sym c.find.ensures) (sym c.is_some.ensures ∙ c.if-is_some.false)) st)
+    (not_taken (extent_bytes g.S.Shape.shape) c.args.kind c.args.port ports c.find.result (sym c.find.ensures) (sym c.is_some.ensures ∙ c.if-is_some.false)) st)
 
 pub returns-in-Ok-clause-taken : goal.returns-in-Ok-clause-taken
 returns-in-Ok-clause-taken g c = (
   λ e. absurd cc,
-  λ n. absurd (n (not_taken g.S.Shape.extent c.args.kind c.args.port c.args.self.now.ports.items c.find.result (sym c.find.ensures) (sym c.is_some.ensures ∙ c.if-is_some.false))),
+  λ n. absurd (n (not_taken (extent_bytes g.S.Shape.shape) c.args.kind c.args.port c.args.self.now.ports.items c.find.result (sym c.find.ensures) (sym c.is_some.ensures ∙ c.if-is_some.false))),
 )
 
 pub returns-in-Err-clause-taken : goal.returns-in-Err-clause-taken
 returns-in-Err-clause-taken g c = (
   λ e. absurd cc,
-  λ n. absurd (n (not_taken g.S.Shape.extent c.args.kind c.args.port c.args.self.now.ports.items c.find.result (sym c.find.ensures) (sym c.is_some.ensures ∙ c.if-is_some.false))),
+  λ n. absurd (n (not_taken (extent_bytes g.S.Shape.shape) c.args.kind c.args.port c.args.self.now.ports.items c.find.result (sym c.find.ensures) (sym c.is_some.ensures ∙ c.if-is_some.false))),
 )
 
 pub returns-in-Ok-clause-heard : goal.returns-in-Ok-clause-heard
 returns-in-Ok-clause-heard g c now x =
     let ports = c.args.self.now.ports.items in
-    let ps = states g.S.Shape.extent ports in
-    let p : Port = record { kind = c.args.kind; port = c.args.port; sources = c.args.sources; extent = g.S.Shape.extent c.args.shape } in
+    let ps = states (extent_bytes g.S.Shape.shape) ports in
+    let p : Port = record { kind = c.args.kind; port = c.args.port; sources = c.args.sources; extent = extent_bytes g.S.Shape.shape c.args.shape } in
     subst (λ (qs : List PortState). HeardBy now qs)
-    (sym (ap (λ (t : List (code.Port g.row.S.Denot)). states g.S.Shape.extent t) c.in-Ok.ensures.ok
-    ∙ (states-append g.S.Shape.extent ports c.new.result ∙ ap (λ (q : PortState). ps ++ q ∷ []) c.new.ensures.state)))
+    (sym (ap (λ (t : List (code.Port g.row.S.Denot)). states (extent_bytes g.S.Shape.shape) t) c.in-Ok.ensures.ok
+    ∙ (states-append (extent_bytes g.S.Shape.shape) ports c.new.result ∙ ap (λ (q : PortState). ps ++ q ∷ []) c.new.ensures.state)))
     (heard-subscribed now ps p x)
