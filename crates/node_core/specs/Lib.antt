@@ -2,6 +2,7 @@ pub mod Front
 pub mod Heard
 pub mod Held
 pub mod InTime
+pub mod Raw
 pub mod Reported
 pub mod Shapes
 pub mod Stands

@@ -1,39 +1,13 @@
-ghost use Rattle.std.specs.Prelude.{◌≡◌, ◌≤◌, ◌*◌, true, IfOk};
-ghost use Rattle.dsdl_types.specs.Schemas.{PUint, Simple, Fixed, Struct, is_composite};
-ghost use Rattle.dsdl_types.specs.Rules.{IsSchema};
-ghost use Rattle.dsdl_types.specs.Views.{Typed, kind_of, sch, flds};
-ghost use Rattle.dsdl_types.specs.OneWay.{schema_prop};
-ghost use Rattle.node_core.specs.Shapes.{port_schema, raw_fields, raw_schema};
+ghost use Rattle.node_core.specs.Shapes.{port_schema};
 
-use cy_bits::{Boxed, List, NoMemory, Text};
-use dsdl_types::{Body, Cast, Field, Schema, Shape};
-use std::alloc::Global;
+use crate::raw_shape::RawShape;
+use dsdl_types::{Schema, Shape};
 
 /// What the payloads of a port are.
 #[derive(Drop)]
 pub enum PortShape {
-    /// Bytes.
+    /// Bytes: the port has no type.
     Raw(RawShape),
-}
-
-/// Bytes, as a data type.
-#[derive(Drop)]
-pub struct RawShape {
-    /// A sealed structure of one `uint8[N]`, or of nothing where N is 0.
-    pub schema: Schema,
-    ghost rules: { IsSchema (sch schema) } by { schema_prop (sch schema) },
-    ghost composite: { is_composite (sch schema) ≡ true },
-}
-
-impl PortShape {
-    /// Bytes, of which so many at most are kept: the extent, up to 65,536.
-    pub fn raw(alloc: Global, extent: u32) -> Result<PortShape, NoMemory>
-        requires { extent ≤ 65536 }
-        ensures { IfOk result (λ shape. port_schema shape ≡ raw_schema extent) }
-    {
-        let schema = structure(raw_fields(alloc, extent)?, extent);
-        Ok(PortShape::Raw(RawShape { schema }))
-    }
 }
 
 impl Shape for PortShape {
@@ -41,52 +15,13 @@ impl Shape for PortShape {
 
     fn extent_bytes(&self) -> usize {
         match self {
-            PortShape::Raw(raw) => raw.schema.extent_bytes(),
+            PortShape::Raw(raw) => raw.extent_bytes(),
         }
     }
 
     fn schema(&self) -> &Schema {
         match self {
-            PortShape::Raw(raw) => &raw.schema,
+            PortShape::Raw(raw) => raw.schema(),
         }
     }
-}
-
-/// A sealed structure, with an extent in bytes.
-fn structure(fields: List<Field>, extent: u32) -> Schema
-    ensures { kind_of result ≡ Typed (Struct (flds fields) (record { extent = 8 * extent; sealed = true })) }
-{
-    Schema::Struct(Body {
-        fields,
-        extent: 8 * extent as u64,
-        sealed: true,
-    })
-}
-
-/// One array of so many bytes, or nothing for none.
-fn raw_fields(alloc: Global, count: u32) -> Result<List<Field>, NoMemory>
-    ensures { IfOk result (λ fields. flds fields ≡ raw_fields count) }
-{
-    let mut fields = List::empty(alloc);
-    if count > 0 {
-        fields.push(Field {
-            name: Text::from_str(alloc, "value")?,
-            schema: bytes(alloc, count)?,
-        })?;
-    }
-    Ok(fields)
-}
-
-/// An array of so many bytes.
-fn bytes(alloc: Global, count: u32) -> Result<Schema, NoMemory>
-    ensures { IfOk result (λ schema. kind_of schema ≡ Typed (Fixed (Simple (PUint 8 true)) count)) }
-{
-    let byte = Schema::Uint {
-        bits: 8,
-        cast: Cast::Saturated,
-    };
-    Ok(Schema::Fixed {
-        item: Boxed::new(alloc, byte)?,
-        len: count,
-    })
 }

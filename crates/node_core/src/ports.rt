@@ -1,4 +1,4 @@
-ghost use Rattle.std.specs.Prelude.{◌≡◌, IfOk};
+ghost use Rattle.std.specs.Prelude.{◌≡◌, ◌≤◌, IfOk};
 ghost use Rattle.node_plan.specs.Bound.{extent_of};
 ghost use Rattle.node_plan.specs.IsPlan.{IsPlan};
 ghost use Rattle.node_core.specs.Heard.{ports_of};
@@ -6,6 +6,7 @@ ghost use Rattle.node_core.specs.Shapes.{shape_extent};
 ghost use Rattle.node_core.specs.Tables.{IsTableOf};
 
 use crate::port_shape::PortShape;
+use crate::raw_shape::RawShape;
 use can_id::Kind;
 use cy_bits::NoMemory;
 use node_plan::{Plan, SubShape};
@@ -19,7 +20,7 @@ pub fn table_of(alloc: Global, plan: &Plan) -> Result<Table<PortShape>, NoMemory
 {
     let mut table = Table::new(alloc, plan.timeout)?;
     for sub in plan.subs.as_slice() {
-        let shape = shape_of(&sub.shape);
+        let shape = shape_of(alloc, &sub.shape)?;
         match table.subscribe(Kind::Message, sub.port, sub.sources, shape) {
             Ok(()) => {}
             Err(SubscribeError::NoMemory) => return Err(NoMemory),
@@ -30,10 +31,11 @@ pub fn table_of(alloc: Global, plan: &Plan) -> Result<Table<PortShape>, NoMemory
 }
 
 /// The shape of a subscription.
-fn shape_of(shape: &SubShape) -> PortShape
-    ensures { shape_extent result ≡ extent_of shape.now }
+fn shape_of(alloc: Global, shape: &SubShape) -> Result<PortShape, NoMemory>
+    requires { extent_of shape.now ≤ 65536 }
+    ensures { IfOk result (λ made. shape_extent made ≡ extent_of shape.now) }
 {
     match shape {
-        SubShape::Raw(extent) => PortShape::Raw(*extent),
+        SubShape::Raw(extent) => Ok(PortShape::Raw(RawShape::new(alloc, *extent)?)),
     }
 }
