@@ -1,5 +1,5 @@
 -- What a node holds never falls.
-use Rattle.std.proofs.Common.{◌≤◌, ℕ, ◌+◌, ◌*◌, List, [], ◌∷◌, ◌++◌, length, take, Option, Some, None, not, ◌&&◌, arith, length-take, length-append}
+use Rattle.std.proofs.Common.{◌≤◌, ℕ, ◌*◌, List, [], ◌∷◌, ◌++◌, length, take, Option, Some, None, not, ◌&&◌, arith, length-take, length-append}
 use Rattle.std.proofs.lemmas.Bool.{cond_both}
 use Rattle.can_id.specs.declared.key.Kind.{Kind}
 use Rattle.tail_frame.specs.Frames.{FrameOf}

@@ -1,6 +1,7 @@
-use crate::{Line, Node, Numbers, Reading, Refused, Rx, push_end, push_text};
+use crate::{Line, Node, Numbers, PortShape, RawShape, Reading, Refused, Rx, push_end, push_text};
 use can_id::{Key, Kind};
 use cy_bits::{BusName, Bytes, List, NoMemory, ShortList};
+use dsdl_types::{Schema, Shape};
 use node_plan::{BusPlan, read_plan};
 use std::alloc::Global;
 use std::process::Abort;
@@ -87,6 +88,19 @@ fn last_line_has_its_text(rt: HostRuntime) -> Result<(), NoMemory> {
     push_end(&mut text, &numbers)?;
     let want = "end records 3 delivered 2 badcrc 0 nosession 1 sent 0 held 8 bound 8\n";
     assert!(rt; text.as_slice() == want.as_bytes());
+    Ok(())
+}
+
+#[test]
+fn raw_bytes_are_a_data_type(rt: HostRuntime) -> Result<(), NoMemory> {
+    for (extent, fields) in [(0u16, 0), (1, 1), (64, 1)] {
+        let shape = PortShape::Raw(RawShape::new(rt.alloc(), extent as u32)?);
+        assert_eq!(rt; shape.extent_bytes(), extent as usize);
+        let Schema::Struct(body) = shape.schema() else {
+            panic!(rt; "no structure");
+        };
+        assert_eq!(rt; body.fields.len(), fields);
+    }
     Ok(())
 }
 
