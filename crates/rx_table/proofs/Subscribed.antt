@@ -14,6 +14,10 @@ pub states-append : {S : Type 0} (extent : S → ℕ) (ports : List (code.Port S
 states-append extent [] p = refl
 states-append extent (o ∷ ports) p = ap (λ (t : List PortState). state_of extent o ∷ t) (states-append extent ports p)
 
+-- ports with another behind them
+pub states-after : {S : Type 0} (extent : S → ℕ) (ports new : List (code.Port S)) (p : code.Port S) (q : PortState) → new ≡ ports ++ p ∷ [] → state_of extent p ≡ q → states extent new ≡ states extent ports ++ q ∷ []
+states-after extent ports new p q e f = ap (λ t. states extent t) e ∙ (states-append extent ports p ∙ ap (λ (t : PortState). states extent ports ++ t ∷ []) f)
+
 pub length-states : {S : Type 0} (extent : S → ℕ) (ports : List (code.Port S)) → length (ports_of (states extent ports)) ≡ length ports
 length-states extent [] = refl
 length-states extent (p ∷ ports) = ap suc (length-states extent ports)

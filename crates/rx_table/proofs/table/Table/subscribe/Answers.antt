@@ -1,11 +1,10 @@
-use Rattle.std.proofs.Common.{◌∙◌, sym, ap, refl, subst, List, ◌++◌, ◌∷◌, [], arith}
+use Rattle.std.proofs.Common.{◌∙◌, sym, refl, subst, List, [], arith}
 use Rattle.rx_session.specs.Extents.{extent_bytes}
-use Rattle.rx_table.specs.declared.port.Port as code
 use Rattle.rx_table.specs.Ports.{Port, PortState}
 use Rattle.rx_table.specs.Table.{states, StandsFor, HeardBy}
 use Rattle.rx_table.proofs.FoundPorts.{taken, not_taken}
 use Rattle.rx_table.proofs.Heard.{heard-subscribed}
-use Rattle.rx_table.proofs.Subscribed.{states-append, length-states, stands-subscribed}
+use Rattle.rx_table.proofs.Subscribed.{states-after, length-states, stands-subscribed}
 use Rattle.rx_table.proofs.table.Table.subscribe.Goals as goal
 
 pub returns-then-is_some-clause-taken : goal.returns-then-is_some-clause-taken
@@ -16,8 +15,7 @@ returns-then-is_some-clause-taken g c = (
 
 pub returns-in-Ok-clause-ports : goal.returns-in-Ok-clause-ports
 returns-in-Ok-clause-ports g c =
-    ap (λ (t : List (code.Port g.row.S.Denot)). states (extent_bytes g.S.Shape.shape) t) c.in-Ok.ensures.ok
-    ∙ (states-append (extent_bytes g.S.Shape.shape) c.args.self.now.ports.items c.new.result ∙ ap (λ (p : PortState). states (extent_bytes g.S.Shape.shape) c.args.self.now.ports.items ++ p ∷ []) c.new.ensures.state)
+    states-after (extent_bytes g.S.Shape.shape) c.args.self.now.ports.items c.append.new.self.ports.items c.new.result _ c.in-Ok.ensures.ok c.new.ensures.state
 
 pub returns-in-Ok-clause-stands : goal.returns-in-Ok-clause-stands
 returns-in-Ok-clause-stands g c st =
@@ -26,8 +24,7 @@ returns-in-Ok-clause-stands g c st =
     let p : Port = record { kind = c.args.kind; port = c.args.port; sources = c.args.sources; extent = extent_bytes g.S.Shape.shape c.args.shape } in
     let n = length-states (extent_bytes g.S.Shape.shape) ports in
     subst (λ (qs : List PortState). StandsFor c.args.self.now.timeout [] qs)
-    (sym (ap (λ (t : List (code.Port g.row.S.Denot)). states (extent_bytes g.S.Shape.shape) t) c.in-Ok.ensures.ok
-    ∙ (states-append (extent_bytes g.S.Shape.shape) ports c.new.result ∙ ap (λ (q : PortState). ps ++ q ∷ []) c.new.ensures.state)))
+    (sym (states-after (extent_bytes g.S.Shape.shape) ports c.append.new.self.ports.items c.new.result _ c.in-Ok.ensures.ok c.new.ensures.state))
     (stands-subscribed c.args.self.now.timeout ps p (let room = c.requires.room in omega arith) (record { few = c.requires.few; small = c.requires.small })
     (not_taken (extent_bytes g.S.Shape.shape) c.args.kind c.args.port ports c.find.result (sym c.find.ensures) (sym c.is_some.ensures ∙ c.if-is_some.false)) st)
 
@@ -49,6 +46,5 @@ returns-in-Ok-clause-heard g c now x =
     let ps = states (extent_bytes g.S.Shape.shape) ports in
     let p : Port = record { kind = c.args.kind; port = c.args.port; sources = c.args.sources; extent = extent_bytes g.S.Shape.shape c.args.shape } in
     subst (λ (qs : List PortState). HeardBy now qs)
-    (sym (ap (λ (t : List (code.Port g.row.S.Denot)). states (extent_bytes g.S.Shape.shape) t) c.in-Ok.ensures.ok
-    ∙ (states-append (extent_bytes g.S.Shape.shape) ports c.new.result ∙ ap (λ (q : PortState). ps ++ q ∷ []) c.new.ensures.state)))
+    (sym (states-after (extent_bytes g.S.Shape.shape) ports c.append.new.self.ports.items c.new.result _ c.in-Ok.ensures.ok c.new.ensures.state))
     (heard-subscribed now ps p x)
