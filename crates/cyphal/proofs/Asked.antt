@@ -16,8 +16,6 @@ use Rattle.node_run.specs.declared.status.LogWhy.TheVariants as why
 use Rattle.node_run.specs.declared.status.Status.{Status}
 use Rattle.node_run.specs.declared.status.Status.TheVariants as status
 use Rattle.cyphal.specs.Expected.{ending, on_plan, on_file, on_path, over, is_fault, PlanAt}
-use Rattle.cyphal.specs.Words.{Command, Run, Bound, name_of, path_of}
-use Rattle.cyphal.specs.declared.words.CommandName.TheVariants as name
 
 named : (n : ℕ) (w : LogWhy) → refused (refusal_of n w) ≡ status.Log n w
 named n why.BadLine = refl
@@ -29,6 +27,7 @@ named n why.TooFar = refl
 ended_so : (plan : Plan) (log : Log) (stat : Status) (report : Report) (before after : Option (List ℕ)) → is_fault stat ≡ false → Ran plan log stat report before after → stat ≡ ending log.refusal
 ended_so plan log status.Ok report before after h r = ap ending (sym r.0)
 ended_so plan log status.Usage report before after h r = absurd r
+ended_so plan log (status.Dsdl file n w) report before after h r = absurd r
 ended_so plan log (status.Plan n w) report before after h r = absurd r
 ended_so plan log (status.Log n w) report before after h r = sym (ap ending r.0 ∙ named n w)
 ended_so plan log status.LogLong report before after h r = ap ending (sym r.0)
@@ -108,6 +107,7 @@ not_usage plan input stat report before after h e = subst (λ (s : Status). Ran 
 pub bound_answer : (plan : Plan) (stat : Status) (before after : Option (List ℕ)) → HasBound plan stat before after → is_fault stat ≡ false → stat ≡ status.Ok
 bound_answer plan status.Ok before after h f = refl
 bound_answer plan status.Usage before after h f = absurd h
+bound_answer plan (status.Dsdl file n w) before after h f = absurd h
 bound_answer plan (status.Plan n w) before after h f = absurd h
 bound_answer plan (status.Log n w) before after h f = absurd h
 bound_answer plan status.LogLong before after h f = absurd h
@@ -123,26 +123,16 @@ bound_usage plan stat before after h e = subst (λ (s : Status). HasBound plan s
 pub bound_read : (plan : Plan) (stat : Status) (before after : Option (List ℕ)) → HasBound plan stat before after → stat ≡ status.ReadFault → ⊥
 bound_read plan stat before after h e = subst (λ (s : Status). HasBound plan s before after) e h
 
--- what the words ask for, by the command's name and the path
-pub asked_run : (o : Option Command) (path : List ℕ) → option_map name_of o ≡ Some name.Run → option_map path_of o ≡ Some path → o ≡ Some (Run path)
-asked_run None path e f = absurd cc
-asked_run (Some (Run p)) path e f = ap (option_map Run) f
-asked_run (Some (Bound p)) path e f = absurd cc
-
-pub asked_bound : (o : Option Command) (path : List ℕ) → option_map name_of o ≡ Some name.Bound → option_map path_of o ≡ Some path → o ≡ Some (Bound path)
-asked_bound None path e f = absurd cc
-asked_bound (Some (Run p)) path e f = absurd cc
-asked_bound (Some (Bound p)) path e f = ap (option_map Bound) f
-
 -- where all is accepted and nothing failed, all was done or memory was wanting
-pub completed : (stat : Status) (o : Option Status) (A B C D : Type 0) → o ≡ Some status.Ok → (is_fault stat ≡ false → IfSome o (λ s. stat ≡ s)) → (stat ≡ status.ReadFault → (A × D) ⊎ B) → (stat ≡ status.WriteFault → C)
+pub completed : (stat : Status) (A B C D : Type 0) → (is_fault stat ≡ false → stat ≡ status.Ok) → (stat ≡ status.ReadFault → (A × D) ⊎ B) → (stat ≡ status.WriteFault → C)
     → (A → ⊥) → (B → ⊥) → (C → ⊥) → (stat ≡ status.Ok) ⊎ (stat ≡ status.NoMemory)
-completed status.Ok o A B C D e a r w x y z = inl refl
-completed status.Usage o A B C D e a r w x y z = inl (subst (λ p. IfSome p (λ s. status.Usage ≡ s)) e (a refl))
-completed (status.Plan n why) o A B C D e a r w x y z = inl (subst (λ p. IfSome p (λ s. status.Plan n why ≡ s)) e (a refl))
-completed (status.Log n why) o A B C D e a r w x y z = inl (subst (λ p. IfSome p (λ s. status.Log n why ≡ s)) e (a refl))
-completed status.LogLong o A B C D e a r w x y z = inl (subst (λ p. IfSome p (λ s. status.LogLong ≡ s)) e (a refl))
-completed (status.NoFile path) o A B C D e a r w x y z = inl (subst (λ p. IfSome p (λ s. status.NoFile path ≡ s)) e (a refl))
-completed status.ReadFault o A B C D e a r w x y z = elim (r refl) [ inl f ↦ absurd (x f.0) | inr f ↦ absurd (y f) ]
-completed status.WriteFault o A B C D e a r w x y z = absurd (z (w refl))
-completed status.NoMemory o A B C D e a r w x y z = inr refl
+completed status.Ok A B C D e r w x y z = inl refl
+completed status.Usage A B C D e r w x y z = inl (e refl)
+completed (status.Dsdl file n why) A B C D e r w x y z = inl (e refl)
+completed (status.Plan n why) A B C D e r w x y z = inl (e refl)
+completed (status.Log n why) A B C D e r w x y z = inl (e refl)
+completed status.LogLong A B C D e r w x y z = inl (e refl)
+completed (status.NoFile path) A B C D e r w x y z = inl (e refl)
+completed status.ReadFault A B C D e r w x y z = elim (r refl) [ inl f ↦ absurd (x f.0) | inr f ↦ absurd (y f) ]
+completed status.WriteFault A B C D e r w x y z = absurd (z (w refl))
+completed status.NoMemory A B C D e r w x y z = inr refl

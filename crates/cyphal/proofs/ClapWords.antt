@@ -1,6 +1,7 @@
 -- What `clap` makes of accepted words.
 use Rattle.std.proofs.Common.{ℕ, ◌==◌, ◌&&◌, Bool, not, refl, codes, true, false, List, Option, Some, None, is_some, option_map, [], ◌∷◌, ◌≡◌, ◌∙◌, sym, ap, subst, Bor}
 use Rattle.std.specs.Prelude.{if◌then◌else◌}
+use Rattle.std.specs.Option.{option_and_then}
 use Rattle.std.specs.Str.{bytes_eq}
 use Rattle.clap.specs.Words.{first_value, found_of, HasMatchesOf}
 use Rattle.clap.specs.Simple.{App, is_simple, matches_of}
@@ -8,89 +9,123 @@ use Rattle.clap.specs.Walk.{Text, first_of}
 use Rattle.clap.specs.declared.parser.matches.ArgMatches.{ArgMatches}
 use Rattle.clap.proofs.WalkLemmas.{first_value-rows, both}
 use Rattle.clap.proofs.OnLiterals.{clap_on_literals}
-use Rattle.cyphal.specs.ClapShape.{plan_shape}
-use Rattle.cyphal.specs.Words.{Command, Run, Bound, path_of, is_argument, are_arguments, named, command_of}
+use Rattle.cyphal.specs.ClapShape.{root_shape, plan_shape}
+use Rattle.cyphal.specs.Words.{Command, Compile, Run, Bound, root_of, path_of, is_argument, are_arguments, named_of_root, named_of_plan, command_of}
 
-simple_plan : is_simple plan_shape ≡ true
-simple_plan = refl
-
-root_of_plan : (w : Text) (x y : ℕ) (xs ys : Text) → (x == 45) ≡ false → (y == 45) ≡ false
-    → first_of (codes "ROOT") (matches_of plan_shape (w ∷ (x ∷ xs) ∷ (y ∷ ys) ∷ [])) ≡ Some (x ∷ xs)
-unfolding clap_on_literals
-root_of_plan w x y xs ys h k = simp (h, k) refl
-
-plan_of_plan : (w : Text) (x y : ℕ) (xs ys : Text) → (x == 45) ≡ false → (y == 45) ≡ false
-    → first_of (codes "PLAN") (matches_of plan_shape (w ∷ (x ∷ xs) ∷ (y ∷ ys) ∷ [])) ≡ Some (y ∷ ys)
-unfolding clap_on_literals
-plan_of_plan w x y xs ys h k = simp (h, k) refl
-
--- what a parse of the words gives
-pub record Parsed (words : List Text) : Type 0 where
-  pub root : Text
-  pub plan : Text
-  pub root_is : first_of (codes "ROOT") (matches_of plan_shape words) ≡ Some root
-  pub plan_is : first_of (codes "PLAN") (matches_of plan_shape words) ≡ Some plan
-  pub are : option_map path_of (command_of words) ≡ Some plan
+-- the value of an argument that a parse of the words gives, which is the one that the command has
+pub record Parsed (app : App) (id : Text) (of : Command → Option Text) (words : List Text) : Type 0 where
+  pub value : Text
+  pub is : first_of id (matches_of app words) ≡ Some value
+  pub asked : option_and_then of (command_of words) ≡ Some value
 
 unhyphened : (b : Bool) → not b ≡ true → b ≡ false
 unhyphened true h = absurd cc
 unhyphened false h = refl
 
--- accepted words have accepted arguments, and the path is that of the plan
-accepted : (b : Bool) (o : Option Command) → is_some (if b then o else None) ≡ true → (b ≡ true) × ((if b then o else None) ≡ o) × (is_some o ≡ true)
-accepted true o h = (refl, refl, h)
-accepted false o h = absurd cc
+-- accepted words have accepted arguments
+accepted : (of : Command → Option Text) (b : Bool) (o : Option Command) → is_some (option_and_then of (if b then o else None)) ≡ true → (b ≡ true) × ((if b then o else None) ≡ o)
+accepted of true o h = (refl, refl)
+accepted of false o h = absurd cc
 
-path_named : (word plan : Text) → is_some (named word plan) ≡ true → option_map path_of (named word plan) ≡ Some plan
+-- a root alone
+
+simple_root : is_simple root_shape ≡ true
+simple_root = refl
+
+value_of_root : (w : Text) (x : ℕ) (xs : Text) → (x == 45) ≡ false → first_of (codes "ROOT") (matches_of root_shape (w ∷ (x ∷ xs) ∷ [])) ≡ Some (x ∷ xs)
+unfolding clap_on_literals
+value_of_root w x xs h = simp h refl
+
+root_named : (word root : Text) → is_some (option_and_then root_of (named_of_root word root)) ≡ true → option_and_then root_of (named_of_root word root) ≡ Some root
+root_named word root h = by_name (bytes_eq word (codes "compile")) h
+  where
+    by_name : (c : Bool) → is_some (option_and_then root_of (if c then Some (Compile root) else None)) ≡ true → option_and_then root_of (if c then Some (Compile root) else None) ≡ Some root
+    by_name true h = refl
+    by_name false h = absurd cc
+
+-- a command of a plan has no root alone
+no_root : (b r s : Bool) (plan : Text) → is_some (option_and_then root_of (if b then (if r then Some (Run plan) else (if s then Some (Bound plan) else None)) else None)) ≡ false
+no_root true true s plan = refl
+no_root true false true plan = refl
+no_root true false false plan = refl
+no_root false r s plan = refl
+
+root_there : (w root : Text) → is_argument root ≡ true → option_and_then root_of (command_of (w ∷ root ∷ [])) ≡ Some root → Parsed root_shape (codes "ROOT") root_of (w ∷ root ∷ [])
+root_there w [] h e = absurd cc
+root_there w (x ∷ xs) h e = record { value = x ∷ xs; is = value_of_root w x xs (unhyphened (x == 45) h); asked = e }
+
+parsed_root : (words : List Text) → is_some (option_and_then root_of (command_of words)) ≡ true → Parsed root_shape (codes "ROOT") root_of words
+parsed_root [] h = absurd cc
+parsed_root (w ∷ []) h = absurd cc
+parsed_root (w ∷ root ∷ []) h =
+    let t = accepted root_of (is_argument root) (named_of_root w root) h in
+    let named = ap (option_and_then root_of) t.1 in
+    root_there w root t.0 (named ∙ root_named w root (sym (ap is_some named) ∙ h))
+parsed_root (w ∷ root ∷ plan ∷ []) h = let none = no_root (are_arguments root plan) (bytes_eq w (codes "run")) (bytes_eq w (codes "bound")) plan in absurd cc
+parsed_root (w ∷ root ∷ plan ∷ more ∷ rest) h = absurd cc
+
+-- a root and a plan
+
+simple_plan : is_simple plan_shape ≡ true
+simple_plan = refl
+
+value_of_plan : (w : Text) (x y : ℕ) (xs ys : Text) → (x == 45) ≡ false → (y == 45) ≡ false
+    → first_of (codes "PLAN") (matches_of plan_shape (w ∷ (x ∷ xs) ∷ (y ∷ ys) ∷ [])) ≡ Some (y ∷ ys)
+unfolding clap_on_literals
+value_of_plan w x y xs ys h k = simp (h, k) refl
+
+path_named : (word plan : Text) → is_some (option_and_then path_of (named_of_plan word plan)) ≡ true → option_and_then path_of (named_of_plan word plan) ≡ Some plan
 path_named word plan h = by_names (bytes_eq word (codes "run")) (bytes_eq word (codes "bound")) h
   where
-    by_names : (r b : Bool) → is_some (if r then Some (Run plan) else (if b then Some (Bound plan) else None)) ≡ true
-        → option_map path_of (if r then Some (Run plan) else (if b then Some (Bound plan) else None)) ≡ Some plan
+    by_names : (r b : Bool) → is_some (option_and_then path_of (if r then Some (Run plan) else (if b then Some (Bound plan) else None))) ≡ true
+        → option_and_then path_of (if r then Some (Run plan) else (if b then Some (Bound plan) else None)) ≡ Some plan
     by_names true b h = refl
     by_names false true h = refl
     by_names false false h = absurd cc
 
-parsed_plan : (w root plan : Text) → is_argument root ≡ true → is_argument plan ≡ true → option_map path_of (command_of (w ∷ root ∷ plan ∷ [])) ≡ Some plan → Parsed (w ∷ root ∷ plan ∷ [])
-parsed_plan w [] plan h k e = absurd cc
-parsed_plan w (x ∷ xs) [] h k e = absurd cc
-parsed_plan w (x ∷ xs) (y ∷ ys) h k e = record {
-  root = x ∷ xs;
-  plan = y ∷ ys;
-  root_is = root_of_plan w x y xs ys (unhyphened (x == 45) h) (unhyphened (y == 45) k);
-  plan_is = plan_of_plan w x y xs ys (unhyphened (x == 45) h) (unhyphened (y == 45) k);
-  are = e;
-}
+-- a command of a root alone has no plan
+no_plan : (b c : Bool) (root : Text) → is_some (option_and_then path_of (if b then (if c then Some (Compile root) else None) else None)) ≡ false
+no_plan true true root = refl
+no_plan true false root = refl
+no_plan false c root = refl
 
-pub parsed : (words : List Text) → is_some (command_of words) ≡ true → Parsed words
-parsed [] h = absurd cc
-parsed (w ∷ []) h = absurd cc
-parsed (w ∷ root ∷ []) h = absurd cc
-parsed (w ∷ root ∷ plan ∷ []) h =
-    let t = accepted (are_arguments root plan) (named w plan) h in
+plan_there : (w root plan : Text) → is_argument root ≡ true → is_argument plan ≡ true → option_and_then path_of (command_of (w ∷ root ∷ plan ∷ [])) ≡ Some plan → Parsed plan_shape (codes "PLAN") path_of (w ∷ root ∷ plan ∷ [])
+plan_there w [] plan h k e = absurd cc
+plan_there w (x ∷ xs) [] h k e = absurd cc
+plan_there w (x ∷ xs) (y ∷ ys) h k e = record { value = y ∷ ys; is = value_of_plan w x y xs ys (unhyphened (x == 45) h) (unhyphened (y == 45) k); asked = e }
+
+parsed_plan : (words : List Text) → is_some (option_and_then path_of (command_of words)) ≡ true → Parsed plan_shape (codes "PLAN") path_of words
+parsed_plan [] h = absurd cc
+parsed_plan (w ∷ []) h = absurd cc
+parsed_plan (w ∷ root ∷ []) h = let none = no_plan (is_argument root) (bytes_eq w (codes "compile")) root in absurd cc
+parsed_plan (w ∷ root ∷ plan ∷ []) h =
+    let t = accepted path_of (are_arguments root plan) (named_of_plan w plan) h in
     let args : (is_argument root && is_argument plan) ≡ true = (both _ _ t.0).0 in
     let each = both (is_argument root) (is_argument plan) args in
-    parsed_plan w root plan each.0 each.1 (ap (option_map path_of) t.1 ∙ path_named w plan t.2)
-parsed (w ∷ root ∷ plan ∷ more ∷ rest) h = absurd cc
+    let named = ap (option_and_then path_of) t.1 in
+    plan_there w root plan each.0 each.1 (named ∙ path_named w plan (sym (ap is_some named) ∙ h))
+parsed_plan (w ∷ root ∷ plan ∷ more ∷ rest) h = absurd cc
 
--- the values that the matches have
-pub record Has (m : ArgMatches) (words : List Text) : Type 0 where
-  pub root : Text
-  pub plan : Text
-  pub root_is : first_value (found_of m) (codes "ROOT") ≡ Some root
-  pub plan_is : first_value (found_of m) (codes "PLAN") ≡ Some plan
-  pub are : option_map path_of (command_of words) ≡ Some plan
+-- the value that the matches have of an argument
+pub record Has (id : Text) (of : Command → Option Text) (m : ArgMatches) (words : List Text) : Type 0 where
+  pub value : Text
+  pub is : first_value (found_of m) id ≡ Some value
+  pub asked : option_and_then of (command_of words) ≡ Some value
 
-pub has : (a : App) (m : ArgMatches) (words : List Text) → a ≡ plan_shape → is_some (command_of words) ≡ true → HasMatchesOf a words m → Has m words
-has a m words e h hm =
-    let p = parsed words h in
-    let whole : HasMatchesOf plan_shape words m = subst (λ (b : App). HasMatchesOf b words m) e hm in
-    let rows = (whole simple_plan).0 in record {
-      root = p.root;
-      plan = p.plan;
-      root_is = first_value-rows (found_of m) (codes "ROOT") ∙ ap (first_of (codes "ROOT")) rows ∙ p.root_is;
-      plan_is = first_value-rows (found_of m) (codes "PLAN") ∙ ap (first_of (codes "PLAN")) rows ∙ p.plan_is;
-      are = p.are;
+matched : (app a : App) (id : Text) (of : Command → Option Text) (m : ArgMatches) (words : List Text) → is_simple app ≡ true → a ≡ app → Parsed app id of words → HasMatchesOf a words m → Has id of m words
+matched app a id of m words simple e p hm =
+    let whole : HasMatchesOf app words m = subst (λ (b : App). HasMatchesOf b words m) e hm in
+    let rows = (whole simple).0 in record {
+      value = p.value;
+      is = first_value-rows (found_of m) id ∙ ap (first_of id) rows ∙ p.is;
+      asked = p.asked;
     }
+
+pub has_root : (a : App) (m : ArgMatches) (words : List Text) → a ≡ root_shape → is_some (option_and_then root_of (command_of words)) ≡ true → HasMatchesOf a words m → Has (codes "ROOT") root_of m words
+has_root a m words e h hm = matched root_shape a (codes "ROOT") root_of m words simple_root e (parsed_root words h) hm
+
+pub has_plan : (a : App) (m : ArgMatches) (words : List Text) → a ≡ plan_shape → is_some (option_and_then path_of (command_of words)) ≡ true → HasMatchesOf a words m → Has (codes "PLAN") path_of m words
+has_plan a m words e h hm = matched plan_shape a (codes "PLAN") path_of m words simple_plan e (parsed_plan words h) hm
 
 pub some_now : (o : Option (Bor Text)) (t : Text) → option_map (λ s. s.now) o ≡ Some t → is_some o ≡ true
 some_now None t h = absurd cc

@@ -26,8 +26,8 @@ use Rattle.node_core.proofs.Projection.{rxs_append}
 use Rattle.node_run.proofs.Logs.{newest_onto}
 use Rattle.node_run.proofs.Runs.{lines_front}
 use Rattle.node_run.proofs.Steps.{records_steps}
-use Rattle.cyphal.specs.Words.{Run, Bound, command_of}
-use Rattle.cyphal.specs.Expected.{PlanAt, is_settled, NotRun, WasRun, WasBound}
+use Rattle.cyphal.specs.Words.{Compile, Run, Bound, command_of}
+use Rattle.cyphal.specs.Expected.{PlanAt, is_settled, WasRun, WasDone}
 use Rattle.cyphal.specs.Headline.{heard_as, logged_in, Asked, ExplainsIn, OnceOf, DueOf}
 use Rattle.cyphal.proofs.Frames.{frames_are, are_records, in_order}
 
@@ -42,6 +42,7 @@ all_lines plan log report e = ([], sym (append-nil report.lines ∙ e))
 front : (plan : Plan) (log : Log) (stat : Status) (report : Report) (before after : Option (List ℕ)) → Ran plan log stat report before after → IsFront plan log report
 front plan log status.Ok report before after r = all_lines plan log report r.1.at.reported
 front plan log status.Usage report before after r = absurd r
+front plan log (status.Dsdl file n w) report before after r = absurd r
 front plan log (status.Plan n w) report before after r = absurd r
 front plan log (status.Log n w) report before after r = all_lines plan log report r.1.at.reported
 front plan log status.LogLong report before after r = all_lines plan log report r.1.at.reported
@@ -57,6 +58,7 @@ front plan log status.NoMemory report before after r = (r.broke.rest, r.broke.re
 whole : (plan : Plan) (log : Log) (stat : Status) (report : Report) (before after : Option (List ℕ)) → is_settled stat ≡ true → Ran plan log stat report before after → report.lines ≡ lines plan (steps_of plan log)
 whole plan log status.Ok report before after s r = r.1.at.reported
 whole plan log status.Usage report before after s r = absurd r
+whole plan log (status.Dsdl file n w) report before after s r = absurd r
 whole plan log (status.Plan n w) report before after s r = absurd r
 whole plan log (status.Log n w) report before after s r = r.1.at.reported
 whole plan log status.LogLong report before after s r = r.1.at.reported
@@ -70,8 +72,11 @@ one_path : (words : List (List ℕ)) (a b : List ℕ) → command_of words ≡ S
 one_path words a b x y = let p : Some (Run a) ≡ Some (Run b) = sym x ∙ y in cc
 
 -- and one command
-one_command : (words : List (List ℕ)) (a b : List ℕ) → command_of words ≡ Some (Bound a) → command_of words ≡ Some (Run b) → ⊥
-one_command words a b x y = let p : Some (Bound a) ≡ Some (Run b) = sym x ∙ y in absurd cc
+not_bound : (words : List (List ℕ)) (a b : List ℕ) → command_of words ≡ Some (Bound a) → command_of words ≡ Some (Run b) → ⊥
+not_bound words a b x y = let p : Some (Bound a) ≡ Some (Run b) = sym x ∙ y in absurd cc
+
+not_compiled : (words : List (List ℕ)) (a b : List ℕ) → command_of words ≡ Some (Compile a) → command_of words ≡ Some (Run b) → ⊥
+not_compiled words a b x y = let p : Some (Compile a) ≡ Some (Run b) = sym x ∙ y in absurd cc
 
 one_plan : (path : List ℕ) (tree : Files) (a b : Plan) → PlanAt path (Some tree) a → PlanAt path (Some tree) b → a ≡ b
 one_plan path tree a b x y =
@@ -115,10 +120,11 @@ InOrder = (buses : List (List ℕ)) (bytes : List ℕ) → IsAhead 0 0 (log_of b
 
 pub once_of : Reported → WireExplainsFields → OnceInPart → InOrder
     → (words : List (List ℕ)) (files : Option Files) (input : Option (List ℕ)) (stat : Status) (report : Report) (before after : Option (List ℕ))
-    → NotRun stat report before after ⊎ (WasRun words files input stat report before after ⊎ WasBound words files stat report before after) → OnceOf words files input report
+    → WasDone words files input stat report before after → OnceOf words files input report
 once_of law fields once order words files input stat report before after (inl n) plan bytes key p sent origin a s x =
     subst (λ ls. SelectedRx p.extent sent origin (of_key plan key (logged_in plan bytes)) (rxs key ls)) (sym n.empty.reported) (record { sent_ones = tt; in_order = tt })
-once_of law fields once order words files input stat report before after (inr (inr b)) plan bytes key p sent origin a s x = absurd (one_command words b.path a.path b.asked a.command)
+once_of law fields once order words files input stat report before after (inr (inr (inl b))) plan bytes key p sent origin a s x = absurd (not_bound words b.path a.path b.asked a.command)
+once_of law fields once order words files input stat report before after (inr (inr (inr c))) plan bytes key p sent origin a s x = absurd (not_compiled words c.root a.path c.asked a.command)
 once_of law fields once order words files input stat report before after (inr (inl w)) plan bytes key p sent origin a s x =
     let log = log_of (names_of plan) bytes in
     let f = front plan log stat report before after (ran words files input stat report before after plan bytes w a) in
@@ -128,9 +134,10 @@ once_of law fields once order words files input stat report before after (inr (i
 
 pub due_of : Reported → WireExplainsFields → DueInReport
     → (words : List (List ℕ)) (files : Option Files) (input : Option (List ℕ)) (stat : Status) (report : Report) (before after : Option (List ℕ))
-    → NotRun stat report before after ⊎ (WasRun words files input stat report before after ⊎ WasBound words files stat report before after) → DueOf words files input stat report
+    → WasDone words files input stat report before after → DueOf words files input stat report
 due_of law fields due words files input stat report before after (inl n) plan bytes key p sent origin q a s x settled d = absurd (both_ways (is_settled stat) n.not_settled settled)
-due_of law fields due words files input stat report before after (inr (inr b)) plan bytes key p sent origin q a s x settled d = absurd (one_command words b.path a.path b.asked a.command)
+due_of law fields due words files input stat report before after (inr (inr (inl b))) plan bytes key p sent origin q a s x settled d = absurd (not_bound words b.path a.path b.asked a.command)
+due_of law fields due words files input stat report before after (inr (inr (inr c))) plan bytes key p sent origin q a s x settled d = absurd (not_compiled words c.root a.path c.asked a.command)
 due_of law fields due words files input stat report before after (inr (inl w)) plan bytes key p sent origin q a s x settled d =
     let all = whole plan (log_of (names_of plan) bytes) stat report before after settled (ran words files input stat report before after plan bytes w a) in
     subst (AnyRx (λ rx. rx.last ≡ q.line)) (sym (ap (rxs key) all ∙ session plan bytes key law p s))

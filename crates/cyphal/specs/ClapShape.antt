@@ -1,4 +1,4 @@
--- What a command of a root and a plan is to `clap`.
+-- What each command is to `clap`: its required arguments.
 use Rattle.std.specs.Prelude.{true, codes, Some}
 use Rattle.clap.specs.Walk.{Rule, Text}
 use Rattle.clap.specs.Simple.{App, new_app, new_rule, with_rule}
@@ -8,6 +8,10 @@ use Rattle.clap.specs.declared.builder.action.ArgAction.TheVariants.{Set}
 abbrev pub given : Text → Rule
 given id = record (new_rule id) { required = true; action = Some Set }
 
--- the program with the two arguments
+-- a root alone
+abbrev pub root_shape : App
+root_shape = with_rule (new_app (codes "cyphal")) (given (codes "ROOT"))
+
+-- a root and a plan
 abbrev pub plan_shape : App
 plan_shape = with_rule (with_rule (new_app (codes "cyphal")) (given (codes "ROOT"))) (given (codes "PLAN"))

@@ -1,5 +1,9 @@
 -- The line that is written of a status.
 use Rattle.std.specs.Prelude.{ℕ, List, [], ◌∷◌, ◌++◌, codes, decimal}
+use Rattle.dsdl_names.specs.declared.NameError.{NameError}
+use Rattle.dsdl_names.specs.declared.NameError.TheVariants as name_error
+use Rattle.dsdl_resolve.specs.declared.error.DsdlWhy.{DsdlWhy}
+use Rattle.dsdl_resolve.specs.declared.error.DsdlWhy.TheVariants as dsdl_why
 use Rattle.node_plan.specs.declared.plan.PlanWhy.{PlanWhy}
 use Rattle.node_plan.specs.declared.plan.PlanWhy.TheVariants as plan_why
 use Rattle.node_run.specs.declared.status.LogWhy.{LogWhy}
@@ -19,6 +23,26 @@ log_why_text log_why.TimeBack = codes "TimeBack"
 log_why_text log_why.UnknownBus = codes "UnknownBus"
 log_why_text log_why.TooFar = codes "TooFar"
 
+-- that memory was wanted is no cause of a refused name
+abbrev pub name_error_text : NameError → List ℕ
+name_error_text name_error.BadName = codes "BadName"
+name_error_text name_error.Reserved = codes "Reserved"
+name_error_text name_error.BadVersion = codes "BadVersion"
+name_error_text name_error.BadPort = codes "BadPort"
+name_error_text name_error.TooLong = codes "TooLong"
+name_error_text name_error.NoMemory = codes "NoMemory"
+
+abbrev pub dsdl_why_text : DsdlWhy → List ℕ
+dsdl_why_text (dsdl_why.Name error) = codes "Name " ++ name_error_text error
+dsdl_why_text dsdl_why.Syntax = codes "Syntax"
+dsdl_why_text (dsdl_why.Rule n) = codes "Rule " ++ decimal n
+dsdl_why_text (dsdl_why.Long n) = codes "Long " ++ decimal n
+dsdl_why_text dsdl_why.TooBig = codes "TooBig"
+
+-- a line of a DSDL file, and why it is refused
+abbrev pub in_file : List ℕ → ℕ → List ℕ → List ℕ
+in_file file n why = codes "cyphal: " ++ (file ++ (codes ":" ++ (decimal n ++ (codes ": " ++ (why ++ 10 ∷ [])))))
+
 -- a line of an input, and why it is refused
 abbrev pub numbered : List ℕ → ℕ → List ℕ → List ℕ
 numbered head n why = head ++ (decimal n ++ (codes ": " ++ (why ++ 10 ∷ [])))
@@ -30,6 +54,7 @@ missing path = codes "cyphal: not found: " ++ (path ++ 10 ∷ [])
 abbrev pub error_line : Status → List ℕ
 error_line status.Ok = []
 error_line status.Usage = codes "cyphal: usage\n"
+error_line (status.Dsdl file n why) = in_file file n (dsdl_why_text why)
 error_line (status.Plan n why) = numbered (codes "cyphal: plan line ") n (plan_why_text why)
 error_line (status.Log n why) = numbered (codes "cyphal: log line ") n (log_why_text why)
 error_line status.LogLong = codes "cyphal: input too long\n"
@@ -42,6 +67,7 @@ error_line status.NoMemory = codes "cyphal: out of memory\n"
 abbrev pub code_of : Status → ℕ
 code_of status.Ok = 0
 code_of status.Usage = 1
+code_of (status.Dsdl file n why) = 2
 code_of (status.Plan n why) = 3
 code_of (status.Log n why) = 4
 code_of status.ReadFault = 8

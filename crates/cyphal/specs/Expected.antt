@@ -1,17 +1,20 @@
 -- What the words, the files and the input ask for.
-use Rattle.std.specs.Prelude.{◌≡◌, ℕ, Bool, true, false, List, Option, Some, None, ⊤}
+use Rattle.std.specs.Prelude.{◌≡◌, ◌⊎◌, ℕ, Bool, true, false, ◌&&◌, ◌||◌, List, Option, Some, None, is_some, IfSome, ⊤}
 use Rattle.std.specs.FinMap as map
 use Rattle.cy_outside.specs.Files.{Files}
+use Rattle.dsdl_types.specs.declared.namespace.Namespace.{Namespace}
 use Rattle.node_plan.specs.Plan.{PlanIs, Good, Bad, plan_of}
 use Rattle.node_plan.specs.declared.plan.Plan.{Plan}
 use Rattle.frame_log.specs.Log.{log_of}
 use Rattle.frame_log.specs.declared.error.LogError.{LogError}
 use Rattle.node_run.specs.BoundText.{HasBound}
+use Rattle.node_run.specs.Layouts.{HasLayouts}
+use Rattle.node_run.specs.Loaded.{is_none, IsLoaded, IsNotLoaded}
 use Rattle.node_run.specs.Ran.{IsEmpty, HasRun, names_of, refused}
 use Rattle.node_run.specs.declared.report.Report.{Report}
 use Rattle.node_run.specs.declared.status.Status.{Status}
 use Rattle.node_run.specs.declared.status.Status.TheVariants as status
-use Rattle.cyphal.specs.Words.{Command, Run, Bound, command_of}
+use Rattle.cyphal.specs.Words.{Command, Compile, Run, Bound, command_of}
 
 -- how a log that ends so ends a run
 abbrev pub ending : Option LogError → Status
@@ -43,14 +46,26 @@ on_run path files input = on_path path files (over input)
 abbrev pub on_bound : List ℕ → Option Files → Option Status
 on_bound path files = on_path path files (λ plan. Some status.Ok)
 
-abbrev pub on_command : Option Command → Option Files → Option (List ℕ) → Option Status
-on_command None files input = Some status.Usage
-on_command (Some (Run path)) files input = on_run path files input
-on_command (Some (Bound path)) files input = on_bound path files
+-- what compiling the files of a root comes to: their namespace, or why there is none
+abbrev pub Compiles : List ℕ → Option Files → Status → Type 0
+Compiles root files status.Ok = (names : Namespace) × IsLoaded root files names
+Compiles root files (status.NoFile path) = IsNotLoaded root files (status.NoFile path)
+Compiles root files (status.Dsdl path line why) = IsNotLoaded root files (status.Dsdl path line why)
+Compiles root files other = ⊥
 
--- the status that is asked for, as far as what is told decides it
-abbrev pub expected : List (List ℕ) → Option Files → Option (List ℕ) → Option Status
-expected words files input = on_command (command_of words) files input
+-- a status is what the command asks for, as far as what is told decides it
+abbrev pub Answers : Option Command → Option Files → Option (List ℕ) → Status → Type 0
+Answers None files input stat = stat ≡ status.Usage
+Answers (Some (Compile root)) files input stat = Compiles root files stat
+Answers (Some (Run path)) files input stat = IfSome (on_run path files input) (λ s. stat ≡ s)
+Answers (Some (Bound path)) files input stat = IfSome (on_bound path files) (λ s. stat ≡ s)
+
+-- all that decides a command's status is told: the input for a run alone, and no files where the root is `none`
+abbrev pub is_told : Option Command → Option Files → Option (List ℕ) → Bool
+is_told None files input = true
+is_told (Some (Compile root)) files input = is_none root || is_some files
+is_told (Some (Run path)) files input = is_some files && is_some input
+is_told (Some (Bound path)) files input = is_some files
 
 -- the statuses that may come at any time
 abbrev pub is_fault : Status → Bool
@@ -101,3 +116,23 @@ pub record WasBound (words : List (List ℕ)) (files : Option Files) (stat : Sta
   pub asked : command_of words ≡ Some (Bound path)
   pub bound : HasBoundAt path files stat before after
   pub empty : IsEmpty report
+
+-- the layouts of the namespace of a root were written, as far as the status says
+pub record HasCompiledAt (root : List ℕ) (files : Option Files) (stat : Status) (before after : Option (List ℕ)) : Type 0 where
+  pub names : Namespace
+  pub is : IsLoaded root files names
+  pub layouts : HasLayouts names stat before after
+
+-- the layouts of the namespace of the root that the words name were written, and nothing was run
+pub record WasCompiled (words : List (List ℕ)) (files : Option Files) (stat : Status) (report : Report) (before after : Option (List ℕ)) : Type 0 where
+  pub root : List ℕ
+  pub asked : command_of words ≡ Some (Compile root)
+  pub compiled : HasCompiledAt root files stat before after
+  pub empty : IsEmpty report
+
+-- what was done: nothing, or what the words name
+abbrev pub WasDone : List (List ℕ) → Option Files → Option (List ℕ) → Status → Report → Option (List ℕ) → Option (List ℕ) → Type 0
+WasDone words files input stat report before after = NotRun stat report before after
+    ⊎ (WasRun words files input stat report before after
+    ⊎ (WasBound words files stat report before after
+    ⊎ WasCompiled words files stat report before after))

@@ -1,23 +1,40 @@
 -- Which words are a command.
-use Rattle.std.specs.Prelude.{ℕ, Bool, false, ◌==◌, ◌&&◌, not, List, [], ◌∷◌, codes, Option, Some, None, if◌then◌else◌}
+use Rattle.std.specs.Prelude.{ℕ, Bool, true, false, ◌==◌, ◌&&◌, not, List, [], ◌∷◌, codes, Option, Some, None, if◌then◌else◌}
 use Rattle.std.specs.Str.{bytes_eq}
 use Rattle.cyphal.specs.declared.words.CommandName.{CommandName}
 use Rattle.cyphal.specs.declared.words.CommandName.TheVariants as name
+use Rattle.cyphal.specs.declared.words.Accepted.{Accepted}
+use Rattle.cyphal.specs.declared.words.Accepted.TheVariants as accepted
 
--- what the words ask for, of the plan at this path: a run, or the memory bound
+-- what the words ask for: the layouts of the types below this root, a run of the plan at this path, or its memory bound
 pub data Command : Type 0 where
+  Compile : List ℕ → Command
   Run : List ℕ → Command
   Bound : List ℕ → Command
 
+-- the command of accepted words
+abbrev pub asked_by : Accepted → Command
+asked_by (accepted.Compile root) = Compile root.now
+asked_by (accepted.Run plan) = Run plan.now
+asked_by (accepted.Bound plan) = Bound plan.now
+
 -- the name of a command
 abbrev pub name_of : Command → CommandName
+name_of (Compile root) = name.Compile
 name_of (Run path) = name.Run
 name_of (Bound path) = name.Bound
 
+-- the root of a command that has it alone
+abbrev pub root_of : Command → Option (List ℕ)
+root_of (Compile root) = Some root
+root_of (Run path) = None
+root_of (Bound path) = None
+
 -- the path of a command's plan
-abbrev pub path_of : Command → List ℕ
-path_of (Run path) = path
-path_of (Bound path) = path
+abbrev pub path_of : Command → Option (List ℕ)
+path_of (Compile root) = None
+path_of (Run path) = Some path
+path_of (Bound path) = Some path
 
 -- an argument isn't empty and begins with no hyphen
 abbrev pub is_argument : List ℕ → Bool
@@ -28,14 +45,25 @@ is_argument (x ∷ xs) = not (x == 45)
 abbrev pub are_arguments : List ℕ → List ℕ → Bool
 are_arguments root plan = (is_argument root && is_argument plan) && bytes_eq root (codes "none")
 
--- the command that a word names, of a plan
-abbrev pub named : List ℕ → List ℕ → Option Command
-named word plan = if bytes_eq word (codes "run") then Some (Run plan) else (if bytes_eq word (codes "bound") then Some (Bound plan) else None)
+-- the command that a word names, of a root
+abbrev pub named_of_root : List ℕ → List ℕ → Option Command
+named_of_root word root = if bytes_eq word (codes "compile") then Some (Compile root) else None
 
--- what the words ask for, where they are accepted: `run ROOT PLAN` or `bound ROOT PLAN`
+-- the command that a word names, of a plan
+abbrev pub named_of_plan : List ℕ → List ℕ → Option Command
+named_of_plan word plan = if bytes_eq word (codes "run") then Some (Run plan) else (if bytes_eq word (codes "bound") then Some (Bound plan) else None)
+
+-- what the words ask for, where they are accepted: `compile ROOT`, `run ROOT PLAN` or `bound ROOT PLAN`
 abbrev pub command_of : List (List ℕ) → Option Command
 command_of [] = None
 command_of (word ∷ []) = None
-command_of (word ∷ root ∷ []) = None
-command_of (word ∷ root ∷ plan ∷ []) = if are_arguments root plan then named word plan else None
+command_of (word ∷ root ∷ []) = if is_argument root then named_of_root word root else None
+command_of (word ∷ root ∷ plan ∷ []) = if are_arguments root plan then named_of_plan word plan else None
 command_of (word ∷ root ∷ plan ∷ more ∷ rest) = None
+
+-- whether a command takes of the input: a run alone does
+abbrev pub takes_input : Option Command → Bool
+takes_input None = false
+takes_input (Some (Compile root)) = false
+takes_input (Some (Run path)) = true
+takes_input (Some (Bound path)) = false

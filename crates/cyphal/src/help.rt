@@ -2,6 +2,10 @@
 
 /// What `--help` answers.
 pub const HELP: &str = "\
+cyphal compile ROOT
+    compiles the DSDL files below the folder ROOT, and writes for each type its
+    lengths and where its fields stand; ROOT none stands for no files
+
 cyphal run none PLAN
     runs a node by the plan in the file PLAN over the log on standard input,
     and writes its report
@@ -12,8 +16,9 @@ cyphal bound none PLAN
 cyphal --help, cyphal --version
     write this, or the version
 
-statuses: 0 done, 1 usage, 3 plan refused, 4 log refused, 8 read fault,
-    9 write fault, 10 out of memory, 11 input too long, 12 no such file
+statuses: 0 done, 1 usage, 2 DSDL file refused, 3 plan refused, 4 log refused,
+    8 read fault, 9 write fault, 10 out of memory, 11 input too long,
+    12 no such file or folder
 ";
 
 /// What `--version` answers.

@@ -51,6 +51,7 @@ fn code_of(status: &Status) -> u8
     match status {
         Status::Ok => 0,
         Status::Usage => 1,
+        Status::Dsdl { .. } => 2,
         Status::Plan { .. } => 3,
         Status::Log { .. } => 4,
         Status::ReadFault => 8,

@@ -134,3 +134,106 @@ fn a_fault_ends_a_run_and_leaves_a_beginning(rt: HostRuntime) -> Result<(), Fail
     }
     Ok(())
 }
+
+const NUM: &[u8] = b"uint8 a\nuint12 b\n@sealed\n";
+
+const LAYOUTS: &[u8] =
+    b"type demo.Num.1.0 message - extent 24 sealed lengths {24}\nfield a saturated uint8 at {0} size {8}\nfield b saturated uint12 at {8} size {12}\n";
+
+/// A root, the text of the one file below the folder `types`, which calls of the tree and the output fail, and what
+/// compiling the root comes to.
+#[derive(Clone, Copy)]
+struct CompileRow {
+    root: &'static str,
+    text: &'static [u8],
+    tree: &'static [u64],
+    out: &'static [u64],
+    code: u8,
+    written: &'static [u8],
+    line: &'static [u8],
+}
+
+#[test]
+fn layouts_are_written_where_all_files_compile(rt: HostRuntime) -> Result<(), Fail> {
+    let rows = [
+        CompileRow {
+            root: "types",
+            text: NUM,
+            tree: &[],
+            out: &[],
+            code: 0,
+            written: LAYOUTS,
+            line: b"",
+        },
+        CompileRow {
+            root: "types",
+            text: b"uint8 a\nuint12 b\n",
+            tree: &[],
+            out: &[],
+            code: 2,
+            written: b"",
+            line: b"cyphal: demo/Num.1.0.dsdl:2: Rule 2\n",
+        },
+        CompileRow {
+            root: "nowhere",
+            text: NUM,
+            tree: &[],
+            out: &[],
+            code: 12,
+            written: b"",
+            line: b"cyphal: not found: nowhere\n",
+        },
+        CompileRow {
+            root: "none",
+            text: NUM,
+            tree: &[0],
+            out: &[],
+            code: 0,
+            written: b"",
+            line: b"",
+        },
+        CompileRow {
+            root: "types",
+            text: NUM,
+            tree: &[0],
+            out: &[],
+            code: 8,
+            written: b"",
+            line: b"cyphal: read fault\n",
+        },
+        CompileRow {
+            root: "types",
+            text: NUM,
+            tree: &[],
+            out: &[0],
+            code: 9,
+            written: b"",
+            line: b"cyphal: write fault\n",
+        },
+    ];
+    for row in &rows {
+        let alloc = rt.alloc();
+        let words = vec![in alloc;
+            String::from_str(alloc, "compile")?,
+            String::from_str(alloc, row.root)?,
+        ]?;
+        let file = File::new(alloc, "types/demo/Num.1.0.dsdl", row.text)?;
+        let files = List::new(vec![in alloc; file]?);
+        let mut tree = MemTree::new(files, row.tree).ok_or(AllocError)?;
+        let mut input = MemSource::new(b"", &[]);
+        let mut out = MemSink::new(alloc, row.out);
+        let mut err = MemSink::new(alloc, &[]);
+        let done = top(
+            alloc,
+            words.as_slice(),
+            &mut tree,
+            &mut input,
+            &mut out,
+            &mut err,
+        );
+        assert_eq!(rt; code_of(&done.status), row.code);
+        assert_eq!(rt; out.written.as_slice(), row.written);
+        assert_eq!(rt; err.written.as_slice(), row.line);
+    }
+    Ok(())
+}

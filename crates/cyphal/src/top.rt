@@ -1,17 +1,19 @@
 //! The top call.
-ghost use Rattle.std.specs.Prelude.{◌≡◌, ◌⊎◌, ◌↔◌, ◌≤◌, ℕ, List, None, Some, false, IfSome, map, string_bytes};
+ghost use Rattle.std.specs.Prelude.{◌≡◌, ◌⊎◌, ◌↔◌, ◌≤◌, None, true, false, map, string_bytes};
 ghost use Rattle.cy_outside.specs.Outside.{Rose};
 ghost use Rattle.cy_outside.specs.Written.{behind, Begins};
+ghost use Rattle.node_run.specs.declared.status.Status.{Status as TheStatus};
 ghost use Rattle.node_run.specs.declared.status.Status.TheVariants.{Ok as OkStatus};
-ghost use Rattle.cyphal.specs.Words.{Bound, command_of};
+ghost use Rattle.cyphal.specs.Words.{takes_input, command_of};
 ghost use Rattle.cyphal.specs.ErrorLine.{error_line};
-ghost use Rattle.cyphal.specs.Expected.{expected, is_fault, NotRun, WasRun, WasBound};
+ghost use Rattle.cyphal.specs.Expected.{Answers, is_told, is_fault, WasDone};
 ghost use Rattle.cyphal.specs.Headline.{OnceOf, DueOf};
 ghost use Rattle.cyphal.specs.Streaming.{TakenOf, StreamedOf};
 
 use crate::error_line::put_error;
 use crate::work::work;
 use cy_outside::{Sink, Source, Tree};
+use dsdl_resolve::one_answer;
 use frame_log::ordered;
 use node_core::laws::reported;
 use node_run::{Report, Status};
@@ -36,17 +38,17 @@ pub fn top<T: Tree, L: Source, O: Sink, E: Sink>(
     out: &mut O,
     err: &mut E,
 ) -> Done
-    ensures answer { is_fault result.status ≡ false → IfSome (expected (map string_bytes words.now) (T.files tree.old) (L.left input.old)) (λ stat. result.status ≡ stat) }
+    ensures answer { is_fault result.status ≡ false → Answers (command_of (map string_bytes words.now)) (T.files tree.old) (L.left input.old) result.status }
+    ensures exact { (stat : TheStatus) → is_told (command_of (map string_bytes words.now)) (T.files tree.old) (L.left input.old) ≡ true → Answers (command_of (map string_bytes words.now)) (T.files tree.old) (L.left input.old) stat
+        → is_fault result.status ≡ false → result.status ≡ stat }
     ensures usage { (result.status ≡ Status.Usage) ↔ (command_of (map string_bytes words.now) ≡ None) }
     ensures read { result.status ≡ Status.ReadFault → (Rose (T.faults tree.old) (T.faults tree.new) × (input.new ≡ input.old)) ⊎ Rose (L.faults input.old) (L.faults input.new) }
-    ensures unread { (path : List ℕ) → command_of (map string_bytes words.now) ≡ Some (Bound path) → input.new ≡ input.old }
+    ensures unread { takes_input (command_of (map string_bytes words.now)) ≡ false → input.new ≡ input.old }
     ensures write { result.status ≡ Status.WriteFault → Rose (O.faults out.old) (O.faults out.new) }
     ensures kept { result.status ≡ Status.Ok → (T.faults tree.new ≡ T.faults tree.old) × (L.faults input.new ≡ L.faults input.old) × (O.faults out.new ≡ O.faults out.old) }
-    ensures ran { NotRun result.status result.report (O.written out.old) (O.written out.new)
-        ⊎ (WasRun (map string_bytes words.now) (T.files tree.old) (L.left input.old) result.status result.report (O.written out.old) (O.written out.new)
-        ⊎ WasBound (map string_bytes words.now) (T.files tree.old) result.status result.report (O.written out.old) (O.written out.new)) }
+    ensures ran { WasDone (map string_bytes words.now) (T.files tree.old) (L.left input.old) result.status result.report (O.written out.old) (O.written out.new) }
     ensures held { result.report.held ≤ result.report.bound }
-    ensures complete { expected (map string_bytes words.now) (T.files tree.old) (L.left input.old) ≡ Some OkStatus
+    ensures complete { is_told (command_of (map string_bytes words.now)) (T.files tree.old) (L.left input.old) ≡ true → Answers (command_of (map string_bytes words.now)) (T.files tree.old) (L.left input.old) OkStatus
         → ¬ Rose (T.faults tree.old) (T.faults tree.new) → ¬ Rose (L.faults input.old) (L.faults input.new) → ¬ Rose (O.faults out.old) (O.faults out.new)
         → (result.status ≡ Status.Ok) ⊎ (result.status ≡ Status.NoMemory) }
     // The headline, where the words, the files and the input are told and a sent list explains the records of a session.
@@ -64,6 +66,7 @@ pub fn top<T: Tree, L: Source, O: Sink, E: Sink>(
     due_in_report();
     wire_explains_fields();
     ordered();
+    one_answer();
     let mut report = Report::empty(alloc);
     let status = work(alloc, words, tree, input, out, &mut report);
     let _ = put_error(err, &status);

@@ -1,27 +1,102 @@
-ghost use Rattle.std.specs.Prelude.{◌≡◌, ℕ, List, IfOk, Some, is_some, map, option_map, string_bytes, true, false};
+//! Which words are a command, and what its arguments are.
+ghost use Rattle.std.specs.Prelude.{◌≡◌, ℕ, List, IfOk, IfErr, Some, is_some, map, option_map, string_bytes, true, false};
+ghost use Rattle.std.specs.Option.{option_and_then};
 ghost use Rattle.clap.specs.Words.{app_of};
 ghost use Rattle.clap.specs.Walk.{rule_of};
-ghost use Rattle.cyphal.specs.ClapShape.{given, plan_shape};
-ghost use Rattle.cyphal.specs.Words.{is_argument, are_arguments, named, command_of, name_of, path_of};
+ghost use Rattle.cyphal.specs.ClapShape.{given, root_shape, plan_shape};
+ghost use Rattle.cyphal.specs.Words.{asked_by, is_argument, are_arguments, named_of_root, named_of_plan, command_of, name_of, root_of, path_of};
 
 use clap::{Arg, ArgAction, Command};
 use cy_bits::NoMemory;
 use std::alloc::Global;
 
+/// A command with its arguments.
+#[derive(Clone, Copy)]
+pub enum Accepted<'a> {
+    /// Writes the layouts of the types below a root.
+    Compile { root: &'a str },
+    /// Runs the plan at a path over a log.
+    Run { plan: &'a str },
+    /// Writes the memory bound of the plan at a path.
+    Bound { plan: &'a str },
+}
+
 /// The name of a command.
 #[derive(Clone, Copy)]
 pub enum CommandName {
-    /// Runs a plan over a log.
+    Compile,
     Run,
-    /// Writes the memory bound of a plan.
     Bound,
 }
 
-/// The arguments of a command: the root of the namespace, and the path of the plan.
-#[derive(Clone, Copy)]
-pub struct PlanWords<'a> {
-    pub root: &'a str,
-    pub plan: &'a str,
+/// The command that the words are; none where they aren't accepted. It wants memory where they are.
+pub fn command_of<'a>(alloc: Global, words: &'a [String]) -> Result<Option<Accepted<'a>>, NoMemory>
+    ensures is { IfOk result (λ given. option_map asked_by given ≡ command_of (map string_bytes words.entry.now)) }
+    ensures memory { IfErr result (λ _. is_some (command_of (map string_bytes words.entry.now)) ≡ true) }
+{
+    match command_name(words) {
+        None => Ok(None),
+        Some(CommandName::Compile) => match root_word(alloc, words) {
+            Ok(root) => Ok(Some(Accepted::Compile { root })),
+            Err(_) => Err(NoMemory),
+        },
+        Some(CommandName::Run) => match plan_word(alloc, words) {
+            Ok(plan) => Ok(Some(Accepted::Run { plan })),
+            Err(_) => Err(NoMemory),
+        },
+        Some(CommandName::Bound) => match plan_word(alloc, words) {
+            Ok(plan) => Ok(Some(Accepted::Bound { plan })),
+            Err(_) => Err(NoMemory),
+        },
+    }
+}
+
+/// Which command the words are, so `compile ROOT`, `run none PLAN` or `bound none PLAN`; none where they aren't
+/// accepted.
+fn command_name(words: &[String]) -> Option<CommandName>
+    ensures { result ≡ option_map name_of (command_of (map string_bytes words.now)) }
+{
+    match words {
+        [word, root] => {
+            if is_argument(root.as_str()) {
+                named_of_root(word.as_str())
+            } else {
+                None
+            }
+        }
+        [word, root, plan] => {
+            if are_arguments(root.as_str(), plan.as_str()) {
+                named_of_plan(word.as_str())
+            } else {
+                None
+            }
+        }
+        _ => None,
+    }
+}
+
+/// Which command of a root alone a word names.
+fn named_of_root(word: &str) -> Option<CommandName>
+    ensures { (root : List ℕ) → result ≡ option_map name_of (named_of_root word.now root) }
+{
+    if word == "compile" {
+        Some(CommandName::Compile)
+    } else {
+        None
+    }
+}
+
+/// Which command of a plan a word names.
+fn named_of_plan(word: &str) -> Option<CommandName>
+    ensures { (plan : List ℕ) → result ≡ option_map name_of (named_of_plan word.now plan) }
+{
+    if word == "run" {
+        Some(CommandName::Run)
+    } else if word == "bound" {
+        Some(CommandName::Bound)
+    } else {
+        None
+    }
 }
 
 /// Whether a word can be an argument: it isn't empty and begins with no hyphen.
@@ -34,37 +109,11 @@ fn is_argument(word: &str) -> bool
     }
 }
 
-/// Whether the arguments are accepted, so `none PLAN`.
+/// Whether the arguments of a plan's command are accepted, so `none PLAN`.
 fn are_arguments(root: &str, plan: &str) -> bool
     ensures { result ≡ are_arguments root.now plan.now }
 {
     is_argument(root) && is_argument(plan) && root == "none"
-}
-
-/// Which command a word names, whatever the plan.
-fn named(word: &str) -> Option<CommandName>
-    ensures { (plan : List ℕ) → result ≡ option_map name_of (named word.now plan) }
-{
-    if word == "run" {
-        Some(CommandName::Run)
-    } else if word == "bound" {
-        Some(CommandName::Bound)
-    } else {
-        None
-    }
-}
-
-/// Which command the words are, so `run none PLAN` or `bound none PLAN`; none where they aren't accepted.
-pub fn command_name(words: &[String]) -> Option<CommandName>
-    ensures { result ≡ option_map name_of (command_of (map string_bytes words.now)) }
-{
-    let [word, root, plan] = words else {
-        return None;
-    };
-    if !are_arguments(root.as_str(), plan.as_str()) {
-        return None;
-    }
-    named(word.as_str())
 }
 
 /// A required argument with one value.
@@ -73,6 +122,13 @@ fn given<'a>(alloc: Global, id: &'a str) -> Arg<'a>
     ensures local { result.global ≡ false }
 {
     Arg::new(alloc, id).required(true).action(ArgAction::Set)
+}
+
+fn root_shape<'a>(alloc: Global) -> Result<Command<'a>, NoMemory>
+    ensures { IfOk result (λ c. app_of c ≡ root_shape) }
+{
+    let command = Command::new(alloc, "cyphal").arg(given(alloc, "ROOT"))?;
+    Ok(command)
 }
 
 fn plan_shape<'a>(alloc: Global) -> Result<Command<'a>, NoMemory>
@@ -84,18 +140,26 @@ fn plan_shape<'a>(alloc: Global) -> Result<Command<'a>, NoMemory>
     Ok(command)
 }
 
-/// The arguments of accepted words. It refuses nothing, and wants memory.
-pub fn plan_words<'a>(alloc: Global, words: &'a [String]) -> Result<PlanWords<'a>, NoMemory>
-    requires { is_some (command_of (map string_bytes words.now)) ≡ true }
-    ensures { IfOk result (λ given. option_map path_of (command_of (map string_bytes words.entry.now)) ≡ Some given.plan.now) }
+/// The root of accepted words that have it alone. It refuses nothing, and wants memory.
+fn root_word<'a>(alloc: Global, words: &'a [String]) -> Result<&'a str, NoMemory>
+    requires { is_some (option_and_then root_of (command_of (map string_bytes words.now))) ≡ true }
+    ensures { IfOk result (λ root. option_and_then root_of (command_of (map string_bytes words.entry.now)) ≡ Some root.now) }
+{
+    let command = root_shape(alloc)?;
+    match command.try_get_matches_from(words) {
+        Ok(matches) => Ok(matches.get_str("ROOT").unwrap()),
+        Err(_) => Err(NoMemory),
+    }
+}
+
+/// The path of the plan of accepted words that have one. It refuses nothing, and wants memory.
+fn plan_word<'a>(alloc: Global, words: &'a [String]) -> Result<&'a str, NoMemory>
+    requires { is_some (option_and_then path_of (command_of (map string_bytes words.now))) ≡ true }
+    ensures { IfOk result (λ plan. option_and_then path_of (command_of (map string_bytes words.entry.now)) ≡ Some plan.now) }
 {
     let command = plan_shape(alloc)?;
     match command.try_get_matches_from(words) {
-        Ok(matches) => {
-            let root = matches.get_str("ROOT").unwrap();
-            let plan = matches.get_str("PLAN").unwrap();
-            Ok(PlanWords { root, plan })
-        }
+        Ok(matches) => Ok(matches.get_str("PLAN").unwrap()),
         Err(_) => Err(NoMemory),
     }
 }

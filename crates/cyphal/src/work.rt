@@ -1,20 +1,20 @@
 //! The work of each command.
-ghost use Rattle.std.specs.Prelude.{◌≡◌, ◌⊎◌, ◌↔◌, ◌≤◌, ℕ, List, Option, None, Some, false, IfSome, IfOk, IfErr, OnOk, map, string_bytes};
+ghost use Rattle.std.specs.Prelude.{◌≡◌, ◌⊎◌, ◌↔◌, ◌≤◌, ℕ, Option, None, false, IfSome, IfOk, IfErr, OnOk, map, string_bytes};
 ghost use Rattle.cy_outside.specs.Outside.{Rose};
 ghost use Rattle.node_plan.specs.IsPlan.{IsPlan};
 ghost use Rattle.node_plan.specs.declared.plan.Plan.{Plan as ThePlan};
 ghost use Rattle.node_plan.specs.declared.plan.PlanWhy.{PlanWhy as Why};
 ghost use Rattle.node_run.specs.Ran.{IsEmpty};
 ghost use Rattle.node_run.specs.declared.status.Status.{Status as TheStatus};
-ghost use Rattle.cyphal.specs.Words.{Bound, command_of};
+ghost use Rattle.cyphal.specs.Words.{takes_input, command_of};
 ghost use Rattle.cyphal.specs.Streaming.{TookNothing, TookAt, WasTaken};
-ghost use Rattle.cyphal.specs.Expected.{expected, on_path, on_run, on_bound, is_fault, is_settled, PlanAt, NotRun, HasRunAt, WasRun, HasBoundAt, WasBound};
+ghost use Rattle.cyphal.specs.Expected.{Answers, Compiles, on_path, on_run, on_bound, is_fault, is_settled, PlanAt, NotRun, HasRunAt, HasBoundAt, HasCompiledAt, WasDone};
 
-use crate::words::{CommandName, command_name, plan_words};
+use crate::words::{Accepted, command_of};
 use cy_bits::Text;
 use cy_outside::{Sink, Source, Tree, TreeError, read_file};
 use node_plan::{MAX_TEXT, Plan, PlanError, read_plan};
-use node_run::{Report, Status, bound, run_log};
+use node_run::{Report, Status, bound, compile, load, run_log};
 use std::alloc::Global;
 
 /// Does what the words ask for.
@@ -27,29 +27,44 @@ pub fn work<T: Tree, L: Source, O: Sink>(
     report: &mut Report,
 ) -> Status
     requires { IsEmpty report.old }
-    ensures answer { is_fault result ≡ false → IfSome (expected (map string_bytes words.now) (T.files tree.old) (L.left input.old)) (λ stat. result ≡ stat) }
+    ensures answer { is_fault result ≡ false → Answers (command_of (map string_bytes words.now)) (T.files tree.old) (L.left input.old) result }
     ensures usage { (result ≡ Status.Usage) ↔ (command_of (map string_bytes words.now) ≡ None) }
     ensures read { result ≡ Status.ReadFault → (Rose (T.faults tree.old) (T.faults tree.new) × (input.new ≡ input.old)) ⊎ Rose (L.faults input.old) (L.faults input.new) }
-    ensures unread { (path : List ℕ) → command_of (map string_bytes words.now) ≡ Some (Bound path) → input.new ≡ input.old }
+    ensures unread { takes_input (command_of (map string_bytes words.now)) ≡ false → input.new ≡ input.old }
     ensures write { result ≡ Status.WriteFault → Rose (O.faults out.old) (O.faults out.new) }
     ensures kept { result ≡ Status.Ok → (T.faults tree.new ≡ T.faults tree.old) × (L.faults input.new ≡ L.faults input.old) × (O.faults out.new ≡ O.faults out.old) }
-    ensures ran { NotRun result report.new (O.written out.old) (O.written out.new)
-        ⊎ (WasRun (map string_bytes words.now) (T.files tree.old) (L.left input.old) result report.new (O.written out.old) (O.written out.new)
-        ⊎ WasBound (map string_bytes words.now) (T.files tree.old) result report.new (O.written out.old) (O.written out.new)) }
+    ensures ran { WasDone (map string_bytes words.now) (T.files tree.old) (L.left input.old) result report.new (O.written out.old) (O.written out.new) }
     ensures took { TookNothing result (L.left input.old) (L.left input.new) (T.faults tree.old) (T.faults tree.new)
         ⊎ WasTaken (map string_bytes words.now) (T.files tree.old) (L.left input.old) (L.left input.new) result report.new (O.written out.old) (O.written out.new) }
     ensures held { report.new.held ≤ report.new.bound }
 {
-    let Some(command) = command_name(words) else {
-        return Status::Usage;
-    };
-    let Ok(given) = plan_words(alloc, words) else {
-        return Status::NoMemory;
+    let command = match command_of(alloc, words) {
+        Ok(Some(command)) => command,
+        Ok(None) => return Status::Usage,
+        Err(_) => return Status::NoMemory,
     };
     match command {
-        CommandName::Run => run_plan(alloc, given.plan, tree, input, out, report),
-        CommandName::Bound => bound_plan(alloc, given.plan, tree, out),
+        Accepted::Compile { root } => compile_root(alloc, root, tree, out),
+        Accepted::Run { plan } => run_plan(alloc, plan, tree, input, out, report),
+        Accepted::Bound { plan } => bound_plan(alloc, plan, tree, out),
     }
+}
+
+/// Writes the layouts of the types below a root.
+fn compile_root<T: Tree, O: Sink>(alloc: Global, root: &str, tree: &mut T, out: &mut O) -> Status
+    ensures answer { is_fault result ≡ false → Compiles root.now (T.files tree.old) result }
+    ensures usage { ¬ (result ≡ Status.Usage) }
+    ensures read { result ≡ Status.ReadFault → Rose (T.faults tree.old) (T.faults tree.new) }
+    ensures write { result ≡ Status.WriteFault → Rose (O.faults out.old) (O.faults out.new) }
+    ensures kept { result ≡ Status.Ok → (T.faults tree.new ≡ T.faults tree.old) × (O.faults out.new ≡ O.faults out.old) }
+    ensures ran { ((O.written out.new ≡ O.written out.old) × (is_settled result ≡ false))
+        ⊎ HasCompiledAt root.now (T.files tree.old) result (O.written out.old) (O.written out.new) }
+{
+    let names = match load(alloc, tree, root) {
+        Ok(names) => names,
+        Err(status) => return status,
+    };
+    compile(alloc, &names, out)
 }
 
 /// Runs the plan at a path over the input.

@@ -18,7 +18,7 @@ pub returns-in-LogLong-clause-written : goal.returns-in-LogLong-clause-written
 returns-in-LogLong-clause-written g c = told _ _ _ _ c.args.status.now (ap error_line (sym c.in-LogLong.is)) c.put_all-in-LogLong.ensures.written
 
 pub returns-in-NoFile-clause-written : goal.returns-in-NoFile-clause-written
-returns-in-NoFile-clause-written g c = told _ _ _ _ c.args.status.now (ap missing c.as_str.ensures ∙ ap error_line (sym c.in-NoFile.is)) c.put_missing.ensures.written
+returns-in-NoFile-clause-written g c = told _ _ _ _ c.args.status.now (ap missing c.as_str-in-NoFile.ensures ∙ ap error_line (sym c.in-NoFile.is)) c.put_missing.ensures.written
 
 pub returns-in-ReadFault-clause-written : goal.returns-in-ReadFault-clause-written
 returns-in-ReadFault-clause-written g c = told _ _ _ _ c.args.status.now (ap error_line (sym c.in-ReadFault.is)) c.put_all-in-ReadFault.ensures.written

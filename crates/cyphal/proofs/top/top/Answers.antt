@@ -1,11 +1,16 @@
 use Rattle.cyphal.proofs.Headlines.{once_of, due_of}
 use Rattle.cyphal.proofs.Asked.{completed}
+use Rattle.cyphal.proofs.OneAnswer.{one_status}
+use Rattle.node_run.specs.declared.status.Status.TheVariants as status
 use Rattle.cyphal.proofs.Streaming.{taken_of, streamed_of}
 use Rattle.cyphal.proofs.Parts.{begins_either}
 use Rattle.cyphal.proofs.top.top.Goals as goal
 
+pub returns-clause-exact : goal.returns-clause-exact
+returns-clause-exact g c stat told asked settled = one_status c.one_answer.ensures _ _ _ c.work-status.result stat told (c.work-status.ensures.answer settled) asked
+
 pub returns-clause-complete : goal.returns-clause-complete
-returns-clause-complete g c e x y z = completed c.work-status.result _ _ _ _ _ e c.work-status.ensures.answer c.work-status.ensures.read c.work-status.ensures.write x y z
+returns-clause-complete g c told ok x y z = completed c.work-status.result _ _ _ _ (λ h. one_status c.one_answer.ensures _ _ _ c.work-status.result status.Ok told (c.work-status.ensures.answer h) ok) c.work-status.ensures.read c.work-status.ensures.write x y z
 
 pub returns-clause-line : goal.returns-clause-line
 returns-clause-line g c = begins_either c.put_error.result _ _ _ c.put_error.ensures.written c.put_error.ensures.begins
