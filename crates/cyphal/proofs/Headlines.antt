@@ -1,5 +1,5 @@
 -- From what was run to the headline.
-use Rattle.std.proofs.Common.{◌≡◌, ◌∙◌, ◌⊎◌, inl, inr, ℕ, true, List, [], ◌∷◌, ◌++◌, Option, Some, refl, sym, ap, subst, append_assoc, append-nil}
+use Rattle.std.proofs.Common.{◌≡◌, ◌∙◌, inl, inr, ℕ, true, List, [], ◌++◌, Option, Some, sym, ap, subst, append-nil}
 use Rattle.std.proofs.lemmas.Bool.{both_ways, true≢false}
 use mathlib.Core.List.{reverse_aux}
 use Rattle.tail_frame.specs.declared.logged.Record.{Record}
@@ -17,7 +17,7 @@ use Rattle.frame_log.specs.Order.{IsAhead}
 use Rattle.node_core.specs.declared.line.Line.{Line}
 use Rattle.node_core.specs.Heard.{frames}
 use Rattle.node_core.specs.Steps.{lines, steps}
-use Rattle.node_core.specs.Reported.{of_line, rxs, of_key, IsSession, Reported}
+use Rattle.node_core.specs.Reported.{rxs, of_key, IsSession, Reported}
 use Rattle.node_run.specs.Ran.{Ran, HasRun, names_of, newest_first, steps_of}
 use Rattle.node_run.specs.declared.report.Report.{Report}
 use Rattle.node_run.specs.declared.status.Status.{Status}

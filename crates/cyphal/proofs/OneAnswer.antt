@@ -1,5 +1,5 @@
 -- A command has one status, where all that decides it is told.
-use Rattle.std.proofs.Common.{◌≡◌, ◌∙◌, inl, inr, ℕ, Bool, true, false, ◌||◌, ◌&&◌, List, [], Option, Some, None, is_some, IfSome, Result, Ok, Err, refl, sym, ap}
+use Rattle.std.proofs.Common.{◌≡◌, ◌∙◌, inl, inr, ℕ, Bool, true, false, ◌||◌, List, [], Option, Some, None, is_some, IfSome, Result, Ok, Err, refl, sym, ap}
 use Rattle.std.specs.FinMap as map
 use Rattle.cy_outside.specs.Files.{Files}
 use Rattle.dsdl_files.specs.Folders.{files_of_folder}
