@@ -7,6 +7,8 @@ mod fields;
 mod head;
 mod namespace;
 mod set;
+#[cfg(test)]
+mod tests;
 mod words;
 
 pub use namespace::namespace_text;
