@@ -7,23 +7,23 @@ use Rattle.bit_length.specs.Lengths.{Has, IsNext, IsLeast, IsGreatest}
 use Rattle.layout_text.proofs.Grown.{regroup}
 use Rattle.layout_text.specs.Sets.{Ascend, first, last, listed, member_text}
 
-ascend_head : (x : ℕ) (xs : List ℕ) → Ascend (x ∷ xs) → (n : ℕ) → Has xs n → x < n
+pub ascend_head : (x : ℕ) (xs : List ℕ) → Ascend (x ∷ xs) → (n : ℕ) → Has xs n → x < n
 ascend_head x xs up n (k, lt, e) = subst (λ t. x < t) e (up 0 (suc k) n (omega arith) (omega arith))
 
-ascend_tail : (x : ℕ) (xs : List ℕ) → Ascend (x ∷ xs) → Ascend xs
+pub ascend_tail : (x : ℕ) (xs : List ℕ) → Ascend (x ∷ xs) → Ascend xs
 ascend_tail x xs up = λ i j d lt short. up (suc i) (suc j) d (omega arith) (omega arith)
 
-has_head : (x : ℕ) (xs : List ℕ) → Has (x ∷ xs) x
+pub has_head : (x : ℕ) (xs : List ℕ) → Has (x ∷ xs) x
 has_head x xs = (0, omega arith, refl)
 
-has_later : (x : ℕ) (xs : List ℕ) (n : ℕ) → Has xs n → Has (x ∷ xs) n
+pub has_later : (x : ℕ) (xs : List ℕ) (n : ℕ) → Has xs n → Has (x ∷ xs) n
 has_later x xs n (k, lt, e) = (suc k, omega arith, e)
 
-has_behind : (x : ℕ) (xs : List ℕ) (n : ℕ) → Has (x ∷ xs) n → x < n → Has xs n
+pub has_behind : (x : ℕ) (xs : List ℕ) (n : ℕ) → Has (x ∷ xs) n → x < n → Has xs n
 has_behind x xs n (zero, lt, e) l = absurd (omega arith)
 has_behind x xs n (suc k, lt, e) l = (k, omega arith, e)
 
-at_least : (x : ℕ) (xs : List ℕ) (n : ℕ) → Ascend (x ∷ xs) → Has (x ∷ xs) n → x ≤ n
+pub at_least : (x : ℕ) (xs : List ℕ) (n : ℕ) → Ascend (x ∷ xs) → Has (x ∷ xs) n → x ≤ n
 at_least x xs n up (zero, lt, e) = omega arith
 at_least x xs n up (suc k, lt, e) = let l = ascend_head x xs up n (k, omega arith, e) in omega arith
 

@@ -31,8 +31,12 @@ behind r = r.now
 to : Definition → Bor Definition
 to d = record { ref_ptr = (0, 0); now = d }
 
-abbrev before : Definition → Definition → Bool
+-- whether a definition stands before another
+abbrev pub before : Definition → Definition → Bool
 before a b = is_lt (type_order a.id b.id)
+
+pub before_ranks : IsStrictWeakOrder before
+before_ranks = ranks_by type_total (λ (d : Definition). d.id)
 
 sorted_behind : (rs : List (Bor Definition)) → IsSortedBy stands_before rs → IsSortedByKey (λ (d : Definition). d.id) type_order (map (λ r. r.now) rs)
 unfolding to

@@ -5,3 +5,5 @@ pub mod FieldLines
 pub mod ByName
 pub mod Texts
 pub mod Whole
+pub mod OneOrder
+pub mod OneText

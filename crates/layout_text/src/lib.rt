@@ -5,6 +5,7 @@ mod by_name;
 mod definition;
 mod fields;
 mod head;
+pub mod laws;
 mod namespace;
 mod set;
 #[cfg(test)]
