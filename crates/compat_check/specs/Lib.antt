@@ -1,0 +1,4 @@
+pub mod Paths
+pub mod Verdicts
+pub mod Primitives
+pub mod Parts

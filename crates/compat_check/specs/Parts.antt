@@ -1,0 +1,29 @@
+-- How two fields compare, by what they stand for.
+use Rattle.std.specs.Prelude.{◌==◌, ℕ, Bool, false, List, [], Option, None}
+use Rattle.dsdl_types.specs.Difference as D
+use Rattle.dsdl_types.specs.Difference.{Difference, Named, same, difference, here, unless, below}
+use Rattle.dsdl_types.specs.Views.{Kind, Typed, Padding}
+
+-- two fields are equal, names aside
+abbrev pub same_kind : Kind → Kind → Bool
+same_kind (Typed a) (Typed b) = same a b
+same_kind (Padding n) (Padding m) = n == m
+same_kind _ _ = false
+
+-- the first difference of the types of two fields
+abbrev pub kind_difference : Kind → Kind → Option Difference
+kind_difference (Typed a) (Typed b) = difference a b
+kind_difference (Padding n) (Padding m) = unless (n == m) D.Kind None
+kind_difference _ _ = here D.Kind
+
+-- the name of a field, which is empty for padding
+abbrev pub name_by : List ℕ → Kind → List ℕ
+name_by name (Typed s) = name
+name_by name (Padding n) = []
+
+abbrev pub name_of : List ℕ × Kind → List ℕ
+name_of f = name_by f.0 f.1
+
+-- the first difference of two fields, with the name of the new one
+abbrev pub field_difference : List ℕ × Kind → List ℕ × Kind → Option Difference
+field_difference f g = below (Named (name_of f)) (kind_difference f.1 g.1)

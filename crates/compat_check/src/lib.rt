@@ -1,0 +1,13 @@
+//! Whether a new version of a data type can live beside an old one.
+#![tactic(auto)]
+
+mod compare;
+mod difference;
+mod equal;
+mod path;
+mod primitive;
+#[cfg(test)]
+mod tests;
+mod verdict;
+
+pub use verdict::{CompatWhy, Verdict, newer};
