@@ -98,11 +98,8 @@ fn body_difference(
 fn fields_difference(alloc: Global, new: &Body, old: &Body) -> Result<Option<Difference>, NoMemory>
     ensures { IfOk result (λ d. found_of d ≡ difference_fields (body_of new.now).0 (body_of old.now).0) }
 {
-    for (i, field) in new.fields.as_slice().iter().enumerate() {
-        if i >= old.fields.len() {
-            return Ok(None);
-        }
-        let found = field_difference(alloc, field, &old.fields.as_slice()[i])?;
+    for (field, older) in new.fields.as_slice().iter().zip(old.fields.as_slice()) {
+        let found = field_difference(alloc, field, older)?;
         if found.is_some() {
             return Ok(found);
         }

@@ -55,8 +55,8 @@ pub fn same_fields(a: &Body, b: &Body) -> bool
     if a.fields.len() != b.fields.len() {
         return false;
     }
-    for (i, field) in a.fields.as_slice().iter().enumerate() {
-        if !same_kind(&field.schema, &b.fields.as_slice()[i].schema) {
+    for (field, other) in a.fields.as_slice().iter().zip(b.fields.as_slice()) {
+        if !same_kind(&field.schema, &other.schema) {
             return false;
         }
     }

@@ -11,6 +11,16 @@ fn uint(bits: u8) -> Schema {
     }
 }
 
+/// A signed integer.
+fn int(bits: u8) -> Schema {
+    Schema::Int { bits }
+}
+
+/// Padding.
+fn void(bits: u8) -> Schema {
+    Schema::Void { bits }
+}
+
 /// An array of at most so many items.
 fn array(alloc: Global, item: Schema, cap: u32) -> Result<Schema, NoMemory> {
     Ok(Schema::Var {
@@ -58,26 +68,41 @@ fn three(alloc: Global) -> Result<Body, NoMemory> {
     with(alloc, two(alloc)?, "c", uint(8))
 }
 
-/// An array of structures of one field.
-fn list(alloc: Global, item: Schema) -> Result<Schema, NoMemory> {
-    one(alloc, "list", array(alloc, item, 2)?)
-}
-
 /// A new type, an old one, and what is to be said of them.
 type Row = (Schema, Schema, &'static str);
+
+/// Two structures that have one field of these types, with an extent of 64 bits.
+fn in_field(
+    alloc: Global,
+    name: &str,
+    new: Schema,
+    old: Schema,
+    want: &'static str,
+) -> Result<Row, NoMemory> {
+    Ok((one(alloc, name, new)?, one(alloc, name, old)?, want))
+}
+
+/// The same with arrays of at most two items.
+fn in_list(alloc: Global, new: Schema, old: Schema, want: &'static str) -> Result<Row, NoMemory> {
+    in_field(
+        alloc,
+        "list",
+        array(alloc, new, 2)?,
+        array(alloc, old, 2)?,
+        want,
+    )
+}
 
 /// Pairs of which the first is newer.
 fn newer_rows(alloc: Global) -> Result<Vec<Row>, NoMemory> {
     let mut rows = Vec::new(alloc);
-    let old = one(alloc, "a", uint(8))?;
-    rows.push((Schema::Struct(two(alloc)?), old, "newer"))?;
-    let new = list(alloc, Schema::Struct(two(alloc)?))?;
-    let old = list(alloc, one(alloc, "a", uint(8))?)?;
-    rows.push((new, old, "newer"))?;
+    let new = Schema::Struct(two(alloc)?);
+    rows.push((new, one(alloc, "a", uint(8))?, "newer"))?;
+    let new = Schema::Struct(two(alloc)?);
+    rows.push(in_list(alloc, new, one(alloc, "a", uint(8))?, "newer")?)?;
     let new = sealed(alloc, "left", uint(8))?;
     rows.push((new, sealed(alloc, "right", uint(8))?, "newer"))?;
-    let new = one(alloc, "", Schema::Void { bits: 8 })?;
-    rows.push((new, one(alloc, "", Schema::Void { bits: 8 })?, "newer"))?;
+    rows.push(in_field(alloc, "", void(8), void(8), "newer")?)?;
     Ok(rows)
 }
 
@@ -85,18 +110,12 @@ fn newer_rows(alloc: Global) -> Result<Vec<Row>, NoMemory> {
 fn whole_rows(alloc: Global) -> Result<Vec<Row>, NoMemory> {
     let mut rows = Vec::new(alloc);
     let new = sealed(alloc, "a", uint(8))?;
-    rows.push((
-        new,
-        sealed(alloc, "a", Schema::Int { bits: 8 })?,
-        ".: Sealed",
-    ))?;
+    rows.push((new, sealed(alloc, "a", int(8))?, ".: Sealed"))?;
     let new = sealed(alloc, "a", uint(8))?;
     rows.push((new, one(alloc, "a", uint(8))?, ".: Sealing"))?;
     let new = Schema::Struct(nothing(alloc, 64, false));
     let old = Schema::Struct(nothing(alloc, 72, false));
     rows.push((new, old, ".: Extent"))?;
-    let new = one(alloc, "a", uint(8))?;
-    rows.push((new, Schema::Struct(two(alloc)?), ".: Count"))?;
     let new = Schema::Union(three(alloc)?);
     rows.push((new, Schema::Union(two(alloc)?), ".: Count"))?;
     let new = Schema::Union(two(alloc)?);
@@ -107,26 +126,26 @@ fn whole_rows(alloc: Global) -> Result<Vec<Row>, NoMemory> {
 /// Pairs of which a part of the first isn't newer.
 fn part_rows(alloc: Global) -> Result<Vec<Row>, NoMemory> {
     let mut rows = Vec::new(alloc);
+    rows.push(in_field(alloc, "a", uint(8), int(8), "a: Kind")?)?;
+    rows.push(in_field(alloc, "a", uint(8), uint(16), "a: Kind")?)?;
+    rows.push(in_list(alloc, uint(8), uint(16), "list[]: Kind")?)?;
+    rows.push(in_field(alloc, "", void(8), void(16), ": Kind")?)?;
+    let new = array(alloc, uint(8), 2)?;
+    let old = array(alloc, uint(8), 3)?;
+    rows.push(in_field(alloc, "a", new, old, "a: Kind")?)?;
+    Ok(rows)
+}
+
+/// Pairs of which a part of a part of the first isn't newer.
+fn inner_rows(alloc: Global) -> Result<Vec<Row>, NoMemory> {
+    let mut rows = Vec::new(alloc);
     let new = one(alloc, "a", uint(8))?;
-    rows.push((new, one(alloc, "b", Schema::Int { bits: 8 })?, "a: Kind"))?;
-    let new = one(alloc, "a", uint(8))?;
-    rows.push((new, one(alloc, "a", uint(16))?, "a: Kind"))?;
-    let new = one(alloc, "a", array(alloc, uint(8), 2)?)?;
-    rows.push((new, one(alloc, "a", array(alloc, uint(8), 3)?)?, "a: Kind"))?;
-    let new = one(alloc, "inner", one(alloc, "a", uint(8))?)?;
-    let old = one(alloc, "inner", Schema::Struct(two(alloc)?))?;
-    rows.push((new, old, "inner: Count"))?;
-    let new = one(alloc, "a", array(alloc, uint(8), 2)?)?;
-    let old = one(alloc, "a", array(alloc, uint(16), 2)?)?;
-    rows.push((new, old, "a[]: Kind"))?;
-    let new = list(alloc, one(alloc, "a", uint(8))?)?;
-    let old = list(alloc, one(alloc, "a", uint(16))?)?;
-    rows.push((new, old, "list[].a: Kind"))?;
-    let new = one(alloc, "", Schema::Void { bits: 8 })?;
-    rows.push((new, one(alloc, "", Schema::Void { bits: 16 })?, ": Kind"))?;
-    let new = one(alloc, "inner", one(alloc, "", Schema::Void { bits: 8 })?)?;
-    let old = one(alloc, "inner", one(alloc, "a", uint(8))?)?;
-    rows.push((new, old, "inner.: Kind"))?;
+    let old = Schema::Struct(two(alloc)?);
+    rows.push(in_field(alloc, "inner", new, old, "inner: Count")?)?;
+    let (new, old, _) = in_field(alloc, "a", uint(8), uint(16), "a: Kind")?;
+    rows.push(in_list(alloc, new, old, "list[].a: Kind")?)?;
+    let (new, old, _) = in_field(alloc, "", void(8), uint(8), ": Kind")?;
+    rows.push(in_field(alloc, "inner", new, old, "inner.: Kind")?)?;
     Ok(rows)
 }
 
@@ -149,6 +168,7 @@ fn verdicts(rt: HostRuntime) {
         newer_rows(rt.alloc()).expect(&rt, "memory"),
         whole_rows(rt.alloc()).expect(&rt, "memory"),
         part_rows(rt.alloc()).expect(&rt, "memory"),
+        inner_rows(rt.alloc()).expect(&rt, "memory"),
     ];
     for rows in &tables {
         for (new, old, want) in rows {

@@ -1,6 +1,9 @@
-use Rattle.std.proofs.Common.{◌≡◌, ◌<◌, IfOk, length, ap, ◌∙◌, arith, sym, subst}
+use Rattle.std.proofs.Common.{◌≡◌, IfOk, sym, ◌∙◌, subst, rules, inl, inr}
+use Rattle.std.specs.Slice.Iter.{iter_rest}
+use Rattle.std.proofs.lemmas.Grind.{common_steps}
+use Rattle.dsdl_types.specs.declared.schema.Body.{out-Body}
 use Rattle.compat_check.specs.Verdicts.{found_of}
-use Rattle.compat_check.proofs.Fields.{found_at, difference_by_fields, difference_end}
+use Rattle.compat_check.proofs.Fields.{difference_of, difference_end}
 use Rattle.compat_check.proofs.Composites.{structs, unions}
 use Rattle.compat_check.proofs.compare.+difference.Goals as goal
 
@@ -14,15 +17,12 @@ difference-returns-in-Union-old t c =
     let e = unions _ _ _ _ _ _ c.in-Union.is c.in-Union-old.is c.len-in-Union-old.ensures c.len-in-Union-old-2.ensures in
     subst (λ d. IfOk c.body_difference-in-Union-old.result (λ found. found_of found ≡ d)) e c.body_difference-in-Union-old.ensures
 
-pub fields_difference-returns-then-is_some : goal.fields_difference-returns-then-is_some
-fields_difference-returns-then-is_some t c =
-    let xs = c.as_slice-field-items.result.now in
-    let ys = c.as_slice.result.now in
-    let k : c.loop-i.i < length ys = omega (arith, ap length c.as_slice.ensures) in
-    found_at c.args.new.now c.args.old.now xs ys c.loop-i.i _ _ _ _ c.as_slice-field-items.ensures c.as_slice.ensures c.loop-i.invariant
-    c.loop-i-test.true k c.field-item.is c.index-as_slice-i.is c.in_ok-found.ensures (sym c.is_some.ensures ∙ c.if-is_some.true)
+pub fields_difference-loop-field-init : goal.fields_difference-loop-field-init
+fields_difference-loop-field-init t c =
+    let new_is : iter_rest c.into_iter-field-iterator.result.a ≡ (out-Body c.args.new.now).fields = search (rules, common_steps) in
+    let old_is : iter_rest c.into_iter-field-iterator.result.b ≡ (out-Body c.args.old.now).fields = search (rules, common_steps) in
+    difference_of c.args.new.now c.args.old.now _ _ new_is old_is
 
 pub fields_difference-returns : goal.fields_difference-returns
 fields_difference-returns t c =
-    let xs = c.as_slice-field-items.result.now in
-    sym (difference_by_fields c.args.new.now c.args.old.now xs c.as_slice-field-items.ensures ∙ sym c.loop-i.invariant ∙ difference_end xs _ c.loop-i.i c.loop-i-test.false)
+    sym (difference_end _ _ (elim c.in-None.ensures.steps [ inl (x, e) ↦ inl e.0 | inr (x, e) ↦ inr e.0 ])) ∙ c.loop-field.invariant
