@@ -1,0 +1,127 @@
+ghost use Rattle.std.specs.Prelude.{◌≡◌, [], ◌∷◌, true, IfOk};
+ghost use Rattle.dsdl_types.specs.Schemas.{PBool, PFloat, PUint, Simple, Struct, Union, Var};
+ghost use Rattle.dsdl_types.specs.Values.{Items, Num, Parts, Raw, Tagged, Truth};
+ghost use Rattle.dsdl_types.specs.Views.{Padding, Typed, flds, in_order, in_row, body_of, kind_of, named, val, vals};
+
+use crate::print_value;
+use cy_bits::{Boxed, List, NoMemory, Text};
+use dsdl_types::{Body, Cast, Field, Schema, Value};
+use std::alloc::Global;
+
+/// An unsigned integer.
+fn uint(bits: u8) -> Schema
+    ensures { kind_of result ≡ Typed (Simple (PUint bits true)) }
+{
+    Schema::Uint {
+        bits,
+        cast: Cast::Saturated,
+    }
+}
+
+/// An array of at most two unsigned integers.
+fn array(alloc: Global, bits: u8) -> Result<Schema, NoMemory>
+    ensures { IfOk result (λ s. kind_of s ≡ Typed (Var (Simple (PUint bits true)) 2)) }
+{
+    Ok(Schema::Var {
+        item: Boxed::new(alloc, uint(bits))?,
+        cap: 2,
+    })
+}
+
+/// A field.
+fn field(alloc: Global, name: &str, schema: Schema) -> Result<Field, NoMemory>
+    ensures { IfOk result (λ f. named f ≡ (name.now, kind_of schema)) }
+{
+    Ok(Field {
+        name: Text::from_str(alloc, name)?,
+        schema,
+    })
+}
+
+/// The fields `first` and `second`.
+fn body(alloc: Global, first: Field, second: Field) -> Result<Body, NoMemory>
+    ensures { IfOk result (λ b. (body_of b).0 ≡ in_order (named first ∷ named second ∷ [])) }
+{
+    let mut fields = List::empty(alloc);
+    fields.push(first)?;
+    fields.push(second)?;
+    Ok(Body {
+        fields,
+        extent: 64,
+        sealed: false,
+    })
+}
+
+/// Two values.
+fn two(alloc: Global, first: Value, second: Value) -> Result<List<Value>, NoMemory>
+    ensures { IfOk result (λ l. vals l ≡ in_row (val first ∷ val second ∷ [])) }
+{
+    let mut values = List::empty(alloc);
+    values.push(first)?;
+    values.push(second)?;
+    Ok(values)
+}
+
+/// The text of `[first, second]` in `@union`, `uint8 a`, `uint16[<=2] b`.
+fn union_text(alloc: Global, first: i64, second: i64) -> Result<Text, NoMemory> {
+    let number = field(alloc, "a", uint(8))?;
+    let fields = body(alloc, number, field(alloc, "b", array(alloc, 16)?)?)?;
+    let schema = Schema::Union(fields);
+    let items = two(
+        alloc,
+        Value::Num(i128::from(first)),
+        Value::Num(i128::from(second)),
+    )?;
+    let value = Value::Union {
+        tag: 1,
+        value: Boxed::new(alloc, Value::Items(items))?,
+    };
+    print_value(alloc, &schema, &value)
+}
+
+/// The text of a float's bits and `[first, second]` in `float16 f`, `uint8[<=2] x`.
+fn struct_text(alloc: Global, bits: u16, first: i64, second: i64) -> Result<Text, NoMemory> {
+    let float = Schema::Float {
+        bits: 16,
+        cast: Cast::Saturated,
+    };
+    let number = field(alloc, "f", float)?;
+    let fields = body(alloc, number, field(alloc, "x", array(alloc, 8)?)?)?;
+    let schema = Schema::Struct(fields);
+    let items = two(
+        alloc,
+        Value::Num(i128::from(first)),
+        Value::Num(i128::from(second)),
+    )?;
+    let values = two(alloc, Value::Bits(u64::from(bits)), Value::Items(items))?;
+    print_value(alloc, &schema, &Value::Struct(values))
+}
+
+/// The text of a truth value behind padding.
+fn truth_text(alloc: Global, truth: bool) -> Result<Text, NoMemory> {
+    let padding = field(alloc, "", Schema::Void { bits: 3 })?;
+    let fields = body(alloc, padding, field(alloc, "t", Schema::Bool)?)?;
+    let schema = Schema::Struct(fields);
+    let mut values = List::empty(alloc);
+    values.push(Value::Bool(truth))?;
+    print_value(alloc, &schema, &Value::Struct(values))
+}
+
+/// Texts of values, each with what it must be.
+fn rows(alloc: Global) -> Result<Vec<(Text, &'static str)>, NoMemory> {
+    let mut rows = Vec::new(alloc);
+    rows.push((union_text(alloc, 1, 65282)?, "{b: [1, 65282]}"))?;
+    rows.push((union_text(alloc, 0, -128)?, "{b: [0, -128]}"))?;
+    rows.push((struct_text(alloc, 0x3C00, 3, 1)?, "{f: 0x3C00, x: #0301}"))?;
+    rows.push((struct_text(alloc, 11, 300, 1)?, "{f: 0x000B, x: [300, 1]}"))?;
+    rows.push((truth_text(alloc, true)?, "{t: true}"))?;
+    Ok(rows)
+}
+
+#[test]
+fn prints(rt: HostRuntime) {
+    let rows = rows(rt.alloc()).expect(&rt, "memory");
+    for (text, want) in &rows {
+        assert!(rt; text.as_str() == *want, "at {want}");
+    }
+}
