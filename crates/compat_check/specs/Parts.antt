@@ -16,11 +16,12 @@ kind_difference (Typed a) (Typed b) = difference a b
 kind_difference (Padding n) (Padding m) = unless (n == m) D.Kind None
 kind_difference _ _ = here D.Kind
 
--- the name of a field, which is empty for padding
+-- the name of a field by what it stands for, which is empty for padding
 abbrev pub name_by : List ℕ → Kind → List ℕ
 name_by name (Typed s) = name
 name_by name (Padding n) = []
 
+-- the name of a field with what it stands for
 abbrev pub name_of : List ℕ × Kind → List ℕ
 name_of f = name_by f.0 f.1
 

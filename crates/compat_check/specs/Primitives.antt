@@ -21,6 +21,7 @@ prim_of (primitives.Uint bits cast) = PUint bits (is_saturated cast)
 prim_of (primitives.Int bits) = PInt bits
 prim_of (primitives.Float bits cast) = PFloat bits (is_saturated cast)
 
+-- a primitive of the code that may be absent
 abbrev pub simple_of : Option Primitive → Option Prim
 simple_of None = None
 simple_of (Some t) = Some (prim_of t)

@@ -11,6 +11,7 @@ use Rattle.compat_check.specs.declared.verdict.CompatWhy.TheVariants as whys
 use Rattle.compat_check.specs.declared.verdict.Verdict.{Verdict}
 use Rattle.compat_check.specs.declared.verdict.Verdict.TheVariants.{Yes, No}
 
+-- a cause of the code as one of the definitions
 abbrev pub cause_of : CompatWhy → Cause
 cause_of whys.Kind = D.Kind
 cause_of whys.Sealing = D.Sealing
@@ -18,6 +19,7 @@ cause_of whys.Extent = D.Extent
 cause_of whys.Sealed = D.Sealed
 cause_of whys.Count = D.Count
 
+-- a cause of the definitions as one of the code
 abbrev pub why_of : Cause → CompatWhy
 why_of D.Kind = whys.Kind
 why_of D.Sealing = whys.Sealing
@@ -30,14 +32,16 @@ abbrev pub verdict_of : Option Difference → Verdict
 verdict_of None = Yes
 verdict_of (Some d) = No (path_text d.path) (why_of d.cause)
 
+-- a turn of the code as one of the definitions
 abbrev pub turn_of : T.Turn → Turn
 turn_of (turns.Named name) = D.Named name
 turn_of turns.Item = D.Item
 
--- the code has the last turn first
+-- A difference of the code as one of the definitions. The code has the last turn first.
 abbrev pub difference_of : C.Difference → Difference
 difference_of d = record { path = reverse (map turn_of d.turns); cause = cause_of d.why }
 
+-- a difference that may be absent
 abbrev pub found_of : Option C.Difference → Option Difference
 found_of None = None
 found_of (Some d) = Some (difference_of d)
