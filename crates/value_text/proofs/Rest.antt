@@ -11,7 +11,7 @@ abbrev pub rest_of : Bool → List (List ℕ) → List ℕ
 rest_of true texts = separated texts
 rest_of false texts = following texts
 
-rest_next : (b : Bool) (t : List ℕ) (ts : List (List ℕ)) → rest_of b (t ∷ ts) ≡ lead b ++ (t ++ following ts)
+pub rest_next : (b : Bool) (t : List ℕ) (ts : List (List ℕ)) → rest_of b (t ∷ ts) ≡ lead b ++ (t ++ following ts)
 rest_next true t ts = refl
 rest_next false t ts = refl
 

@@ -1,6 +1,7 @@
 //! The one text of a value of a data type.
 #![tactic(auto)]
 
+pub mod laws;
 mod parts;
 mod print;
 #[cfg(test)]
