@@ -11,7 +11,10 @@ use cy_bits::{NoMemory, Text};
 use dsdl_types::{Body, Field, Schema, Value};
 use std::alloc::Global;
 
-/// The text of a value of a schema.
+/// The text of a value of a schema. A truth value is `true` or `false`, a number is decimal, and a float is `0x` and
+/// all hex digits of its raw bits. An array of 8-bit unsigned integers, whose items all lie in 0 to 255, is `#` and two
+/// hex digits for each item, and any other array is `[v, v]`. A structure is `{name: v, name: v}` without its padding,
+/// and a union `{name: v}`. Hex is in upper case. The one error is want of memory.
 pub fn print_value(alloc: Global, schema: &Schema, value: &Value) -> Result<Text, NoMemory>
     requires { Fits (sch schema.now) (val value.now) }
     ensures { IfOk result (λ t. t ≡ value_text (sch schema.now) (val value.now)) }

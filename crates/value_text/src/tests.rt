@@ -97,6 +97,18 @@ fn struct_text(alloc: Global, bits: u16, first: i64, second: i64) -> Result<Text
     print_value(alloc, &schema, &Value::Struct(values))
 }
 
+/// The text of a structure of `uint8 a`, `uint16 b` in a structure, with `uint8 z` behind it.
+fn outer_text(alloc: Global, a: u8, b: u16, z: u8) -> Result<Text, NoMemory> {
+    let number = field(alloc, "a", uint(8))?;
+    let part = body(alloc, number, field(alloc, "b", uint(16))?)?;
+    let inner = field(alloc, "inner", Schema::Struct(part))?;
+    let fields = body(alloc, inner, field(alloc, "z", uint(8))?)?;
+    let schema = Schema::Struct(fields);
+    let parts = two(alloc, Value::Num(i128::from(a)), Value::Num(i128::from(b)))?;
+    let values = two(alloc, Value::Struct(parts), Value::Num(i128::from(z)))?;
+    print_value(alloc, &schema, &Value::Struct(values))
+}
+
 /// The text of a truth value behind padding.
 fn truth_text(alloc: Global, truth: bool) -> Result<Text, NoMemory> {
     let padding = field(alloc, "", Schema::Void { bits: 3 })?;
@@ -115,6 +127,8 @@ fn rows(alloc: Global) -> Result<Vec<(Text, &'static str)>, NoMemory> {
     rows.push((struct_text(alloc, 0x3C00, 3, 1)?, "{f: 0x3C00, x: #0301}"))?;
     rows.push((struct_text(alloc, 11, 300, 1)?, "{f: 0x000B, x: [300, 1]}"))?;
     rows.push((truth_text(alloc, true)?, "{t: true}"))?;
+    let outer = outer_text(alloc, 5, 4660, 9)?;
+    rows.push((outer, "{inner: {a: 5, b: 4660}, z: 9}"))?;
     Ok(rows)
 }
 
