@@ -8,7 +8,13 @@ use Rattle.node_plan.specs.declared.plan.PlanError.{PlanError}
 use Rattle.node_plan.specs.declared.plan.PlanError.TheVariants as plan_error
 use Rattle.node_plan.specs.declared.plan.PlanWhy.{PlanWhy}
 use Rattle.frame_log.specs.Log.{Log, log_of}
+use Rattle.dsdl_types.specs.declared.definition.Parts.{Parts}
+use Rattle.dsdl_types.specs.declared.namespace.Namespace.{Namespace}
+use Rattle.compat_check.specs.declared.verdict.Verdict.{Verdict}
+use Rattle.compat_check.specs.declared.verdict.Verdict.TheVariants as verdict
 use Rattle.node_run.specs.BoundText.{HasBound}
+use Rattle.node_run.specs.NamedTypes.{named as named_in}
+use Rattle.node_run.specs.Compared.{parts_verdict, ended, compared_found, compared, HasCompared}
 use Rattle.node_run.specs.Ran.{Ran, HasRun, names_of, refused, refusal_of}
 use Rattle.node_run.specs.declared.report.Report.{Report}
 use Rattle.node_run.specs.declared.status.LogWhy.{LogWhy}
@@ -30,6 +36,7 @@ ended_so plan log status.Usage report before after h r = absurd r
 ended_so plan log (status.Dsdl file n w) report before after h r = absurd r
 ended_so plan log (status.Plan n w) report before after h r = absurd r
 ended_so plan log (status.Log n w) report before after h r = sym (ap ending r.0 ∙ named n w)
+ended_so plan log (status.NotNewer path w) report before after h r = absurd r
 ended_so plan log status.LogLong report before after h r = ap ending (sym r.0)
 ended_so plan log (status.NoFile path) report before after h r = absurd r
 ended_so plan log status.ReadFault report before after h r = absurd cc
@@ -110,6 +117,7 @@ bound_answer plan status.Usage before after h f = absurd h
 bound_answer plan (status.Dsdl file n w) before after h f = absurd h
 bound_answer plan (status.Plan n w) before after h f = absurd h
 bound_answer plan (status.Log n w) before after h f = absurd h
+bound_answer plan (status.NotNewer path w) before after h f = absurd h
 bound_answer plan status.LogLong before after h f = absurd h
 bound_answer plan (status.NoFile path) before after h f = absurd h
 bound_answer plan status.ReadFault before after h f = absurd h
@@ -123,6 +131,37 @@ bound_usage plan stat before after h e = subst (λ (s : Status). HasBound plan s
 pub bound_read : (plan : Plan) (stat : Status) (before after : Option (List ℕ)) → HasBound plan stat before after → stat ≡ status.ReadFault → ⊥
 bound_read plan stat before after h e = subst (λ (s : Status). HasBound plan s before after) e h
 
+-- a comparison's status is the one that is asked for
+pub compared_answer : (names : Namespace) (new old : List ℕ) (stat : Status) (before after : Option (List ℕ)) → HasCompared names new old stat before after → is_fault stat ≡ false → stat ≡ compared names new old
+compared_answer names new old status.Ok before after h f = sym h.0
+compared_answer names new old status.Usage before after h f = sym h.0
+compared_answer names new old (status.Dsdl file n w) before after h f = sym h.0
+compared_answer names new old (status.Plan n w) before after h f = sym h.0
+compared_answer names new old (status.Log n w) before after h f = sym h.0
+compared_answer names new old (status.NotNewer path w) before after h f = sym h.0
+compared_answer names new old status.LogLong before after h f = sym h.0
+compared_answer names new old (status.NoFile path) before after h f = sym h.0
+compared_answer names new old status.ReadFault before after h f = absurd h
+compared_answer names new old status.WriteFault before after h f = absurd cc
+compared_answer names new old status.NoMemory before after h f = absurd cc
+
+ended_usage : (verdict : Verdict) → ended verdict ≡ status.Usage → ⊥
+ended_usage verdict.Yes e = absurd cc
+ended_usage (verdict.No path why) e = absurd cc
+
+found_usage : (new old : List ℕ) (parts older : Option Parts) → compared_found new old parts older ≡ status.Usage → ⊥
+found_usage new old None older e = absurd cc
+found_usage new old (Some parts) None e = absurd cc
+found_usage new old (Some parts) (Some older) e = ended_usage (parts_verdict parts older) e
+
+-- it is none of the statuses before it
+pub compared_usage : (names : Namespace) (new old : List ℕ) (stat : Status) (before after : Option (List ℕ)) → HasCompared names new old stat before after → stat ≡ status.Usage → ⊥
+compared_usage names new old stat before after h e =
+    let t = subst (λ (s : Status). HasCompared names new old s before after) e h in found_usage new old (named_in names new) (named_in names old) t.0
+
+pub compared_read : (names : Namespace) (new old : List ℕ) (stat : Status) (before after : Option (List ℕ)) → HasCompared names new old stat before after → stat ≡ status.ReadFault → ⊥
+compared_read names new old stat before after h e = subst (λ (s : Status). HasCompared names new old s before after) e h
+
 -- where all is accepted and nothing failed, all was done or memory was wanting
 pub completed : (stat : Status) (A B C D : Type 0) → (is_fault stat ≡ false → stat ≡ status.Ok) → (stat ≡ status.ReadFault → (A × D) ⊎ B) → (stat ≡ status.WriteFault → C)
     → (A → ⊥) → (B → ⊥) → (C → ⊥) → (stat ≡ status.Ok) ⊎ (stat ≡ status.NoMemory)
@@ -131,6 +170,7 @@ completed status.Usage A B C D e r w x y z = inl (e refl)
 completed (status.Dsdl file n why) A B C D e r w x y z = inl (e refl)
 completed (status.Plan n why) A B C D e r w x y z = inl (e refl)
 completed (status.Log n why) A B C D e r w x y z = inl (e refl)
+completed (status.NotNewer path why) A B C D e r w x y z = inl (e refl)
 completed status.LogLong A B C D e r w x y z = inl (e refl)
 completed (status.NoFile path) A B C D e r w x y z = inl (e refl)
 completed status.ReadFault A B C D e r w x y z = elim (r refl) [ inl f ↦ absurd (x f.0) | inr f ↦ absurd (y f) ]

@@ -26,7 +26,7 @@ use Rattle.node_core.proofs.Projection.{rxs_append}
 use Rattle.node_run.proofs.Logs.{newest_onto}
 use Rattle.node_run.proofs.Runs.{lines_front}
 use Rattle.node_run.proofs.Steps.{records_steps}
-use Rattle.cyphal.specs.Words.{Compile, Run, Bound, command_of}
+use Rattle.cyphal.specs.Words.{Compile, Compat, Run, Bound, command_of}
 use Rattle.cyphal.specs.Expected.{PlanAt, is_settled, WasRun, WasDone}
 use Rattle.cyphal.specs.Headline.{heard_as, logged_in, Asked, ExplainsIn, OnceOf, DueOf}
 use Rattle.cyphal.proofs.Frames.{frames_are, are_records, in_order}
@@ -45,6 +45,7 @@ front plan log status.Usage report before after r = absurd r
 front plan log (status.Dsdl file n w) report before after r = absurd r
 front plan log (status.Plan n w) report before after r = absurd r
 front plan log (status.Log n w) report before after r = all_lines plan log report r.1.at.reported
+front plan log (status.NotNewer path w) report before after r = absurd r
 front plan log status.LogLong report before after r = all_lines plan log report r.1.at.reported
 front plan log (status.NoFile path) report before after r = absurd r
 front plan log status.ReadFault report before after r =
@@ -61,6 +62,7 @@ whole plan log status.Usage report before after s r = absurd r
 whole plan log (status.Dsdl file n w) report before after s r = absurd r
 whole plan log (status.Plan n w) report before after s r = absurd r
 whole plan log (status.Log n w) report before after s r = r.1.at.reported
+whole plan log (status.NotNewer path w) report before after s r = absurd r
 whole plan log status.LogLong report before after s r = r.1.at.reported
 whole plan log (status.NoFile path) report before after s r = absurd r
 whole plan log status.ReadFault report before after s r = absurd (true≢false (sym s))
@@ -77,6 +79,9 @@ not_bound words a b x y = let p : Some (Bound a) ≡ Some (Run b) = sym x ∙ y 
 
 not_compiled : (words : List (List ℕ)) (a b : List ℕ) → command_of words ≡ Some (Compile a) → command_of words ≡ Some (Run b) → ⊥
 not_compiled words a b x y = let p : Some (Compile a) ≡ Some (Run b) = sym x ∙ y in absurd cc
+
+not_compared : (words : List (List ℕ)) (root new old b : List ℕ) → command_of words ≡ Some (Compat root new old) → command_of words ≡ Some (Run b) → ⊥
+not_compared words root new old b x y = let p : Some (Compat root new old) ≡ Some (Run b) = sym x ∙ y in absurd cc
 
 one_plan : (path : List ℕ) (tree : Files) (a b : Plan) → PlanAt path (Some tree) a → PlanAt path (Some tree) b → a ≡ b
 one_plan path tree a b x y =
@@ -124,7 +129,8 @@ pub once_of : Reported → WireExplainsFields → OnceInPart → InOrder
 once_of law fields once order words files input stat report before after (inl n) plan bytes key p sent origin a s x =
     subst (λ ls. SelectedRx p.extent sent origin (of_key plan key (logged_in plan bytes)) (rxs key ls)) (sym n.empty.reported) (record { sent_ones = tt; in_order = tt })
 once_of law fields once order words files input stat report before after (inr (inr (inl b))) plan bytes key p sent origin a s x = absurd (not_bound words b.path a.path b.asked a.command)
-once_of law fields once order words files input stat report before after (inr (inr (inr c))) plan bytes key p sent origin a s x = absurd (not_compiled words c.root a.path c.asked a.command)
+once_of law fields once order words files input stat report before after (inr (inr (inr (inl c)))) plan bytes key p sent origin a s x = absurd (not_compiled words c.root a.path c.asked a.command)
+once_of law fields once order words files input stat report before after (inr (inr (inr (inr c)))) plan bytes key p sent origin a s x = absurd (not_compared words c.root c.new c.old a.path c.asked a.command)
 once_of law fields once order words files input stat report before after (inr (inl w)) plan bytes key p sent origin a s x =
     let log = log_of (names_of plan) bytes in
     let f = front plan log stat report before after (ran words files input stat report before after plan bytes w a) in
@@ -137,7 +143,8 @@ pub due_of : Reported → WireExplainsFields → DueInReport
     → WasDone words files input stat report before after → DueOf words files input stat report
 due_of law fields due words files input stat report before after (inl n) plan bytes key p sent origin q a s x settled d = absurd (both_ways (is_settled stat) n.not_settled settled)
 due_of law fields due words files input stat report before after (inr (inr (inl b))) plan bytes key p sent origin q a s x settled d = absurd (not_bound words b.path a.path b.asked a.command)
-due_of law fields due words files input stat report before after (inr (inr (inr c))) plan bytes key p sent origin q a s x settled d = absurd (not_compiled words c.root a.path c.asked a.command)
+due_of law fields due words files input stat report before after (inr (inr (inr (inl c)))) plan bytes key p sent origin q a s x settled d = absurd (not_compiled words c.root a.path c.asked a.command)
+due_of law fields due words files input stat report before after (inr (inr (inr (inr c)))) plan bytes key p sent origin q a s x settled d = absurd (not_compared words c.root c.new c.old a.path c.asked a.command)
 due_of law fields due words files input stat report before after (inr (inl w)) plan bytes key p sent origin q a s x settled d =
     let all = whole plan (log_of (names_of plan) bytes) stat report before after settled (ran words files input stat report before after plan bytes w a) in
     subst (AnyRx (λ rx. rx.last ≡ q.line)) (sym (ap (rxs key) all ∙ session plan bytes key law p s))

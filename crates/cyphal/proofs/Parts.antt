@@ -32,6 +32,9 @@ begins_part parts i d before mid after h e b =
 pub three : (a b c x y z : List ℕ) → a ≡ x → b ≡ y → c ≡ z → a ++ (b ++ (c ++ [])) ≡ x ++ (y ++ z)
 three a b c x y z e f g = ap₂ (λ s t. s ++ t) e (ap₂ (λ s t. s ++ t) f (append-nil c ∙ g))
 
+pub five : (a b c d e x y z u v : List ℕ) → a ≡ x → b ≡ y → c ≡ z → d ≡ u → e ≡ v → a ++ (b ++ (c ++ (d ++ (e ++ [])))) ≡ x ++ (y ++ (z ++ (u ++ v)))
+five a b c d e x y z u v f g h k l = ap₂ (λ s t. s ++ t) f (ap₂ (λ s t. s ++ t) g (three c d e z u v h k l))
+
 -- all of a line came, or its beginning
 pub begins_either : {T E : Type 0} (r : Result T E) (line : List ℕ) (before after : Option (List ℕ)) → OnOk r (after ≡ behind before line) → OnErr r (Begins line before after) → Begins line before after
 begins_either (Ok x) line before after w b = record { front = line; rest = []; whole = sym (append-nil line); written = w }

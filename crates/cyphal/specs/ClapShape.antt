@@ -12,6 +12,10 @@ given id = record (new_rule id) { required = true; action = Some Set }
 abbrev pub root_shape : App
 root_shape = with_rule (new_app (codes "cyphal")) (given (codes "ROOT"))
 
+-- a root and the names of two types
+abbrev pub types_shape : App
+types_shape = with_rule (with_rule (with_rule (new_app (codes "cyphal")) (given (codes "ROOT"))) (given (codes "NEW"))) (given (codes "OLD"))
+
 -- a root and a plan
 abbrev pub plan_shape : App
 plan_shape = with_rule (with_rule (new_app (codes "cyphal")) (given (codes "ROOT"))) (given (codes "PLAN"))

@@ -1,5 +1,7 @@
 -- The line that is written of a status.
 use Rattle.std.specs.Prelude.{ℕ, List, [], ◌∷◌, ◌++◌, codes, decimal}
+use Rattle.compat_check.specs.declared.verdict.CompatWhy.{CompatWhy}
+use Rattle.compat_check.specs.declared.verdict.CompatWhy.TheVariants as compat_why
 use Rattle.dsdl_names.specs.declared.NameError.{NameError}
 use Rattle.dsdl_names.specs.declared.NameError.TheVariants as name_error
 use Rattle.dsdl_resolve.specs.declared.error.DsdlWhy.{DsdlWhy}
@@ -22,6 +24,13 @@ log_why_text log_why.BadLine = codes "BadLine"
 log_why_text log_why.TimeBack = codes "TimeBack"
 log_why_text log_why.UnknownBus = codes "UnknownBus"
 log_why_text log_why.TooFar = codes "TooFar"
+
+abbrev pub compat_why_text : CompatWhy → List ℕ
+compat_why_text compat_why.Kind = codes "Kind"
+compat_why_text compat_why.Sealing = codes "Sealing"
+compat_why_text compat_why.Extent = codes "Extent"
+compat_why_text compat_why.Sealed = codes "Sealed"
+compat_why_text compat_why.Count = codes "Count"
 
 -- that memory was wanted is no cause of a refused name
 abbrev pub name_error_text : NameError → List ℕ
@@ -47,7 +56,11 @@ in_file file n why = codes "cyphal: " ++ (file ++ (codes ":" ++ (decimal n ++ (c
 abbrev pub numbered : List ℕ → ℕ → List ℕ → List ℕ
 numbered head n why = head ++ (decimal n ++ (codes ": " ++ (why ++ 10 ∷ [])))
 
--- a file that isn't there
+-- where a type isn't newer, and why
+abbrev pub not_newer : List ℕ → List ℕ → List ℕ
+not_newer path why = codes "cyphal: not newer at " ++ (path ++ (codes ": " ++ (why ++ 10 ∷ [])))
+
+-- a file, folder or type that isn't there
 abbrev pub missing : List ℕ → List ℕ
 missing path = codes "cyphal: not found: " ++ (path ++ 10 ∷ [])
 
@@ -57,6 +70,7 @@ error_line status.Usage = codes "cyphal: usage\n"
 error_line (status.Dsdl file n why) = in_file file n (dsdl_why_text why)
 error_line (status.Plan n why) = numbered (codes "cyphal: plan line ") n (plan_why_text why)
 error_line (status.Log n why) = numbered (codes "cyphal: log line ") n (log_why_text why)
+error_line (status.NotNewer path why) = not_newer path (compat_why_text why)
 error_line status.LogLong = codes "cyphal: input too long\n"
 error_line (status.NoFile path) = missing path
 error_line status.ReadFault = codes "cyphal: read fault\n"
@@ -70,6 +84,7 @@ code_of status.Usage = 1
 code_of (status.Dsdl file n why) = 2
 code_of (status.Plan n why) = 3
 code_of (status.Log n why) = 4
+code_of (status.NotNewer path why) = 7
 code_of status.ReadFault = 8
 code_of status.WriteFault = 9
 code_of status.NoMemory = 10

@@ -8,13 +8,21 @@ use Rattle.node_plan.specs.declared.plan.Plan.{Plan}
 use Rattle.frame_log.specs.Log.{log_of}
 use Rattle.frame_log.specs.declared.error.LogError.{LogError}
 use Rattle.node_run.specs.BoundText.{HasBound}
+use Rattle.node_run.specs.Compared.{compared, HasCompared}
 use Rattle.node_run.specs.Layouts.{HasLayouts}
 use Rattle.node_run.specs.Loaded.{is_none, IsLoaded, IsNotLoaded}
 use Rattle.node_run.specs.Ran.{IsEmpty, HasRun, names_of, refused}
 use Rattle.node_run.specs.declared.report.Report.{Report}
 use Rattle.node_run.specs.declared.status.Status.{Status}
 use Rattle.node_run.specs.declared.status.Status.TheVariants as status
-use Rattle.cyphal.specs.Words.{Command, Compile, Run, Bound, command_of}
+use Rattle.cyphal.specs.Words.{Command, Compile, Compat, Run, Bound, command_of}
+
+-- the statuses that may come at any time
+abbrev pub is_fault : Status → Bool
+is_fault status.ReadFault = true
+is_fault status.WriteFault = true
+is_fault status.NoMemory = true
+is_fault other = false
 
 -- how a log that ends so ends a run
 abbrev pub ending : Option LogError → Status
@@ -53,10 +61,15 @@ Compiles root files (status.NoFile path) = IsNotLoaded root files (status.NoFile
 Compiles root files (status.Dsdl path line why) = IsNotLoaded root files (status.Dsdl path line why)
 Compiles root files other = ⊥
 
+-- what comparing two types of a root comes to: why the root has no namespace, or how the comparison in it ends
+abbrev pub Compares : List ℕ → List ℕ → List ℕ → Option Files → Status → Type 0
+Compares root new old files stat = (is_fault stat ≡ false) × (IsNotLoaded root files stat ⊎ ((names : Namespace) × IsLoaded root files names × (stat ≡ compared names new old)))
+
 -- a status is what the command asks for, as far as what is told decides it
 abbrev pub Answers : Option Command → Option Files → Option (List ℕ) → Status → Type 0
 Answers None files input stat = stat ≡ status.Usage
 Answers (Some (Compile root)) files input stat = Compiles root files stat
+Answers (Some (Compat root new old)) files input stat = Compares root new old files stat
 Answers (Some (Run path)) files input stat = IfSome (on_run path files input) (λ s. stat ≡ s)
 Answers (Some (Bound path)) files input stat = IfSome (on_bound path files) (λ s. stat ≡ s)
 
@@ -64,15 +77,9 @@ Answers (Some (Bound path)) files input stat = IfSome (on_bound path files) (λ 
 abbrev pub is_told : Option Command → Option Files → Option (List ℕ) → Bool
 is_told None files input = true
 is_told (Some (Compile root)) files input = is_none root || is_some files
+is_told (Some (Compat root new old)) files input = is_none root || is_some files
 is_told (Some (Run path)) files input = is_some files && is_some input
 is_told (Some (Bound path)) files input = is_some files
-
--- the statuses that may come at any time
-abbrev pub is_fault : Status → Bool
-is_fault status.ReadFault = true
-is_fault status.WriteFault = true
-is_fault status.NoMemory = true
-is_fault other = false
 
 -- the statuses of a run over all of the log that counts
 abbrev pub is_settled : Status → Bool
@@ -130,9 +137,25 @@ pub record WasCompiled (words : List (List ℕ)) (files : Option Files) (stat : 
   pub compiled : HasCompiledAt root files stat before after
   pub empty : IsEmpty report
 
+-- two types of the namespace of a root were compared, and what was written of it
+pub record HasComparedAt (root new old : List ℕ) (files : Option Files) (stat : Status) (before after : Option (List ℕ)) : Type 0 where
+  pub names : Namespace
+  pub is : IsLoaded root files names
+  pub compared : HasCompared names new old stat before after
+
+-- the types that the words name were compared, in the namespace of the root that they name, and nothing was run
+pub record WasCompared (words : List (List ℕ)) (files : Option Files) (stat : Status) (report : Report) (before after : Option (List ℕ)) : Type 0 where
+  pub root : List ℕ
+  pub new : List ℕ
+  pub old : List ℕ
+  pub asked : command_of words ≡ Some (Compat root new old)
+  pub compared : HasComparedAt root new old files stat before after
+  pub empty : IsEmpty report
+
 -- what was done: nothing, or what the words name
 abbrev pub WasDone : List (List ℕ) → Option Files → Option (List ℕ) → Status → Report → Option (List ℕ) → Option (List ℕ) → Type 0
 WasDone words files input stat report before after = NotRun stat report before after
     ⊎ (WasRun words files input stat report before after
     ⊎ (WasBound words files stat report before after
-    ⊎ WasCompiled words files stat report before after))
+    ⊎ (WasCompiled words files stat report before after
+    ⊎ WasCompared words files stat report before after)))

@@ -6,33 +6,39 @@ use Rattle.cyphal.specs.declared.words.CommandName.TheVariants as name
 use Rattle.cyphal.specs.declared.words.Accepted.{Accepted}
 use Rattle.cyphal.specs.declared.words.Accepted.TheVariants as accepted
 
--- what the words ask for: the layouts of the types below this root, a run of the plan at this path, or its memory bound
+-- what the words ask for: the layouts of the types below this root, whether one of them is newer than another, a run of
+-- the plan at this path, or its memory bound
 pub data Command : Type 0 where
   Compile : List ℕ → Command
+  Compat : List ℕ → List ℕ → List ℕ → Command
   Run : List ℕ → Command
   Bound : List ℕ → Command
 
 -- the command of accepted words
 abbrev pub asked_by : Accepted → Command
 asked_by (accepted.Compile root) = Compile root.now
+asked_by (accepted.Compat root new old) = Compat root.now new.now old.now
 asked_by (accepted.Run plan) = Run plan.now
 asked_by (accepted.Bound plan) = Bound plan.now
 
 -- the name of a command
 abbrev pub name_of : Command → CommandName
 name_of (Compile root) = name.Compile
+name_of (Compat root new old) = name.Compat
 name_of (Run path) = name.Run
 name_of (Bound path) = name.Bound
 
 -- the root of a command that has it alone
 abbrev pub root_of : Command → Option (List ℕ)
 root_of (Compile root) = Some root
+root_of (Compat root new old) = None
 root_of (Run path) = None
 root_of (Bound path) = None
 
 -- the path of a command's plan
 abbrev pub path_of : Command → Option (List ℕ)
 path_of (Compile root) = None
+path_of (Compat root new old) = None
 path_of (Run path) = Some path
 path_of (Bound path) = Some path
 
@@ -45,6 +51,10 @@ is_argument (x ∷ xs) = not (x == 45)
 abbrev pub are_arguments : List ℕ → List ℕ → Bool
 are_arguments root plan = (is_argument root && is_argument plan) && bytes_eq root (codes "none")
 
+-- the arguments ROOT, NEW and OLD
+abbrev pub are_types : List ℕ → List ℕ → List ℕ → Bool
+are_types root new old = is_argument root && (is_argument new && is_argument old)
+
 -- the command that a word names, of a root
 abbrev pub named_of_root : List ℕ → List ℕ → Option Command
 named_of_root word root = if bytes_eq word (codes "compile") then Some (Compile root) else None
@@ -53,17 +63,24 @@ named_of_root word root = if bytes_eq word (codes "compile") then Some (Compile 
 abbrev pub named_of_plan : List ℕ → List ℕ → Option Command
 named_of_plan word plan = if bytes_eq word (codes "run") then Some (Run plan) else (if bytes_eq word (codes "bound") then Some (Bound plan) else None)
 
--- what the words ask for, where they are accepted: `compile ROOT`, `run ROOT PLAN` or `bound ROOT PLAN`
+-- the command that a word names, of two types of a root
+abbrev pub named_of_types : List ℕ → List ℕ → List ℕ → List ℕ → Option Command
+named_of_types word root new old = if bytes_eq word (codes "compat") then Some (Compat root new old) else None
+
+-- what the words ask for, where they are accepted: `compile ROOT`, `compat ROOT NEW OLD`, `run ROOT PLAN` or
+-- `bound ROOT PLAN`
 abbrev pub command_of : List (List ℕ) → Option Command
 command_of [] = None
 command_of (word ∷ []) = None
 command_of (word ∷ root ∷ []) = if is_argument root then named_of_root word root else None
 command_of (word ∷ root ∷ plan ∷ []) = if are_arguments root plan then named_of_plan word plan else None
-command_of (word ∷ root ∷ plan ∷ more ∷ rest) = None
+command_of (word ∷ root ∷ new ∷ old ∷ []) = if are_types root new old then named_of_types word root new old else None
+command_of (word ∷ root ∷ new ∷ old ∷ more ∷ rest) = None
 
 -- whether a command takes of the input: a run alone does
 abbrev pub takes_input : Option Command → Bool
 takes_input None = false
 takes_input (Some (Compile root)) = false
+takes_input (Some (Compat root new old)) = false
 takes_input (Some (Run path)) = true
 takes_input (Some (Bound path)) = false

@@ -3,8 +3,9 @@ ghost use Rattle.std.specs.Prelude.{◌≡◌, ◌++◌, OnOk, OnErr};
 ghost use Rattle.std.specs.List.{flat_map};
 ghost use Rattle.cy_outside.specs.Outside.{Rose};
 ghost use Rattle.cy_outside.specs.Written.{behind, Begins};
-ghost use Rattle.cyphal.specs.ErrorLine.{name_error_text, dsdl_why_text, plan_why_text, log_why_text, in_file, numbered, missing, error_line};
+ghost use Rattle.cyphal.specs.ErrorLine.{name_error_text, dsdl_why_text, plan_why_text, log_why_text, compat_why_text, in_file, numbered, not_newer, missing, error_line};
 
+use compat_check::CompatWhy;
 use cy_outside::{Failed, Sink, put_all};
 use dsdl_names::NameError;
 use dsdl_resolve::DsdlWhy;
@@ -36,6 +37,9 @@ pub fn put_error<E: Sink>(err: &mut E, status: &Status) -> Result<(), Failed>
             *line,
             log_why_text(*why),
         ),
+        Status::NotNewer { path, why } => {
+            put_not_newer(err, path.as_str(), compat_why_text(*why))
+        }
         Status::LogLong => put_all(err, b"cyphal: input too long\n"),
         Status::NoFile { path } => put_missing(err, path.as_str()),
         Status::ReadFault => put_all(err, b"cyphal: read fault\n"),
@@ -44,7 +48,7 @@ pub fn put_error<E: Sink>(err: &mut E, status: &Status) -> Result<(), Failed>
     }
 }
 
-/// Writes the line of a file that isn't there.
+/// Writes the line of a file, folder or type that isn't there.
 fn put_missing<E: Sink>(err: &mut E, path: &str) -> Result<(), Failed>
     ensures written { OnOk result (E.written err.new ≡ behind (E.written err.old) (missing path.now)) }
     ensures begins { OnErr result (Begins (missing path.now) (E.written err.old) (E.written err.new)) }
@@ -53,6 +57,22 @@ fn put_missing<E: Sink>(err: &mut E, path: &str) -> Result<(), Failed>
     let parts = [
         b"cyphal: not found: ".as_slice(),
         path.as_bytes(),
+        b"\n".as_slice(),
+    ];
+    put_parts(err, &parts)
+}
+
+/// Writes the line of a type that isn't newer.
+fn put_not_newer<E: Sink>(err: &mut E, path: &str, why: &[u8]) -> Result<(), Failed>
+    ensures written { OnOk result (E.written err.new ≡ behind (E.written err.old) (not_newer path.now why.now)) }
+    ensures begins { OnErr result (Begins (not_newer path.now why.now) (E.written err.old) (E.written err.new)) }
+    ensures fault { OnErr result (Rose (E.faults err.old) (E.faults err.new)) }
+{
+    let parts = [
+        b"cyphal: not newer at ".as_slice(),
+        path.as_bytes(),
+        b": ".as_slice(),
+        why,
         b"\n".as_slice(),
     ];
     put_parts(err, &parts)
@@ -173,5 +193,18 @@ fn log_why_text(why: LogWhy) -> &'static [u8]
         LogWhy::TimeBack => b"TimeBack",
         LogWhy::UnknownBus => b"UnknownBus",
         LogWhy::TooFar => b"TooFar",
+    }
+}
+
+/// The word of why a type isn't newer.
+fn compat_why_text(why: CompatWhy) -> &'static [u8]
+    ensures { result.now ≡ compat_why_text why }
+{
+    match why {
+        CompatWhy::Kind => b"Kind",
+        CompatWhy::Sealing => b"Sealing",
+        CompatWhy::Extent => b"Extent",
+        CompatWhy::Sealed => b"Sealed",
+        CompatWhy::Count => b"Count",
     }
 }

@@ -6,6 +6,11 @@ cyphal compile ROOT
     compiles the DSDL files below the folder ROOT, and writes for each type its
     lengths and where its fields stand; ROOT none stands for no files
 
+cyphal compat ROOT NEW OLD
+    writes whether the type NEW is newer than OLD, so that either reads what the
+    other writes; names are as a.b.Name.1.0, with .Request or .Response behind
+    them for a half of a service
+
 cyphal run none PLAN
     runs a node by the plan in the file PLAN over the log on standard input,
     and writes its report
@@ -17,8 +22,8 @@ cyphal --help, cyphal --version
     write this, or the version
 
 statuses: 0 done, 1 usage, 2 DSDL file refused, 3 plan refused, 4 log refused,
-    8 read fault, 9 write fault, 10 out of memory, 11 input too long,
-    12 no such file or folder
+    7 not newer, 8 read fault, 9 write fault, 10 out of memory,
+    11 input too long, 12 no such file, folder or type
 ";
 
 /// What `--version` answers.

@@ -54,6 +54,7 @@ fn code_of(status: &Status) -> u8
         Status::Dsdl { .. } => 2,
         Status::Plan { .. } => 3,
         Status::Log { .. } => 4,
+        Status::NotNewer { .. } => 7,
         Status::ReadFault => 8,
         Status::WriteFault => 9,
         Status::NoMemory => 10,

@@ -237,3 +237,94 @@ fn layouts_are_written_where_all_files_compile(rt: HostRuntime) -> Result<(), Fa
     }
     Ok(())
 }
+
+const ONE: &[u8] = b"uint8 a\n@sealed\n";
+
+const HALVES: &[u8] = b"uint4 a\nuint4 b\n@sealed\n";
+
+/// The names of two types of the folder `types`, which calls of the output fail, and what comparing them comes to.
+#[derive(Clone, Copy)]
+struct CompatRow {
+    new: &'static str,
+    old: &'static str,
+    out: &'static [u64],
+    code: u8,
+    written: &'static [u8],
+    line: &'static [u8],
+}
+
+#[test]
+fn types_are_compared_by_name(rt: HostRuntime) -> Result<(), Fail> {
+    let rows = [
+        CompatRow {
+            new: "demo.B.1.0",
+            old: "demo.A.1.0",
+            out: &[],
+            code: 0,
+            written: b"newer\n",
+            line: b"",
+        },
+        CompatRow {
+            new: "demo.A.1.1",
+            old: "demo.A.1.0",
+            out: &[],
+            code: 7,
+            written: b"",
+            line: b"cyphal: not newer at .: Sealed\n",
+        },
+        CompatRow {
+            new: "demo.C.1.0",
+            old: "demo.D.1.0",
+            out: &[],
+            code: 12,
+            written: b"",
+            line: b"cyphal: not found: demo.C.1.0\n",
+        },
+        CompatRow {
+            new: "demo.A.1.0",
+            old: "demo.A.1.0.Request",
+            out: &[],
+            code: 12,
+            written: b"",
+            line: b"cyphal: not found: demo.A.1.0.Request\n",
+        },
+        CompatRow {
+            new: "demo.B.1.0",
+            old: "demo.A.1.0",
+            out: &[0],
+            code: 9,
+            written: b"",
+            line: b"cyphal: write fault\n",
+        },
+    ];
+    for row in &rows {
+        let alloc = rt.alloc();
+        let words = vec![in alloc;
+            String::from_str(alloc, "compat")?,
+            String::from_str(alloc, "types")?,
+            String::from_str(alloc, row.new)?,
+            String::from_str(alloc, row.old)?,
+        ]?;
+        let files = List::new(vec![in alloc;
+            File::new(alloc, "types/demo/A.1.0.dsdl", ONE)?,
+            File::new(alloc, "types/demo/A.1.1.dsdl", HALVES)?,
+            File::new(alloc, "types/demo/B.1.0.dsdl", ONE)?,
+        ]?);
+        let mut tree = MemTree::new(files, &[]).ok_or(AllocError)?;
+        let mut input = MemSource::new(b"", &[]);
+        let mut out = MemSink::new(alloc, row.out);
+        let mut err = MemSink::new(alloc, &[]);
+        let done = top(
+            alloc,
+            words.as_slice(),
+            &mut tree,
+            &mut input,
+            &mut out,
+            &mut err,
+        );
+        assert_eq!(rt; code_of(&done.status), row.code);
+        assert_eq!(rt; out.written.as_slice(), row.written);
+        assert_eq!(rt; err.written.as_slice(), row.line);
+    }
+    Ok(())
+}

@@ -3,8 +3,8 @@ ghost use Rattle.std.specs.Prelude.{◌≡◌, ℕ, List, IfOk, IfErr, Some, is_
 ghost use Rattle.std.specs.Option.{option_and_then};
 ghost use Rattle.clap.specs.Words.{app_of};
 ghost use Rattle.clap.specs.Walk.{rule_of};
-ghost use Rattle.cyphal.specs.ClapShape.{given, root_shape, plan_shape};
-ghost use Rattle.cyphal.specs.Words.{asked_by, is_argument, are_arguments, named_of_root, named_of_plan, command_of, name_of, root_of, path_of};
+ghost use Rattle.cyphal.specs.ClapShape.{given, root_shape, types_shape, plan_shape};
+ghost use Rattle.cyphal.specs.Words.{asked_by, is_argument, are_types, are_arguments, named_of_root, named_of_types, named_of_plan, command_of, name_of, root_of, path_of};
 
 use clap::{Arg, ArgAction, Command};
 use cy_bits::NoMemory;
@@ -14,17 +14,30 @@ use std::alloc::Global;
 #[derive(Clone, Copy)]
 pub enum Accepted<'a> {
     /// Writes the layouts of the types below a root.
-    Compile { root: &'a str },
+    Compile {
+        root: &'a str,
+    },
+    /// Writes whether one type of a root is newer than another.
+    Compat {
+        root: &'a str,
+        new: &'a str,
+        old: &'a str,
+    },
     /// Runs the plan at a path over a log.
-    Run { plan: &'a str },
+    Run {
+        plan: &'a str,
+    },
     /// Writes the memory bound of the plan at a path.
-    Bound { plan: &'a str },
+    Bound {
+        plan: &'a str,
+    },
 }
 
 /// The name of a command.
 #[derive(Clone, Copy)]
 pub enum CommandName {
     Compile,
+    Compat,
     Run,
     Bound,
 }
@@ -40,6 +53,10 @@ pub fn command_of<'a>(alloc: Global, words: &'a [String]) -> Result<Option<Accep
             Ok(root) => Ok(Some(Accepted::Compile { root })),
             Err(_) => Err(NoMemory),
         },
+        Some(CommandName::Compat) => match types_words(alloc, words) {
+            Ok(given) => Ok(Some(given)),
+            Err(_) => Err(NoMemory),
+        },
         Some(CommandName::Run) => match plan_word(alloc, words) {
             Ok(plan) => Ok(Some(Accepted::Run { plan })),
             Err(_) => Err(NoMemory),
@@ -51,8 +68,8 @@ pub fn command_of<'a>(alloc: Global, words: &'a [String]) -> Result<Option<Accep
     }
 }
 
-/// Which command the words are, so `compile ROOT`, `run none PLAN` or `bound none PLAN`; none where they aren't
-/// accepted.
+/// Which command the words are, so `compile ROOT`, `compat ROOT NEW OLD`, `run none PLAN` or `bound none PLAN`; none
+/// where they aren't accepted.
 fn command_name(words: &[String]) -> Option<CommandName>
     ensures { result ≡ option_map name_of (command_of (map string_bytes words.now)) }
 {
@@ -71,6 +88,13 @@ fn command_name(words: &[String]) -> Option<CommandName>
                 None
             }
         }
+        [word, root, new, old] => {
+            if are_types(root.as_str(), new.as_str(), old.as_str()) {
+                named_of_types(word.as_str())
+            } else {
+                None
+            }
+        }
         _ => None,
     }
 }
@@ -81,6 +105,17 @@ fn named_of_root(word: &str) -> Option<CommandName>
 {
     if word == "compile" {
         Some(CommandName::Compile)
+    } else {
+        None
+    }
+}
+
+/// Which command of two types of a root a word names.
+fn named_of_types(word: &str) -> Option<CommandName>
+    ensures { (root new old : List ℕ) → result ≡ option_map name_of (named_of_types word.now root new old) }
+{
+    if word == "compat" {
+        Some(CommandName::Compat)
     } else {
         None
     }
@@ -116,6 +151,13 @@ fn are_arguments(root: &str, plan: &str) -> bool
     is_argument(root) && is_argument(plan) && root == "none"
 }
 
+/// Whether the arguments of a command of two types are accepted.
+fn are_types(root: &str, new: &str, old: &str) -> bool
+    ensures { result ≡ are_types root.now new.now old.now }
+{
+    is_argument(root) && is_argument(new) && is_argument(old)
+}
+
 /// A required argument with one value.
 fn given<'a>(alloc: Global, id: &'a str) -> Arg<'a>
     ensures rule { rule_of result ≡ given id.entry.now }
@@ -128,6 +170,16 @@ fn root_shape<'a>(alloc: Global) -> Result<Command<'a>, NoMemory>
     ensures { IfOk result (λ c. app_of c ≡ root_shape) }
 {
     let command = Command::new(alloc, "cyphal").arg(given(alloc, "ROOT"))?;
+    Ok(command)
+}
+
+fn types_shape<'a>(alloc: Global) -> Result<Command<'a>, NoMemory>
+    ensures { IfOk result (λ c. app_of c ≡ types_shape) }
+{
+    let command = Command::new(alloc, "cyphal")
+        .arg(given(alloc, "ROOT"))?
+        .arg(given(alloc, "NEW"))?
+        .arg(given(alloc, "OLD"))?;
     Ok(command)
 }
 
@@ -148,6 +200,23 @@ fn root_word<'a>(alloc: Global, words: &'a [String]) -> Result<&'a str, NoMemory
     let command = root_shape(alloc)?;
     match command.try_get_matches_from(words) {
         Ok(matches) => Ok(matches.get_str("ROOT").unwrap()),
+        Err(_) => Err(NoMemory),
+    }
+}
+
+/// The arguments of accepted words that name two types. It refuses nothing, and wants memory.
+fn types_words<'a>(alloc: Global, words: &'a [String]) -> Result<Accepted<'a>, NoMemory>
+    requires { option_map name_of (command_of (map string_bytes words.now)) ≡ Some CommandName.Compat }
+    ensures { IfOk result (λ given. command_of (map string_bytes words.entry.now) ≡ Some (asked_by given)) }
+{
+    let command = types_shape(alloc)?;
+    match command.try_get_matches_from(words) {
+        Ok(matches) => {
+            let root = matches.get_str("ROOT").unwrap();
+            let new = matches.get_str("NEW").unwrap();
+            let old = matches.get_str("OLD").unwrap();
+            Ok(Accepted::Compat { root, new, old })
+        }
         Err(_) => Err(NoMemory),
     }
 }

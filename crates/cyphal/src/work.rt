@@ -8,13 +8,13 @@ ghost use Rattle.node_run.specs.Ran.{IsEmpty};
 ghost use Rattle.node_run.specs.declared.status.Status.{Status as TheStatus};
 ghost use Rattle.cyphal.specs.Words.{takes_input, command_of};
 ghost use Rattle.cyphal.specs.Streaming.{TookNothing, TookAt, WasTaken};
-ghost use Rattle.cyphal.specs.Expected.{Answers, Compiles, on_path, on_run, on_bound, is_fault, is_settled, PlanAt, NotRun, HasRunAt, HasBoundAt, HasCompiledAt, WasDone};
+ghost use Rattle.cyphal.specs.Expected.{Answers, Compiles, Compares, on_path, on_run, on_bound, is_fault, is_settled, PlanAt, NotRun, HasRunAt, HasBoundAt, HasCompiledAt, HasComparedAt, WasDone};
 
 use crate::words::{Accepted, command_of};
 use cy_bits::Text;
 use cy_outside::{Sink, Source, Tree, TreeError, read_file};
 use node_plan::{MAX_TEXT, Plan, PlanError, read_plan};
-use node_run::{Report, Status, bound, compile, load, run_log};
+use node_run::{Report, Status, bound, compat, compile, load, run_log};
 use std::alloc::Global;
 
 /// Does what the words ask for.
@@ -45,6 +45,7 @@ pub fn work<T: Tree, L: Source, O: Sink>(
     };
     match command {
         Accepted::Compile { root } => compile_root(alloc, root, tree, out),
+        Accepted::Compat { root, new, old } => compat_types(alloc, root, new, old, tree, out),
         Accepted::Run { plan } => run_plan(alloc, plan, tree, input, out, report),
         Accepted::Bound { plan } => bound_plan(alloc, plan, tree, out),
     }
@@ -65,6 +66,30 @@ fn compile_root<T: Tree, O: Sink>(alloc: Global, root: &str, tree: &mut T, out: 
         Err(status) => return status,
     };
     compile(alloc, &names, out)
+}
+
+/// Writes whether one type of a root is newer than another.
+fn compat_types<T: Tree, O: Sink>(
+    alloc: Global,
+    root: &str,
+    new: &str,
+    old: &str,
+    tree: &mut T,
+    out: &mut O,
+) -> Status
+    ensures answer { is_fault result ≡ false → Compares root.now new.now old.now (T.files tree.old) result }
+    ensures usage { ¬ (result ≡ Status.Usage) }
+    ensures read { result ≡ Status.ReadFault → Rose (T.faults tree.old) (T.faults tree.new) }
+    ensures write { result ≡ Status.WriteFault → Rose (O.faults out.old) (O.faults out.new) }
+    ensures kept { result ≡ Status.Ok → (T.faults tree.new ≡ T.faults tree.old) × (O.faults out.new ≡ O.faults out.old) }
+    ensures ran { ((O.written out.new ≡ O.written out.old) × (is_settled result ≡ false))
+        ⊎ HasComparedAt root.now new.now old.now (T.files tree.old) result (O.written out.old) (O.written out.new) }
+{
+    let names = match load(alloc, tree, root) {
+        Ok(names) => names,
+        Err(status) => return status,
+    };
+    compat(alloc, &names, new, old, out)
 }
 
 /// Runs the plan at a path over the input.

@@ -9,3 +9,4 @@ pub mod Taken
 pub mod Comes
 pub mod Streams
 pub mod Roots
+pub mod Endings

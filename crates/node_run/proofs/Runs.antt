@@ -170,6 +170,7 @@ module _ (plan : Plan) (told : Option (List ℕ)) (past : List Record) (report :
   has_finished status.Usage h f at mid gathered g ok write memory = absurd f
   has_finished (status.Plan n why) h f at mid gathered g ok write memory = absurd f
   has_finished (status.Log n why) h f at mid gathered g ok write memory = absurd f
+  has_finished (status.NotNewer path why) h f at mid gathered g ok write memory = absurd f
   has_finished status.LogLong h f at mid gathered g ok write memory = absurd f
   has_finished (status.Dsdl file line why) h f at mid gathered g ok write memory = absurd f
   has_finished (status.NoFile path) h f at mid gathered g ok write memory = absurd f

@@ -339,6 +339,7 @@ module _ (plan : Plan) (told left next_left : Option (List ℕ)) (old new : LogR
       grew_last status.Usage f ok write memory = absurd f
       grew_last (status.Plan n why) f ok write memory = absurd f
       grew_last (status.Log n why) f ok write memory = absurd f
+      grew_last (status.NotNewer path why) f ok write memory = absurd f
       grew_last status.LogLong f ok write memory = absurd f
       grew_last (status.Dsdl file line why) f ok write memory = absurd f
       grew_last (status.NoFile path) f ok write memory = absurd f

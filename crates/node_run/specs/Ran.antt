@@ -100,6 +100,7 @@ Ran plan log status.Usage report before after = ⊥
 Ran plan log (status.Dsdl file line why) report before after = ⊥
 Ran plan log (status.Plan line why) report before after = ⊥
 Ran plan log (status.Log line why) report before after = (log.refusal ≡ Some (refusal_of line why)) × Settled plan (steps_of plan log) log.refusal report before after
+Ran plan log (status.NotNewer path why) report before after = ⊥
 Ran plan log status.LogLong report before after = (log.refusal ≡ Some error.LogLong) × Settled plan (steps_of plan log) log.refusal report before after
 Ran plan log (status.NoFile path) report before after = ⊥
 Ran plan log status.ReadFault report before after = Upto plan log report before after

@@ -2,8 +2,10 @@
 #![tactic(auto)]
 
 mod bound_text;
+mod compared;
 mod gather;
 mod layouts;
+pub mod named;
 mod namespace;
 pub mod next;
 pub mod report;
@@ -12,6 +14,7 @@ pub mod status;
 mod step;
 
 pub use bound_text::bound;
+pub use compared::compat;
 pub use layouts::compile;
 pub use namespace::load;
 pub use report::Report;

@@ -1,3 +1,4 @@
+use compat_check::CompatWhy;
 use cy_bits::Text;
 use dsdl_resolve::DsdlWhy;
 use node_plan::PlanWhy;
@@ -28,9 +29,17 @@ pub enum Status {
         line: u64,
         why: LogWhy,
     },
+    /// The new type isn't newer than the old one.
+    NotNewer {
+        /// The first place of the new type where it isn't newer: names of fields with `.` between them, `[]` for the
+        /// items of an array, in a service `request` or `response` in front; `.` alone for the whole.
+        path: Text,
+        /// The cause.
+        why: CompatWhy,
+    },
     /// The input has more than 2^28 bytes.
     LogLong,
-    /// There is no such file.
+    /// There is no such file, folder or type.
     NoFile {
         path: Text,
     },
