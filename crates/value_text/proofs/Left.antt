@@ -1,5 +1,5 @@
 -- The values and fields that are left of several, and what is written of them.
-use Rattle.std.proofs.Common.{◌≡◌, ◌∙◌, ◌⊎◌, inl, inr, ℕ, ◌+◌, ◌==◌, ◌<◌, ◌≤◌, false, List, ◌++◌, length, drop, get_or, Result, Ok, Err, OnOk, refl, sym, ap, subst}
+use Rattle.std.proofs.Common.{◌≡◌, ◌∙◌, ◌⊎◌, inl, inr, ℕ, ◌+◌, ◌==◌, ◌<◌, ◌≤◌, false, List, ◌++◌, length, drop, get_or, Result, Ok, Err, OnOk, refl, sym, ap, subst, rules}
 use Rattle.std.proofs.lemmas.List.{at_drop_more, drop_all}
 use Rattle.std.proofs.lemmas.Bool.{false≢true}
 use Rattle.dsdl_types.specs.Schemas.{Flds, Field as F, End}
@@ -9,6 +9,7 @@ use Rattle.dsdl_types.specs.Fits.{Fits, AllOf, AreItems}
 use Rattle.dsdl_types.specs.Views.{Kind, Typed, Padding, is_padding, kind_of, sch, type_of, with_field, named, flds, val, vals, body_of}
 use Rattle.dsdl_types.specs.declared.schema.Schema.{Schema}
 use Rattle.dsdl_types.specs.declared.schema.Schema.TheVariants as S
+use Rattle.dsdl_types.specs.declared.schema.Schema.TheFolds.{the_lemmas}
 use Rattle.dsdl_types.specs.declared.schema.Body.{Body, out-Body}
 use Rattle.dsdl_types.specs.declared.schema.Field.{Field}
 use Rattle.dsdl_types.specs.declared.value.Value.{Value}
@@ -39,11 +40,14 @@ flds_end items i h = ap flds (drop_all i items h)
 abbrev IsArray : Schema → Schema → Type 0
 IsArray s item = ((n : ℕ) × s ≡ S.Fixed item n) ⊎ ((n : ℕ) × s ≡ S.Var item n)
 
-fixed_is : (s item inner : Schema) (n : ℕ) → s ≡ S.Fixed item n → inner ≡ item → sch s ≡ D.Fixed (sch inner) n
+pub fixed_is : (s item inner : Schema) (n : ℕ) → s ≡ S.Fixed item n → inner ≡ item → sch s ≡ D.Fixed (sch inner) n
 fixed_is s item inner n e i = ap type_of (ap kind_of e ∙ kind_fixed item n) ∙ ap (λ x. D.Fixed (sch x) n) (sym i)
 
-var_is : (s item inner : Schema) (n : ℕ) → s ≡ S.Var item n → inner ≡ item → sch s ≡ D.Var (sch inner) n
+pub var_is : (s item inner : Schema) (n : ℕ) → s ≡ S.Var item n → inner ≡ item → sch s ≡ D.Var (sch inner) n
 var_is s item inner n e i = ap type_of (ap kind_of e ∙ kind_var item n) ∙ ap (λ x. D.Var (sch x) n) (sym i)
+
+pub union_is : (s : Schema) (b : Body) → s ≡ S.Union b → sch s ≡ D.Union (body_of b).0 (body_of b).1
+union_is s b e = ap sch e ∙ search (rules, the_lemmas)
 
 all_of : (N : ℕ → Type 0) (P : Val → Type 0) (v : Val) → AreItems N P v → AllOf P (items_of v)
 all_of N P (Items vs) h = h.1
@@ -74,7 +78,7 @@ array_written r s item inner v vs old new a i f h =
 
 -- ---- fields
 
-fields_are : (b : Body) (items : List Field) → items ≡ (out-Body b).fields → (body_of b).0 ≡ flds items
+pub fields_are : (b : Body) (items : List Field) → items ≡ (out-Body b).fields → (body_of b).0 ≡ flds items
 fields_are b items e = ap (λ x. x.0) (body_is b) ∙ ap flds (sym e)
 
 pub fields_written : (b : Body) (items : List Field) (i next : ℕ) (values : List Value) (text old : List ℕ) → items ≡ (out-Body b).fields → length items ≤ i →

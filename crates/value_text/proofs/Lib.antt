@@ -4,3 +4,8 @@ pub mod Tokens
 pub mod Numerals
 pub mod ValueKinds
 pub mod OneValue
+pub mod Scans
+pub mod ReadItems
+pub mod ReadFields
+pub mod ReadVariants
+pub mod ReadValues

@@ -33,7 +33,7 @@ more_digits n ds h k =
 numeral : (n : ℕ) → n < 2 ^ 64 → IsNumeral (decimal n)
 numeral n h = decimal_by_steps (λ m ds. IsNumeral ds) one_digit more_digits n h
 
-below : (n : ℕ) → n < 2 ^ 63 → suc n < 2 ^ 64
+pub below : (n : ℕ) → n < 2 ^ 63 → suc n < 2 ^ 64
 below n h = omega (arith, h)
 
 pub signed_begins : (z : ℤ) → IsNumber z → Begins stop (signed_decimal z)
@@ -43,6 +43,9 @@ signed_begins (negsuc n) h = refl
 pub signed_clear : (z : ℤ) → IsNumber z → Clear stop (signed_decimal z)
 signed_clear (pos n) h = (numeral n h).clear
 signed_clear (negsuc n) h = (refl, (numeral (suc n) (below n h)).clear)
+
+pub no_sign_first : (n : ℕ) → n < 2 ^ 64 → top (decimal n) ≡ 45 → ⊥
+no_sign_first n h m = let l = (numeral n h).first in omega (arith, l, m)
 
 no_sign : (n : ℕ) (ds : List ℕ) → n < 2 ^ 64 → decimal n ≡ 45 ∷ ds → ⊥
 no_sign n ds h e = let l = (numeral n h).first in let m : top (decimal n) ≡ 45 = ap top e in omega (arith, l, m)

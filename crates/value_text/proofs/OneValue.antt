@@ -75,7 +75,7 @@ array_begins : (b : Bool) (f : Val → List ℕ) (vs : Vals) → (x : Bool) → 
 array_begins b f vs true e = rw (sym e) refl
 array_begins b f vs false e = rw (sym e) refl
 
-value_begins : (s : Sch) (v : Val) → Fits s v → Begins stop (value_text s v)
+pub value_begins : (s : Sch) (v : Val) → Fits s v → Begins stop (value_text s v)
 value_begins (Simple t) v h = simple_begins t v h
 value_begins (Fixed s n) v h = array_begins (is_uint8 s) (λ x. value_text s x) (items_of v) _ refl
 value_begins (Var s n) v h = array_begins (is_uint8 s) (λ x. value_text s x) (items_of v) _ refl
@@ -129,19 +129,19 @@ one_bytes (More v vs) (More w ws) f g e =
 One : (Val → Type 0) → (Val → List ℕ) → Type 0
 One P f = (v w : Val) → P v → P w → (r q : List ℕ) → Halts stop r → Halts stop q → f v ++ r ≡ f w ++ q → (v ≡ w) × (r ≡ q)
 
-ends_at : (c : ℕ) (ts : List (List ℕ)) (r : List ℕ) → stop c ≡ true → Halts stop (following ts ++ c ∷ r)
+pub ends_at : (c : ℕ) (ts : List (List ℕ)) (r : List ℕ) → stop c ≡ true → Halts stop (following ts ++ c ∷ r)
 ends_at c [] r h = h
 ends_at c (t ∷ ts) r h = refl
 
 -- one more text in front of others
-unwrap : (b : Bool) (t : List ℕ) (ts : List (List ℕ)) (r : List ℕ) → rest_of b (t ∷ ts) ++ r ≡ lead b ++ (t ++ (following ts ++ r))
+pub unwrap : (b : Bool) (t : List ℕ) (ts : List (List ℕ)) (r : List ℕ) → rest_of b (t ∷ ts) ++ r ≡ lead b ++ (t ++ (following ts ++ r))
 unwrap b t ts r = ap (λ x. x ++ r) (rest_next b t ts) ∙ regroup (lead b) (t ++ following ts) r ∙ ap (λ x. lead b ++ x) (regroup t (following ts) r)
 
-none_left : (b : Bool) (c : ℕ) (r : List ℕ) → rest_of b [] ++ c ∷ r ≡ c ∷ r
+pub none_left : (b : Bool) (c : ℕ) (r : List ℕ) → rest_of b [] ++ c ∷ r ≡ c ∷ r
 none_left true c r = refl
 none_left false c r = refl
 
-no_more : (b : Bool) (c : ℕ) (t : List ℕ) (r x : List ℕ) → stop c ≡ true → c ≢ 44 → Begins stop t → lead b ++ (t ++ x) ≡ c ∷ r → ⊥
+pub no_more : (b : Bool) (c : ℕ) (t : List ℕ) (r x : List ℕ) → stop c ≡ true → c ≢ 44 → Begins stop t → lead b ++ (t ++ x) ≡ c ∷ r → ⊥
 no_more true c t r x h n k e = no_halt stop (t ++ x) (c ∷ r) (begins_append stop t x k) h e
 no_more false c t r x h n k e = n (sym (ap top e))
 
@@ -162,14 +162,14 @@ one_items P f one begins b (More v vs) (More w ws) g h r q e =
     let z : More v vs ≡ More w ws = cc in
     (z, t.1)
 
-bracketed : (t r : List ℕ) → in_brackets t ++ r ≡ 91 ∷ (t ++ 93 ∷ r)
+pub bracketed : (t r : List ℕ) → in_brackets t ++ r ≡ 91 ∷ (t ++ 93 ∷ r)
 bracketed t r = ap (λ x. 91 ∷ x) (regroup t (93 ∷ []) r)
 
-braced : (t r : List ℕ) → in_braces t ++ r ≡ 123 ∷ (t ++ 125 ∷ r)
+pub braced : (t r : List ℕ) → in_braces t ++ r ≡ 123 ∷ (t ++ 125 ∷ r)
 braced t r = ap (λ x. 123 ∷ x) (regroup t (125 ∷ []) r)
 
 -- an array's text, by whether it is one of bytes
-picked : Bool → (Val → List ℕ) → Vals → List ℕ
+unfoldable pub picked : Bool → (Val → List ℕ) → Vals → List ℕ
 picked x f vs = if x then 35 ∷ in_a_row byte_text vs else in_brackets (separated (texts f vs))
 
 one_array : (P : Val → Type 0) (f : Val → List ℕ) → One P f → ((v : Val) → P v → Begins stop (f v)) → (b : Bool) (vs ws : Vals) → AllOf P vs → AllOf P ws → (r q : List ℕ) → Halts stop r → Halts stop q →
@@ -198,7 +198,7 @@ one_arrays s N one v w (a, g) (b, h) r q hr hq e =
 
 -- ---- names
 
-named : (name t r : List ℕ) → entry name t ++ r ≡ name ++ 58 ∷ (32 ∷ (t ++ r))
+pub named : (name t r : List ℕ) → entry name t ++ r ≡ name ++ 58 ∷ (32 ∷ (t ++ r))
 named name t r = regroup name (58 ∷ 32 ∷ t) r
 
 same_name : (name t u r q : List ℕ) → entry name t ++ r ≡ entry name u ++ q → t ++ r ≡ u ++ q

@@ -34,14 +34,14 @@ written_next b old led new t ts e f =
 pub written_all : (b : Bool) (old whole : List ℕ) → old ++ rest_of b [] ≡ whole → old ≡ whole
 written_all b old whole e = sym (append-nil old) ∙ ap (λ x. old ++ x) (sym (rest_none b)) ∙ e
 
-hex_next : (k n : ℕ) → 0 < k → hex_digits k n ≡ slice_index upper_digits (n / 2 ^ (4 * (k - 1)) % 16) ∷ hex_digits (k - 1) n
+pub hex_next : (k n : ℕ) → 0 < k → hex_digits k n ≡ slice_index upper_digits (n / 2 ^ (4 * (k - 1)) % 16) ∷ hex_digits (k - 1) n
 unfolding hex_digits
 hex_next zero n h = absurd (omega (arith, h))
 hex_next (suc k) n h =
     let e : k ≡ suc k - 1 = omega arith in
     ap (λ j. slice_index upper_digits (n / 2 ^ (4 * j) % 16) ∷ hex_digits j n) e
 
-hex_none : (k n : ℕ) → k ≤ 0 → hex_digits k n ≡ []
+pub hex_none : (k n : ℕ) → k ≤ 0 → hex_digits k n ≡ []
 unfolding hex_digits
 hex_none zero n h = refl
 hex_none (suc k) n h = absurd (omega (arith, h))

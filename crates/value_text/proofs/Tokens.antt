@@ -1,12 +1,9 @@
 -- A text up to the first byte of some kind.
-use Rattle.std.proofs.Common.{◌≡◌, ◌≢◌, ℕ, ◌≤◌, ◌==◌, ◌||◌, Bool, true, false, List, [], ◌∷◌, ◌++◌, refl, sym, ap, ◌∙◌, arith}
+use Rattle.std.proofs.Common.{◌≡◌, ◌≢◌, ℕ, ◌≤◌, ◌==◌, Bool, true, false, List, [], ◌∷◌, ◌++◌, refl, sym, ap, ◌∙◌, arith}
 use Rattle.std.proofs.lemmas.Bool.{false≢true}
 use Rattle.std.proofs.lemmas.Bool.Decides.{nat_tests}
+pub use Rattle.value_text.specs.Ends.{Clear, Halts, stop, top}
 use Rattle.value_text.specs.Names.{HasNoColon}
-
-abbrev pub top : List ℕ → ℕ
-top [] = 0
-top (c ∷ cs) = c
 
 abbrev pub behind : List ℕ → List ℕ
 behind [] = []
@@ -18,16 +15,6 @@ is_nil (c ∷ cs) = false
 
 pub nil_cons : (c : ℕ) (cs : List ℕ) → [] ≡ c ∷ cs → ⊥
 nil_cons c cs e = false≢true (sym (ap is_nil e))
-
--- no byte is of the kind
-abbrev pub Clear : (ℕ → Bool) → List ℕ → Type 0
-Clear p [] = Unit {0}
-Clear p (c ∷ cs) = (p c ≡ false) × Clear p cs
-
--- nothing, or a byte of the kind first
-abbrev pub Halts : (ℕ → Bool) → List ℕ → Type 0
-Halts p [] = Unit {0}
-Halts p (c ∷ cs) = p c ≡ true
 
 -- a byte first that isn't of the kind
 abbrev pub Begins : (ℕ → Bool) → List ℕ → Type 0
@@ -63,10 +50,6 @@ token_split p (c ∷ a) (d ∷ b) r q f g h k e =
     let y : a ≡ b = t.0 in
     let z : c ∷ a ≡ d ∷ b = cc in
     (z, t.1)
-
--- a comma, a closing bracket or a closing brace
-abbrev pub stop : ℕ → Bool
-stop c = (c == 44) || ((c == 93) || (c == 125))
 
 abbrev pub colon : ℕ → Bool
 colon c = c == 58

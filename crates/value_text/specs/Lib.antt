@@ -1,3 +1,5 @@
 pub mod Words
 pub mod Texts
 pub mod Names
+pub mod Ends
+pub mod Loose

@@ -5,11 +5,14 @@ use Rattle.dsdl_types.specs.Schemas.{Sch, Flds, PUint, Simple, Fixed, Var, Struc
 use Rattle.dsdl_types.specs.Values.{Val, Vals, Truth, Num, Raw, Empty, More, items_of, parts_of, tag_of, inner_of, first, others}
 use Rattle.value_text.specs.Words.{separated, in_braces, in_brackets, entry, hex_digits}
 
+abbrev pub truth_text : Bool → List ℕ
+truth_text true = codes "true"
+truth_text false = codes "false"
+
 -- A truth value is `true` or `false`, a number is decimal, and the raw bits of a float are all hex digits of
 -- the width w behind `0x`.
 abbrev pub simple_text : ℕ → Val → List ℕ
-simple_text w (Truth true) = codes "true"
-simple_text w (Truth false) = codes "false"
+simple_text w (Truth b) = truth_text b
 simple_text w (Num z) = signed_decimal z
 simple_text w (Raw n) = codes "0x" ++ hex_digits (w / 4) n
 simple_text w _ = []

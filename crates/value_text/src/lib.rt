@@ -4,8 +4,11 @@
 pub mod laws;
 mod parts;
 mod print;
+mod read;
+mod scan;
 #[cfg(test)]
 mod tests;
 mod words;
 
 pub use print::print_value;
+pub use read::{TextError, read_value};

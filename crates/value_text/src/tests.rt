@@ -1,9 +1,11 @@
-ghost use Rattle.std.specs.Prelude.{◌≡◌, [], ◌∷◌, true, IfOk};
+ghost use Rattle.std.specs.Prelude.{◌≡◌, [], ◌∷◌, true, false, IfOk};
+ghost use Rattle.dsdl_types.specs.Rules.{IsSchema};
 ghost use Rattle.dsdl_types.specs.Schemas.{PBool, PFloat, PUint, Simple, Struct, Union, Var};
 ghost use Rattle.dsdl_types.specs.Values.{Items, Num, Parts, Raw, Tagged, Truth};
-ghost use Rattle.dsdl_types.specs.Views.{Padding, Typed, flds, in_order, in_row, body_of, kind_of, named, val, vals};
+ghost use Rattle.dsdl_types.specs.Views.{Padding, Typed, flds, in_order, in_row, body_of, kind_of, named, sch, val, vals};
+ghost use Rattle.value_text.specs.Names.{HasNames};
 
-use crate::print_value;
+use crate::{TextError, print_value, read_value};
 use cy_bits::{Boxed, List, NoMemory, Text};
 use dsdl_types::{Body, Cast, Field, Schema, Value};
 use std::alloc::Global;
@@ -40,7 +42,8 @@ fn field(alloc: Global, name: &str, schema: Schema) -> Result<Field, NoMemory>
 
 /// The fields `first` and `second`.
 fn body(alloc: Global, first: Field, second: Field) -> Result<Body, NoMemory>
-    ensures { IfOk result (λ b. (body_of b).0 ≡ in_order (named first ∷ named second ∷ [])) }
+    ensures fields { IfOk result (λ b. (body_of b).0 ≡ in_order (named first ∷ named second ∷ [])) }
+    ensures outline { IfOk result (λ b. ((body_of b).1.extent ≡ 64) × ((body_of b).1.sealed ≡ false)) }
 {
     let mut fields = List::empty(alloc);
     fields.push(first)?;
@@ -137,5 +140,76 @@ fn prints(rt: HostRuntime) {
     let rows = rows(rt.alloc()).expect(&rt, "memory");
     for (text, want) in &rows {
         assert!(rt; text.as_str() == *want, "at {want}");
+    }
+}
+
+/// `float16 f`, `uint8[<=2] x`.
+fn part(alloc: Global) -> Result<Schema, NoMemory>
+    ensures { IfOk result (λ s. IsSchema (sch s) × HasNames (sch s)) }
+{
+    let float = Schema::Float {
+        bits: 16,
+        cast: Cast::Saturated,
+    };
+    let first = field(alloc, "f", float)?;
+    let fields = body(alloc, first, field(alloc, "x", array(alloc, 8)?)?)?;
+    Ok(Schema::Struct(fields))
+}
+
+/// `@union`, `uint8 a`, `uint16[<=2] b`.
+fn choice(alloc: Global) -> Result<Schema, NoMemory>
+    ensures { IfOk result (λ s. IsSchema (sch s) × HasNames (sch s)) }
+{
+    let first = field(alloc, "a", uint(8))?;
+    let fields = body(alloc, first, field(alloc, "b", array(alloc, 16)?)?)?;
+    Ok(Schema::Union(fields))
+}
+
+/// Whether a line gives a value with that text, and not the error with its number.
+fn reads(alloc: Global, schema: &Schema, line: &str) -> Result<bool, NoMemory>
+    requires rules { IsSchema (sch schema.now) }
+    requires names { HasNames (sch schema.now) }
+{
+    match read_value(alloc, schema, line.as_bytes(), 7) {
+        Ok(value) => Ok(print_value(alloc, schema, &value)?.as_str() == line),
+        Err(error) => {
+            if error == (TextError::Text { line: 7 }) {
+                Ok(false)
+            } else {
+                Err(NoMemory)
+            }
+        }
+    }
+}
+
+#[test]
+fn reads_structures(rt: HostRuntime) {
+    let schema = part(rt.alloc()).expect(&rt, "memory");
+    for (line, is_text) in &[
+        ("{f: 0x3C00, x: #0301}", true),
+        ("{f: 0x000B, x: [300, -1]}", true),
+        ("{f: 0x3c00, x: #0301}", false),
+        ("{f:0x3C00, x: #0301}", false),
+        ("{f: 0x3C00, x: [3, 1]}", false),
+        ("{g: 0x3C00, x: #0301}", false),
+        ("{f: 0x3C00, x: #0301} ", false),
+    ] {
+        let read = reads(rt.alloc(), &schema, line).expect(&rt, "memory");
+        assert!(rt; read == *is_text, "at {line}");
+    }
+}
+
+#[test]
+fn reads_unions(rt: HostRuntime) {
+    let schema = choice(rt.alloc()).expect(&rt, "memory");
+    for (line, is_text) in &[
+        ("{b: [1, 65282]}", true),
+        ("{a: 18446744073709551615}", true),
+        ("{a: 18446744073709551616}", false),
+        ("{b: [01, 2]}", false),
+        ("{c: 1}", false),
+    ] {
+        let read = reads(rt.alloc(), &schema, line).expect(&rt, "memory");
+        assert!(rt; read == *is_text, "at {line}");
     }
 }
