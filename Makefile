@@ -1,5 +1,5 @@
 # make run [PLAN=FILE LOG=FILE]: runs a plan over a log, those of examples/first unless others are given, by the kit's
-#   quick build. It takes about a minute, proves nothing and leaves nothing.
+#   quick build. It takes about a minute, proves nothing and leaves nothing; it shows at most 1 MiB of report.
 # make build: proves the program and leaves it, optimised, as build/cyphal. From nothing that proves every crate.
 # make install [PREFIX=FOLDER] [DESTDIR=FOLDER]: copies build/cyphal, its man page and its completions.
 # make test: the whole gate: proofs, must-fail edits, tests and programs.
@@ -13,8 +13,8 @@ INSTALL = install
 .PHONY: run build install uninstall test bench
 
 run:
-	cd crates/cyphal && rt try --data plan=$(abspath $(PLAN)) -- run none plan < $(abspath $(LOG))
-	@echo 'This was a quick build that nothing has proved; make build proves the program and leaves it.' >&2
+	@echo 'A quick build, about a minute. Nothing has proved it; make build proves the program and leaves it.' >&2
+	@cd crates/cyphal && rt try --data plan=$(abspath $(PLAN)) -- run none plan < $(abspath $(LOG))
 
 build:
 	cd crates/cyphal && rt run -- --version
