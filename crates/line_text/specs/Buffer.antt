@@ -1,0 +1,11 @@
+-- What a buffer of text holds.
+use Rattle.std.specs.Prelude.{ℕ, ◌-◌, List, length, take}
+use Rattle.line_text.specs.declared.text_buffer.TextBuffer.{TextBuffer}
+
+-- the text
+unfoldable pub text_of : TextBuffer → List ℕ
+text_of b = take b.len b.bytes.items
+
+-- how many bytes can be put without memory
+unfoldable pub room_of : TextBuffer → ℕ
+room_of b = length b.bytes.items - b.len

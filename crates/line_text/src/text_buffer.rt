@@ -1,0 +1,193 @@
+ghost use Rattle.std.specs.Prelude.{◌≤◌, length};
+
+use crate::digits::{bytes_of, hex_digit, six_digits};
+use cy_bits::NoMemory;
+use itoa::Buffer;
+use std::alloc::Global;
+
+/// Text that is gathered before it is written. Only `reserve` and `push` take memory.
+#[derive(Drop)]
+pub struct TextBuffer {
+    /// The text, and bytes behind it that don't count.
+    bytes: Vec<u8>,
+    /// The number of bytes of the text.
+    len: usize,
+    ghost fits: { len ≤ length bytes.items },
+}
+
+#[tactic(auto, unfolding(crate::specs::Buffer::text_of, crate::specs::Buffer::room_of))]
+impl TextBuffer {
+    ghost use Rattle.std.specs.Prelude.{◌≡◌, ◌+◌, ◌*◌, ◌++◌, ◌∷◌, [], take, decimal, OnOk, OnErr};
+    ghost use Rattle.hex.specs.Hex.{encode_upper};
+    ghost use Rattle.line_text.specs.Buffer.{text_of, room_of};
+    ghost use Rattle.line_text.specs.Text.{six_digits, moment_text, ident_text};
+
+    /// No text; takes no memory yet.
+    pub fn new(alloc: Global) -> TextBuffer
+        ensures { text_of result ≡ [] }
+    {
+        TextBuffer {
+            bytes: Vec::new(alloc),
+            len: 0,
+        }
+    }
+
+    /// The text.
+    pub fn as_slice(&self) -> &[u8]
+        ensures { result.now ≡ text_of self.now }
+    {
+        &self.bytes[..self.len]
+    }
+
+    /// The number of bytes of the text.
+    #[inline(always)]
+    pub fn len(&self) -> usize
+        ensures { result ≡ length (text_of self.now) }
+    {
+        self.len
+    }
+
+    /// Drops the text and keeps its memory.
+    pub fn clear(&mut self)
+        ensures text { text_of self.new ≡ [] }
+        ensures room { room_of self.old ≤ room_of self.new }
+    {
+        self.len = 0;
+    }
+
+    /// Takes memory so that `room` bytes more can be put.
+    #[inline(always)]
+    pub fn reserve(&mut self, room: usize) -> Result<(), NoMemory>
+        ensures text { text_of self.new ≡ text_of self.old }
+        ensures room { OnOk result (room ≤ room_of self.new) }
+    {
+        if room <= self.bytes.len() - self.len {
+            Ok(())
+        } else {
+            self.grow(room)
+        }
+    }
+
+    /// Takes memory for `room` bytes more, and at least as much as there is.
+    #[cold]
+    #[inline(never)]
+    fn grow(&mut self, room: usize) -> Result<(), NoMemory>
+        ensures text { text_of self.new ≡ text_of self.old }
+        ensures room { OnOk result (room ≤ room_of self.new) }
+    {
+        let Some(end) = self.len.checked_add(room) else {
+            return Err(NoMemory);
+        };
+        let size = self.bytes.len();
+        let more = size.max(end.saturating_sub(size));
+        let Some(size) = size.checked_add(more) else {
+            return Err(NoMemory);
+        };
+        self.bytes.resize(size, 0)?;
+        Ok(())
+    }
+
+    /// Appends bytes. Want of memory leaves the text as it was.
+    pub fn push(&mut self, bytes: &[u8]) -> Result<(), NoMemory>
+        ensures ok { OnOk result (text_of self.new ≡ text_of self.old ++ bytes.now) }
+        ensures err { OnErr result (text_of self.new ≡ text_of self.old) }
+    {
+        self.reserve(bytes.len())?;
+        self.put_slice(bytes);
+        Ok(())
+    }
+
+    /// Appends the first `n` bytes of a word; all of them are copied.
+    #[inline(always)]
+    pub fn put<const N: usize>(&mut self, word: &[u8; N], n: usize)
+        requires room { N ≤ room_of self.old }
+        requires within { n ≤ N }
+        ensures text { text_of self.new ≡ text_of self.old ++ take n word.now }
+        ensures room { room_of self.new + n ≡ room_of self.old }
+    {
+        let start = self.len;
+        self.bytes[start..start + N].copy_from_slice(word);
+        self.len = start + n;
+    }
+
+    /// Appends bytes.
+    #[inline(always)]
+    pub fn put_slice(&mut self, bytes: &[u8])
+        requires room { length bytes.now ≤ room_of self.old }
+        ensures text { text_of self.new ≡ text_of self.old ++ bytes.now }
+        ensures room { room_of self.new + length bytes.now ≡ room_of self.old }
+    {
+        let start = self.len;
+        let end = start + bytes.len();
+        self.bytes[start..end].copy_from_slice(bytes);
+        self.len = end;
+    }
+
+    /// Appends a number in decimal.
+    #[inline(always)]
+    pub fn put_number(&mut self, number: u64)
+        requires room { 24 ≤ room_of self.old }
+        ensures text { text_of self.new ≡ text_of self.old ++ decimal number }
+        ensures room { room_of self.new + length (decimal number) ≡ room_of self.old }
+        ensures most { room_of self.old ≤ room_of self.new + 20 }
+    {
+        let mut buffer = Buffer::new();
+        self.put_slice(buffer.format(number).as_bytes());
+    }
+
+    /// Appends a number below 256 in decimal, and a space.
+    #[inline(always)]
+    pub fn put_byte_word(&mut self, number: u8)
+        requires room { 8 ≤ room_of self.old }
+        ensures text { text_of self.new ≡ text_of self.old ++ (decimal number ++ 32 ∷ []) }
+        ensures room { room_of self.old ≤ room_of self.new + 4 }
+    {
+        let mut buffer = Buffer::new();
+        self.put_slice(buffer.format(number).as_bytes());
+        self.put_slice(b" ");
+    }
+
+    /// Appends a number below a million as six digits.
+    #[inline(always)]
+    pub fn put_micros(&mut self, micros: u32)
+        requires room { 8 ≤ room_of self.old }
+        ensures text { text_of self.new ≡ text_of self.old ++ six_digits micros }
+        ensures room { room_of self.new + 6 ≡ room_of self.old }
+    {
+        self.put_slice(&six_digits(micros));
+    }
+
+    /// Appends a moment in microseconds as seconds, a point, and six digits.
+    #[inline(always)]
+    pub fn put_moment(&mut self, moment: u64)
+        requires room { 32 ≤ room_of self.old }
+        ensures text { text_of self.new ≡ text_of self.old ++ moment_text moment }
+        ensures room { room_of self.old ≤ room_of self.new + 21 }
+    {
+        self.put_number(moment / 1_000_000);
+        self.put_slice(b".");
+        self.put_micros((moment % 1_000_000) as u32);
+    }
+
+    /// Appends two hex digits for each byte, letters in upper case.
+    #[inline(always)]
+    pub fn put_hex(&mut self, bytes: &[u8])
+        requires room { 2 * length bytes.now + 16 ≤ room_of self.old }
+        ensures text { text_of self.new ≡ text_of self.old ++ encode_upper bytes.now }
+        ensures room { room_of self.new + 2 * length bytes.now ≡ room_of self.old }
+    {
+        for byte in bytes {
+            self.put_slice(&[hex_digit(*byte / 16), hex_digit(*byte % 16)]);
+        }
+    }
+
+    /// Appends a number as eight hex digits, letters in upper case.
+    #[inline(always)]
+    pub fn put_ident(&mut self, ident: u32)
+        requires room { 24 ≤ room_of self.old }
+        ensures text { text_of self.new ≡ text_of self.old ++ ident_text ident }
+        ensures room { room_of self.new + 8 ≡ room_of self.old }
+    {
+        self.put_hex(&bytes_of(ident));
+    }
+}
