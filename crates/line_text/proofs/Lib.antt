@@ -1,1 +1,3 @@
+mod HexBlock
+mod Tables
 mod Texts

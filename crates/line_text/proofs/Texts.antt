@@ -2,9 +2,9 @@
 use Rattle.std.specs.declared.vec.Vec.{Vec}
 use Rattle.std.specs.Vec.{with_items}
 use borrow.Rule.Slice.PartMut.{put_mid}
-use Rattle.std.proofs.Common.{◌≡◌, ◌∙◌, ℕ, ◌+◌, ◌-◌, ◌/◌, ◌%◌, ◌<◌, ◌≤◌, List, [], ◌∷◌, ◌++◌, length, take, drop, get_or, slice_index, refl, sym, ap, arith}
-use Rattle.std.proofs.lemmas.List.{length-take-le, length-append, length-drop, with_items_is, take_more, take-append-le}
-use Rattle.std.proofs.Math.Seq.{take-append-add}
+use Rattle.std.proofs.Common.{◌≡◌, ◌∙◌, ℕ, zero, suc, ◌+◌, ◌-◌, ◌*◌, ◌/◌, ◌%◌, ◌≤◌, List, [], ◌∷◌, ◌++◌, length, take, drop, slice_index, refl, sym, ap, arith}
+use Rattle.std.proofs.lemmas.List.{length-take-le, take-take, length-append, length-drop, with_items_is, take-append-le}
+use Rattle.std.proofs.Math.Seq.{take-append-add, take-add}
 use Rattle.hex.specs.Hex.{encode_with, encode_upper, upper_digits}
 
 -- a block is copied behind a text, and n bytes of it count
@@ -21,22 +21,22 @@ unfolding encode_with
 encode_append t [] ys = refl
 encode_append t (x ∷ xs) ys = ap (λ (s : List ℕ). slice_index t (x / 16) ∷ slice_index t (x % 16) ∷ s) (encode_append t xs ys)
 
-pub encode_none : encode_upper [] ≡ []
+-- the digits of the first n bytes
+pub encode_take : (t : List ℕ) (n : ℕ) (xs : List ℕ) → take (2 * n) (encode_with t xs) ≡ encode_with t (take n xs)
 unfolding encode_with
-encode_none = refl
+encode_take t zero xs = refl
+encode_take t (suc n) [] = let two : 2 * suc n ≡ suc (suc (2 * n)) = omega arith in rw two refl
+encode_take t (suc n) (x ∷ xs) =
+    let two : 2 * suc n ≡ suc (suc (2 * n)) = omega arith in
+    rw two (ap (λ (s : List ℕ). slice_index t (x / 16) ∷ slice_index t (x % 16) ∷ s) (encode_take t n xs))
 
--- hex of one byte
-pub encode_one : (b : ℕ) → encode_upper (b ∷ []) ≡ slice_index upper_digits (b / 16) ∷ slice_index upper_digits (b % 16) ∷ []
-unfolding encode_with
-encode_one b = refl
+-- the digits of the first n of a block of eight bytes
+pub encode_block : (n : ℕ) (xs : List ℕ) → n ≤ 8 → take (2 * n) (encode_upper (take 8 xs)) ≡ encode_upper (take n xs)
+encode_block n xs h = encode_take upper_digits n (take 8 xs) ∙ ap encode_upper (take-take n 8 xs h)
 
--- hex of one byte more
-pub encode_more : (xs : List ℕ) (i : ℕ) → i < length xs
-    → encode_upper (take (i + 1) xs)
-    ≡ encode_upper (take i xs) ++ (slice_index upper_digits (get_or xs i 0 / 16) ∷ slice_index upper_digits (get_or xs i 0 % 16) ∷ [])
-encode_more xs i h =
-    ap encode_upper (take_more xs i 0 h)
-    ∙ (encode_append upper_digits (take i xs) (get_or xs i 0 ∷ []) ∙ ap (λ t. encode_upper (take i xs) ++ t) (encode_one (get_or xs i 0)))
+-- the digits of n bytes more
+pub encode_more : (i n : ℕ) (xs : List ℕ) → encode_upper (take i xs) ++ encode_upper (take n (drop i xs)) ≡ encode_upper (take (i + n) xs)
+encode_more i n xs = sym (ap encode_upper (take-add i n xs) ∙ encode_append upper_digits (take i xs) (take n (drop i xs)))
 
 -- the same, with the block written into a buffer
 pub put_part : {X Z : Type 0} (v : Vec X Z) (a n k : ℕ) (ws xs ys : List X) → xs ≡ v.items → length v.items ≡ v.len

@@ -1,7 +1,10 @@
 //! Text that is gathered before it is written: words, numbers, moments and hex.
 #![tactic(auto)]
 
-mod digits;
+mod byte_words;
+mod hex_block;
+mod ident_block;
 pub mod text_buffer;
+mod two_digits;
 
 pub use text_buffer::TextBuffer;

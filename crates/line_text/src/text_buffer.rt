@@ -1,6 +1,9 @@
 ghost use Rattle.std.specs.Prelude.{◌≤◌, length};
 
-use crate::digits::{bytes_of, hex_digit, six_digits};
+use crate::byte_words::byte_word;
+use crate::hex_block::{hex_of_eight, padded};
+use crate::ident_block::ident_block;
+use crate::two_digits::two_digits;
 use cy_bits::NoMemory;
 use itoa::Buffer;
 use std::alloc::Global;
@@ -17,7 +20,7 @@ pub struct TextBuffer {
 
 #[tactic(auto, unfolding(crate::specs::Buffer::text_of, crate::specs::Buffer::room_of))]
 impl TextBuffer {
-    ghost use Rattle.std.specs.Prelude.{◌≡◌, ◌+◌, ◌*◌, ◌++◌, ◌∷◌, [], take, decimal, OnOk, OnErr};
+    ghost use Rattle.std.specs.Prelude.{◌≡◌, ◌<◌, ◌+◌, ◌*◌, ◌++◌, ◌∷◌, [], take, decimal, OnOk, OnErr};
     ghost use Rattle.hex.specs.Hex.{encode_upper};
     ghost use Rattle.line_text.specs.Buffer.{text_of, room_of};
     ghost use Rattle.line_text.specs.Text.{six_digits, moment_text, ident_text};
@@ -142,9 +145,8 @@ impl TextBuffer {
         ensures text { text_of self.new ≡ text_of self.old ++ (decimal number ++ 32 ∷ []) }
         ensures room { room_of self.old ≤ room_of self.new + 4 }
     {
-        let mut buffer = Buffer::new();
-        self.put_slice(buffer.format(number).as_bytes());
-        self.put_slice(b" ");
+        let word = byte_word(number);
+        self.put(&word, word[7] as usize);
     }
 
     /// Appends a number below a million as six digits.
@@ -154,7 +156,9 @@ impl TextBuffer {
         ensures text { text_of self.new ≡ text_of self.old ++ six_digits micros }
         ensures room { room_of self.new + 6 ≡ room_of self.old }
     {
-        self.put_slice(&six_digits(micros));
+        self.put(&two_digits(micros / 10_000), 2);
+        self.put(&two_digits(micros / 100), 2);
+        self.put(&two_digits(micros), 2);
     }
 
     /// Appends a moment in microseconds as seconds, a point, and six digits.
@@ -176,9 +180,38 @@ impl TextBuffer {
         ensures text { text_of self.new ≡ text_of self.old ++ encode_upper bytes.now }
         ensures room { room_of self.new + 2 * length bytes.now ≡ room_of self.old }
     {
-        for byte in bytes {
-            self.put_slice(&[hex_digit(*byte / 16), hex_digit(*byte % 16)]);
+        if bytes.len() < 8 {
+            self.put_short_hex(bytes);
+        } else {
+            self.put_long_hex(bytes);
         }
+    }
+
+    /// Appends two hex digits for each of eight bytes or more. The first block stands for what the whole
+    /// blocks leave; each is written behind what counts of the one before.
+    #[inline(always)]
+    fn put_long_hex(&mut self, bytes: &[u8])
+        requires long { 8 ≤ length bytes.now }
+        requires room { 2 * length bytes.now + 16 ≤ room_of self.old }
+        ensures text { text_of self.new ≡ text_of self.old ++ encode_upper bytes.now }
+        ensures room { room_of self.new + 2 * length bytes.now ≡ room_of self.old }
+    {
+        let rest = bytes.len() % 8;
+        self.put(&hex_of_eight(bytes), 2 * rest);
+        for block in 0..bytes.len() / 8 {
+            self.put(&hex_of_eight(&bytes[rest + 8 * block..]), 16);
+        }
+    }
+
+    /// Appends two hex digits for each of at most seven bytes.
+    #[inline(always)]
+    fn put_short_hex(&mut self, bytes: &[u8])
+        requires short { length bytes.now < 8 }
+        requires room { 2 * length bytes.now + 16 ≤ room_of self.old }
+        ensures text { text_of self.new ≡ text_of self.old ++ encode_upper bytes.now }
+        ensures room { room_of self.new + 2 * length bytes.now ≡ room_of self.old }
+    {
+        self.put(&hex_of_eight(&padded(bytes)), 2 * bytes.len());
     }
 
     /// Appends a number as eight hex digits, letters in upper case.
@@ -188,6 +221,6 @@ impl TextBuffer {
         ensures text { text_of self.new ≡ text_of self.old ++ ident_text ident }
         ensures room { room_of self.new + 8 ≡ room_of self.old }
     {
-        self.put_hex(&bytes_of(ident));
+        self.put(&hex_of_eight(&ident_block(ident)), 8);
     }
 }
