@@ -8,3 +8,6 @@ pub mod text_buffer;
 mod two_digits;
 
 pub use text_buffer::TextBuffer;
+
+#[cfg(test)]
+mod tests;
