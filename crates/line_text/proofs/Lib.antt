@@ -1,3 +1,4 @@
+mod Decimals
 mod HexBlock
 mod Tables
 mod Texts

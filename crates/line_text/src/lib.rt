@@ -2,6 +2,7 @@
 #![tactic(auto)]
 
 mod byte_words;
+mod digits;
 mod hex_block;
 mod ident_block;
 pub mod text_buffer;

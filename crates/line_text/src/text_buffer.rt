@@ -1,11 +1,12 @@
 ghost use Rattle.std.specs.Prelude.{◌≤◌, length};
 
 use crate::byte_words::byte_word;
+use crate::digits::digit_count;
 use crate::hex_block::{hex_of_eight, padded};
 use crate::ident_block::ident_block;
 use crate::two_digits::two_digits;
 use cy_bits::NoMemory;
-use itoa::Buffer;
+use itoa::{Buffer, write_digits};
 use std::alloc::Global;
 
 /// Text that is gathered before it is written. Only `reserve` and `push` take memory.
@@ -133,6 +134,33 @@ impl TextBuffer {
         ensures text { text_of self.new ≡ text_of self.old ++ decimal number }
         ensures room { room_of self.new + length (decimal number) ≡ room_of self.old }
         ensures most { room_of self.old ≤ room_of self.new + 20 }
+    {
+        if number < 100_000_000 {
+            self.put_short_number(number);
+        } else {
+            self.put_long_number(number);
+        }
+    }
+
+    /// Appends a number of at most eight digits; they are written where they stay.
+    #[inline(always)]
+    fn put_short_number(&mut self, number: u64)
+        requires short { number < 100000000 }
+        requires room { 24 ≤ room_of self.old }
+        ensures text { text_of self.new ≡ text_of self.old ++ decimal number }
+        ensures room { room_of self.new + length (decimal number) ≡ room_of self.old }
+    {
+        let end = self.len + digit_count(number);
+        write_digits(number, self.bytes.as_mut_slice(), end);
+        self.len = end;
+    }
+
+    /// Appends a number of any length.
+    #[inline(never)]
+    fn put_long_number(&mut self, number: u64)
+        requires room { 24 ≤ room_of self.old }
+        ensures text { text_of self.new ≡ text_of self.old ++ decimal number }
+        ensures room { room_of self.new + length (decimal number) ≡ room_of self.old }
     {
         let mut buffer = Buffer::new();
         self.put_slice(buffer.format(number).as_bytes());

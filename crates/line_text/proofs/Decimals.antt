@@ -1,0 +1,17 @@
+-- How many digits a number has.
+use Rattle.std.proofs.Common.{◌≡◌, ◌∙◌, ℕ, zero, suc, ◌+◌, ◌*◌, ◌/◌, ◌%◌, ◌^◌, ◌<◌, ◌≤◌, [], ◌∷◌, length, decimal, ap, arith, length-append}
+use Rattle.std.proofs.Math.Nat.{pow-succ'}
+use Rattle.std.proofs.lemmas.Fmt.{decimal_digit, decimal_step}
+
+above_zero : (k : ℕ) → 1 ≤ 10 ^ k
+above_zero zero = omega arith
+above_zero (suc k) = let e = pow-succ' 10 k in let h = above_zero k in omega (arith, e, h)
+
+-- a number of k digits behind the first
+pub length-decimal : (k n : ℕ) → 10 ^ k ≤ n → n < 10 * 10 ^ k → n < 2 ^ 64 → length (decimal n) ≡ k + 1
+length-decimal zero n h l b = ap length (decimal_digit n (omega arith))
+length-decimal (suc k) n h l b =
+    let e = pow-succ' 10 k in
+    let one = above_zero k in
+    let rest : length (decimal (n / 10)) ≡ k + 1 = length-decimal k (n / 10) (omega (arith, e)) (omega (arith, e)) (omega arith) in
+    ap length (decimal_step n (omega (arith, e, one)) b) ∙ omega (arith, rest, length-append (decimal (n / 10)) ((48 + n % 10) ∷ []))
