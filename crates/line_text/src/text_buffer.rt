@@ -110,7 +110,8 @@ impl TextBuffer {
         ensures room { room_of self.new + n ≡ room_of self.old }
     {
         let start = self.len;
-        self.bytes[start..start + N].copy_from_slice(word);
+        let block = *word;
+        self.bytes[start..start + N].copy_from_slice(&block);
         self.len = start + n;
     }
 
