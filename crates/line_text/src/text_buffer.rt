@@ -101,7 +101,7 @@ impl TextBuffer {
         Ok(())
     }
 
-    /// Appends the first `n` bytes of a word; all of them are copied.
+    /// Appends the first `n` bytes of a word; all of them are copied, so there is room for all.
     #[inline(always)]
     pub fn put<const N: usize>(&mut self, word: &[u8; N], n: usize)
         requires room { N ≤ room_of self.old }
@@ -115,7 +115,7 @@ impl TextBuffer {
         self.len = start + n;
     }
 
-    /// Appends bytes.
+    /// Appends bytes that there is room for.
     #[inline(always)]
     pub fn put_slice(&mut self, bytes: &[u8])
         requires room { length bytes.now ≤ room_of self.old }
@@ -128,7 +128,7 @@ impl TextBuffer {
         self.len = end;
     }
 
-    /// Appends a number in decimal.
+    /// Appends a number in decimal, at most 20 digits. There is room for 24 bytes.
     #[inline(always)]
     pub fn put_number(&mut self, number: u64)
         requires room { 24 ≤ room_of self.old }
@@ -167,7 +167,7 @@ impl TextBuffer {
         self.put_slice(buffer.format(number).as_bytes());
     }
 
-    /// Appends a number below 256 in decimal, and a space.
+    /// Appends a number below 256 in decimal, and a space. There is room for 8 bytes.
     #[inline(always)]
     pub fn put_byte_word(&mut self, number: u8)
         requires room { 8 ≤ room_of self.old }
@@ -178,7 +178,8 @@ impl TextBuffer {
         self.put(&word, word[7] as usize);
     }
 
-    /// Appends a number below a million as six digits.
+    /// Appends a number below a million as six digits; of a larger one, the last six. There is room for 8
+    /// bytes.
     #[inline(always)]
     pub fn put_micros(&mut self, micros: u32)
         requires room { 8 ≤ room_of self.old }
@@ -190,7 +191,7 @@ impl TextBuffer {
         self.put(&two_digits(micros), 2);
     }
 
-    /// Appends a moment in microseconds as seconds, a point, and six digits.
+    /// Appends a moment in microseconds as seconds, a point, and six digits. There is room for 32 bytes.
     #[inline(always)]
     pub fn put_moment(&mut self, moment: u64)
         requires room { 32 ≤ room_of self.old }
@@ -202,7 +203,7 @@ impl TextBuffer {
         self.put_micros((moment % 1_000_000) as u32);
     }
 
-    /// Appends two hex digits for each byte, letters in upper case.
+    /// Appends two hex digits for each byte, letters in upper case. There is room for 16 bytes more.
     #[inline(always)]
     pub fn put_hex(&mut self, bytes: &[u8])
         requires room { 2 * length bytes.now + 16 ≤ room_of self.old }
@@ -243,7 +244,7 @@ impl TextBuffer {
         self.put(&hex_of_eight(&padded(bytes)), 2 * bytes.len());
     }
 
-    /// Appends a number as eight hex digits, letters in upper case.
+    /// Appends a number as eight hex digits, letters in upper case. There is room for 24 bytes.
     #[inline(always)]
     pub fn put_ident(&mut self, ident: u32)
         requires room { 24 ≤ room_of self.old }
