@@ -7,3 +7,4 @@ pub mod Steps
 pub mod Reader
 pub mod Used
 pub mod UsedSteps
+pub mod Refusals

@@ -1,5 +1,5 @@
 -- The order of a log's records, and what each can be.
-use Rattle.std.specs.Prelude.{◌≤◌, ◌<◌, ℕ, List, [], ◌∷◌, length, ⊤}
+use Rattle.std.specs.Prelude.{◌≤◌, ◌<◌, ◌^◌, ℕ, List, [], ◌∷◌, length, ⊤}
 use Rattle.tail_frame.specs.declared.logged.Record.{Record}
 
 -- behind this moment and this line the moments never fall, and the lines rise
@@ -7,6 +7,6 @@ abbrev pub IsAhead : ℕ → ℕ → List Record → Type 0
 IsAhead moment line [] = ⊤
 IsAhead moment line (r ∷ rest) = (moment ≤ r.moment) × (line < r.line) × IsAhead r.moment r.line rest
 
--- its bus is one of these, its identifier has 29 bits, and its data at most 64 bytes
+-- its bus is one of these, its identifier has 29 bits, its data at most 64 bytes, and its moment 18 digits
 abbrev pub IsFit : List (List ℕ) → Record → Type 0
-IsFit buses r = (r.bus < length buses) × (r.ident ≤ 0x1FFF_FFFF) × (length r.bytes ≤ 64)
+IsFit buses r = (r.bus < length buses) × (r.ident ≤ 0x1FFF_FFFF) × (length r.bytes ≤ 64) × (r.moment < 10 ^ 18)

@@ -1,5 +1,5 @@
 -- What a reader gives.
-use Rattle.std.specs.Prelude.{◌≡◌, ◌+◌, ◌++◌, ◌⊎◌, ℕ, Bool, List, Option, Some, None, Result, Ok, Err, length}
+use Rattle.std.specs.Prelude.{◌≡◌, ◌+◌, ◌++◌, ◌⊎◌, ℕ, Bool, true, false, List, Option, Some, None, Result, Ok, Err, length}
 use Rattle.tail_frame.specs.declared.logged.Record.{Record}
 use Rattle.frame_log.specs.declared.reader.LogReader.{LogReader}
 use Rattle.frame_log.specs.declared.error.LogError.{LogError}
@@ -63,3 +63,9 @@ kept_held (Err e) = Some (Refused e)
 abbrev pub answered : Answer → Result (Option Record) LogError
 answered Whole = Ok None
 answered (Refused e) = Err e
+
+-- the answer that a call gave which writes its record: true with what was written
+abbrev pub given : Record → Result Bool LogError → Result (Option Record) LogError
+given written (Ok true) = Ok (Some written)
+given written (Ok false) = Ok None
+given written (Err e) = Err e

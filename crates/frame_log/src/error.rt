@@ -14,3 +14,16 @@ pub enum LogError {
     /// The input failed.
     Failed,
 }
+
+/// Why a line of a log is refused.
+#[derive(Clone, Copy, Debug, PartialEq, Eq)]
+pub enum LogWhy {
+    /// It has no form of a log line, or more than 4,096 bytes.
+    BadLine,
+    /// Its moment is below that of the record before.
+    TimeBack,
+    /// Its bus is none of the reader's.
+    UnknownBus,
+    /// Its moment is more than 100,000 seconds after that of the first record.
+    TooFar,
+}

@@ -3,7 +3,7 @@ ghost use Rattle.frame_log.specs.Log.{Place, log_of, log_from};
 ghost use Rattle.frame_log.specs.Order.{IsAhead, IsFit};
 
 /// The records of a log are in order: their moments never fall and their lines rise, from 1 on.
-/// Each has one of the buses, an identifier of 29 bits and at most 64 bytes.
+/// Each has one of the buses, an identifier of 29 bits, at most 64 bytes and a moment below 10^18.
 pub fn ordered()
     ensures order { (buses : List (List ℕ)) (bytes : List ℕ) → IsAhead 0 0 (log_of buses bytes).records }
     ensures fit { (buses : List (List ℕ)) (bytes : List ℕ) → All (IsFit buses) (log_of buses bytes).records }

@@ -11,6 +11,6 @@ mod reader;
 #[cfg(test)]
 mod tests;
 
-pub use error::LogError;
+pub use error::{LogError, LogWhy};
 pub use laws::ordered;
 pub use reader::LogReader;

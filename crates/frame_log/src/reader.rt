@@ -1,7 +1,6 @@
 //! A log, record by record.
 ghost use Rattle.std.specs.Prelude.{◌≤◌, ◌+◌, length};
 
-use crate::data::Data;
 use crate::error::LogError;
 use crate::held::Held;
 use cy_bits::{BusName, NoMemory, ShortList};
@@ -11,6 +10,7 @@ use step::Step;
 use tail_frame::Record;
 use turn::Turn;
 
+mod owned;
 mod step;
 mod turn;
 
@@ -52,7 +52,7 @@ impl LogReader {
     ghost use Rattle.frame_log.specs.Line.{cut};
     ghost use Rattle.frame_log.specs.Log.{log_of, start};
     ghost use Rattle.frame_log.specs.Order.{IsFit};
-    ghost use Rattle.frame_log.specs.Reader.{buses_of, place_of, held_of, bytes_left, saw_end, answer_of, log_behind, IsNext, IsNextHeld, kept, kept_held, answered};
+    ghost use Rattle.frame_log.specs.Reader.{buses_of, place_of, held_of, bytes_left, saw_end, answer_of, log_behind, IsNext, IsNextHeld, kept, kept_held, answered, given};
     ghost use Rattle.frame_log.specs.Used.{Uses, IsBefore, IsBeforeHeld};
     ghost use Rattle.frame_log.specs.declared.error.LogError.TheVariants as error;
     ghost use Rattle.frame_log.specs.declared.reader.turn.Turn.TheVariants as turn;
@@ -76,63 +76,61 @@ impl LogReader {
         })
     }
 
-    /// The next record, or None at the log's end. It reads only where no whole line is held. After
-    /// None or an error each later call answers the same and reads nothing.
+    /// Writes the next record into `written`. False at the log's end, and then `written` says nothing. It
+    /// reads only where no whole line is held. After false or an error each later call answers the
+    /// same and reads nothing.
     #[inline(always)]
-    pub fn next_record<L: Source>(&mut self, input: &mut L) -> Result<Option<Record>, LogError>
+    pub fn next_into<L: Source>(
+        &mut self,
+        input: &mut L,
+        written: &mut Record,
+    ) -> Result<bool, LogError>
         // What the log gives that is left: the bytes held, those that came in this call, and any rest.
         ensures next { answer_of self.old ≡ None → (came : List ℕ) × Took (L.left input.old) (L.left input.new) came
-            × ((rest : List ℕ) → (saw_end self.new ≡ true → rest ≡ []) → IsNext (log_behind self.old (came ++ rest)) result (log_behind self.new rest)) }
+            × ((rest : List ℕ) → (saw_end self.new ≡ true → rest ≡ []) → IsNext (log_behind self.old (came ++ rest)) (given written.new result) (log_behind self.new rest)) }
 
         // What was held and what came are whole lines that give no record, and behind them at most 8,192 bytes.
         ensures used { answer_of self.old ≡ None → (came : List ℕ) × Took (L.left input.old) (L.left input.new) came
-            × Uses (buses_of self.old) (place_of self.old) (held_of self.old ++ came) (IsBefore result self.new) }
+            × Uses (buses_of self.old) (place_of self.old) (held_of self.old ++ came) (IsBefore (given written.new result) self.new) }
 
         // It has ended only where the input has.
         ensures end { saw_end self.old ≡ false → saw_end self.new ≡ true → IsAtEnd (L.left input.new) }
-        ensures whole { answer_of self.old ≡ None → result ≡ Ok None → saw_end self.new ≡ true }
-        ensures ended { answer_of self.old ≡ None → saw_end self.old ≡ true → (input.new ≡ input.old) × (saw_end self.new ≡ true) × IsNext (log_behind self.old []) result (log_behind self.new []) }
+        ensures whole { answer_of self.old ≡ None → given written.new result ≡ Ok None → saw_end self.new ≡ true }
+        ensures ended { answer_of self.old ≡ None → saw_end self.old ≡ true → (input.new ≡ input.old) × (saw_end self.new ≡ true) × IsNext (log_behind self.old []) (given written.new result) (log_behind self.new []) }
 
         // The answer stays.
-        ensures done { answer_of self.old ≡ None → answer_of self.new ≡ kept result }
-        ensures again { IfSome (answer_of self.old) (λ a. (result ≡ answered a) × (self.new ≡ self.old) × (input.new ≡ input.old)) }
+        ensures done { answer_of self.old ≡ None → answer_of self.new ≡ kept (given written.new result) }
+        ensures again { IfSome (answer_of self.old) (λ a. (given written.new result ≡ answered a) × (self.new ≡ self.old) × (input.new ≡ input.old)) }
 
         // The input failed, and no line that was taken is left.
-        ensures failed { answer_of self.old ≡ None → result ≡ Err error.Failed → Rose (L.faults input.old) (L.faults input.new) × (cut 10 (held_of self.new) ≡ None) × (length (held_of self.new) ≤ 4096) }
-        ensures open { answer_of self.old ≡ None → result ≡ Err error.Failed → saw_end self.new ≡ false }
-        ensures count { ¬ (result ≡ Err error.Failed) → L.faults input.new ≡ L.faults input.old }
+        ensures failed { answer_of self.old ≡ None → given written.new result ≡ Err error.Failed → Rose (L.faults input.old) (L.faults input.new) × (cut 10 (held_of self.new) ≡ None) × (length (held_of self.new) ≤ 4096) }
+        ensures open { answer_of self.old ≡ None → given written.new result ≡ Err error.Failed → saw_end self.new ≡ false }
+        ensures count { ¬ (given written.new result ≡ Err error.Failed) → L.faults input.new ≡ L.faults input.old }
 
         // A record is behind those before it, and has one of the buses.
-        ensures order { IfOk result (λ o. IfSome o (λ r. ((place_of self.old).last ≤ r.moment) × ((place_of self.old).lines < r.line))) }
-        ensures place { IfOk result (λ o. IfSome o (λ r. ((place_of self.new).last ≡ r.moment) × ((place_of self.new).lines ≡ r.line))) }
-        ensures fit { IfOk result (λ o. IfSome o (λ r. IsFit (buses_of self.old) r × (r.line ≤ 2 ^ 28))) }
+        ensures order { IfOk (given written.new result) (λ o. IfSome o (λ r. ((place_of self.old).last ≤ r.moment) × ((place_of self.old).lines < r.line))) }
+        ensures place { IfOk (given written.new result) (λ o. IfSome o (λ r. ((place_of self.new).last ≡ r.moment) × ((place_of self.new).lines ≡ r.line))) }
+        ensures fit { IfOk (given written.new result) (λ o. IfSome o (λ r. IsFit (buses_of self.old) r × (r.line ≤ 2 ^ 28))) }
 
         // Each record leaves fewer bytes, and no more were taken than stand in the buffer.
-        ensures less { IfOk result (λ o. IfSome o (λ _. bytes_left self.new < bytes_left self.old)) }
+        ensures less { IfOk (given written.new result) (λ o. IfSome o (λ _. bytes_left self.new < bytes_left self.old)) }
         ensures within { bytes_left self.new ≤ bytes_left self.old }
         ensures near { length (held_of self.new) ≤ 8192 }
         ensures same { buses_of self.new ≡ buses_of self.old }
     {
         if let Some(answer) = self.done {
             return match answer {
-                Answer::Whole => Ok(None),
+                Answer::Whole => Ok(false),
                 Answer::Refused(e) => Err(e),
             };
         }
-        let mut written = Record {
-            line: 0,
-            moment: 0,
-            bus: 0,
-            ident: 0,
-            bytes: Data::new(),
-        };
-        loop {
-            match self.turn(input, &mut written) {
+        'turns: loop {
+            match self.turn(input, written) {
                 Turn::Again => {}
-                Turn::Record => return Ok(Some(written)),
+                Turn::Record => return Ok(true),
                 Turn::Whole => {
                     self.done = Some(Answer::Whole);
-                    return Ok(None);
+                    return Ok(false);
                 }
                 Turn::Refused(e) => {
                     self.done = Some(Answer::Refused(e));
@@ -146,53 +144,47 @@ impl LogReader {
         }
     }
 
-    /// The next record of the lines that are held whole, without reading. None where no such line is
-    /// left: `next_record` goes on from there. A refusal is the answer of each later call, and a
-    /// reader that has answered its end or an error answers the same again.
+    /// Writes the next record of the lines that are held whole into `written`, without reading. False
+    /// where no such line is left, and then `written` says nothing: `next_into` goes on from there. A
+    /// refusal is the answer of each later call, and a reader that has answered its end or an error
+    /// answers the same again.
     #[inline(always)]
-    pub fn next_held(&mut self) -> Result<Option<Record>, LogError>
+    pub fn next_held_into(&mut self, written: &mut Record) -> Result<bool, LogError>
         // What the log gives that is left, whatever comes behind the bytes held.
-        ensures next { answer_of self.old ≡ None → (rest : List ℕ) → IsNextHeld (log_behind self.old rest) result (log_behind self.new rest) }
-        ensures none { answer_of self.old ≡ None → result ≡ Ok None → cut 10 (held_of self.new) ≡ None }
-        ensures used { answer_of self.old ≡ None → Uses (buses_of self.old) (place_of self.old) (held_of self.old) (IsBeforeHeld result self.new) }
-        ensures input { answer_of self.old ≡ None → ¬ (result ≡ Err error.Failed) }
+        ensures next { answer_of self.old ≡ None → (rest : List ℕ) → IsNextHeld (log_behind self.old rest) (given written.new result) (log_behind self.new rest) }
+        ensures none { answer_of self.old ≡ None → given written.new result ≡ Ok None → cut 10 (held_of self.new) ≡ None }
+        ensures used { answer_of self.old ≡ None → Uses (buses_of self.old) (place_of self.old) (held_of self.old) (IsBeforeHeld (given written.new result) self.new) }
+        ensures input { answer_of self.old ≡ None → ¬ (given written.new result ≡ Err error.Failed) }
 
         // A refusal stays.
-        ensures done { answer_of self.old ≡ None → answer_of self.new ≡ kept_held result }
-        ensures again { IfSome (answer_of self.old) (λ a. (result ≡ answered a) × (self.new ≡ self.old)) }
+        ensures done { answer_of self.old ≡ None → answer_of self.new ≡ kept_held (given written.new result) }
+        ensures again { IfSome (answer_of self.old) (λ a. (given written.new result ≡ answered a) × (self.new ≡ self.old)) }
         ensures end { saw_end self.new ≡ saw_end self.old }
 
         // A record is behind those before it, and has one of the buses.
-        ensures order { IfOk result (λ o. IfSome o (λ r. ((place_of self.old).last ≤ r.moment) × ((place_of self.old).lines < r.line))) }
-        ensures place { IfOk result (λ o. IfSome o (λ r. ((place_of self.new).last ≡ r.moment) × ((place_of self.new).lines ≡ r.line))) }
-        ensures fit { IfOk result (λ o. IfSome o (λ r. IsFit (buses_of self.old) r × (r.line ≤ 2 ^ 28))) }
+        ensures order { IfOk (given written.new result) (λ o. IfSome o (λ r. ((place_of self.old).last ≤ r.moment) × ((place_of self.old).lines < r.line))) }
+        ensures place { IfOk (given written.new result) (λ o. IfSome o (λ r. ((place_of self.new).last ≡ r.moment) × ((place_of self.new).lines ≡ r.line))) }
+        ensures fit { IfOk (given written.new result) (λ o. IfSome o (λ r. IsFit (buses_of self.old) r × (r.line ≤ 2 ^ 28))) }
 
         // Each record leaves fewer bytes.
-        ensures less { IfOk result (λ o. IfSome o (λ _. bytes_left self.new < bytes_left self.old)) }
+        ensures less { IfOk (given written.new result) (λ o. IfSome o (λ _. bytes_left self.new < bytes_left self.old)) }
         ensures within { bytes_left self.new ≤ bytes_left self.old }
         ensures near { length (held_of self.new) ≤ 8192 }
         ensures same { buses_of self.new ≡ buses_of self.old }
     {
         if let Some(answer) = self.done {
             return match answer {
-                Answer::Whole => Ok(None),
+                Answer::Whole => Ok(false),
                 Answer::Refused(e) => Err(e),
             };
         }
-        let mut written = Record {
-            line: 0,
-            moment: 0,
-            bus: 0,
-            ident: 0,
-            bytes: Data::new(),
-        };
-        match self.from_held(&mut written) {
-            Step::Record => Ok(Some(written)),
+        match self.from_held(written) {
+            Step::Record => Ok(true),
             Step::Refused(e) => {
                 self.done = Some(Answer::Refused(e));
                 Err(e)
             }
-            Step::NoLine | Step::Skipped => Ok(None),
+            Step::NoLine | Step::Skipped => Ok(false),
         }
     }
 }

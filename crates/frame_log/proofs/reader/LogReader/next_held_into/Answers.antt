@@ -5,7 +5,7 @@ use Rattle.frame_log.specs.Steps.{IsStep}
 use Rattle.frame_log.specs.Reader.{place_of, buses_of, held_of, bytes_left, log_behind}
 use Rattle.frame_log.proofs.OrderLemmas.{ahead-first, ahead-from}
 use Rattle.frame_log.proofs.FitLemmas.{fit-first, fit-from}
-use Rattle.frame_log.proofs.reader.LogReader.next_held.Goals as goal
+use Rattle.frame_log.proofs.reader.LogReader.next_held_into.Goals as goal
 
 -- the log before, where nothing comes behind what is held
 written : (c : goal.In-Record) → log_behind c.args.self.now [] ≡ with_record c.from_held.new.written (log_behind c.from_held.new.self [])

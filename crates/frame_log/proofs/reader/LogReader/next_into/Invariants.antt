@@ -2,10 +2,10 @@ use Rattle.std.proofs.Common.{◌≡◌, ◌≤◌, ◌++◌, List, ℕ, None, t
 use Rattle.frame_log.specs.Input.{Took}
 use Rattle.frame_log.specs.Reader.{log_behind, buses_of, place_of, held_of, bytes_left}
 use Rattle.frame_log.specs.Used.{Passes}
-use Rattle.frame_log.proofs.reader.LogReader.next_record.Given as goal
+use Rattle.frame_log.proofs.reader.LogReader.next_into.Given as goal
 
-abbrev pub invariant-loop-written : goal.invariant-loop-written
-invariant-loop-written g l = let s = g.L.Source in record {
+abbrev pub invariant-turns : goal.invariant-turns
+invariant-turns g l = let s = g.L.Source in record {
   next : (came : List ℕ) × Took (s.left l.fn.input) (s.left l.input) came × ((rest : List ℕ) → log_behind l.fn.self (came ++ rest) ≡ log_behind l.self rest);
   used : (came : List ℕ) × Took (s.left l.fn.input) (s.left l.input) came × Passes (buses_of l.fn.self) (place_of l.fn.self) (held_of l.fn.self ++ came) (place_of l.self) (held_of l.self);
   ended : l.fn.self.is_ended ≡ true → (l.self ≡ l.fn.self) × (l.input ≡ l.fn.input);
@@ -16,5 +16,5 @@ invariant-loop-written g l = let s = g.L.Source in record {
   within : bytes_left l.self ≤ bytes_left l.fn.self;
 }
 
-abbrev pub decreases-loop-written : goal.decreases-loop-written
-decreases-loop-written g l = l.self.room
+abbrev pub decreases-turns : goal.decreases-turns
+decreases-turns g l = l.self.room
