@@ -5,3 +5,5 @@ pub mod LogLemmas
 pub mod OrderLemmas
 pub mod FitLemmas
 pub mod UsedLemmas
+pub mod LaneLemmas
+pub mod PairLemmas

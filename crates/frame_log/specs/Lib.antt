@@ -8,3 +8,4 @@ pub mod Reader
 pub mod Used
 pub mod UsedSteps
 pub mod Refusals
+pub mod Lanes

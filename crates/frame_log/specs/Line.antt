@@ -1,5 +1,5 @@
 -- What a line of a log says.
-use Rattle.std.specs.Prelude.{ℕ, Bool, true, false, List, [], ◌∷◌, ◌+◌, ◌-◌, ◌*◌, ◌==◌, ◌&&◌, ◌||◌, Option, Some, None, if◌then◌else◌, length, nat_le, nat_lt, take, drop, unwrap_or}
+use Rattle.std.specs.Prelude.{ℕ, Bool, true, false, List, [], ◌∷◌, ◌++◌, ◌+◌, ◌-◌, ◌*◌, ◌==◌, ◌&&◌, ◌||◌, Option, Some, None, if◌then◌else◌, length, nat_le, nat_lt, take, drop, unwrap_or}
 use Rattle.std.specs.Str.{bytes_eq}
 
 -- what a line says: it has no form, it is skipped, its bus isn't there, or it has a frame with its moment, bus, identifier and bytes
@@ -83,6 +83,12 @@ pairs_of (a ∷ []) = None
 pairs_of (a ∷ b ∷ s) = if nat_lt 15 (hex_digit a) || nat_lt 15 (hex_digit b) then None else (do
   bytes ← pairs_of s
   Some ((hex_digit a * 16 + hex_digit b) ∷ bytes))
+
+-- these bytes in front of others
+abbrev pub with_front : List ℕ → Option (List ℕ) → Option (List ℕ)
+with_front bytes others = do
+  more ← others
+  Some (bytes ++ more)
 
 -- the lengths of data: of classic CAN, and of CAN FD
 abbrev pub is_length : Bool → ℕ → Bool

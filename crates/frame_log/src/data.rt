@@ -1,13 +1,50 @@
 //! The data of a frame, which stands behind `#`.
 ghost use Rattle.std.specs.Prelude.{◌≡◌, ◌≤◌, ◌+◌, ◌*◌, ◌-◌, option_map, length, take, drop, Some, None, ◌++◌, []};
-ghost use Rattle.frame_log.specs.Line.{pairs_of, is_length, bytes_of, is_at_most_digit, fd_bytes_of, data_of, unflagged};
+ghost use Rattle.frame_log.specs.Line.{pairs_of, with_front, is_length, bytes_of, is_at_most_digit, fd_bytes_of, data_of, unflagged};
 ghost use Rattle.frame_log.specs.Found.{bytes_if};
 
 use crate::digits::{after, front, hex_digit, hexadecimal};
+use crate::sixteen::{digits_before, paired, values};
 use cy_bits::ShortList;
+use std::simd::prelude::*;
 
 /// The bytes of a frame.
 pub type Data = ShortList<u8, 64>;
+
+/// Puts the first `n` bytes of a block.
+#[inline(always)]
+fn put(block: u8x8, n: usize, bytes: &mut Data)
+    requires few { n ≤ 8 }
+    requires room { length bytes.old + n ≤ 64 }
+    ensures { bytes.new ≡ bytes.old ++ take n block }
+{
+    let block = block.to_array();
+    for b in &block[..n] {
+        bytes.push(*b);
+    }
+}
+
+/// Puts the bytes of pairs of hex digits, sixteen digits at a time, as far as it gets: the number of
+/// bytes.
+#[inline(always)]
+fn blocks(s: &[u8], bytes: &mut Data) -> usize
+    requires short { length s.now ≤ 128 }
+    requires empty { bytes.old ≡ [] }
+    ensures value { pairs_of s.now ≡ with_front bytes.new (pairs_of (drop (2 * result) s.now)) }
+    ensures count { result ≡ length bytes.new }
+    ensures within { 2 * result ≤ length s.now }
+{
+    let mut n = 0;
+    for i in 0..s.len() / 16 {
+        let v = values(u8x16::from_slice(&s[16 * i..]));
+        if digits_before(v) < 16 {
+            break;
+        }
+        put(paired(v), 8, bytes);
+        n = 8 * i + 8;
+    }
+    n
+}
 
 /// Puts the bytes of pairs of hex digits.
 #[inline(always)]
@@ -20,7 +57,8 @@ fn pairs(s: &[u8], bytes: &mut Data) -> bool
     if s.len() != 2 * n {
         return false;
     }
-    for i in 0..n {
+    let first = blocks(s, bytes);
+    for i in first..n {
         let high = hex_digit(s[2 * i]);
         let low = hex_digit(s[2 * i + 1]);
         if high > 15 || low > 15 {

@@ -8,6 +8,7 @@ mod held;
 mod laws;
 mod line;
 mod reader;
+mod sixteen;
 #[cfg(test)]
 mod tests;
 

@@ -1,10 +1,11 @@
 //! What a line of a log says.
 ghost use Rattle.std.specs.Prelude.{◌≡◌, ◌≤◌, ◌<◌, ◌+◌, ◌*◌, ◌^◌, ◌-◌, ℕ, option_map, length, take, drop, IfSome, Some, None, ◌++◌, [], List};
-ghost use Rattle.frame_log.specs.Line.{seconds_of, micros_of, bus_of, ident_of, bus_at, frame_of, behind_bus, form_of, without_return, said_of, cut, front, after, decimal_from};
+ghost use Rattle.frame_log.specs.Line.{seconds_of, micros_of, bus_of, ident_of, bus_at, frame_of, behind_bus, form_of, without_return, said_of, cut, front, after, decimal_from, hex_from};
 ghost use Rattle.frame_log.specs.Found.{bytes_if, said_by};
 
 use crate::data::{Data, data, unflagged};
 use crate::digits::{after, cut, decimal, front, hexadecimal};
+use crate::sixteen::eight_digits;
 use cy_bits::BusName;
 
 /// What was found in a line. The bytes of a frame stand apart.
@@ -73,14 +74,29 @@ fn bus_name(s: &[u8]) -> Option<(&[u8], &[u8])>
     Some((name, rest))
 }
 
+/// The number of the first `n` hex digits.
+#[inline(always)]
+fn number(n: usize, s: &[u8]) -> Option<u32>
+    requires few { n ≤ 8 }
+    requires within { n ≤ length s.now }
+    ensures { result ≡ hex_from 0 (take n s.now) }
+{
+    if n == 8 && s.len() >= 16 {
+        if let Some(number) = eight_digits(s) {
+            return Some(number);
+        }
+    }
+    hexadecimal(&s[..n])
+}
+
 /// IDENT of `n` digits, and `#`.
 #[inline(always)]
 fn ident(n: usize, s: &[u8]) -> Option<(u32, &[u8])>
     requires { n ≤ 8 }
     ensures { option_map (λ p. (p.0, p.1.now)) result ≡ ident_of n s.now }
 {
-    let (digits, rest) = front(n, s)?;
-    let ident = hexadecimal(digits)?;
+    let (_, rest) = front(n, s)?;
+    let ident = number(n, s)?;
     let a = after(b'#', rest)?;
     Some((ident, a))
 }

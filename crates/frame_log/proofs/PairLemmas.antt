@@ -1,0 +1,143 @@
+-- Lemmas on pairs of hex digits, many at a time.
+use Rattle.std.proofs.Common.{◌≡◌, ◌∙◌, ◌<◌, ◌≤◌, ℕ, zero, suc, ◌+◌, ◌*◌, ◌/◌, ◌%◌, Bool, true, false, not, cond, List, [], ◌∷◌, ◌++◌, Option, Some, None, refl, sym, ap, ap₂, map, length, take, drop, get_or, bit_or, arith, append_assoc, length-append}
+use Rattle.std.specs.Prelude.{nat_lt}
+use Rattle.std.specs.List.{prefix_len, range_with_len}
+use Rattle.std.specs.Int.{from_be_bytes, w32}
+use Rattle.std.proofs.lemmas.List.FromFn.{get_or-map-range_with_len}
+use Rattle.std.proofs.lemmas.Bool.Decides.{nat_tests}
+use Rattle.std.proofs.lemmas.Simd.{chunk-drop}
+use Rattle.std.proofs.lemmas.Grind.{common_steps}
+use Rattle.frame_log.specs.Line.{hex_digit, hex_from, pairs_of, with_front, ◌>>=◌}
+use Rattle.frame_log.specs.Lanes.{is_digit, bytes_of_pairs}
+use Rattle.frame_log.proofs.LineLemmas.{pairs_of-two, no}
+
+-- the byte of two values, by a table
+bytes_are : map (λ n. bit_or (n / 16 * 16 % 256) (n % 16)) (range_with_len 0 256) ≡ map (λ n. n) (range_with_len 0 256)
+bytes_are = refl
+
+joined_is : (n : ℕ) → n < 256 → bit_or (n / 16 * 16 % 256) (n % 16) ≡ n
+joined_is n h = sym (get_or-map-range_with_len (λ n. bit_or (n / 16 * 16 % 256) (n % 16)) 0 256 n n 0 (omega arith) (omega arith))
+    ∙ (ap (λ (t : List ℕ). get_or t n 0) bytes_are ∙ get_or-map-range_with_len (λ n. n) 0 256 n n 0 (omega arith) (omega arith))
+
+pub byte_is : (a b : ℕ) → a ≤ 15 → b ≤ 15 → bit_or (a * 16 % 256) b ≡ a * 16 + b
+byte_is a b h k =
+    let high : (a * 16 + b) / 16 ≡ a = omega arith in
+    let low : (a * 16 + b) % 16 ≡ b = omega arith in
+    ap₂ (λ x y. bit_or (x * 16 % 256) y) (sym high) (sym low) ∙ joined_is (a * 16 + b) (omega arith)
+
+-- the first value is a digit's, where some are
+pub first_digit : (x k : ℕ) (xs : List ℕ) → suc k ≤ prefix_len is_digit (x ∷ xs) → (x ≤ 15) × (k ≤ prefix_len is_digit xs)
+first_digit x k xs h = go (nat_lt 15 x) refl h
+  where
+    go : (t : Bool) → nat_lt 15 x ≡ t → suc k ≤ cond (not t) (1 + prefix_len is_digit xs) 0 → (x ≤ 15) × (k ≤ prefix_len is_digit xs)
+    go true e l = absurd (omega (arith, l))
+    go false e l = (let g : x ≤ 15 = grind (arith, nat_tests) in g, omega (arith, l))
+
+bind-same : (o : Option (List ℕ)) → o ≡ (o >>= (λ more. Some ([] ++ more)))
+bind-same None = refl
+bind-same (Some m) = refl
+
+bind-front : (o : Option (List ℕ)) (bytes : List ℕ) (x : ℕ) → ((o >>= (λ more. Some (bytes ++ more))) >>= (λ m. Some (x ∷ m))) ≡ (o >>= (λ more. Some ((x ∷ bytes) ++ more)))
+bind-front None bytes x = refl
+bind-front (Some m) bytes x = refl
+
+pub bind-both : (o : Option (List ℕ)) (front bytes : List ℕ) → ((o >>= (λ more. Some (bytes ++ more))) >>= (λ more. Some (front ++ more))) ≡ (o >>= (λ more. Some ((front ++ bytes) ++ more)))
+bind-both None front bytes = refl
+bind-both (Some m) front bytes = ap Some (sym (append_assoc front bytes m))
+
+-- the first k of these bytes are digits, and so m pairs
+pub pairs_of-block : (m k : ℕ) (c t : List ℕ) → k ≡ 2 * m → k ≤ prefix_len is_digit (map hex_digit c)
+    → pairs_of (take k c ++ t) ≡ (pairs_of t >>= (λ more. Some (take m (bytes_of_pairs (map hex_digit c)) ++ more)))
+pairs_of-block zero zero c t e h = bind-same (pairs_of t)
+pairs_of-block zero (suc k) c t e h = absurd (omega (arith, e))
+pairs_of-block (suc m) zero c t e h = absurd (omega (arith, e))
+pairs_of-block (suc m) (suc zero) c t e h = absurd (omega (arith, e))
+pairs_of-block (suc m) (suc (suc k)) [] t e h = absurd (omega (arith, h))
+pairs_of-block (suc m) (suc (suc k)) (a ∷ []) t e h = absurd (let f = first_digit (hex_digit a) (suc k) [] h in omega (arith, f.1))
+pairs_of-block (suc m) (suc (suc k)) (a ∷ b ∷ c) t e h =
+    let f = first_digit (hex_digit a) (suc k) (map hex_digit (b ∷ c)) h in
+    let g = first_digit (hex_digit b) k (map hex_digit c) f.1 in
+    let bytes = take m (bytes_of_pairs (map hex_digit c)) in
+    pairs_of-two a b (take k c ++ t) f.0 g.0
+    ∙ ap (λ (o : Option (List ℕ)). o >>= (λ more. Some ((hex_digit a * 16 + hex_digit b) ∷ more))) (pairs_of-block m k c t (omega (arith, e)) g.1)
+    ∙ bind-front (pairs_of t) bytes (hex_digit a * 16 + hex_digit b)
+    ∙ ap (λ x. pairs_of t >>= (λ more. Some ((x ∷ bytes) ++ more))) (sym (byte_is (hex_digit a) (hex_digit b) f.0 g.0))
+
+-- these pairs have so many bytes
+pub pairs-length : (m k : ℕ) (c : List ℕ) → k ≡ 2 * m → k ≤ prefix_len is_digit (map hex_digit c) → m ≤ length (bytes_of_pairs (map hex_digit c))
+pairs-length zero k c e h = omega arith
+pairs-length (suc m) zero c e h = absurd (omega (arith, e))
+pairs-length (suc m) (suc zero) c e h = absurd (omega (arith, e))
+pairs-length (suc m) (suc (suc k)) [] e h = absurd (omega (arith, h))
+pairs-length (suc m) (suc (suc k)) (a ∷ []) e h = absurd (let f = first_digit (hex_digit a) (suc k) [] h in omega (arith, f.1))
+pairs-length (suc m) (suc (suc k)) (a ∷ b ∷ c) e h =
+    let f = first_digit (hex_digit a) (suc k) (map hex_digit (b ∷ c)) h in
+    let g = first_digit (hex_digit b) k (map hex_digit c) f.1 in
+    let l = pairs-length m k c (omega (arith, e)) g.1 in omega (arith, l)
+
+pub take-twice : (n : ℕ) (s : List ℕ) → take n (take n s) ≡ take n s
+take-twice zero s = refl
+take-twice (suc n) [] = refl
+take-twice (suc n) (x ∷ s) = ap (λ t. x ∷ t) (take-twice n s)
+
+length-front : (n : ℕ) (s : List ℕ) → n ≤ length s → length (take n s) ≡ n
+length-front n s h = grind (arith, common_steps)
+
+-- a step of reading pairs, sixteen digits at a time
+pub pairs_of-sixteen : (s bytes next : List ℕ) (i : ℕ) → pairs_of s ≡ with_front bytes (pairs_of (drop i s)) → 16 ≤ prefix_len is_digit (map hex_digit (take 16 (drop i s)))
+    → next ≡ bytes ++ take 8 (bytes_of_pairs (map hex_digit (take 16 (drop i s)))) → (pairs_of s ≡ with_front next (pairs_of (drop (i + 16) s))) × (length next ≡ length bytes + 8)
+pairs_of-sixteen s bytes next i e h n =
+    let c = take 16 (drop i s) in
+    let b = take 8 (bytes_of_pairs (map hex_digit c)) in
+    let rest = drop (i + 16) s in
+    let split : drop i s ≡ take 16 c ++ rest = chunk-drop i 16 s ∙ ap (λ t. t ++ rest) (sym (take-twice 16 (drop i s))) in
+    let l : 8 ≤ length (bytes_of_pairs (map hex_digit c)) = pairs-length 8 16 c refl h in
+    let k : length b ≡ 8 = length-front 8 (bytes_of_pairs (map hex_digit c)) l in (
+      e ∙ ap (λ t. with_front bytes (pairs_of t)) split
+          ∙ ap (with_front bytes) (pairs_of-block 8 16 c rest refl h)
+          ∙ bind-both (pairs_of rest) bytes b
+          ∙ ap (λ t. with_front t (pairs_of rest)) (sym n),
+      ap length n ∙ length-append bytes b ∙ ap (λ x. length bytes + x) k,
+    )
+
+-- the number of bytes, behind the number n
+abbrev number_from : ℕ → List ℕ → ℕ
+number_from n [] = n
+number_from n (b ∷ s) = number_from (n * 256 + b) s
+
+hex_from-two : (n a b : ℕ) (s : List ℕ) → hex_digit a ≤ 15 → hex_digit b ≤ 15 → hex_from n (a ∷ b ∷ s) ≡ hex_from (n * 256 + (hex_digit a * 16 + hex_digit b)) s
+hex_from-two n a b s h k =
+    let x : nat_lt 15 (hex_digit a) ≡ false = grind (arith, nat_tests) in
+    let y : nat_lt 15 (hex_digit b) ≡ false = grind (arith, nat_tests) in
+    let e : (n * 16 + hex_digit a) * 16 + hex_digit b ≡ n * 256 + (hex_digit a * 16 + hex_digit b) = omega arith in
+    sym (no (nat_lt 15 (hex_digit a)) None (hex_from (n * 16 + hex_digit a) (b ∷ s)) x)
+    ∙ sym (no (nat_lt 15 (hex_digit b)) None (hex_from ((n * 16 + hex_digit a) * 16 + hex_digit b) s) y)
+    ∙ ap (λ v. hex_from v s) e
+
+hex_from-block : (m k n : ℕ) (c : List ℕ) → k ≡ 2 * m → k ≤ prefix_len is_digit (map hex_digit c)
+    → hex_from n (take k c) ≡ Some (number_from n (take m (bytes_of_pairs (map hex_digit c))))
+hex_from-block zero zero n c e h = refl
+hex_from-block zero (suc k) n c e h = absurd (omega (arith, e))
+hex_from-block (suc m) zero n c e h = absurd (omega (arith, e))
+hex_from-block (suc m) (suc zero) n c e h = absurd (omega (arith, e))
+hex_from-block (suc m) (suc (suc k)) n [] e h = absurd (omega (arith, h))
+hex_from-block (suc m) (suc (suc k)) n (a ∷ []) e h = absurd (let f = first_digit (hex_digit a) (suc k) [] h in omega (arith, f.1))
+hex_from-block (suc m) (suc (suc k)) n (a ∷ b ∷ c) e h =
+    let f = first_digit (hex_digit a) (suc k) (map hex_digit (b ∷ c)) h in
+    let g = first_digit (hex_digit b) k (map hex_digit c) f.1 in
+    hex_from-two n a b (take k c) f.0 g.0
+    ∙ hex_from-block m k (n * 256 + (hex_digit a * 16 + hex_digit b)) c (omega (arith, e)) g.1
+    ∙ ap (λ x. Some (number_from (n * 256 + x) (take m (bytes_of_pairs (map hex_digit c))))) (sym (byte_is (hex_digit a) (hex_digit b) f.0 g.0))
+
+four_bytes : (s : List ℕ) → 4 ≤ length s → number_from 0 (take 4 s) ≡ from_be_bytes w32 (get_or s 0 0 ∷ get_or s 1 0 ∷ get_or s 2 0 ∷ get_or s 3 0 ∷ [])
+four_bytes [] h = absurd (omega (arith, h))
+four_bytes (a ∷ []) h = absurd (omega (arith, h))
+four_bytes (a ∷ b ∷ []) h = absurd (omega (arith, h))
+four_bytes (a ∷ b ∷ c ∷ []) h = absurd (omega (arith, h))
+four_bytes (a ∷ b ∷ c ∷ d ∷ s) h = omega arith
+
+-- eight digits give the number of four bytes
+pub hex_from-eight : (c : List ℕ) → 8 ≤ prefix_len is_digit (map hex_digit c) → let s = bytes_of_pairs (map hex_digit c) in
+    hex_from 0 (take 8 c) ≡ Some (from_be_bytes w32 (get_or s 0 0 ∷ get_or s 1 0 ∷ get_or s 2 0 ∷ get_or s 3 0 ∷ []))
+hex_from-eight c h = let s = bytes_of_pairs (map hex_digit c) in
+    hex_from-block 4 8 0 c refl h ∙ ap Some (four_bytes s (pairs-length 4 8 c refl h))
