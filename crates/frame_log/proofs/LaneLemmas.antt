@@ -1,6 +1,12 @@
 -- Lemmas on sixteen hex digits at a time.
-use Rattle.std.proofs.Common.{Bool, true, false, not, sym, ◌≡◌, ◌∙◌, ℕ, ◌+◌, ◌-◌, ◌%◌, ◌^◌, ◌<◌, List, [], ◌∷◌, length, map, cond, ltb, bit_or, replicate, get_or, refl, ap, arith, Fits, w8}
+use Rattle.std.proofs.Common.{suc, zero, ◌≤◌, ◌*◌, take, ap₂, eqb, Bool, true, false, not, sym, ◌≡◌, ◌∙◌, ℕ, ◌+◌, ◌-◌, ◌%◌, ◌^◌, ◌<◌, List, [], ◌∷◌, length, map, cond, ltb, bit_or, replicate, get_or, refl, ap, arith, Fits, w8}
 use Rattle.std.specs.Simd.Lanes.{zip2, sel_l, top, Each1}
+use Rattle.std.specs.Simd.Lanes.{mask_l}
+use Rattle.std.proofs.lemmas.Simd.{length-zip2, tops_compared, mask_l-mod, leading_from_mask_l, trailing_mask_l}
+use Rattle.std.proofs.lemmas.List.{map-id}
+use Rattle.std.proofs.lemmas.List.Sums.{prefix_len-le-length}
+use Rattle.std.proofs.lemmas.Bool.{eqb-true}
+use lib.Count.{count_trailing_zeros}
 use Rattle.std.proofs.lemmas.List.FromFn.{get_or-map-range_with_len}
 use Rattle.std.specs.List.{range_with_len, prefix_len}
 use Rattle.frame_log.specs.Line.{hex_digit}
@@ -58,3 +64,46 @@ same_prefix (x ∷ xs) = ap (λ (b : Bool). cond b (1 + prefix_len (λ (y : ℕ)
 pub mask_is : (v : List ℕ) → map (top 7) (zip2 (λ a b. cond (ltb a b) 255 0) (replicate (length v) 15) v) ≡ map is_bad v
 mask_is [] = refl
 mask_is (x ∷ xs) = ap (λ (t : List Bool). is_bad x ∷ t) (mask_is xs)
+
+-- the lanes in which two vectors differ
+abbrev pub differ : ℕ → ℕ → Bool
+differ a b = not (eqb a b)
+
+pub equal-front : (n : ℕ) (xs ys : List ℕ) → length xs ≡ length ys → n ≤ prefix_len (λ (b : Bool). not b) (zip2 differ xs ys) → take n xs ≡ take n ys
+equal-front zero xs ys l h = refl
+equal-front (suc n) [] [] l h = refl
+equal-front (suc n) [] (y ∷ ys) l h = absurd (omega (arith, l))
+equal-front (suc n) (x ∷ xs) [] l h = absurd (omega (arith, l))
+equal-front (suc n) (x ∷ xs) (y ∷ ys) l h = go (λ k. equal-front n xs ys (omega (arith, l)) k) (eqb x y) refl h
+  where
+    go : (n ≤ prefix_len (λ (b : Bool). not b) (zip2 differ xs ys) → take n xs ≡ take n ys) → (v : Bool) → eqb x y ≡ v → suc n ≤ cond (not (not v)) (1 + prefix_len (λ (b : Bool). not b) (zip2 differ xs ys)) 0 → take (suc n) (x ∷ xs) ≡ take (suc n) (y ∷ ys)
+    go more true e k = ap₂ (λ (a : ℕ) (t : List ℕ). a ∷ t) (eqb-true x y e) (more (omega (arith, k)))
+    go more false e k = absurd (omega (arith, k))
+
+-- the mask of two vectors of sixteen lanes
+pub mask_of_two : (a b : List ℕ) → length a ≡ 16 → length b ≡ 16
+    → mask_l (map (top 7) (zip2 (λ x y. cond (not (eqb x y)) 255 0) a b)) % 2 ^ 64 ≡ mask_l (map (λ (t : Bool). t) (zip2 differ a b))
+mask_of_two a b h k =
+    let l : length (zip2 differ a b) ≡ length a = length-zip2 differ a b (h ∙ sym k) in
+    ap (λ (ms : List Bool). mask_l ms % 2 ^ 64) (tops_compared w8 differ a b) ∙ mask_l-mod (zip2 differ a b) 64 (omega (arith, l, h)) ∙ ap mask_l (sym (map-id (zip2 differ a b)))
+
+pub equal_all : (a b : List ℕ) (m : ℕ) → length a ≡ 16 → length b ≡ 16 → m ≡ mask_l (map (λ (t : Bool). t) (zip2 differ a b)) → m ≡ 0 → take 16 a ≡ take 16 b
+equal_all a b m h k e z =
+    let l : length (zip2 differ a b) ≡ length a = length-zip2 differ a b (h ∙ sym k) in
+    let p = leading_from_mask_l (λ (t : Bool). t) (zip2 differ a b) (sym e ∙ z) in
+    equal-front 16 a b (h ∙ sym k) (omega (arith, p, l, h))
+
+pub record EqualTo (a b : List ℕ) (n : ℕ) : Type 0 where
+  pub same : take n a ≡ take n b
+  pub within : n ≤ 16
+
+pub equal_some : (a b : List ℕ) (m : ℕ) → length a ≡ 16 → length b ≡ 16 → m ≡ mask_l (map (λ (t : Bool). t) (zip2 differ a b)) → 0 < m → EqualTo a b (count_trailing_zeros 64 m)
+equal_some a b m h k e z =
+    let ms = zip2 differ a b in
+    let l : length ms ≡ length a = length-zip2 differ a b (h ∙ sym k) in
+    let t : count_trailing_zeros 64 (mask_l (map (λ (t : Bool). t) ms)) ≡ prefix_len (λ (t : Bool). not t) ms = trailing_mask_l (λ (t : Bool). t) 64 ms (omega (arith, l, h)) (omega (arith, e, z)) in
+    let is : count_trailing_zeros 64 m ≡ prefix_len (λ (t : Bool). not t) ms = ap (count_trailing_zeros 64) e ∙ t in
+    let most = prefix_len-le-length (λ (t : Bool). not t) ms in record {
+      same = equal-front (count_trailing_zeros 64 m) a b (h ∙ sym k) (omega (arith, is));
+      within = omega (arith, is, most, l, h);
+    }

@@ -7,3 +7,5 @@ pub mod FitLemmas
 pub mod UsedLemmas
 pub mod LaneLemmas
 pub mod PairLemmas
+pub mod CleanLemmas
+pub mod ReadsLemmas

@@ -1,13 +1,15 @@
 -- Lemmas on pairs of hex digits, many at a time.
-use Rattle.std.proofs.Common.{◌≡◌, ◌∙◌, ◌<◌, ◌≤◌, ℕ, zero, suc, ◌+◌, ◌*◌, ◌/◌, ◌%◌, Bool, true, false, not, cond, List, [], ◌∷◌, ◌++◌, Option, Some, None, refl, sym, ap, ap₂, map, length, take, drop, get_or, bit_or, arith, append_assoc, length-append}
+use Rattle.std.proofs.Common.{◌≡◌, ◌∙◌, ◌<◌, ◌≤◌, ℕ, zero, suc, ◌+◌, ◌-◌, ◌*◌, ◌/◌, ◌%◌, Bool, true, false, not, cond, List, [], ◌∷◌, ◌++◌, Option, Some, None, refl, sym, ap, ap₂, map, length, take, drop, get_or, bit_or, arith, append_assoc, append-nil, length-append}
 use Rattle.std.specs.Prelude.{nat_lt}
 use Rattle.std.specs.List.{prefix_len, range_with_len}
 use Rattle.std.specs.Int.{from_be_bytes, w32}
 use Rattle.std.proofs.lemmas.List.FromFn.{get_or-map-range_with_len}
 use Rattle.std.proofs.lemmas.Bool.Decides.{nat_tests}
-use Rattle.std.proofs.lemmas.Simd.{chunk-drop}
+use Rattle.std.proofs.lemmas.List.{take-append-drop}
+use Rattle.std.proofs.Math.Seq.{take-add}
 use Rattle.std.proofs.lemmas.Grind.{common_steps}
 use Rattle.frame_log.specs.Line.{hex_digit, hex_from, pairs_of, with_front, ◌>>=◌}
+use Rattle.frame_log.specs.Reads.{IsHex}
 use Rattle.frame_log.specs.Lanes.{is_digit, bytes_of_pairs}
 use Rattle.frame_log.proofs.LineLemmas.{pairs_of-two, no}
 
@@ -75,30 +77,56 @@ pairs-length (suc m) (suc (suc k)) (a ∷ b ∷ c) e h =
     let g = first_digit (hex_digit b) k (map hex_digit c) f.1 in
     let l = pairs-length m k c (omega (arith, e)) g.1 in omega (arith, l)
 
-pub take-twice : (n : ℕ) (s : List ℕ) → take n (take n s) ≡ take n s
-take-twice zero s = refl
-take-twice (suc n) [] = refl
-take-twice (suc n) (x ∷ s) = ap (λ t. x ∷ t) (take-twice n s)
-
 length-front : (n : ℕ) (s : List ℕ) → n ≤ length s → length (take n s) ≡ n
 length-front n s h = grind (arith, common_steps)
 
--- a step of reading pairs, sixteen digits at a time
-pub pairs_of-sixteen : (s bytes next : List ℕ) (i : ℕ) → pairs_of s ≡ with_front bytes (pairs_of (drop i s)) → 16 ≤ prefix_len is_digit (map hex_digit (take 16 (drop i s)))
-    → next ≡ bytes ++ take 8 (bytes_of_pairs (map hex_digit (take 16 (drop i s)))) → (pairs_of s ≡ with_front next (pairs_of (drop (i + 16) s))) × (length next ≡ length bytes + 8)
-pairs_of-sixteen s bytes next i e h n =
+pub take-less : (k n : ℕ) (s : List ℕ) → k ≤ n → take k (take n s) ≡ take k s
+take-less zero n s h = refl
+take-less (suc k) zero s h = absurd (omega (arith, h))
+take-less (suc k) (suc n) [] h = refl
+take-less (suc k) (suc n) (x ∷ s) h = ap (λ t. x ∷ t) (take-less k n s (omega (arith, h)))
+
+-- what stands behind the first n, as a slice has it
+pub rest-is : (n : ℕ) (s : List ℕ) → take (length s - n) (drop n s) ≡ drop n s
+rest-is n s = grind (arith, common_steps)
+
+pub within-front : (n m : ℕ) (s : List ℕ) → n ≤ length (take m s) → n ≤ m
+within-front n m s h = grind (arith, common_steps)
+
+-- digits in front of a part
+pub front-wider : (s bytes : List ℕ) (n m : ℕ) → n ≤ length (take m s) → IsHex (take m s) n bytes → IsHex s n bytes
+front-wider s bytes n m h f t = ap (λ x. pairs_of (x ++ t)) (sym (take-less n m s (within-front n m s h))) ∙ f t
+
+pub no_front : (s : List ℕ) → IsHex s 0 []
+no_front s t = bind-same (pairs_of t)
+
+pub record Further (s bytes next : List ℕ) (i m : ℕ) : Type 0 where
+  pub front : IsHex s i next
+  pub count : length next ≡ length bytes + m
+
+-- k digits more, and so m bytes
+pub front-more : (s bytes next : List ℕ) (i j k m : ℕ) → IsHex s i bytes → j ≡ i + k → k ≡ 2 * m → k ≤ 16 → k ≤ prefix_len is_digit (map hex_digit (take 16 (drop i s)))
+    → next ≡ bytes ++ take m (bytes_of_pairs (map hex_digit (take 16 (drop i s)))) → Further s bytes next j m
+front-more s bytes next i j k m e a b le h n =
     let c = take 16 (drop i s) in
-    let b = take 8 (bytes_of_pairs (map hex_digit c)) in
-    let rest = drop (i + 16) s in
-    let split : drop i s ≡ take 16 c ++ rest = chunk-drop i 16 s ∙ ap (λ t. t ++ rest) (sym (take-twice 16 (drop i s))) in
-    let l : 8 ≤ length (bytes_of_pairs (map hex_digit c)) = pairs-length 8 16 c refl h in
-    let k : length b ≡ 8 = length-front 8 (bytes_of_pairs (map hex_digit c)) l in (
-      e ∙ ap (λ t. with_front bytes (pairs_of t)) split
-          ∙ ap (with_front bytes) (pairs_of-block 8 16 c rest refl h)
-          ∙ bind-both (pairs_of rest) bytes b
-          ∙ ap (λ t. with_front t (pairs_of rest)) (sym n),
-      ap length n ∙ length-append bytes b ∙ ap (λ x. length bytes + x) k,
-    )
+    let some = take m (bytes_of_pairs (map hex_digit c)) in
+    let l : m ≤ length (bytes_of_pairs (map hex_digit c)) = pairs-length m k c b h in
+    let split : take j s ≡ take i s ++ take k c = ap (λ x. take x s) a ∙ take-add i k s ∙ ap (λ x. take i s ++ x) (sym (take-less k 16 (drop i s) le)) in record {
+      front = λ t. ap (λ x. pairs_of (x ++ t)) split
+          ∙ ap pairs_of (append_assoc (take i s) (take k c) t)
+          ∙ e (take k c ++ t)
+          ∙ ap (with_front bytes) (pairs_of-block m k c t b h)
+          ∙ bind-both (pairs_of t) bytes some
+          ∙ ap (λ x. with_front x (pairs_of t)) (sym n);
+      count = ap length n ∙ length-append bytes some ∙ ap (λ x. length bytes + x) (length-front m (bytes_of_pairs (map hex_digit c)) l);
+    }
+
+-- all of it is read
+pub front-whole : (s bytes : List ℕ) (i : ℕ) → IsHex s i bytes → pairs_of s ≡ with_front bytes (pairs_of (drop i s))
+front-whole s bytes i f = ap pairs_of (sym (take-append-drop i s)) ∙ f (drop i s)
+
+pub front-alone : (s bytes : List ℕ) (i : ℕ) → IsHex s i bytes → pairs_of (take i s) ≡ Some bytes
+front-alone s bytes i f = ap pairs_of (sym (append-nil (take i s))) ∙ f [] ∙ ap Some (append-nil bytes)
 
 -- the number of bytes, behind the number n
 abbrev number_from : ℕ → List ℕ → ℕ

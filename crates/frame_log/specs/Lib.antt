@@ -1,5 +1,7 @@
 pub mod Line
 pub mod Found
+pub mod Reads
+pub mod Names
 pub mod Input
 pub mod Log
 pub mod Order

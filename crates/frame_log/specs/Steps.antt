@@ -5,12 +5,19 @@ use Rattle.frame_log.specs.declared.reader.step.Step.{Step}
 use Rattle.frame_log.specs.declared.reader.step.Step.TheVariants as step
 use Rattle.frame_log.specs.declared.reader.turn.Turn.{Turn}
 use Rattle.frame_log.specs.declared.reader.turn.Turn.TheVariants as turn
-use Rattle.frame_log.specs.Line.{cut}
+use Rattle.frame_log.specs.declared.line.Found.{Found}
+use Rattle.frame_log.specs.Line.{cut, said_of}
+use Rattle.frame_log.specs.Found.{said_by}
 use Rattle.frame_log.specs.Log.{Log, Place, Given, Skip, Take, Refuse, ended, with_record}
 
 -- the first line of s has i bytes
 abbrev pub IsLine : List ℕ → ℕ → Type 0
 IsLine s i = (i < length s) × (cut 10 s ≡ Some (take i s, drop (i + 1) s))
+
+-- the first line of s has i bytes, and this was found in it, with its bytes
+pub record IsFound (buses : List (List ℕ)) (s : List ℕ) (i : ℕ) (found : Found) (bytes : List ℕ) : Type 0 where
+  pub line : IsLine s i
+  pub said : said_by found bytes ≡ said_of buses (take i s)
 
 -- a step, with the record that it wrote, is what a line gives, and leads to a place
 abbrev pub IsGiven : Given → Step → Record → Place → Type 0

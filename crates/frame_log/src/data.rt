@@ -1,6 +1,7 @@
 //! The data of a frame, which stands behind `#`.
 ghost use Rattle.std.specs.Prelude.{◌≡◌, ◌≤◌, ◌+◌, ◌*◌, ◌-◌, option_map, length, take, drop, Some, None, ◌++◌, []};
-ghost use Rattle.frame_log.specs.Line.{pairs_of, with_front, is_length, bytes_of, is_at_most_digit, fd_bytes_of, data_of, unflagged};
+ghost use Rattle.frame_log.specs.Line.{pairs_of, is_length, bytes_of, is_at_most_digit, fd_bytes_of, data_of, unflagged};
+ghost use Rattle.frame_log.specs.Reads.{IsHex};
 ghost use Rattle.frame_log.specs.Found.{bytes_if};
 
 use crate::digits::{after, front, hex_digit, hexadecimal};
@@ -13,7 +14,7 @@ pub type Data = ShortList<u8, 64>;
 
 /// Puts the first `n` bytes of a block.
 #[inline(always)]
-fn put(block: u8x8, n: usize, bytes: &mut Data)
+pub fn put(block: u8x8, n: usize, bytes: &mut Data)
     requires few { n ≤ 8 }
     requires room { length bytes.old + n ≤ 64 }
     ensures { bytes.new ≡ bytes.old ++ take n block }
@@ -27,10 +28,10 @@ fn put(block: u8x8, n: usize, bytes: &mut Data)
 /// Puts the bytes of pairs of hex digits, sixteen digits at a time, as far as it gets: the number of
 /// bytes.
 #[inline(always)]
-fn blocks(s: &[u8], bytes: &mut Data) -> usize
+pub fn blocks(s: &[u8], bytes: &mut Data) -> usize
     requires short { length s.now ≤ 128 }
     requires empty { bytes.old ≡ [] }
-    ensures value { pairs_of s.now ≡ with_front bytes.new (pairs_of (drop (2 * result) s.now)) }
+    ensures value { IsHex s.now (2 * result) bytes.new }
     ensures count { result ≡ length bytes.new }
     ensures within { 2 * result ≤ length s.now }
 {
@@ -71,7 +72,7 @@ fn pairs(s: &[u8], bytes: &mut Data) -> bool
 
 /// Whether a frame, of CAN FD or not, can have `n` bytes of data.
 #[inline(always)]
-fn is_length(fd: bool, n: usize) -> bool
+pub fn is_length(fd: bool, n: usize) -> bool
     ensures { result ≡ is_length fd n }
 {
     if fd {

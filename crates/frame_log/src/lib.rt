@@ -1,12 +1,15 @@
 //! The records of a log of frames, read as a stream.
 #![tactic(auto)]
 
+mod buses;
 mod data;
 mod digits;
 mod error;
+mod front;
 mod held;
 mod laws;
 mod line;
+mod quick;
 mod reader;
 mod sixteen;
 #[cfg(test)]

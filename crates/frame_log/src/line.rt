@@ -23,7 +23,7 @@ pub enum Found {
 
 /// SECONDS of any number of digits, and the point.
 #[inline(always)]
-fn seconds_of_any(s: &[u8]) -> Option<(u64, &[u8])>
+pub fn seconds_of_any(s: &[u8]) -> Option<(u64, &[u8])>
     ensures value { option_map (λ p. (p.0, p.1.now)) result ≡ seconds_of s.now }
     ensures bound { IfSome result (λ p. p.0 < 10 ^ 12) }
 {
@@ -51,7 +51,7 @@ fn seconds(s: &[u8]) -> Option<(u64, &[u8])>
 
 /// MICROS and `) `.
 #[inline(always)]
-fn micros(s: &[u8]) -> Option<(u64, &[u8])>
+pub fn micros(s: &[u8]) -> Option<(u64, &[u8])>
     ensures value { option_map (λ p. (p.0, p.1.now)) result ≡ micros_of s.now }
     ensures bound { IfSome result (λ p. p.0 < 10 ^ 12) }
 {
@@ -64,7 +64,7 @@ fn micros(s: &[u8]) -> Option<(u64, &[u8])>
 
 /// BUS and the space.
 #[inline(always)]
-fn bus_name(s: &[u8]) -> Option<(&[u8], &[u8])>
+pub fn bus_name(s: &[u8]) -> Option<(&[u8], &[u8])>
     ensures { option_map (λ p. (p.0.now, p.1.now)) result ≡ bus_of s.now }
 {
     let (name, rest) = cut(b' ', s)?;
@@ -103,7 +103,7 @@ fn ident(n: usize, s: &[u8]) -> Option<(u32, &[u8])>
 
 /// The number of the bus with this name.
 #[inline(always)]
-fn bus_at(buses: &[BusName], name: &[u8]) -> Option<usize>
+pub fn bus_at(buses: &[BusName], name: &[u8]) -> Option<usize>
     ensures value { result ≡ bus_at buses.now name.now }
     ensures bound { IfSome result (λ n. n < length buses.now) }
 {

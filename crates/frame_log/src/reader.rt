@@ -1,7 +1,9 @@
 //! A log, record by record.
 ghost use Rattle.std.specs.Prelude.{◌≤◌, ◌+◌, length};
 
+use crate::buses::Buses;
 use crate::error::LogError;
+use crate::front::Front;
 use crate::held::Held;
 use cy_bits::{BusName, NoMemory, ShortList};
 use cy_outside::Source;
@@ -26,7 +28,9 @@ pub enum Answer {
 /// A reader of a log, to which each call hands the same input. It holds at most 8,192 bytes.
 #[derive(Drop)]
 pub struct LogReader {
-    buses: ShortList<BusName, 3>,
+    buses: Buses,
+    /// The front of a line before.
+    front: Front,
     /// The bytes that were taken and not yet used.
     held: Held,
     /// How many bytes may still be taken.
@@ -65,7 +69,8 @@ impl LogReader {
         ensures reading { IfOk result (λ r. (answer_of r ≡ None) × (saw_end r ≡ false)) }
     {
         Ok(LogReader {
-            buses,
+            buses: Buses::new(buses),
+            front: Front::zero(),
             held: Held::new(alloc)?,
             room: 1 << 28,
             lines: 0,

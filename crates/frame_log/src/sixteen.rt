@@ -53,3 +53,17 @@ pub fn eight_digits(s: &[u8]) -> Option<u32>
     let b = paired(v).to_array();
     Some(u32::from_be_bytes([b[0], b[1], b[2], b[3]]))
 }
+
+/// How many of the first lanes are equal.
+#[inline(always)]
+pub fn equal_before(a: u8x16, b: u8x16) -> usize
+    ensures same { take result a ≡ take result b }
+    ensures within { result ≤ 16 }
+{
+    let other = a.simd_ne(b).to_bitmask();
+    if other == 0 {
+        16
+    } else {
+        other.trailing_zeros() as usize
+    }
+}

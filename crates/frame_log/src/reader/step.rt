@@ -3,7 +3,7 @@ ghost use Rattle.std.specs.Prelude.{◌≡◌, ◌≤◌, ◌<◌, ◌+◌, ◌+
 ghost use Rattle.frame_log.specs.Line.{cut};
 ghost use Rattle.frame_log.specs.Found.{said_by};
 ghost use Rattle.frame_log.specs.Log.{given_by, ended};
-ghost use Rattle.frame_log.specs.Steps.{IsLine, IsGiven, IsStep, IsAt};
+ghost use Rattle.frame_log.specs.Steps.{IsLine, IsFound, IsGiven, IsStep, IsAt};
 ghost use Rattle.frame_log.specs.Reader.{place_of, buses_of, log_behind, bytes_left};
 ghost use Rattle.frame_log.specs.Used.{Uses};
 ghost use Rattle.frame_log.specs.UsedSteps.{IsUsed, IsBeforeStep};
@@ -12,7 +12,9 @@ ghost use Rattle.frame_log.specs.declared.reader.step.Step.TheVariants as step;
 
 use crate::data::Data;
 use crate::error::LogError;
+use crate::front::Front;
 use crate::line::{Found, read_line};
+use crate::quick::quick;
 use crate::reader::LogReader;
 use memchr::memchr;
 use tail_frame::Record;
@@ -76,6 +78,45 @@ impl LogReader {
         }
     }
 
+    /// The first line that is held: its length, and what was found in it.
+    #[cold]
+    #[inline(never)]
+    fn any_line(&mut self, written: &mut Record) -> Option<(usize, Found)>
+        ensures line { MatchOption result (cut 10 self.old.held ≡ None) (λ p. IsFound self.old.buses self.old.held p.0 p.1 written.new.bytes) }
+        ensures place { place_of self.new ≡ place_of self.old }
+        ensures same { (self.new.buses ≡ self.old.buses) × (self.new.held ≡ self.old.held) × (self.new.room ≡ self.old.room) × (self.new.is_ended ≡ self.old.is_ended) × (self.new.done ≡ self.old.done) }
+    {
+        let i = self.line_end()?;
+        written.bytes = Data::new();
+        let line = &self.held.as_slice()[..i];
+        let found = read_line(self.buses.as_slice(), line, &mut written.bytes);
+        if let Some(front) = Front::of(line) {
+            self.front = front;
+        }
+        Some((i, found))
+    }
+
+    /// The same, and sooner of a line of the common form.
+    #[inline(always)]
+    fn first_line(&mut self, written: &mut Record) -> Option<(usize, Found)>
+        ensures line { MatchOption result (cut 10 self.old.held ≡ None) (λ p. IsFound self.old.buses self.old.held p.0 p.1 written.new.bytes) }
+        ensures place { place_of self.new ≡ place_of self.old }
+        ensures same { (self.new.buses ≡ self.old.buses) × (self.new.held ≡ self.old.held) × (self.new.room ≡ self.old.room) × (self.new.is_ended ≡ self.old.is_ended) × (self.new.done ≡ self.old.done) }
+    {
+        written.bytes = Data::new();
+        if let Some(seen) = quick(&self.front, &self.buses, self.held.window(), &mut written.bytes) {
+            if seen.len < self.held.as_slice().len() {
+                let found = Found::Frame {
+                    moment: seen.moment,
+                    bus: seen.bus,
+                    ident: seen.ident,
+                };
+                return Some((seen.len, found));
+            }
+        }
+        self.any_line(written)
+    }
+
     /// What the first line that is held gives.
     #[inline(always)]
     fn step_line(&mut self, written: &mut Record) -> Step
@@ -89,15 +130,9 @@ impl LogReader {
         ensures at { result ≡ step.Record → IsAt written.new (place_of self.new) }
         ensures same { (self.new.buses ≡ self.old.buses) × (self.new.room ≡ self.old.room) × (self.new.is_ended ≡ self.old.is_ended) × (self.new.done ≡ self.old.done) }
     {
-        let Some(i) = self.line_end() else {
+        let Some((i, found)) = self.first_line(written) else {
             return Step::NoLine;
         };
-        written.bytes = Data::new();
-        let found = read_line(
-            self.buses.as_slice(),
-            &self.held.as_slice()[..i],
-            &mut written.bytes,
-        );
         self.held.skip(i + 1);
         self.accept(found, written)
     }

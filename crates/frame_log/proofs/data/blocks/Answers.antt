@@ -1,22 +1,31 @@
-use Rattle.std.proofs.Common.{◌≡◌, ◌∙◌, ◌≤◌, ◌*◌, ◌++◌, ap, subst, map, take, drop, List, ℕ, arith}
+use Rattle.std.proofs.Common.{◌≡◌, ◌∙◌, ◌≤◌, ◌+◌, ◌*◌, ◌++◌, ap, sym, subst, map, take, drop, List, [], ℕ, refl, arith, rules}
 use Rattle.std.specs.List.{prefix_len}
-use Rattle.frame_log.specs.Line.{hex_digit, pairs_of, with_front}
+use Rattle.frame_log.specs.Line.{hex_digit}
+use Rattle.frame_log.specs.Reads.{IsHex}
 use Rattle.frame_log.specs.Lanes.{is_digit, bytes_of_pairs}
-use Rattle.frame_log.proofs.PairLemmas.{pairs_of-sixteen}
+use Rattle.frame_log.proofs.PairLemmas.{no_front, front-more}
 use Rattle.frame_log.proofs.data.blocks.Goals as goal
+
+pub loop-i-init : goal.loop-i-init
+loop-i-init c = record {
+  value = subst (λ (b : List ℕ). IsHex c.args.s.now 0 b) (sym c.requires.empty) (no_front c.args.s.now);
+  count = search (rules, c.requires.empty);
+  at = refl;
+}
 
 pub loop-i-preserved : goal.loop-i-preserved
 loop-i-preserved c =
     let s = c.args.s.now in
     let old = c.loop-i.bytes in
     let i = 16 * c.loop-i.i in
-    let before : pairs_of s ≡ with_front old (pairs_of (drop i s)) = subst (λ n. pairs_of s ≡ with_front old (pairs_of (drop n s))) (omega (arith, c.loop-i.invariant.at)) c.loop-i.invariant.value in
+    let at = c.loop-i.invariant.at in
+    let before : IsHex s i old = subst (λ n. IsHex s n old) (omega (arith, at)) c.loop-i.invariant.value in
     let v : c.values-v.result ≡ map hex_digit (take 16 (drop i s)) = c.values-v.ensures in
     let h : 16 ≤ prefix_len is_digit (map hex_digit (take 16 (drop i s))) = omega (arith, c.if-digits_before-lt16.false, c.digits_before.ensures, ap (prefix_len is_digit) v) in
     let n : c.put.new.bytes ≡ old ++ take 8 (bytes_of_pairs (map hex_digit (take 16 (drop i s)))) =
     c.put.ensures ∙ ap (λ (b : List ℕ). old ++ take 8 b) (c.paired.ensures ∙ ap bytes_of_pairs v) in
-    let p = pairs_of-sixteen s old c.put.new.bytes i before h n in record {
-      value = subst (λ n. pairs_of s ≡ with_front c.put.new.bytes (pairs_of (drop n s))) (omega arith) p.0;
-      count = omega (arith, p.1, c.loop-i.invariant.count, c.loop-i.invariant.at);
+    let f = front-more s old c.put.new.bytes i (2 * (8 * c.loop-i.i + 8)) 16 8 before (omega arith) refl (omega arith) h n in record {
+      value = f.front;
+      count = omega (arith, f.count, c.loop-i.invariant.count, at);
       at = omega arith;
     }

@@ -1,7 +1,7 @@
-use Rattle.std.proofs.Common.{◌≡◌, ◌∙◌, ◌+◌, ◌++◌, ap₂, subst, sym, take, drop, length, List, ℕ, refl}
+use Rattle.std.proofs.Common.{◌≡◌, ◌∙◌, ◌+◌, ◌++◌, ap, subst, sym, take, drop, length, List, ℕ, refl}
 use Rattle.frame_log.specs.Line.{Said, said_of}
 use Rattle.frame_log.specs.Found.{said_by}
-use Rattle.frame_log.specs.Log.{Log, given, given_by, log_from}
+use Rattle.frame_log.specs.Log.{Log, Place, given, given_by, log_from}
 use Rattle.frame_log.specs.Reader.{place_of, log_behind}
 use Rattle.frame_log.specs.Steps.{IsGiven, IsStep}
 use Rattle.frame_log.specs.UsedSteps.{IsUsed}
@@ -13,10 +13,13 @@ use Rattle.frame_log.proofs.reader.LogReader.step_line.Goals as goal
 first : (c : goal.After-accept) → IsGiven (given c.args.self.now.buses (place_of c.args.self.now) (take c.in-Some.i c.args.self.now.held)) c.accept.result c.accept.new.written (place_of c.accept.new.self)
 first c =
     let old = c.args.self.now in
+    let mid = c.first_line.new.self in
     let i = c.in-Some.i in
-    let said : said_by c.read_line-found.result c.read_line-found.new.bytes ≡ said_of old.buses (take i old.held) =
-    c.read_line-found.ensures ∙ ap₂ (λ b h. said_of b (take i h)) c.as_slice.ensures.value c.as_slice-2.ensures.value in
-    subst (λ (q : Said). IsGiven (given_by (place_of old) (old.lines + 1) q) c.accept.result c.accept.new.written (place_of c.accept.new.self)) said c.accept.ensures.given
+    let p : place_of mid ≡ place_of old = c.first_line.ensures.place in
+    let given_here : IsGiven (given_by (place_of mid) (mid.lines + 1) (said_by c.in-Some.found c.first_line.new.written.bytes)) c.accept.result c.accept.new.written (place_of c.accept.new.self) = c.accept.ensures.given in
+    let said = c.in-Some.ensures.line.said in
+    subst (λ (q : Said). IsGiven (given_by (place_of old) (old.lines + 1) q) c.accept.result c.accept.new.written (place_of c.accept.new.self)) said
+    (subst (λ (at : Place). IsGiven (given_by at (at.lines + 1) (said_by c.in-Some.found c.first_line.new.written.bytes)) c.accept.result c.accept.new.written (place_of c.accept.new.self)) p given_here)
 
 pub returns-clause-next : goal.returns-clause-next
 returns-clause-next c rest =
@@ -26,9 +29,9 @@ returns-clause-next c rest =
     let stepped : IsStep (log_behind old rest) c.accept.result c.accept.new.written (log_from old.buses (old.room + length (drop (i + 1) old.held)) (drop (i + 1) old.held ++ rest) (place_of new)) =
     step-given (given old.buses (place_of old) (take i old.held)) c.accept.result c.accept.new.written (place_of new)
     (λ p. log_from old.buses (old.room + length (drop (i + 1) old.held)) (drop (i + 1) old.held ++ rest) p) (log_behind old rest) (first c)
-    (log_from-line old.buses old.room old.held rest i (place_of old) c.in-Some.ensures) in
+    (log_from-line old.buses old.room old.held rest i (place_of old) c.in-Some.ensures.line.line) in
     subst (λ (l : Log). IsStep (log_behind old rest) c.accept.result c.accept.new.written l)
-    (log_from-same old.buses new.buses old.room new.room (drop (i + 1) old.held) new.held rest (place_of new) c.accept.ensures.same.0 c.accept.ensures.same.2 (c.accept.ensures.same.1 ∙ c.skip.ensures))
+    (log_from-same old.buses new.buses old.room new.room (drop (i + 1) old.held) new.held rest (place_of new) (c.accept.ensures.same.0 ∙ c.first_line.ensures.same.0) (c.accept.ensures.same.2 ∙ c.first_line.ensures.same.2) (c.accept.ensures.same.1 ∙ c.skip.ensures ∙ ap (λ (h : List ℕ). drop (i + 1) h) c.first_line.ensures.same.1))
     stepped
 
 pub returns-clause-used : goal.returns-clause-used
@@ -36,5 +39,5 @@ returns-clause-used c =
     let old = c.args.self.now in
     let new = c.accept.new.self in
     let i = c.in-Some.i in
-    subst (λ (b : List ℕ). IsUsed old.buses (place_of old) old.held c.accept.result c.accept.new.written (place_of new) b) (sym (c.accept.ensures.same.1 ∙ c.skip.ensures))
-    (used-given (given old.buses (place_of old) (take i old.held)) c.accept.result c.accept.new.written old.buses (place_of old) (place_of new) old.held (take i old.held) (drop (i + 1) old.held) c.in-Some.ensures.1 refl (first c))
+    subst (λ (b : List ℕ). IsUsed old.buses (place_of old) old.held c.accept.result c.accept.new.written (place_of new) b) (sym (c.accept.ensures.same.1 ∙ c.skip.ensures ∙ ap (λ (h : List ℕ). drop (i + 1) h) c.first_line.ensures.same.1))
+    (used-given (given old.buses (place_of old) (take i old.held)) c.accept.result c.accept.new.written old.buses (place_of old) (place_of new) old.held (take i old.held) (drop (i + 1) old.held) c.in-Some.ensures.line.line.1 refl (first c))
