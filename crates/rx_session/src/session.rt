@@ -35,7 +35,7 @@ pub struct Part {
 
 /// The reception of the transfers of one kind, port and source, over all buses.
 #[derive(Drop)]
-pub struct Session<S: Shape> {
+pub struct Session<S> {
     /// The bus in force, and when a frame was last heard on it.
     pub force: Force,
     /// The transfer-ID last delivered.

@@ -21,3 +21,7 @@ if_ok_then (Err e) p f = tt
 pub in_both : {A E P Q R : Type 0} (r : Result A E) → OnOk r P → OnErr r Q → (P → R) → (Q → R) → R
 in_both (Ok a) p q f g = f p
 in_both (Err e) p q f g = g q
+
+pub if_ok_both : {A E P : Type 0} {Q R : A → Type 0} (r : Result A E) → OnOk r P → IfOk r Q → ((a : A) → P → Q a → R a) → IfOk r R
+if_ok_both (Ok a) p q f = f a p q
+if_ok_both (Err e) p q f = tt

@@ -30,6 +30,11 @@ FoundAt kind port [] i = ⊥
 FoundAt kind port (p ∷ ps) zero = IsAt kind port p.port ≡ true
 FoundAt kind port (p ∷ ps) (suc i) = (IsAt kind port p.port ≡ false) × FoundAt kind port ps i
 
+found_there : (kind : Kind) (port : ℕ) (ps : List PortState) (i : ℕ) → FoundAt kind port ps i → true ≡ is_some (port_at kind port (ports_of ps))
+found_there kind port [] i x = absurd x
+found_there kind port (p ∷ ps) zero x = ap is_some (sym (cond-true (IsAt kind port p.port) (Some p.port) (port_at kind port (ports_of ps)) x))
+found_there kind port (p ∷ ps) (suc i) x = found_there kind port ps i x.1 ∙ ap is_some (sym (cond-false (IsAt kind port p.port) (Some p.port) (port_at kind port (ports_of ps)) x.0))
+
 found_some : (kind : Kind) (port : ℕ) (ps : List PortState) (i : ℕ) → FoundAt kind port ps i → port_at kind port (ports_of ps) ≡ None → ⊥
 found_some kind port [] i x n = x
 found_some kind port (p ∷ ps) zero x n = let e = sym n ∙ cond-true (IsAt kind port p.port) (Some p.port) (port_at kind port (ports_of ps)) x in cc
@@ -92,6 +97,10 @@ module _ {S : Type 0} (extent : S → ℕ) (kind : Kind) (port : ℕ) where
   pub taken : (ports : List (code.Port S)) (o : Option ℕ) → position test ports ≡ o → is_some o ≡ true → port_at kind port (ports_of (states extent ports)) ≡ None → ⊥
   taken ports None e t n = absurd cc
   taken ports (Some i) e t n = found_some kind port (states extent ports) i (found ports i e) n
+
+  pub is_there : (ports : List (code.Port S)) (o : Option ℕ) → position test ports ≡ o → is_some o ≡ is_some (port_at kind port (ports_of (states extent ports)))
+  is_there ports None e = ap is_some (sym (not_found ports e))
+  is_there ports (Some i) e = found_there kind port (states extent ports) i (found ports i e)
 
   pub not_taken : (ports : List (code.Port S)) (o : Option ℕ) → position test ports ≡ o → is_some o ≡ false → port_at kind port (ports_of (states extent ports)) ≡ None
   not_taken ports None e t = not_found ports e

@@ -1,6 +1,8 @@
 pub mod FirstSources
 pub mod Subscribed
 pub mod Counted
+pub mod Buffered
+pub mod Idle
 pub mod FoundPorts
 pub mod Heard
 pub mod Told

@@ -9,7 +9,7 @@ use Rattle.cy_bits.specs.Put.{put_at}
 use Rattle.redundancy.specs.Hear.{hear}
 use Rattle.rx_session.specs.Session.{Part, Session, Outcome, Ignored, Held, BadCrc, Delivered, capped, is_last, begin, take_in, go_on, on_heard, after_hear, accept}
 use Rattle.rx_table.specs.Stands.{last_tid, Holds, part_of, PartIs, Stands, OutcomeIs}
-use Rattle.rx_table.specs.Steps.{fails_at, is_bad}
+use Rattle.rx_table.specs.Steps.{fails_at, is_bad, goes_on, is_held}
 use Rattle.rx_table.specs.Laws.{Simulates}
 use Rattle.redundancy.proofs.Forces.{heard_force, some_inj, force_kept}
 use Rattle.rx_table.proofs.Runs.{no_late_start, follows_parts, run_state, not_closing}
@@ -53,6 +53,10 @@ abbrev NotTaken : KeyRecord → Option Run → Type 0
 NotTaken r None = ⊤
 NotTaken r (Some run) = follows run.first (tip run.first run.since) r ≡ false
 
+not_going : (r : KeyRecord) (begun : Option Run) → NotTaken r begun → goes_on r begun ≡ false
+not_going r None n = refl
+not_going r (Some run) n = n
+
 start_not_taken : (r : KeyRecord) (begun : Option Run) → r.start ≡ true → NotTaken r begun
 start_not_taken r None s = tt
 start_not_taken r (Some run) s =
@@ -82,6 +86,13 @@ module _ (crc_more : ℕ → List ℕ → ℕ) (crc_start timeout : ℕ) (crc_ap
 
   bad_is : (h : List KeyRecord) (r : KeyRecord) (begun : Option Run) (ds : List Delivery) → received crc timeout h ≡ record { begun = begun; delivered = ds } → (b : Bool) → (not (begins timeout r h ds) && fails_at crc timeout r begun) ≡ b → is_bad crc timeout r h ≡ b
   bad_is h r begun ds e b x = ap (λ (g : Got). not (begins timeout r h g.delivered) && fails_at crc timeout r g.begun) e ∙ x
+
+  held_is : (h : List KeyRecord) (r : KeyRecord) (begun : Option Run) (ds : List Delivery) → received crc timeout h ≡ record { begun = begun; delivered = ds } → (b : Bool) → (not r.end && (begins timeout r h ds || goes_on r begun)) ≡ b → is_held crc timeout r h ≡ b
+  held_is h r begun ds e b x = ap (λ (g : Got). not r.end && (begins timeout r h g.delivered || goes_on r g.begun)) e ∙ x
+
+  -- what begins nothing and isn't taken isn't held
+  not_held : (h : List KeyRecord) (r : KeyRecord) (begun : Option Run) (ds : List Delivery) → begins timeout r h ds ≡ false → NotTaken r begun → (not r.end && (begins timeout r h ds || goes_on r begun)) ≡ false
+  not_held h r begun ds b n = and_right (not r.end) (begins timeout r h ds || goes_on r begun) (or_from (begins timeout r h ds) (goes_on r begun) b (not_going r begun n))
 
   idle_got : (h : List KeyRecord) (r : KeyRecord) (begun : Option Run) (ds : List Delivery) (part : Option Part) (buffer : List ℕ) → NotTaken r begun → PartIs crc part buffer begun → ((not_begun crc timeout r h begun ds).delivered ≡ ds) × (fails_at crc timeout r begun ≡ false) × PartIs crc part buffer (not_begun crc timeout r h begun ds).begun
   idle_got h r None ds part buffer n p = (refl, refl, p)
@@ -119,7 +130,7 @@ module _ (crc_more : ℕ → List ℕ → ℕ) (crc_start timeout : ℕ) (crc_ap
           part = subst (λ (g : Got). PartIs crc s.part s.buffer g.begun) (sym now) got.2;
         },
         refl,
-        (ap (λ (g : Got). g.delivered) now ∙ got.0 ∙ sym (same_ds h begun ds e), bad_is h r begun ds e false (and_right (not (begins timeout r h ds)) (fails_at crc timeout r begun) got.1)),
+        (ap (λ (g : Got). g.delivered) now ∙ got.0 ∙ sym (same_ds h begun ds e), bad_is h r begun ds e false (and_right (not (begins timeout r h ds)) (fails_at crc timeout r begun) got.1), held_is h r begun ds e false (not_held h r begun ds b n)),
       )
 
   no_begin : (h : List KeyRecord) (r : KeyRecord) (ds : List Delivery) → r.start ≡ false → begins timeout r h ds ≡ false
@@ -160,7 +171,11 @@ module _ (crc_more : ℕ → List ℕ → ℕ) (crc_start timeout : ℕ) (crc_ap
           part = subst (λ (g : Got). PartIs crc (Some (record { tid = r.tid; toggle = not r.toggle; first = r.line; moment = r.moment; taken = capped (length r.body); crc = crc_more crc_start r.body })) put g.begun) (sym got) (record { closed = λ y. absurd (both_ways r.end n y); runs = λ _. (refl, first) });
         },
         length_put s.buffer 0 r.body,
-        (ap (λ (g : Got). g.delivered) got ∙ sym (same_ds h begun ds e), fine),
+        (
+          ap (λ (g : Got). g.delivered) got ∙ sym (same_ds h begun ds e),
+          fine,
+          held_is h r begun ds e true (and_from (not r.end) (begins timeout r h ds || goes_on r begun) (not_from_false r.end n) (or_left (begins timeout r h ds) (goes_on r begun) b)),
+        ),
       ))
 
   -- a frame that the chain takes
@@ -255,6 +270,7 @@ module _ (crc_more : ℕ → List ℕ → ℕ) (crc_start timeout : ℕ) (crc_ap
         (
           ap (λ (g : Got). g.delivered) got ∙ sym (same_ds h (Some run) ds e),
           bad_is h r (Some run) ds e false (and_right (not (begins timeout r h ds)) (fails_at crc timeout r (Some run)) (and_left (closes_at a run.since r) (not (eqb (crc new) 0)) no)),
+          held_is h r (Some run) ds e true (and_from (not r.end) (begins timeout r h ds || goes_on r (Some run)) (not_from_false r.end open_end) (or_right (begins timeout r h ds) (goes_on r (Some run)) y)),
         ),
       ))
 

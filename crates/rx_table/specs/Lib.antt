@@ -8,4 +8,4 @@ pub mod Ports
 pub mod Laws
 pub mod Table
 pub mod Places
-pub mod After
+pub mod Views

@@ -1,5 +1,5 @@
 -- What one session of a port does, by its place among the port's sources.
-use Rattle.std.specs.Prelude.{◌≡◌, ℕ, zero, suc, true, false, ◌<◌, nat_lt, ◌&&◌, ◌+◌, ◌*◌, List, [], ◌∷◌, ◌++◌, length, take, if◌then◌else◌}
+use Rattle.std.specs.Prelude.{◌≡◌, ℕ, zero, suc, true, false, ◌<◌, nat_lt, ◌&&◌, List, [], ◌∷◌, ◌++◌, length, take, if◌then◌else◌}
 use Rattle.tail_frame.specs.Chains.{KeyRecord}
 use Rattle.transfer_crc.specs.Crc.{crc_more}
 use Rattle.rx_session.specs.Session.{Outcome, Ignored, Delivered, accept}
@@ -71,6 +71,14 @@ abbrev pub met_answer : List Entry → code_port_met.PortMet → Answer
 met_answer es code_port_met.TheVariants.NoSession = NoSession
 met_answer es code_port_met.TheVariants.Ignored = OfSession Ignored
 met_answer es (code_port_met.TheVariants.Session index step) = OfSession (step_answer (buffer_nth es index) step)
+met_answer es (code_port_met.TheVariants.Opened index step) = OfSession (step_answer (buffer_nth es index) step)
+
+-- the bytes of buffers that a port with this extent got where a frame met these
+abbrev pub grown : ℕ → code_port_met.PortMet → ℕ
+grown extent code_port_met.TheVariants.NoSession = 0
+grown extent code_port_met.TheVariants.Ignored = 0
+grown extent (code_port_met.TheVariants.Session index step) = 0
+grown extent (code_port_met.TheVariants.Opened index step) = extent
 
 abbrev pub met_nth : List PortState → ℕ → code_port_met.PortMet → Answer
 met_nth [] i met = NoPort
@@ -81,8 +89,3 @@ abbrev pub table_answer : List PortState → List ℕ → code_met.Met → Answe
 table_answer ps body code_met.TheVariants.NoPort = NoPort
 table_answer ps body (code_met.TheVariants.Anonymous d) = Anonymous (Delivered d.bus d.priority d.tid d.first d.last d.moment (take d.count body))
 table_answer ps body (code_met.TheVariants.Port place met) = met_nth ps place met
-
--- the extent of each port as many times as it has sessions
-abbrev pub counted : List PortState → ℕ
-counted [] = 0
-counted (p ∷ ps) = length p.entries * p.port.extent + counted ps

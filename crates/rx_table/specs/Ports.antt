@@ -32,6 +32,13 @@ pub data Answer : Type 0 where
   OfSession : Outcome → Answer
   Anonymous : Outcome → Answer
 
+-- whether a session gave an answer
+abbrev pub is_of_session : Answer → Bool
+is_of_session NoPort = false
+is_of_session NoSession = false
+is_of_session (OfSession outcome) = true
+is_of_session (Anonymous outcome) = false
+
 abbrev pub sources_of : List Entry → List ℕ
 sources_of [] = []
 sources_of (e ∷ es) = e.source ∷ sources_of es

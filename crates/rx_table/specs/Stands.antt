@@ -4,7 +4,7 @@ use Rattle.tail_frame.specs.Chains.{KeyRecord, tip, chain_bytes}
 use Rattle.redundancy.specs.Force.{force, last_heard}
 use Rattle.rx_session.specs.Session.{Part, Session, Outcome, Ignored, Held, BadCrc, Delivered, capped}
 use Rattle.rx_table.specs.Received.{Delivery, Run, Got, received}
-use Rattle.rx_table.specs.Steps.{is_bad}
+use Rattle.rx_table.specs.Steps.{is_bad, is_held}
 
 -- the transfer-ID of the last delivery
 abbrev pub last_tid : List Delivery → Option ℕ
@@ -46,11 +46,18 @@ module _ (crc : List ℕ → ℕ) where
   abbrev pub Stands : ℕ → List KeyRecord → Session → Type 0
   Stands timeout past s = StandsAt (force timeout past) (last_heard timeout past) (received crc timeout past) s
 
-  -- an outcome at r says exactly what ends there; the payload is cut to the extent
+  -- no delivery ends at r
+  abbrev pub EndsNone : ℕ → KeyRecord → List KeyRecord → Type 0
+  EndsNone timeout r past = (received crc timeout (r ∷ past)).delivered ≡ (received crc timeout past).delivered
+
+  -- an outcome at r says exactly what ends there, and whether a transfer began or went on without an end; the payload
+  -- is cut to the extent
   abbrev pub OutcomeIs : ℕ → ℕ → KeyRecord → List KeyRecord → Outcome → Type 0
-  OutcomeIs timeout extent r past Ignored = ((received crc timeout (r ∷ past)).delivered ≡ (received crc timeout past).delivered) × (is_bad crc timeout r past ≡ false)
-  OutcomeIs timeout extent r past Held = ((received crc timeout (r ∷ past)).delivered ≡ (received crc timeout past).delivered) × (is_bad crc timeout r past ≡ false)
-  OutcomeIs timeout extent r past BadCrc = ((received crc timeout (r ∷ past)).delivered ≡ (received crc timeout past).delivered) × (is_bad crc timeout r past ≡ true)
+  OutcomeIs timeout extent r past Ignored = EndsNone timeout r past × (is_bad crc timeout r past ≡ false) × (is_held crc timeout r past ≡ false)
+  OutcomeIs timeout extent r past Held = EndsNone timeout r past × (is_bad crc timeout r past ≡ false) × (is_held crc timeout r past ≡ true)
+  OutcomeIs timeout extent r past BadCrc = EndsNone timeout r past × (is_bad crc timeout r past ≡ true)
   OutcomeIs timeout extent r past (Delivered bus priority tid first last moment payload) =
-      (d : Delivery) × ((received crc timeout (r ∷ past)).delivered ≡ d ∷ (received crc timeout past).delivered) × (is_bad crc timeout r past ≡ false)
-      × (bus ≡ d.first.bus) × (priority ≡ d.last.priority) × (tid ≡ d.first.tid) × (first ≡ d.first.line) × (last ≡ d.last.line) × (moment ≡ d.first.moment) × (payload ≡ take extent d.content)
+      (d : Delivery) × ((received crc timeout (r ∷ past)).delivered ≡ d ∷ (received crc timeout past).delivered)
+      × (is_bad crc timeout r past ≡ false)
+      × (bus ≡ d.first.bus) × (priority ≡ d.last.priority) × (tid ≡ d.first.tid) × (first ≡ d.first.line)
+      × (last ≡ d.last.line) × (moment ≡ d.first.moment) × (payload ≡ take extent d.content)

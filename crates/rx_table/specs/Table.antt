@@ -1,5 +1,5 @@
 -- A table of sessions as the definitions see it, the log that it stands for, and what it tells of a frame.
-use Rattle.std.specs.Prelude.{◌≡◌, ℕ, true, false, ◌≤◌, ◌^◌, ◌==◌, ◌&&◌, if◌then◌else◌, List, [], ◌∷◌, length, take, Option, Some, None, ⊤}
+use Rattle.std.specs.Prelude.{◌≡◌, ℕ, true, false, ◌≤◌, ◌+◌, ◌^◌, ◌==◌, ◌&&◌, if◌then◌else◌, List, [], ◌∷◌, length, take, Option, Some, None, ⊤}
 use Rattle.can_id.specs.Identifiers.{key_of as key_of_ident, priority_of}
 use Rattle.can_id.specs.declared.key.Kind.{Kind}
 use Rattle.tail_frame.specs.Frames.{FrameOf, key_record}
@@ -9,7 +9,7 @@ use Rattle.rx_session.specs.Session.{Outcome, Delivered}
 use Rattle.rx_session.specs.Seen.{kept, answer_of as outcome_of}
 use Rattle.rx_table.specs.Keys.{KeyedFrame, same_kind, EachFrame}
 use Rattle.rx_table.specs.Admitted.{has, admitted, key_of}
-use Rattle.rx_table.specs.Ports.{Port, Entry, PortState, Answer, NoPort, NoSession, OfSession, Anonymous, ports_of, port_at, IsPortList, is_admitted, TableStands, AnswerAt}
+use Rattle.rx_table.specs.Ports.{Port, Entry, PortState, Answer, NoPort, NoSession, OfSession, Anonymous, ports_of, port_at, IsPortList, is_admitted, TableStands, AnswerAt, buffered}
 use Rattle.rx_table.specs.Laws.{EachPort}
 use Rattle.rx_table.specs.declared.port.Port as code_port
 use Rattle.rx_table.specs.declared.fed.Fed as code_fed
@@ -29,6 +29,11 @@ module _ {S : Type 0} (extent : S → ℕ) where
   abbrev pub states : List (code_port.Port S) → List PortState
   states [] = []
   states (p ∷ ps) = state_of p ∷ states ps
+
+-- the length of the buffers of all sessions of these ports
+abbrev pub held_in : {S : Type 0} → List (code_port.Port S) → ℕ
+held_in [] = 0
+held_in (p ∷ ps) = buffered (entries_of p.sessions.entries) + held_in ps
 
 -- a port takes at most 128 sources, and its extent is at most 2^32 bits
 pub record IsPort (p : Port) : Type 0 where

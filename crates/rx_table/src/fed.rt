@@ -43,6 +43,13 @@ pub enum PortMet {
         /// What the session made of it.
         step: Step,
     },
+    /// What a session made of it that was opened for it.
+    Opened {
+        /// The place among the port's sources, which is the last one.
+        index: usize,
+        /// What the session made of it.
+        step: Step,
+    },
 }
 
 /// Why a subscription was refused. The table is then as before.

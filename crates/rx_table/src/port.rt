@@ -1,12 +1,12 @@
-ghost use Rattle.std.specs.Prelude.{◌≡◌, ◌<◌, IfOk, OnErr, OnOk, length, ◌==◌, ◌&&◌, nat_eq, None, true, ◌*◌, ◌-◌, ◌^◌, min, take};
-ghost use Rattle.rx_table.specs.Ports.{sources_of};
+ghost use Rattle.std.specs.Prelude.{◌≡◌, ◌<◌, IfOk, OnErr, OnOk, length, ◌==◌, ◌&&◌, nat_eq, None, true, ◌+◌, [], take};
+ghost use Rattle.rx_table.specs.Ports.{sources_of, buffered};
 ghost use Rattle.indexmap.specs.IndexMap.{get};
 ghost use Rattle.tail_frame.specs.Frames.{seen};
 ghost use Rattle.rx_session.specs.Extents.{extent_bytes};
-ghost use Rattle.rx_session.specs.Seen.{record_of, step_answer};
+ghost use Rattle.rx_session.specs.Seen.{record_of, step_answer, answer_of as outcome_of};
 ghost use Rattle.rx_session.specs.declared.outcome.Step.TheVariants.{Delivered};
 ghost use Rattle.rx_table.specs.Keys.{same_kind};
-ghost use Rattle.rx_table.specs.Places.{step_nth, outcome_nth, buffer_nth, opened, opened_answer, fed_entries, fed_answer, Adds, met_answer};
+ghost use Rattle.rx_table.specs.Places.{step_nth, outcome_nth, buffer_nth, opened, opened_answer, fed_entries, fed_answer, Adds, met_answer, grown};
 ghost use Rattle.rx_table.specs.Table.{entries_of, port_of, EntriesHeard, whole, answer_of, state_of, subscribed};
 
 use crate::fed::{Fed, PortMet};
@@ -20,7 +20,7 @@ use tail_frame::Frame;
 
 /// A subscription with the sessions of its sources.
 #[derive(Drop)]
-pub struct Port<S: Shape> {
+pub struct Port<S> {
     /// What its transfers are for.
     pub kind: Kind,
     /// The subject-ID or the service-ID.
@@ -39,6 +39,7 @@ impl<S: Shape> Port<S> {
         ensures state { state_of (extent_bytes S.shape) result
             ≡ subscribed (record { kind = kind; port = port; sources = sources; extent = extent_bytes S.shape shape }) }
         ensures shape { result.shape ≡ shape }
+        ensures sessions { result.sessions.entries ≡ [] }
     {
         Port {
             kind,
@@ -72,14 +73,6 @@ impl<S: Shape> Port<S> {
         }
     }
 
-    /// The bytes of its sessions' buffers, or 2^64 - 1 where they are more.
-    #[tactic(auto, using(rx_session::proofs::Extents::bytes_are))]
-    pub(crate) fn held(&self) -> u64
-        ensures { result ≡ min (length self.now.sessions.entries * extent_bytes S.shape self.now.shape) (2 ^ 64 - 1) }
-    {
-        (self.sessions.len() as u64).saturating_mul(self.shape.extent_bytes() as u64)
-    }
-
     /// The first 128 sources that have a session.
     pub(crate) fn first_sources(&self) -> ShortList<u8, 128>
         ensures { result ≡ take 128 (sources_of (entries_of self.now.sessions.entries)) }
@@ -108,6 +101,8 @@ impl<S: Shape> Port<S> {
             ≡ fed_entries timeout (port_of (extent_bytes S.shape) self.old) (entries_of self.old.sessions.entries) source (record_of frame.now)) }
         ensures answer { IfOk result (λ m. met_answer (entries_of self.new.sessions.entries) m
             ≡ fed_answer timeout (port_of (extent_bytes S.shape) self.old) (entries_of self.old.sessions.entries) source (record_of frame.now)) }
+        ensures grown { IfOk result (λ met. buffered (entries_of self.new.sessions.entries)
+            ≡ buffered (entries_of self.old.sessions.entries) + grown (extent_bytes S.shape self.old.shape) met) }
         ensures err { OnErr result (entries_of self.new.sessions.entries ≡ entries_of self.old.sessions.entries) }
         ensures memory { OnErr result (Adds (port_of (extent_bytes S.shape) self.old) (entries_of self.old.sessions.entries) source (record_of frame.now)) }
     {
@@ -135,6 +130,8 @@ impl<S: Shape> Port<S> {
             ≡ opened timeout (port_of (extent_bytes S.shape) self.old) (entries_of self.old.sessions.entries) source (record_of frame.now)) }
         ensures answer { IfOk result (λ m. met_answer (entries_of self.new.sessions.entries) m
             ≡ opened_answer timeout (port_of (extent_bytes S.shape) self.old) (entries_of self.old.sessions.entries) (record_of frame.now)) }
+        ensures grown { IfOk result (λ met. buffered (entries_of self.new.sessions.entries)
+            ≡ buffered (entries_of self.old.sessions.entries) + grown (extent_bytes S.shape self.old.shape) met) }
         ensures err { OnErr result (entries_of self.new.sessions.entries ≡ entries_of self.old.sessions.entries) }
         ensures start { OnErr result (frame.now.tail.start ≡ true) }
         ensures room { OnErr result (length self.old.sessions.entries < self.old.sources) }
@@ -149,7 +146,7 @@ impl<S: Shape> Port<S> {
         let mut session = Session::open(alloc, &self.shape)?;
         let step = session.step(frame, timeout);
         self.sessions.insert(source, session)?;
-        Ok(PortMet::Session { index, step })
+        Ok(PortMet::Opened { index, step })
     }
 
     /// The session at a place takes a frame.
@@ -160,11 +157,23 @@ impl<S: Shape> Port<S> {
         ensures shape { self.new.shape ≡ self.old.shape }
         ensures entries { entries_of self.new.sessions.entries
             ≡ step_nth timeout (entries_of self.old.sessions.entries) index (record_of frame.now) }
+        ensures buffered { buffered (entries_of self.new.sessions.entries) ≡ buffered (entries_of self.old.sessions.entries) }
         ensures outcome { step_answer (buffer_nth (entries_of self.new.sessions.entries) index) result
             ≡ outcome_nth timeout (entries_of self.old.sessions.entries) index (record_of frame.now) }
     {
         let session = self.sessions.get_index_mut(index).unwrap();
         session.step(frame, timeout)
+    }
+
+    /// The bytes of the buffer that was opened for a frame.
+    #[tactic(auto, using(rx_session::proofs::Extents::bytes_are))]
+    pub(crate) fn opened_bytes(&self, met: PortMet) -> u64
+        ensures { result ≡ grown (extent_bytes S.shape self.now.shape) met }
+    {
+        match met {
+            PortMet::Opened { .. } => self.shape.extent_bytes() as u64,
+            _ => 0,
+        }
     }
 
     /// What a frame of a source came to, with the payload lent from its session.
@@ -174,10 +183,18 @@ impl<S: Shape> Port<S> {
         match met {
             PortMet::NoSession => Fed::NoSession,
             PortMet::Ignored => Fed::Session(Outcome::Ignored),
-            PortMet::Session { index, step } => match self.sessions.get_index(index) {
-                Some((_, session)) => Fed::Session(session.lend(step)),
-                None => Fed::Session(step.lend(&[])),
-            },
+            PortMet::Session { index, step } => Fed::Session(self.lend_at(index, step)),
+            PortMet::Opened { index, step } => Fed::Session(self.lend_at(index, step)),
+        }
+    }
+
+    /// What the session at a place made of a frame, with the payload lent from its buffer.
+    fn lend_at(&self, index: usize, step: Step) -> Outcome<'_>
+        ensures { outcome_of result ≡ step_answer (buffer_nth (entries_of self.now.sessions.entries) index) step }
+    {
+        match self.sessions.get_index(index) {
+            Some((_, session)) => session.lend(step),
+            None => step.lend(&[]),
         }
     }
 }

@@ -1,18 +1,5 @@
-ghost use Rattle.std.specs.Prelude.{◌&&◌, ◌==◌, ◌≡◌, ◌↔◌, ◌<◌, ◌≤◌, ◌^◌, ◌++◌, ◌∷◌, [], IfOk, OnErr, OnOk, length, List, ℕ, Err, None, ◌≢◌, option_map, map, min, ◌-◌, ◌+◌};
-ghost use Rattle.std.specs.Borrow.{sem};
-ghost use Rattle.std.specs.Io.BufRead.{Rests};
-ghost use Rattle.std.specs.List.{position};
-ghost use Rattle.tail_frame.specs.Frames.{seen};
-ghost use Rattle.rx_session.specs.Extents.{extent_bytes};
-ghost use Rattle.rx_session.specs.Seen.{record_of};
-ghost use Rattle.rx_table.specs.Keys.{KeyedFrame, same_kind};
-ghost use Rattle.std.specs.Option.{option_copied};
-ghost use Rattle.rx_table.specs.Ports.{ports_of, port_at, held, bound};
-ghost use Rattle.rx_table.specs.After.{Keeps};
-ghost use Rattle.rx_table.specs.Places.{table_answer, feed_nth, answer_nth, AddsNth, counted};
-ghost use Rattle.rx_table.specs.Table.{states, StandsFor, HeardBy, logged, answer_of, Told, Opens, shape_at, admitted_on, subscribed};
-ghost use Rattle.rx_table.specs.declared.fed.SubscribeError.TheVariants.{Taken};
-ghost use Rattle.rx_table.specs.contracts.table.Table.{the_row};
+ghost use Rattle.std.specs.Prelude.{◌≡◌, ◌^◌, ◌-◌, min};
+ghost use Rattle.rx_table.specs.Table.{held_in};
 
 use crate::fed::{Fed, Met, SubscribeError};
 use crate::port::Port;
@@ -26,25 +13,45 @@ use tail_frame::Frame;
 ///
 /// It stands for a log: the frames with a source that it was fed, in their order.
 #[derive(Drop)]
-pub struct Table<S: Shape> {
+pub struct Table<S> {
     alloc: Global,
     /// The silence of a bus, in microseconds, after which another takes over.
     pub timeout: u64,
     /// The subscriptions, in their order.
     pub ports: Vec<Port<S>>,
+    /// The bytes of the buffers of all their sessions, or 2^64 - 1 where they are more.
+    held: u64,
+    ghost sum: { held ≡ min (held_in ports.items) (2 ^ 64 - 1) },
 }
 
 impl<S: Shape> Table<S> {
+    ghost use Rattle.std.specs.Prelude.{◌&&◌, ◌==◌, ◌↔◌, ◌<◌, ◌≤◌, ◌++◌, ◌∷◌, [], IfOk, OnErr, OnOk, length, List, ℕ, Err, None, ◌≢◌, map, ◌+◌, is_some};
+    ghost use Rattle.std.specs.Borrow.{sem};
+    ghost use Rattle.std.specs.Io.BufRead.{Rests};
+    ghost use Rattle.std.specs.List.{position};
+    ghost use Rattle.std.specs.Option.{option_copied};
+    ghost use Rattle.tail_frame.specs.Frames.{seen};
+    ghost use Rattle.rx_session.specs.Extents.{extent_bytes};
+    ghost use Rattle.rx_session.specs.Seen.{record_of};
+    ghost use Rattle.rx_table.specs.Keys.{KeyedFrame, same_kind};
+    ghost use Rattle.rx_table.specs.Ports.{port_at, held, bound, held_of};
+    ghost use Rattle.rx_table.specs.Places.{feed_nth, answer_nth, AddsNth};
+    ghost use Rattle.rx_table.specs.Table.{StandsFor, answer_of, shape_at, admitted_on, subscribed};
+    ghost use Rattle.rx_table.specs.Views.{states_of, subscriptions, IsOfLog, HasHeardBy, told_by, Keeps, KeepsSessions, TakesIn, Answers, OpensOne, IsIdleAt, IsFed};
+    ghost use Rattle.rx_table.specs.declared.fed.SubscribeError.TheVariants.{Taken};
+    ghost use Rattle.rx_table.specs.contracts.table.Table.{the_row};
+
     /// A table with no subscription. It stands for the empty log.
     pub fn new(alloc: Global, timeout: u64) -> Result<Table<S>, NoMemory>
         ensures ports { IfOk result (λ t. t.ports.items ≡ []) }
         ensures timeout { IfOk result (λ t. t.timeout ≡ timeout) }
-        ensures stands { IfOk result (λ t. StandsFor timeout [] (states (extent_bytes S.shape) t.ports.items)) }
+        ensures stands { IfOk result (λ t. IsOfLog S.shape t []) }
     {
         Ok(Table {
             alloc,
             timeout,
             ports: Vec::new(alloc),
+            held: 0,
         })
     }
 
@@ -67,15 +74,15 @@ impl<S: Shape> Table<S> {
         requires small { extent_bytes S.shape shape ≤ 2 ^ 29 }
         requires room { length self.old.ports.items < 2 ^ 16 }
         ensures timeout { self.new.timeout ≡ self.old.timeout }
-        ensures ports { OnOk result (states (extent_bytes S.shape) self.new.ports.items ≡ states (extent_bytes S.shape) self.old.ports.items
+        ensures ports { OnOk result (states_of S.shape self.new ≡ states_of S.shape self.old
             ++ subscribed (record { kind = kind; port = port; sources = sources; extent = extent_bytes S.shape shape }) ∷ []) }
         ensures count { OnOk result (length self.new.ports.items ≡ length self.old.ports.items + 1) }
-        ensures shapes { OnOk result (map (λ p. p.shape) self.new.ports.items ≡ map (λ p. p.shape) self.old.ports.items ++ shape ∷ []) }
-        ensures stands { StandsFor self.old.timeout [] (states (extent_bytes S.shape) self.old.ports.items)
-            → OnOk result (StandsFor self.old.timeout [] (states (extent_bytes S.shape) self.new.ports.items)) }
-        ensures heard { (now : ℕ) → HeardBy now (states (extent_bytes S.shape) self.old.ports.items)
-            → OnOk result (HeardBy now (states (extent_bytes S.shape) self.new.ports.items)) }
-        ensures taken { (result ≡ Err Taken) ↔ (port_at kind port (ports_of (states (extent_bytes S.shape) self.old.ports.items)) ≢ None) }
+        ensures shapes { OnOk result (map (λ p. p.shape) self.new.ports.items
+            ≡ map (λ p. p.shape) self.old.ports.items ++ shape ∷ []) }
+        ensures stands { IsOfLog S.shape self.old []
+            → OnOk result (StandsFor self.old.timeout [] (states_of S.shape self.new)) }
+        ensures heard { (now : ℕ) → HasHeardBy S.shape now self.old → OnOk result (HasHeardBy S.shape now self.new) }
+        ensures taken { (result ≡ Err Taken) ↔ (port_at kind port (subscriptions S.shape self.old) ≢ None) }
         ensures err { OnErr result (self.new.ports.items ≡ self.old.ports.items) }
     {
         if self.find(kind, port).is_some() {
@@ -87,10 +94,11 @@ impl<S: Shape> Table<S> {
         }
     }
 
-    /// Puts a subscription behind the others.
+    /// Puts a subscription that has no source yet behind the others.
     fn append(&mut self, port: Port<S>) -> Result<(), NoMemory>
     where
         S: Drop,
+        requires { port.sessions.entries ≡ [] }
         ensures timeout { self.new.timeout ≡ self.old.timeout }
         ensures ok { OnOk result (self.new.ports.items ≡ self.old.ports.items ++ port ∷ []) }
         ensures err { OnErr result (self.new.ports.items ≡ self.old.ports.items) }
@@ -106,17 +114,10 @@ impl<S: Shape> Table<S> {
     /// than it takes: only then is memory taken, and want of it leaves the table as it was. A frame that
     /// isn't a start, of a source with no session, is ignored.
     pub fn feed<'a>(&'a mut self, frame: &Frame<'a>) -> Result<Fed<'a>, NoMemory>
-        requires { HeardBy frame.now.moment (states (extent_bytes S.shape) self.old.ports.items) }
-        ensures* after { sem 𝓛 (Rests (the_row S.row) self.entry (λ new.
-            Keeps (extent_bytes S.shape) self.old new
-            × ((now : ℕ) → frame.now.moment ≤ now → HeardBy now (states (extent_bytes S.shape) new.ports.items))
-            × OnOk result ((log : List KeyedFrame) → StandsFor self.old.timeout log (states (extent_bytes S.shape) self.old.ports.items)
-            → StandsFor self.old.timeout (logged (seen frame.now) log) (states (extent_bytes S.shape) new.ports.items))
-            × OnErr result (states (extent_bytes S.shape) new.ports.items ≡ states (extent_bytes S.shape) self.old.ports.items))) }
-        ensures told { (log : List KeyedFrame) → StandsFor self.old.timeout log (states (extent_bytes S.shape) self.old.ports.items)
-            → IfOk result (λ fed. Told self.old.timeout (ports_of (states (extent_bytes S.shape) self.old.ports.items)) (seen frame.now) log (answer_of fed)) }
-        ensures memory { (log : List KeyedFrame) → StandsFor self.old.timeout log (states (extent_bytes S.shape) self.old.ports.items)
-            → OnErr result (Opens (ports_of (states (extent_bytes S.shape) self.old.ports.items)) (seen frame.now) log) }
+        requires { HasHeardBy S.shape frame.now.moment self.old }
+        ensures* after { sem 𝓛 (Rests (the_row S.row) self.entry (IsFed S.shape frame.now self.old result)) }
+        ensures told { IfOk result (λ fed. Answers S.shape self.old (seen frame.now) (answer_of fed)) }
+        ensures memory { OnErr result (OpensOne S.shape self.old (seen frame.now)) }
     {
         match self.step(frame) {
             Ok(met) => Ok(self.lend(met, frame)),
@@ -126,17 +127,16 @@ impl<S: Shape> Table<S> {
 
     /// What `feed` does, without borrowing a payload: `lend` tells it, with the same frame.
     pub fn step(&mut self, frame: &Frame) -> Result<Met, NoMemory>
-        requires { HeardBy frame.now.moment (states (extent_bytes S.shape) self.old.ports.items) }
-        ensures keeps { Keeps (extent_bytes S.shape) self.old self.new }
-        ensures heard { (now : ℕ) → frame.now.moment ≤ now → HeardBy now (states (extent_bytes S.shape) self.new.ports.items) }
-        ensures stands { (log : List KeyedFrame) → StandsFor self.old.timeout log (states (extent_bytes S.shape) self.old.ports.items)
-            → OnOk result (StandsFor self.old.timeout (logged (seen frame.now) log) (states (extent_bytes S.shape) self.new.ports.items)) }
-        ensures err { OnErr result (states (extent_bytes S.shape) self.new.ports.items ≡ states (extent_bytes S.shape) self.old.ports.items) }
-        ensures told { (log : List KeyedFrame) → StandsFor self.old.timeout log (states (extent_bytes S.shape) self.old.ports.items)
-            → IfOk result (λ met. Told self.old.timeout (ports_of (states (extent_bytes S.shape) self.old.ports.items)) (seen frame.now) log
-            (table_answer (states (extent_bytes S.shape) self.new.ports.items) frame.now.body.now met)) }
-        ensures memory { (log : List KeyedFrame) → StandsFor self.old.timeout log (states (extent_bytes S.shape) self.old.ports.items)
-            → OnErr result (Opens (ports_of (states (extent_bytes S.shape) self.old.ports.items)) (seen frame.now) log) }
+        requires { HasHeardBy S.shape frame.now.moment self.old }
+        ensures keeps { Keeps S.shape self.old self.new }
+        ensures heard { (now : ℕ) → frame.now.moment ≤ now → HasHeardBy S.shape now self.new }
+        ensures stands { OnOk result (TakesIn S.shape (seen frame.now) self.old self.new) }
+        ensures told { IfOk result (λ met.
+            Answers S.shape self.old (seen frame.now) (told_by S.shape self.new frame.now met)) }
+        ensures idle { IfOk result (λ met.
+            IsIdleAt S.shape (told_by S.shape self.new frame.now met) self.old self.new) }
+        ensures memory { OnErr result (OpensOne S.shape self.old (seen frame.now)) }
+        ensures err { OnErr result (KeepsSessions S.shape self.old self.new) }
     {
         let key = frame.ident.key();
         let Some(place) = self.find(key.kind, key.port) else {
@@ -151,25 +151,29 @@ impl<S: Shape> Table<S> {
     /// A frame of a source, on the port at a place.
     fn step_at(&mut self, place: usize, source: u8, frame: &Frame) -> Result<Met, NoMemory>
         requires within { place < length self.old.ports.items }
-        requires heard { HeardBy frame.now.moment (states (extent_bytes S.shape) self.old.ports.items) }
-        ensures keeps { Keeps (extent_bytes S.shape) self.old self.new }
-        ensures states { OnOk result (states (extent_bytes S.shape) self.new.ports.items
-            ≡ feed_nth self.old.timeout (states (extent_bytes S.shape) self.old.ports.items) place source (record_of frame.now)) }
-        ensures answer { IfOk result (λ met. table_answer (states (extent_bytes S.shape) self.new.ports.items) frame.now.body.now met
-            ≡ answer_nth self.old.timeout (states (extent_bytes S.shape) self.old.ports.items) place source (record_of frame.now)) }
-        ensures err { OnErr result (states (extent_bytes S.shape) self.new.ports.items ≡ states (extent_bytes S.shape) self.old.ports.items) }
-        ensures memory { OnErr result (AddsNth (states (extent_bytes S.shape) self.old.ports.items) place source (record_of frame.now)) }
+        requires heard { HasHeardBy S.shape frame.now.moment self.old }
+        ensures keeps { Keeps S.shape self.old self.new }
+        ensures states { OnOk result (states_of S.shape self.new
+            ≡ feed_nth self.old.timeout (states_of S.shape self.old) place source (record_of frame.now)) }
+        ensures answer { IfOk result (λ met. told_by S.shape self.new frame.now met
+            ≡ answer_nth self.old.timeout (states_of S.shape self.old) place source (record_of frame.now)) }
+        ensures err { OnErr result (KeepsSessions S.shape self.old self.new) }
+        ensures memory { OnErr result (AddsNth (states_of S.shape self.old) place source (record_of frame.now)) }
     {
         let port = &mut self.ports[place];
         match port.meet(self.alloc, source, frame, self.timeout) {
-            Ok(met) => Ok(Met::Port { place, met }),
+            Ok(met) => {
+                let opened = port.opened_bytes(met);
+                self.held = self.held.saturating_add(opened);
+                Ok(Met::Port { place, met })
+            }
             Err(refused) => Err(refused),
         }
     }
 
     /// What a frame came to, with the payload lent from the frame or from a session's buffer.
     pub fn lend<'a>(&'a self, met: Met, frame: &Frame<'a>) -> Fed<'a>
-        ensures { answer_of result ≡ table_answer (states (extent_bytes S.shape) self.now.ports.items) frame.now.body.now met }
+        ensures { answer_of result ≡ told_by S.shape self.now frame.now met }
     {
         match met {
             Met::NoPort => Fed::NoPort,
@@ -184,14 +188,23 @@ impl<S: Shape> Table<S> {
         }
     }
 
-    /// The bytes of all sessions' buffers. The cost is one step for each subscription.
+    /// The bytes of the buffers of all sessions, or 2^64 - 1 where they are more. Frames that a plan's
+    /// ports let in never make them that many. The cost doesn't depend on the subscriptions.
     pub fn held(&self) -> u64
-        ensures held { (log : List KeyedFrame) → StandsFor self.now.timeout log (states (extent_bytes S.shape) self.now.ports.items)
-            → result ≡ held (ports_of (states (extent_bytes S.shape) self.now.ports.items)) log }
-        ensures bound { (log : List KeyedFrame) → StandsFor self.now.timeout log (states (extent_bytes S.shape) self.now.ports.items)
-            → result ≤ bound (ports_of (states (extent_bytes S.shape) self.now.ports.items)) }
+        ensures sum { result ≡ min (held_of (states_of S.shape self.now)) (2 ^ 64 - 1) }
+        ensures held { (log : List KeyedFrame) → IsOfLog S.shape self.now log
+            → result ≡ held (subscriptions S.shape self.now) log }
+        ensures bound { (log : List KeyedFrame) → IsOfLog S.shape self.now log
+            → result ≤ bound (subscriptions S.shape self.now) }
     {
-        held_by(self.ports.as_slice())
+        self.held
+    }
+
+    /// Whether a kind and port is subscribed.
+    pub fn takes(&self, kind: Kind, port: u16) -> bool
+        ensures { result ≡ is_some (port_at kind port (subscriptions S.shape self.now)) }
+    {
+        self.find(kind, port).is_some()
     }
 
     /// The shape of a subscription, or `None` where that kind and port isn't subscribed.
@@ -207,8 +220,8 @@ impl<S: Shape> Table<S> {
     /// The sources of a subscription that have a session, in the order of their first start frames. None
     /// where that kind and port isn't subscribed.
     pub fn sources(&self, kind: Kind, port: u16) -> ShortList<u8, 128>
-        ensures { (log : List KeyedFrame) → StandsFor self.now.timeout log (states (extent_bytes S.shape) self.now.ports.items)
-            → result ≡ admitted_on (port_at kind port (ports_of (states (extent_bytes S.shape) self.now.ports.items))) log }
+        ensures { (log : List KeyedFrame) → IsOfLog S.shape self.now log
+            → result ≡ admitted_on (port_at kind port (subscriptions S.shape self.now)) log }
     {
         match self.find(kind, port) {
             Some(place) => self.ports[place].first_sources(),
@@ -222,15 +235,4 @@ impl<S: Shape> Table<S> {
     {
         self.ports.iter().position(|p| p.is(kind, port))
     }
-}
-
-/// The bytes of these subscriptions' buffers, or 2^64 - 1 where they are more.
-fn held_by<S: Shape>(ports: &[Port<S>]) -> u64
-    ensures { result ≡ min (counted (states (extent_bytes S.shape) ports.now)) (2 ^ 64 - 1) }
-{
-    let mut sum: u64 = 0;
-    for port in ports {
-        sum = sum.saturating_add(port.held());
-    }
-    sum
 }

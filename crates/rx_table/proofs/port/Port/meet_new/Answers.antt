@@ -3,6 +3,7 @@ use Rattle.indexmap.proofs.CallerLemmas.{insert_entry-new}
 use Rattle.rx_session.specs.Extents.{extent_bytes}
 use Rattle.rx_session.specs.Seen.{record_of}
 use Rattle.rx_table.specs.Table.{port_of, entries_of}
+use Rattle.rx_table.proofs.Buffered.{buffered-last}
 use Rattle.rx_table.proofs.NewSources.{length-entries, full-entries, full-answer, put-last}
 use Rattle.rx_table.proofs.port.Port.meet_new.Goals as goal
 
@@ -31,3 +32,8 @@ returns-clause-answer g c =
     c.args.source c.len-index.result c.in_ok-session.session c.step-step.new.self c.step-step.result c.if-not-frame.false (search rules) c.if-index-self.false
     c.in_ok-session.ensures c.step-step.ensures.state c.step-step.ensures.outcome
     (c.in_ok-insert.ensures.entries ∙ insert_entry-new nat_eq c.args.self.now.sessions c.args.source c.step-step.new.self c.requires)).answer
+
+pub returns-clause-grown : goal.returns-clause-grown
+returns-clause-grown g c =
+    buffered-last c.args.self.now.sessions.entries c.insert.new.self.entries c.args.source (extent_bytes g.S.Shape.shape c.args.self.now.shape) c.in_ok-session.session c.step-step.new.self c.in_ok-session.ensures
+    c.step-step.ensures.size (c.in_ok-insert.ensures.entries ∙ insert_entry-new nat_eq c.args.self.now.sessions c.args.source c.step-step.new.self c.requires)

@@ -1,12 +1,13 @@
-use Rattle.std.proofs.Common.{◌∙◌, sym, refl, subst, length, List}
+use Rattle.std.proofs.Common.{◌∙◌, sym, ap, refl, subst, length, List}
 use Rattle.std.proofs.lemmas.Option.{slice_get_read}
 use Rattle.tail_frame.specs.Frames.{seen}
 use Rattle.rx_session.specs.Extents.{extent_bytes}
 use Rattle.rx_session.specs.Session.{Outcome}
 use Rattle.rx_session.specs.Seen.{record_of}
-use Rattle.rx_table.specs.Ports.{PortState, Answer, Anonymous, ports_of}
+use Rattle.rx_table.specs.Ports.{PortState, Answer, Anonymous, ports_of, is_of_session}
 use Rattle.rx_table.specs.Table.{StandsFor, HeardBy, port_of, states, logged, Told}
-use Rattle.rx_table.proofs.Answered.{on_err_then, on_ok_then, if_ok_then, in_both}
+use Rattle.rx_table.proofs.Answered.{on_err_then, on_ok_then, if_ok_then, if_ok_both, in_both}
+use Rattle.rx_table.proofs.Idle.{idle-nth}
 use Rattle.rx_table.proofs.Heard.{heard-later, feed_nth-heard}
 use Rattle.rx_table.proofs.FoundPorts.{not_found, found, found_within, found_port}
 use Rattle.rx_table.proofs.Told.{told-none, stands-none, stands-anonymous, told-anonymous, stands-found, told-found, opens_found}
@@ -58,30 +59,36 @@ returns-in-Some-source-clause-heard g c now le =
     (λ e. subst (λ (qs : List PortState). HeardBy c.args.frame.now.moment qs) (sym e) c.requires))
 
 pub returns-in-Some-source-clause-stands : goal.returns-in-Some-source-clause-stands
-returns-in-Some-source-clause-stands g c log st =
+returns-in-Some-source-clause-stands g c =
     let ports = c.args.self.now.ports.items in
     let ps = states (extent_bytes g.S.Shape.shape) ports in
     let key = c.key-key.result in
     let at = found (extent_bytes g.S.Shape.shape) key.kind key.port ports c.in-Some.place (sym c.find.ensures ∙ c.in-Some.is) in
     on_ok_then c.step_at.result c.step_at.ensures.states
-    (λ e. subst (λ (qs : List PortState). StandsFor c.args.self.now.timeout (logged (seen c.args.frame.now) log) qs) (sym e)
+    (λ e log st. subst (λ (qs : List PortState). StandsFor c.args.self.now.timeout (logged (seen c.args.frame.now) log) qs) (sym e)
     (stands-found c.args.self.now.timeout (seen c.args.frame.now) key c.key-key.ensures ps log c.in-Some.place c.in-Some-source.source c.in-Some-source.is at st))
 
 pub returns-in-Some-source-clause-told : goal.returns-in-Some-source-clause-told
-returns-in-Some-source-clause-told g c log st =
+returns-in-Some-source-clause-told g c =
     let ports = c.args.self.now.ports.items in
     let ps = states (extent_bytes g.S.Shape.shape) ports in
     let key = c.key-key.result in
     let at = found (extent_bytes g.S.Shape.shape) key.kind key.port ports c.in-Some.place (sym c.find.ensures ∙ c.in-Some.is) in
     if_ok_then c.step_at.result c.step_at.ensures.answer
-    (λ met e. subst (λ (answer : Answer). Told c.args.self.now.timeout (ports_of ps) (seen c.args.frame.now) log answer) (sym e)
+    (λ met e log st. subst (λ (answer : Answer). Told c.args.self.now.timeout (ports_of ps) (seen c.args.frame.now) log answer) (sym e)
     (told-found c.args.self.now.timeout (seen c.args.frame.now) key c.key-key.ensures ps log c.in-Some.place c.in-Some-source.source c.in-Some-source.is at st))
 
+pub returns-in-Some-source-clause-idle : goal.returns-in-Some-source-clause-idle
+returns-in-Some-source-clause-idle g c =
+    let ps = states (extent_bytes g.S.Shape.shape) c.args.self.now.ports.items in
+    if_ok_both c.step_at.result c.step_at.ensures.states c.step_at.ensures.answer
+    (λ met e told h. e ∙ idle-nth c.args.self.now.timeout c.in-Some-source.source (record_of c.args.frame.now) ps c.in-Some.place (sym (ap is_of_session told) ∙ h))
+
 pub returns-in-Some-source-clause-memory : goal.returns-in-Some-source-clause-memory
-returns-in-Some-source-clause-memory g c log st =
+returns-in-Some-source-clause-memory g c =
     let ports = c.args.self.now.ports.items in
     let ps = states (extent_bytes g.S.Shape.shape) ports in
     let key = c.key-key.result in
     let at = found (extent_bytes g.S.Shape.shape) key.kind key.port ports c.in-Some.place (sym c.find.ensures ∙ c.in-Some.is) in
     on_err_then c.step_at.result c.step_at.ensures.memory
-    (λ a. opens_found c.args.self.now.timeout (seen c.args.frame.now) key c.key-key.ensures ps log c.in-Some.place c.in-Some-source.source c.in-Some-source.is at st a)
+    (λ a log st. opens_found c.args.self.now.timeout (seen c.args.frame.now) key c.key-key.ensures ps log c.in-Some.place c.in-Some-source.source c.in-Some-source.is at st a)

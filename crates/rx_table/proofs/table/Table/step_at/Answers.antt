@@ -1,7 +1,11 @@
-use Rattle.std.proofs.Common.{◌∙◌, refl, length}
+use Rattle.std.proofs.Common.{◌≡◌, ◌∙◌, ◌+◌, refl, sym, ap, length, min, arith}
 use Rattle.std.proofs.lemmas.Option.{slice_get_read}
 use Rattle.rx_session.specs.Extents.{extent_bytes}
 use Rattle.rx_session.specs.Seen.{record_of}
+use Rattle.rx_table.specs.Ports.{buffered}
+use Rattle.rx_table.specs.Places.{grown}
+use Rattle.rx_table.specs.Table.{entries_of, held_in}
+use Rattle.rx_table.proofs.Buffered.{held_in-set, capped-more}
 use Rattle.rx_table.proofs.NthPorts.{heard-nth, set-ports, set-shapes, set-same, set-met, set-fed, fed_answer-nth, Adds-nth}
 use Rattle.rx_table.proofs.table.Table.step_at.Goals as goal
 
@@ -55,3 +59,29 @@ returns-in-Err-clause-memory g c =
     let ports = c.args.self.now.ports.items in
     let at = slice_get_read ports (length ports) c.args.place c.index_mut-port.result.now refl c.requires.within c.index_mut-port.ensures.value in
     Adds-nth (extent_bytes g.S.Shape.shape) c.args.source (record_of c.args.frame.now) ports c.args.place c.index_mut-port.result.now at c.in-Err.ensures.memory
+
+pub invariant_of-self : goal.invariant_of-self
+invariant_of-self g c =
+    let ports = c.args.self.now.ports.items in
+    let p = c.index_mut-port.result.now in
+    let q = c.meet.new.self in
+    let at = slice_get_read ports (length ports) c.args.place p refl c.requires.within c.index_mut-port.ensures.value in
+    let opened : c.opened_bytes-opened.result ≡ grown (extent_bytes g.S.Shape.shape p.shape) c.in-Ok.met =
+    c.opened_bytes-opened.ensures ∙ ap (λ (s : g.row.S.Denot). grown (extent_bytes g.S.Shape.shape s) c.in-Ok.met) c.meet.ensures.shape in
+    let more = held_in-set ports c.args.place c.opened_bytes-opened.result p q at (c.in-Ok.ensures.grown ∙ ap (λ n. buffered (entries_of p.sessions.entries) + n) (sym opened)) in
+    record {
+      sum =
+          capped-more (held_in ports) c.opened_bytes-opened.result c.args.self.now.held c.saturating_add-self.result 18446744073709551615 c.args.self.now.sum c.saturating_add-self.ensures
+          ∙ ap (λ n. min n 18446744073709551615) (sym more);
+    }
+
+pub invariant_of-self-in-Err-1 : goal.invariant_of-self-in-Err-1
+invariant_of-self-in-Err-1 g c =
+    let ports = c.args.self.now.ports.items in
+    let p = c.index_mut-port.result.now in
+    let q = c.meet.new.self in
+    let at = slice_get_read ports (length ports) c.args.place p refl c.requires.within c.index_mut-port.ensures.value in
+    let same : buffered (entries_of q.sessions.entries) ≡ buffered (entries_of p.sessions.entries) + 0 = ap buffered c.in-Err.ensures.err ∙ grind arith in
+    let more = held_in-set ports c.args.place 0 p q at same in
+    let none : held_in ports + 0 ≡ held_in ports = omega arith in
+    record { sum = c.args.self.now.sum ∙ ap (λ n. min n 18446744073709551615) (sym (more ∙ none)) }

@@ -1,0 +1,72 @@
+-- A table of the code as the definitions see it, and what a frame does to it.
+use Rattle.std.specs.Prelude.{◌≡◌, ◌≤◌, ℕ, false, List, map, Result, IfOk, OnOk, OnErr}
+use Rattle.dsdl_types.specs.Schemas.{Sch}
+use Rattle.tail_frame.specs.Frames.{FrameOf, seen}
+use Rattle.tail_frame.specs.declared.frame.Frame.{Frame}
+use Rattle.rx_session.specs.Extents.{extent_bytes}
+use Rattle.rx_table.specs.Keys.{KeyedFrame}
+use Rattle.rx_table.specs.Ports.{Port, PortState, Answer, ports_of, is_of_session}
+use Rattle.rx_table.specs.Places.{table_answer}
+use Rattle.rx_table.specs.Table.{states, StandsFor, HeardBy, logged, answer_of, Told, Opens}
+use Rattle.rx_table.specs.declared.table.Table.{Table}
+use Rattle.rx_table.specs.declared.fed.Fed as code_fed
+use Rattle.rx_table.specs.declared.fed.Met as code_met
+
+module _ {S : Type 0} (shape : S → Sch) where
+  -- its subscriptions with their sources
+  abbrev pub states_of : Table S → List PortState
+  states_of t = states (extent_bytes shape) t.ports.items
+
+  -- its subscriptions
+  abbrev pub subscriptions : Table S → List Port
+  subscriptions t = ports_of (states_of t)
+
+  -- it stands for a log, the newest frame first
+  abbrev pub IsOfLog : Table S → List KeyedFrame → Type 0
+  IsOfLog t log = StandsFor t.timeout log (states_of t)
+
+  -- none of its sessions heard a frame after this moment
+  abbrev pub HasHeardBy : ℕ → Table S → Type 0
+  HasHeardBy now t = HeardBy now (states_of t)
+
+  -- what a frame met, told with the payload lent from the frame or from a session
+  abbrev pub told_by : Table S → Frame → code_met.Met → Answer
+  told_by t frame met = table_answer (states_of t) frame.body.now met
+
+  -- the timeout, the subscriptions and their shapes stay
+  pub record Keeps (old new : Table S) : Type 0 where
+    pub timeout : new.timeout ≡ old.timeout
+    pub ports : subscriptions new ≡ subscriptions old
+    pub shapes : map (λ p. p.shape) new.ports.items ≡ map (λ p. p.shape) old.ports.items
+
+  -- the sessions stay
+  abbrev pub KeepsSessions : Table S → Table S → Type 0
+  KeepsSessions old new = states_of new ≡ states_of old
+
+  -- after a frame a table stands for the log with that frame
+  abbrev pub TakesIn : FrameOf → Table S → Table S → Type 0
+  TakesIn f old new =
+      (log : List KeyedFrame) → IsOfLog old log → StandsFor old.timeout (logged f log) (states_of new)
+
+  -- an answer is what the log says that a table stands for
+  abbrev pub Answers : Table S → FrameOf → Answer → Type 0
+  Answers t f answer =
+      (log : List KeyedFrame) → IsOfLog t log → Told t.timeout (subscriptions t) f log answer
+
+  -- a frame opens a session
+  abbrev pub OpensOne : Table S → FrameOf → Type 0
+  OpensOne t f = (log : List KeyedFrame) → IsOfLog t log → Opens (subscriptions t) f log
+
+  -- what no session answers leaves the sessions as they were
+  abbrev pub IsIdleAt : Answer → Table S → Table S → Type 0
+  IsIdleAt answer old new = is_of_session answer ≡ false → KeepsSessions old new
+
+  -- what is fed to a table: it keeps its subscriptions, has heard the frame, and stands for the log with it; at want of
+  -- memory the sessions stay
+  abbrev pub IsFed : {E : Type 0} → Frame → Table S → Result code_fed.Fed E → Table S → Type 0
+  IsFed frame old result new =
+      Keeps old new
+      × ((now : ℕ) → frame.moment ≤ now → HasHeardBy now new)
+      × OnOk result (TakesIn (seen frame) old new)
+      × IfOk result (λ fed. IsIdleAt (answer_of fed) old new)
+      × OnErr result (KeepsSessions old new)
