@@ -20,6 +20,10 @@ use Rattle.rx_table.proofs.Positions.{position-further, position-here, position-
 some_is : {X : Type 0} (x y : X) → Some x ≡ Some y → x ≡ y
 some_is x y h = cc
 
+pub none_is : {X : Type 0} (o : Option X) → is_some o ≡ false → o ≡ None
+none_is None e = refl
+none_is (Some x) e = absurd cc
+
 -- whether a port has a kind and number
 abbrev pub IsAt : Kind → ℕ → Port → Bool
 IsAt kind port p = same_kind kind p.kind && eqb port p.port

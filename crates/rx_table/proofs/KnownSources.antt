@@ -1,5 +1,5 @@
 -- A source by its place among a port's sources.
-use Rattle.std.proofs.Common.{◌≡◌, ◌∙◌, ℕ, List, [], ◌∷◌, ◌||◌, Bool, true, false, eqb, Some, None, refl, sym, ap, map, position, nat_eq}
+use Rattle.std.proofs.Common.{◌≡◌, ◌∙◌, ℕ, List, [], ◌∷◌, ◌||◌, Bool, true, false, eqb, Some, None, refl, sym, ap, map, option_map, position, nat_eq, zero, suc, slice_get}
 use Rattle.std.specs.List.{IsDistinct, AllByRecursion}
 use Rattle.std.proofs.lemmas.Bool.{eqb-true, eq-eqb, eqb-false, ne_eqb, cond-true, cond-false, or_left, or_right}
 use Rattle.tail_frame.specs.Chains.{KeyRecord}
@@ -11,6 +11,9 @@ use Rattle.rx_table.specs.Ports.{Entry, sources_of, accept_at, outcome_at}
 use Rattle.rx_table.specs.Places.{step_nth, outcome_nth}
 use Rattle.rx_table.specs.Table.{entries_of}
 use Rattle.rx_table.proofs.Positions.{position-further, position-here, position-lowered, position-none_below}
+
+some_is : {X : Type 0} (x y : X) → Some x ≡ Some y → x ≡ y
+some_is x y h = cc
 
 pub sources-keys : {S : Type 0} (es : List (ℕ × Session S)) → map (λ e. e.0) es ≡ sources_of (entries_of es)
 sources-keys [] = refl
@@ -85,3 +88,22 @@ module _ (timeout source : ℕ) (r : KeyRecord) where
           ap (λ n. outcome_nth timeout (e ∷ es) n r) k.2
           ∙ (more k.0 k.1
           ∙ sym (cond-false (eqb e.source source) (accept crc_more 0xFFFF timeout e.session r).1 (outcome_at crc_more 0xFFFF timeout source r es) (swapped source e.source false t)))
+
+-- the source at a place
+pub sources-get : {S : Type 0} (es : List (ℕ × Session S)) (i : ℕ) (e : ℕ × Session S) → slice_get es i ≡ Some e → slice_get (sources_of (entries_of es)) i ≡ Some e.0
+sources-get [] i e h = absurd cc
+sources-get {S} (d ∷ es) zero e h = ap (λ (p : ℕ × Session S). Some p.0) (some_is _ _ h)
+sources-get (d ∷ es) (suc i) e h = sources-get es i e h
+
+apart : (k x i : ℕ) (ks : List ℕ) → AllByRecursion (λ y. nat_eq k y ≡ false) ks → slice_get ks i ≡ Some x → nat_eq k x ≡ false
+apart k x i [] a h = absurd cc
+apart k x zero (y ∷ ks) a h = ap (nat_eq k) (sym (some_is _ _ h)) ∙ a.0
+apart k x (suc i) (y ∷ ks) a h = apart k x i ks a.1 h
+
+-- a source that stands at a place stands at no earlier one
+pub distinct-position : (source i : ℕ) (ks : List ℕ) → IsDistinct nat_eq ks → slice_get ks i ≡ Some source → position (nat_eq source) ks ≡ Some i
+unfolding IsDistinct
+distinct-position source i [] u h = absurd cc
+distinct-position source zero (k ∷ ks) u h = position-here (nat_eq source) k ks (eq-eqb source k (sym (some_is _ _ h)))
+distinct-position source (suc i) (k ∷ ks) u h =
+    position-further (nat_eq source) k ks (swapped k source false (apart k source i ks u.0 h)) ∙ ap (option_map suc) (distinct-position source i ks u.1 h)

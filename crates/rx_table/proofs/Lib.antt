@@ -2,6 +2,7 @@ pub mod FirstSources
 pub mod Subscribed
 pub mod Counted
 pub mod Buffered
+pub mod SubjectPlaces
 pub mod Idle
 pub mod FoundPorts
 pub mod Heard

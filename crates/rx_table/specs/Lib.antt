@@ -8,4 +8,5 @@ pub mod Ports
 pub mod Laws
 pub mod Table
 pub mod Places
+pub mod SubjectPlaces
 pub mod Views

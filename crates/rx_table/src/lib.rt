@@ -4,6 +4,7 @@
 pub mod fed;
 pub mod laws;
 pub mod port;
+pub mod subjects;
 pub mod table;
 #[cfg(test)]
 mod tests;

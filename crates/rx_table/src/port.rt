@@ -1,4 +1,5 @@
-ghost use Rattle.std.specs.Prelude.{◌≡◌, ◌<◌, IfOk, OnErr, OnOk, length, ◌==◌, ◌&&◌, nat_eq, None, true, ◌+◌, [], take};
+ghost use Rattle.std.specs.Prelude.{◌≡◌, ◌<◌, IfOk, OnErr, OnOk, length, ◌==◌, ◌&&◌, nat_eq, None, true, ◌+◌, [], take, slice_get, Some, IfSome};
+ghost use Rattle.std.specs.List.{position, IsDistinct};
 ghost use Rattle.rx_table.specs.Ports.{sources_of, buffered};
 ghost use Rattle.indexmap.specs.IndexMap.{get};
 ghost use Rattle.tail_frame.specs.Frames.{seen};
@@ -31,6 +32,8 @@ pub struct Port<S> {
     pub shape: S,
     /// The sessions by source, in the order of their first start frames.
     pub sessions: IndexMap<u8, Session<S>>,
+    /// By the source's lowest seven bits, where its session may be among these.
+    hints: [u8; 128],
 }
 
 impl<S: Shape> Port<S> {
@@ -39,6 +42,8 @@ impl<S: Shape> Port<S> {
         ensures state { state_of (extent_bytes S.shape) result
             ≡ subscribed (record { kind = kind; port = port; sources = sources; extent = extent_bytes S.shape shape }) }
         ensures shape { result.shape ≡ shape }
+        ensures kind { result.kind ≡ kind }
+        ensures port { result.port ≡ port }
         ensures sessions { result.sessions.entries ≡ [] }
     {
         Port {
@@ -47,6 +52,7 @@ impl<S: Shape> Port<S> {
             sources,
             shape,
             sessions: IndexMap::new(alloc),
+            hints: [0; 128],
         }
     }
 
@@ -106,12 +112,38 @@ impl<S: Shape> Port<S> {
         ensures err { OnErr result (entries_of self.new.sessions.entries ≡ entries_of self.old.sessions.entries) }
         ensures memory { OnErr result (Adds (port_of (extent_bytes S.shape) self.old) (entries_of self.old.sessions.entries) source (record_of frame.now)) }
     {
-        match self.sessions.get_index_of(&source) {
+        match self.index_of(source) {
             Some(index) => {
                 let step = self.step_at(index, frame, timeout);
                 Ok(PortMet::Session { index, step })
             }
             None => self.meet_new(alloc, source, frame, timeout),
+        }
+    }
+
+    /// The place of a source's session, without a search where the hint is right.
+    #[inline(always)]
+    fn index_of(&self, source: u8) -> Option<usize>
+        ensures index { result ≡ position (nat_eq source) (sources_of (entries_of self.now.sessions.entries)) }
+        ensures unique { IsDistinct nat_eq (sources_of (entries_of self.now.sessions.entries)) }
+        ensures within { IfSome result (λ index. index < length self.now.sessions.entries) }
+        ensures absent { result ≡ None → get nat_eq self.now.sessions source ≡ None }
+    {
+        let hint = self.hints[(source % 128) as usize] as usize;
+        if hint < self.sessions.len() && self.is_at(source, hint) {
+            return Some(hint);
+        }
+        self.sessions.get_index_of(&source)
+    }
+
+    /// Whether the session at a place is that of a source.
+    #[inline(always)]
+    fn is_at(&self, source: u8, index: usize) -> bool
+        ensures { result ≡ true → slice_get (sources_of (entries_of self.now.sessions.entries)) index ≡ Some source }
+    {
+        match self.sessions.get_index(index) {
+            Some((key, _)) => *key == source,
+            None => false,
         }
     }
 
@@ -146,6 +178,7 @@ impl<S: Shape> Port<S> {
         let mut session = Session::open(alloc, &self.shape)?;
         let step = session.step(frame, timeout);
         self.sessions.insert(source, session)?;
+        self.hints[(source % 128) as usize] = index.min(255) as u8;
         Ok(PortMet::Opened { index, step })
     }
 

@@ -1,8 +1,10 @@
 ghost use Rattle.std.specs.Prelude.{◌≡◌, ◌^◌, ◌-◌, min};
+ghost use Rattle.rx_table.specs.SubjectPlaces.{ArePlaces, ArePlaces-prop};
 ghost use Rattle.rx_table.specs.Table.{held_in};
 
 use crate::fed::{Fed, Met, SubscribeError};
 use crate::port::Port;
+use crate::subjects::{Subjects, place_at};
 use can_id::Kind;
 use cy_bits::{NoMemory, ShortList};
 use dsdl_types::Shape;
@@ -21,13 +23,20 @@ pub struct Table<S> {
     pub ports: Vec<Port<S>>,
     /// The bytes of the buffers of all their sessions, or 2^64 - 1 where they are more.
     held: u64,
+    /// The places of subjects among the subscriptions.
+    subjects: Subjects,
     ghost sum: { held ≡ min (held_in ports.items) (2 ^ 64 - 1) },
+    ghost places: { ArePlaces subjects ports.items } by { ArePlaces-prop subjects ports.items },
 }
+
+/// How many subjects there are.
+const SUBJECTS: usize = 0x2000;
 
 impl<S: Shape> Table<S> {
     ghost use Rattle.std.specs.Prelude.{◌&&◌, ◌==◌, ◌↔◌, ◌<◌, ◌≤◌, ◌++◌, ◌∷◌, [], IfOk, OnErr, OnOk, length, List, ℕ, Err, None, ◌≢◌, map, ◌+◌, is_some};
     ghost use Rattle.std.specs.Borrow.{sem};
     ghost use Rattle.std.specs.Io.BufRead.{Rests};
+    ghost use Rattle.can_id.specs.declared.key.Kind.TheVariants.{Message};
     ghost use Rattle.std.specs.List.{position};
     ghost use Rattle.std.specs.Option.{option_copied};
     ghost use Rattle.tail_frame.specs.Frames.{seen};
@@ -35,6 +44,7 @@ impl<S: Shape> Table<S> {
     ghost use Rattle.rx_session.specs.Seen.{record_of};
     ghost use Rattle.rx_table.specs.Keys.{KeyedFrame, same_kind};
     ghost use Rattle.rx_table.specs.Ports.{port_at, held, bound, held_of};
+    ghost use Rattle.rx_table.specs.SubjectPlaces.{place_of};
     ghost use Rattle.rx_table.specs.Places.{feed_nth, answer_nth, AddsNth};
     ghost use Rattle.rx_table.specs.Table.{StandsFor, answer_of, shape_at, admitted_on, subscribed};
     ghost use Rattle.rx_table.specs.Views.{states_of, subscriptions, IsOfLog, HasHeardBy, told_by, Keeps, KeepsSessions, TakesIn, Answers, OpensOne, IsIdleAt, IsFed};
@@ -47,11 +57,13 @@ impl<S: Shape> Table<S> {
         ensures timeout { IfOk result (λ t. t.timeout ≡ timeout) }
         ensures stands { IfOk result (λ t. IsOfLog S.shape t []) }
     {
+        let subjects = Subjects::new(alloc, SUBJECTS)?;
         Ok(Table {
             alloc,
             timeout,
             ports: Vec::new(alloc),
             held: 0,
+            subjects,
         })
     }
 
@@ -98,13 +110,23 @@ impl<S: Shape> Table<S> {
     fn append(&mut self, port: Port<S>) -> Result<(), NoMemory>
     where
         S: Drop,
-        requires { port.sessions.entries ≡ [] }
+        requires empty { port.sessions.entries ≡ [] }
+        requires absent { place_of port.kind port.port self.old.ports.items ≡ None }
+        requires room { length self.old.ports.items < 2 ^ 16 }
         ensures timeout { self.new.timeout ≡ self.old.timeout }
         ensures ok { OnOk result (self.new.ports.items ≡ self.old.ports.items ++ port ∷ []) }
         ensures err { OnErr result (self.new.ports.items ≡ self.old.ports.items) }
     {
-        self.ports.push(port)?;
-        Ok(())
+        let code = self.ports.len() as u32 + 1;
+        let kind = port.kind;
+        let number = port.port;
+        match self.ports.push(port) {
+            Ok(()) => {
+                self.subjects.put(kind, number, code);
+                Ok(())
+            }
+            Err(_) => Err(NoMemory),
+        }
     }
 
     /// Takes a frame, at a moment in microseconds not before that of any frame taken earlier.
@@ -201,6 +223,7 @@ impl<S: Shape> Table<S> {
     }
 
     /// Whether a kind and port is subscribed.
+    #[inline(always)]
     pub fn takes(&self, kind: Kind, port: u16) -> bool
         ensures { result ≡ is_some (port_at kind port (subscriptions S.shape self.now)) }
     {
@@ -230,7 +253,31 @@ impl<S: Shape> Table<S> {
     }
 
     /// The place of a subscription.
+    #[inline(always)]
     fn find(&self, kind: Kind, port: u16) -> Option<usize>
+        ensures { result ≡ position (λ p. same_kind kind p.kind && (port == p.port)) self.now.ports.items }
+    {
+        match kind {
+            Kind::Message => self.find_subject(port),
+            Kind::Request => self.search(Kind::Request, port),
+            Kind::Response => self.search(Kind::Response, port),
+        }
+    }
+
+    /// The place of a subject's subscription, without a search where it is below 2^13.
+    #[inline(always)]
+    fn find_subject(&self, subject: u16) -> Option<usize>
+        ensures { result ≡ position (λ p. same_kind Message p.kind && (subject == p.port)) self.now.ports.items }
+    {
+        match self.subjects.get(subject) {
+            Some(code) => place_at(code),
+            None => self.search(Kind::Message, subject),
+        }
+    }
+
+    /// The place of a subscription, by a search.
+    #[cold]
+    fn search(&self, kind: Kind, port: u16) -> Option<usize>
         ensures { result ≡ position (λ p. same_kind kind p.kind && (port == p.port)) self.now.ports.items }
     {
         self.ports.iter().position(|p| p.is(kind, port))

@@ -10,16 +10,15 @@ use Rattle.rx_table.specs.Places.{opened, opened_answer, met_answer}
 use Rattle.rx_table.specs.Table.{port_of, entries_of}
 use Rattle.rx_table.proofs.Answered.{on_err_both}
 use Rattle.rx_table.proofs.NewSources.{length-entries}
-use Rattle.rx_table.proofs.KnownSources.{sources-keys, known-has, unknown-has, known-entries, known-outcome}
+use Rattle.rx_table.proofs.KnownSources.{known-has, unknown-has, known-entries, known-outcome}
 use Rattle.rx_table.proofs.port.Port.meet.Goals as goal
 
 pub returns-in-Some-clause-entries : goal.returns-in-Some-clause-entries
 returns-in-Some-clause-entries g c =
     let es = entries_of c.args.self.now.sessions.entries in
-    let keys = sources-keys c.args.self.now.sessions.entries in
     let r = record_of c.args.frame.now in
-    let at = subst (λ (ks : List ℕ). position (nat_eq c.args.source) ks ≡ Some c.in-Some.index) keys (sym c.in-Some.ensures.index) in
-    let unique = subst (λ (ks : List ℕ). IsDistinct nat_eq ks) keys c.in-Some.ensures.unique in
+    let at = sym c.in-Some.ensures.index in
+    let unique = c.in-Some.ensures.unique in
     c.step_at-step.ensures.entries ∙ (known-entries c.args.timeout c.args.source r c.in-Some.index es unique at
     ∙ sym (cond-true (has c.args.source (sources_of es)) (accept_at crc_more 0xFFFF c.args.timeout c.args.source r es) (opened c.args.timeout (port_of (extent_bytes g.S.Shape.shape) c.args.self.now) es c.args.source r)
     (known-has c.args.source c.in-Some.index es at)))
@@ -27,9 +26,8 @@ returns-in-Some-clause-entries g c =
 pub returns-in-Some-clause-answer : goal.returns-in-Some-clause-answer
 returns-in-Some-clause-answer g c =
     let es = entries_of c.args.self.now.sessions.entries in
-    let keys = sources-keys c.args.self.now.sessions.entries in
     let r = record_of c.args.frame.now in
-    let at = subst (λ (ks : List ℕ). position (nat_eq c.args.source) ks ≡ Some c.in-Some.index) keys (sym c.in-Some.ensures.index) in
+    let at = sym c.in-Some.ensures.index in
     ap OfSession (c.step_at-step.ensures.outcome ∙ known-outcome c.args.timeout c.args.source r c.in-Some.index es at)
     ∙ sym (cond-true (has c.args.source (sources_of es)) (OfSession (outcome_at crc_more 0xFFFF c.args.timeout c.args.source r es)) (opened_answer c.args.timeout (port_of (extent_bytes g.S.Shape.shape) c.args.self.now) es r)
     (known-has c.args.source c.in-Some.index es at))
@@ -37,9 +35,8 @@ returns-in-Some-clause-answer g c =
 pub returns-in-None-clause-entries : goal.returns-in-None-clause-entries
 returns-in-None-clause-entries g c =
     let es = entries_of c.args.self.now.sessions.entries in
-    let keys = sources-keys c.args.self.now.sessions.entries in
     let r = record_of c.args.frame.now in
-    let at = subst (λ (ks : List ℕ). position (nat_eq c.args.source) ks ≡ None) keys (sym c.in-None.ensures.index) in
+    let at = sym c.in-None.ensures.index in
     subst (λ (t : List Entry). OnOk c.meet_new.result (entries_of c.meet_new.new.self.sessions.entries ≡ t))
     (sym (cond-false (has c.args.source (sources_of es)) (accept_at crc_more 0xFFFF c.args.timeout c.args.source r es) (opened c.args.timeout (port_of (extent_bytes g.S.Shape.shape) c.args.self.now) es c.args.source r)
     (unknown-has c.args.source es at)))
@@ -48,9 +45,8 @@ returns-in-None-clause-entries g c =
 pub returns-in-None-clause-answer : goal.returns-in-None-clause-answer
 returns-in-None-clause-answer g c =
     let es = entries_of c.args.self.now.sessions.entries in
-    let keys = sources-keys c.args.self.now.sessions.entries in
     let r = record_of c.args.frame.now in
-    let at = subst (λ (ks : List ℕ). position (nat_eq c.args.source) ks ≡ None) keys (sym c.in-None.ensures.index) in
+    let at = sym c.in-None.ensures.index in
     subst (λ (t : Answer). IfOk c.meet_new.result (λ m. met_answer (entries_of c.meet_new.new.self.sessions.entries) m ≡ t))
     (sym (cond-false (has c.args.source (sources_of es)) (OfSession (outcome_at crc_more 0xFFFF c.args.timeout c.args.source r es)) (opened_answer c.args.timeout (port_of (extent_bytes g.S.Shape.shape) c.args.self.now) es r)
     (unknown-has c.args.source es at)))
@@ -59,8 +55,7 @@ returns-in-None-clause-answer g c =
 pub returns-in-None-clause-memory : goal.returns-in-None-clause-memory
 returns-in-None-clause-memory g c =
     let es = entries_of c.args.self.now.sessions.entries in
-    let keys = sources-keys c.args.self.now.sessions.entries in
-    let at = subst (λ (ks : List ℕ). position (nat_eq c.args.source) ks ≡ None) keys (sym c.in-None.ensures.index) in
+    let at = sym c.in-None.ensures.index in
     let n = length-entries c.args.self.now.sessions.entries in
     on_err_both c.meet_new.result c.meet_new.ensures.start c.meet_new.ensures.room
     (λ start room. record { absent = unknown-has c.args.source es at; start = start; room = omega arith })

@@ -6,6 +6,7 @@ use Rattle.rx_table.specs.Ports.{buffered}
 use Rattle.rx_table.specs.Places.{grown}
 use Rattle.rx_table.specs.Table.{entries_of, held_in}
 use Rattle.rx_table.proofs.Buffered.{held_in-set, capped-more}
+use Rattle.rx_table.proofs.SubjectPlaces.{places-set}
 use Rattle.rx_table.proofs.NthPorts.{heard-nth, set-ports, set-shapes, set-same, set-met, set-fed, fed_answer-nth, Adds-nth}
 use Rattle.rx_table.proofs.table.Table.step_at.Goals as goal
 
@@ -73,6 +74,7 @@ invariant_of-self g c =
       sum =
           capped-more (held_in ports) c.opened_bytes-opened.result c.args.self.now.held c.saturating_add-self.result 18446744073709551615 c.args.self.now.sum c.saturating_add-self.ensures
           ∙ ap (λ n. min n 18446744073709551615) (sym more);
+      places = places-set (extent_bytes g.S.Shape.shape) c.args.self.now.subjects ports c.args.place p q at c.meet.ensures.port c.args.self.now.places;
     }
 
 pub invariant_of-self-in-Err-1 : goal.invariant_of-self-in-Err-1
@@ -84,4 +86,7 @@ invariant_of-self-in-Err-1 g c =
     let same : buffered (entries_of q.sessions.entries) ≡ buffered (entries_of p.sessions.entries) + 0 = ap buffered c.in-Err.ensures.err ∙ grind arith in
     let more = held_in-set ports c.args.place 0 p q at same in
     let none : held_in ports + 0 ≡ held_in ports = omega arith in
-    record { sum = c.args.self.now.sum ∙ ap (λ n. min n 18446744073709551615) (sym (more ∙ none)) }
+    record {
+      sum = c.args.self.now.sum ∙ ap (λ n. min n 18446744073709551615) (sym (more ∙ none));
+      places = places-set (extent_bytes g.S.Shape.shape) c.args.self.now.subjects ports c.args.place p q at c.meet.ensures.port c.args.self.now.places;
+    }

@@ -1,9 +1,12 @@
-use Rattle.std.proofs.Common.{◌∙◌, sym, refl, subst, List, [], arith}
+use Rattle.std.proofs.Common.{◌∙◌, ℕ, sym, ap₂, refl, subst, List, [], arith}
 use Rattle.rx_session.specs.Extents.{extent_bytes}
+use Rattle.can_id.specs.declared.key.Kind.{Kind}
+use Rattle.rx_table.specs.SubjectPlaces.{place_of}
 use Rattle.rx_table.specs.Ports.{Port, PortState}
 use Rattle.rx_table.specs.Table.{states, StandsFor, HeardBy}
-use Rattle.rx_table.proofs.FoundPorts.{taken, not_taken}
+use Rattle.rx_table.proofs.FoundPorts.{taken, not_taken, none_is}
 use Rattle.rx_table.proofs.Heard.{heard-subscribed}
+use Rattle.rx_table.proofs.SubjectPlaces.{position-place}
 use Rattle.rx_table.proofs.Subscribed.{states-after, length-states, stands-subscribed}
 use Rattle.rx_table.proofs.table.Table.subscribe.Goals as goal
 
@@ -48,3 +51,8 @@ returns-in-Ok-clause-heard g c now x =
     subst (λ (qs : List PortState). HeardBy now qs)
     (sym (states-after (extent_bytes g.S.Shape.shape) ports c.append.new.self.ports.items c.new.result _ c.in-Ok.ensures.ok c.new.ensures.state))
     (heard-subscribed now ps p x)
+
+pub append-requires-clause-absent : goal.append-requires-clause-absent
+append-requires-clause-absent g c =
+    ap₂ (λ (k : Kind) (n : ℕ). place_of k n c.args.self.now.ports.items) c.new.ensures.kind c.new.ensures.port
+    ∙ (sym (position-place c.args.kind c.args.port c.args.self.now.ports.items) ∙ (sym c.find.ensures ∙ none_is c.find.result (sym c.is_some.ensures ∙ c.if-is_some.false)))
