@@ -11,6 +11,11 @@ abbrev pub crc_bits : ℕ → ℕ → ℕ → ℕ
 crc_bits zero r byte = r
 crc_bits (suc k) r byte = crc_bits k (crc_bit r (byte / 2 ^ k % 2)) byte
 
+-- after k bytes that are 0
+abbrev pub after_zeros : ℕ → ℕ → ℕ
+after_zeros zero r = r
+after_zeros (suc k) r = after_zeros k (crc_bits 8 r 0)
+
 -- after more bytes
 abbrev pub crc_more : ℕ → List ℕ → ℕ
 crc_more r [] = r
