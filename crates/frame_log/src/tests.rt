@@ -6,6 +6,8 @@ use cy_outside::{Failed, MemSource, Source};
 use std::alloc::{AllocError, Global};
 use tail_frame::Record;
 
+mod quick;
+
 /// Bytes that come one a read.
 #[derive(Drop)]
 struct OneByte<'a> {
@@ -26,15 +28,20 @@ impl<'a> Source for OneByte<'a> {
     }
 }
 
-/// A reader that knows `can0`, `can1` and `can2`.
-fn reader(alloc: Global) -> Result<LogReader, NoMemory> {
+/// `can0`, `can1` and `can2`.
+fn buses() -> ShortList<BusName, 3> {
     let mut buses = ShortList::new();
     for name in ["can0", "can1", "can2"] {
         if buses.len() < 3 {
             buses.push(BusName::new(name).unwrap_or_default());
         }
     }
-    LogReader::new(alloc, buses)
+    buses
+}
+
+/// A reader that knows these buses.
+fn reader(alloc: Global) -> Result<LogReader, NoMemory> {
+    LogReader::new(alloc, buses())
 }
 
 /// Puts what a call answered in a line of its own. Whether it was no record.
