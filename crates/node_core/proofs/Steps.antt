@@ -1,5 +1,5 @@
 -- One step of a node.
-use Rattle.std.proofs.Common.{◌≡◌, ◌∙◌, ℕ, List, ◌∷◌, Option, Some, Result, Ok, Err, OnOk, sym, ap, subst}
+use Rattle.std.proofs.Common.{◌≡◌, ◌∙◌, ℕ, List, ◌∷◌, Option, Some, Result, Ok, Err, OnErr, sym, ap, subst}
 use Rattle.tail_frame.specs.Frames.{FrameOf}
 use Rattle.tail_frame.specs.declared.logged.Record.{Record}
 use Rattle.rx_table.specs.Keys.{KeyedFrame}
@@ -14,10 +14,10 @@ use Rattle.node_core.specs.Steps.{on_port, bad_on_port}
 use Rattle.node_core.specs.Told.{answer_lines, answer_is_bad}
 use Rattle.node_core.proofs.Told.{told_lines, told_bad}
 
--- what follows from what holds where a call answers Ok
-pub on_ok : {A E : Type 0} (P Q : Type 0) (r : Result A E) → (P → Q) → OnOk r P → OnOk r Q
-on_ok P Q (Ok a) f h = f h
-on_ok P Q (Err e) f h = h
+-- what holds holds where a call answers Err
+pub on_err : {A E : Type 0} (P : Type 0) (r : Result A E) → P → OnErr r P
+on_err P (Ok a) h = tt
+on_err P (Err e) h = h
 
 -- a table with the plan's timeout
 pub stands_again : (waits timeout : ℕ) (old new : List KeyedFrame) (ps qs : List PortState) → waits ≡ timeout → (StandsFor waits old ps → StandsFor waits new qs) → StandsFor timeout old ps → StandsFor timeout new qs
@@ -44,4 +44,11 @@ pub frame_stands : (old new : Node) (rec : Record) (f : FrameOf) → new.plan �
 frame_stands old new rec f plan_is frame_is h past s =
     let e : frames new.plan.node (rec ∷ past) ≡ logged f (frames old.plan.node past) =
     ap (λ (p : Plan). frames p.node (rec ∷ past)) plan_is ∙ ap (λ (o : Option FrameOf). with_frame o (frames old.plan.node past)) (sym frame_is) in
+    subst (StandsAt new) (sym e) (h (frames old.plan.node past) s)
+
+-- a node whose sessions stayed
+pub stands_as_before : (old new : Node) → new.plan ≡ old.plan
+    → ((log : List KeyedFrame) → StandsAt old log → StandsAt new log) → (past : List Record) → Stands old past → Stands new past
+stands_as_before old new plan_is h past s =
+    let e : frames new.plan.node past ≡ frames old.plan.node past = ap (λ (p : Plan). frames p.node past) plan_is in
     subst (StandsAt new) (sym e) (h (frames old.plan.node past) s)

@@ -1,7 +1,8 @@
-pub mod Front
+pub mod Came
 pub mod Heard
 pub mod Held
 pub mod InTime
+pub mod LineSinks
 pub mod Raw
 pub mod Reported
 pub mod Shapes
@@ -10,3 +11,4 @@ pub mod Steps
 pub mod Tables
 pub mod Text
 pub mod Told
+pub mod Writer

@@ -1,6 +1,7 @@
 -- The text of a report.
-use Rattle.std.specs.Prelude.{ℕ, ◌+◌, ◌/◌, ◌%◌, List, [], ◌∷◌, ◌++◌, Option, Some, None, codes, decimal, slice_get}
+use Rattle.std.specs.Prelude.{ℕ, List, [], ◌∷◌, ◌++◌, Option, Some, None, codes, decimal, slice_get}
 use Rattle.hex.specs.Hex.{encode_upper}
+pub use Rattle.line_text.specs.Text.{moment_text, line_of, spaced}
 use Rattle.can_id.specs.declared.key.Key.{Key}
 use Rattle.can_id.specs.declared.key.Kind.{Kind}
 use Rattle.can_id.specs.declared.key.Kind.TheVariants.{Message, Request, Response}
@@ -11,18 +12,6 @@ use Rattle.node_core.specs.declared.line.Rx.{Rx as Received}
 use Rattle.node_core.specs.declared.line.Reading.{Reading}
 use Rattle.node_core.specs.declared.line.Reading.TheVariants.{Raw}
 use Rattle.node_core.specs.declared.numbers.Numbers.{Numbers}
-
--- the last decimal digit of a number
-abbrev pub digit : ℕ → ℕ
-digit n = 48 + n % 10
-
--- a number below a million, as six digits
-abbrev pub six_digits : ℕ → List ℕ
-six_digits n = digit (n / 100000) ∷ digit (n / 10000) ∷ digit (n / 1000) ∷ digit (n / 100) ∷ digit (n / 10) ∷ digit n ∷ []
-
--- microseconds as seconds, a point, and six digits
-abbrev pub moment_text : ℕ → List ℕ
-moment_text moment = decimal (moment / 1000000) ++ 46 ∷ six_digits (moment % 1000000)
 
 abbrev pub name_of : Option BusPlan → List ℕ
 name_of None = []
@@ -50,28 +39,23 @@ payload_text (b ∷ bs) = encode_upper (b ∷ bs)
 abbrev pub reading_text : Reading → List ℕ
 reading_text Raw = codes "raw"
 
--- words with one space between them, and a newline
-abbrev pub line_of : List (List ℕ) → List ℕ
-line_of [] = 10 ∷ []
-line_of (word ∷ []) = word ++ 10 ∷ []
-line_of (word ∷ next ∷ words) = word ++ 32 ∷ line_of (next ∷ words)
-
--- words with a space behind each
-abbrev pub spaced : List (List ℕ) → List ℕ
-spaced [] = []
-spaced (word ∷ words) = word ++ 32 ∷ spaced words
-
 -- when, on which bus, at which port and from whom
 abbrev pub place_words : List BusPlan → ℕ → ℕ → Key → List (List ℕ)
 place_words buses moment bus key = moment_text moment ∷ bus_text buses bus ∷ kind_text key.kind ∷ decimal key.port ∷ source_text key.source ∷ []
 
--- priority, transfer-ID, the lines of the first and the last frame, and the payload
-abbrev pub transfer_words : Received → List (List ℕ)
-transfer_words rx = decimal rx.priority ∷ decimal rx.tid ∷ decimal rx.first ∷ decimal rx.last ∷ payload_text rx.payload ∷ []
+-- priority, transfer-ID, and the lines of the first and the last frame
+abbrev pub transfer_words : ℕ → ℕ → ℕ → ℕ → List (List ℕ)
+transfer_words priority tid first last = decimal priority ∷ decimal tid ∷ decimal first ∷ decimal last ∷ []
+
+-- the words before the payload of a transfer
+abbrev pub front_words : List BusPlan → Received → List (List ℕ)
+front_words buses rx =
+    (codes "rx" ∷ place_words buses rx.moment rx.bus rx.key) ++ transfer_words rx.priority rx.tid rx.first rx.last
 
 abbrev pub words_of : List BusPlan → Line → List (List ℕ)
-words_of buses (Rx rx) = (codes "rx" ∷ place_words buses rx.moment rx.bus rx.key) ++ transfer_words rx ++ (reading_text rx.reading ∷ [])
-words_of buses (NoSession refused) = (codes "nosession" ∷ place_words buses refused.moment refused.bus refused.key) ++ (decimal refused.line ∷ [])
+words_of buses (Rx rx) = front_words buses rx ++ (payload_text rx.payload ∷ reading_text rx.reading ∷ [])
+words_of buses (NoSession refused) =
+    (codes "nosession" ∷ place_words buses refused.moment refused.bus refused.key) ++ (decimal refused.line ∷ [])
 
 -- the text of a line
 abbrev pub line_text : List BusPlan → Line → List ℕ

@@ -1,75 +1,73 @@
-ghost use Rattle.std.specs.Prelude.{◌≡◌, ◌++◌, ◌∷◌, [], IfOk, OnOk, OnErr};
-ghost use Rattle.tail_frame.specs.Frames.{seen};
+//! The line on what the table told of a frame.
+ghost use Rattle.std.specs.Prelude.{◌≡◌, ◌∷◌, []};
+ghost use Rattle.can_id.specs.Identifiers.{key_of};
+ghost use Rattle.tail_frame.specs.Frames.{key_record, seen};
 ghost use Rattle.rx_session.specs.Session.{Delivered};
 ghost use Rattle.rx_table.specs.Table.{answer_of};
-ghost use Rattle.node_core.specs.Told.{outcome_lines, answer_lines, answer_is_bad};
+ghost use Rattle.node_core.specs.Steps.{refused_line};
+ghost use Rattle.node_core.specs.Told.{owned, outcome_lines, answer_lines, answer_is_bad, told_lines};
 
-use crate::line::{Line, Reading, Refused, Rx};
+use crate::line::{Reading, Refused};
+use crate::line_ref::{LineRef, RxRef};
 use can_id::Key;
-use cy_bits::{Bytes, List, NoMemory};
 use rx_session::{Delivery, Outcome};
 use rx_table::Fed;
-use std::alloc::Global;
 use tail_frame::Frame;
 
-/// Appends the line on what the table told of a frame, if there is one. Says whether the frame ends a
-/// transfer whose bytes don't fit their CRC.
-pub fn push_fed(
-    alloc: Global,
-    lines: &mut List<Line>,
-    frame: &Frame,
-    fed: Fed,
-) -> Result<bool, NoMemory>
-    ensures lines { OnOk result (lines.new ≡ lines.old ++ answer_lines (seen frame.now) (answer_of fed.entry)) }
-    ensures badcrc { IfOk result (λ is_bad. is_bad ≡ answer_is_bad (answer_of fed.entry)) }
-    ensures err { OnErr result (lines.new ≡ lines.old) }
+/// The line on what the table told of a frame, if there is one.
+#[inline(always)]
+pub fn line_on<'a>(frame: &Frame, fed: Fed<'a>) -> Option<LineRef<'a>>
+    ensures { told_lines result ≡ answer_lines (seen frame.now) (answer_of fed.entry) }
 {
     match fed {
-        Fed::NoPort => Ok(false),
-        Fed::NoSession => {
-            lines.push(Line::NoSession(Refused {
-                moment: frame.moment,
-                bus: frame.bus,
-                key: frame.ident.key(),
-                line: frame.line,
-            }))?;
-            Ok(false)
-        }
-        Fed::Anonymous(delivery) => {
-            push_rx(alloc, lines, frame.ident.key(), &delivery)?;
-            Ok(false)
-        }
+        Fed::NoPort => None,
+        Fed::NoSession => Some(refused(frame)),
+        Fed::Anonymous(delivery) => Some(received(frame.ident.key(), delivery)),
         Fed::Session(Outcome::Delivered(delivery)) => {
-            push_rx(alloc, lines, frame.ident.key(), &delivery)?;
-            Ok(false)
+            Some(received(frame.ident.key(), delivery))
         }
-        Fed::Session(Outcome::BadCrc) => Ok(true),
-        Fed::Session(Outcome::Ignored) => Ok(false),
-        Fed::Session(Outcome::Held) => Ok(false),
+        Fed::Session(Outcome::BadCrc) => None,
+        Fed::Session(Outcome::Ignored) => None,
+        Fed::Session(Outcome::Held) => None,
     }
 }
 
-/// Appends the line of a transfer that was received.
-fn push_rx(
-    alloc: Global,
-    lines: &mut List<Line>,
-    key: Key,
-    delivery: &Delivery,
-) -> Result<(), NoMemory>
-    ensures lines { OnOk result (lines.new ≡ lines.old ++ outcome_lines key
-        (Delivered delivery.now.bus delivery.now.priority delivery.now.tid delivery.now.first delivery.now.last delivery.now.moment delivery.now.payload.now)) }
-    ensures err { OnErr result (lines.new ≡ lines.old) }
+/// The line of a transfer that was received.
+#[inline(always)]
+fn received(key: Key, delivery: Delivery<'_>) -> LineRef<'_>
+    ensures { let d = delivery.entry in owned result ∷ [] ≡ outcome_lines key
+        (Delivered d.bus d.priority d.tid d.first d.last d.moment d.payload.now) }
 {
-    let payload = Bytes::from_slice(alloc, delivery.payload)?;
-    lines.push(Line::Rx(Rx {
+    LineRef::Rx(RxRef {
         moment: delivery.moment,
         bus: delivery.bus,
         key,
         priority: delivery.priority,
         tid: delivery.tid,
+        reading: Reading::Raw,
         first: delivery.first,
         last: delivery.last,
-        payload,
-        reading: Reading::Raw,
-    }))
+        payload: delivery.payload,
+    })
+}
+
+/// The line of a start frame for whose source its port has no session left.
+#[cold]
+fn refused<'a>(frame: &Frame) -> LineRef<'a>
+    ensures { owned result ≡ refused_line (key_of frame.now.ident) (key_record (seen frame.now)) }
+{
+    LineRef::NoSession(Refused {
+        moment: frame.moment,
+        bus: frame.bus,
+        key: frame.ident.key(),
+        line: frame.line,
+    })
+}
+
+/// Whether a frame ends a transfer whose bytes don't fit their CRC.
+#[inline(always)]
+pub fn is_bad(fed: Fed<'_>) -> bool
+    ensures { result ≡ answer_is_bad (answer_of fed.entry) }
+{
+    matches!(fed, Fed::Session(Outcome::BadCrc))
 }

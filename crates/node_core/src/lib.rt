@@ -1,12 +1,16 @@
 //! The node: what one record gives, line by line, and the text of these lines.
 #![tactic(auto)]
 
+pub mod came;
 mod fed;
 mod heard;
 mod hex_digits;
 pub mod laws;
 pub mod line;
 mod line_buffer;
+pub mod line_ref;
+pub mod line_sink;
+pub mod line_writer;
 pub mod node;
 pub mod numbers;
 pub mod port_shape;
@@ -14,7 +18,11 @@ mod ports;
 mod raw_shape;
 pub mod text;
 
+pub use came::Came;
 pub use line::{Line, Reading, Refused, Rx};
+pub use line_ref::{LineRef, RxRef};
+pub use line_sink::{KeptLines, LineSink, NoLines};
+pub use line_writer::LineWriter;
 pub use node::{Node, Stepped};
 pub use numbers::Numbers;
 pub use port_shape::PortShape;

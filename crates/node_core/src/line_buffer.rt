@@ -1,6 +1,6 @@
 ghost use Rattle.std.specs.Prelude.{◌≡◌, ◌≤◌, ◌+◌, ◌*◌, ◌++◌, ◌∷◌, [], decimal, length};
 ghost use Rattle.hex.specs.Hex.{encode_upper};
-ghost use Rattle.node_core.specs.Text.{moment_text, six_digits};
+ghost use Rattle.line_text.specs.Text.{moment_text, six_digits};
 
 use crate::hex_digits::put_hex;
 use itoa::write_digits;

@@ -2,14 +2,16 @@ ghost use Rattle.rx_table.specs.Table.{states, HeardBy};
 ghost use Rattle.node_core.specs.InTime.{HeardBy-prop};
 ghost use Rattle.node_core.specs.Shapes.{shape_extent};
 
-use crate::fed::push_fed;
+use crate::came::{Came, Heard};
+use crate::fed::{is_bad, line_on};
 use crate::heard::frame_for;
 use crate::line::Line;
+use crate::line_ref::LineRef;
 use crate::port_shape::PortShape;
 use crate::ports::table_of;
 use cy_bits::{List, NoMemory};
 use node_plan::Plan;
-use rx_table::Table;
+use rx_table::{Met, Table};
 use std::alloc::Global;
 use tail_frame::{Frame, Record};
 
@@ -41,9 +43,11 @@ impl Node {
     ghost use Rattle.node_plan.specs.IsPlan.{IsPlan};
     ghost use Rattle.rx_table.specs.Keys.{KeyedFrame};
     ghost use Rattle.rx_table.specs.Table.{logged, port_on};
+    ghost use Rattle.node_core.specs.Came.{answer_in, heard_is_bad, came_lines};
     ghost use Rattle.node_core.specs.Heard.{ports_of};
     ghost use Rattle.node_core.specs.Stands.{Stands, StandsAt};
     ghost use Rattle.node_core.specs.Steps.{got, on_port, is_bad_at, bad_on_port, held_at};
+    ghost use Rattle.node_core.specs.Told.{answer_lines, answer_is_bad, told_lines};
 
     /// A node that runs by a plan of `read_plan`. It has heard nothing.
     pub fn open(alloc: Global, plan: Plan) -> Result<Node, NoMemory>
@@ -74,34 +78,81 @@ impl Node {
         ensures behind { take (length lines.old) lines.new ≡ lines.old }
         ensures err { OnErr result (lines.new ≡ lines.old) }
     {
+        let came = self.step(rec)?;
+        if let Some(line) = self.told(rec, came) {
+            lines.push(line.copy(self.alloc)?)?;
+        }
+        Ok(Stepped {
+            badcrc: came.badcrc,
+        })
+    }
+
+    /// Takes the next record of the log, at a moment not before the last one. Memory is taken for a new
+    /// source's session alone; where it is wanting, the sessions are left as they were.
+    #[inline(always)]
+    pub fn step(&mut self, rec: &Record) -> Result<Came, NoMemory>
+        requires { self.old.latest ≤ rec.now.moment }
+        ensures plan { self.new.plan ≡ self.old.plan }
+        ensures latest { self.new.latest ≤ rec.now.moment }
+        ensures stands { OnOk result ((past : ListOf RecordOf) → Stands self.old past → Stands self.new (rec.now ∷ past)) }
+        ensures lines { IfOk result (λ came. (past : ListOf RecordOf) → Stands self.old past → came_lines self.new rec.now came ≡ got self.old.plan rec.now past) }
+        ensures badcrc { IfOk result (λ came. (past : ListOf RecordOf) → Stands self.old past → came.badcrc ≡ is_bad_at self.old.plan rec.now past) }
+        ensures err { OnErr result ((past : ListOf RecordOf) → Stands self.old past → Stands self.new past) }
+    {
         match frame_for(self.plan.node, rec) {
-            Some(frame) => self.hear(&frame, lines),
-            None => Ok(Stepped { badcrc: false }),
+            Some(frame) => {
+                let met = self.hear(&frame)?;
+                let heard = Heard {
+                    ident: frame.ident,
+                    tail: frame.tail,
+                    met,
+                };
+                Ok(Came {
+                    badcrc: self.ends_badly(rec, heard),
+                    heard: Some(heard),
+                })
+            }
+            None => Ok(Came {
+                badcrc: false,
+                heard: None,
+            }),
         }
     }
 
+    /// The line on what a record came to, if there is one: it was the last that the node took.
+    #[inline(always)]
+    pub fn told<'a>(&'a self, rec: &'a Record, came: Came) -> Option<LineRef<'a>>
+        ensures { told_lines result ≡ came_lines self.now rec.now came }
+    {
+        let heard = came.heard?;
+        let frame = heard.frame(rec);
+        line_on(&frame, self.table.lend(heard.met, &frame))
+    }
+
     /// Takes a frame that is for the node.
-    fn hear(&mut self, frame: &Frame, lines: &mut List<Line>) -> Result<Stepped, NoMemory>
+    #[inline(always)]
+    fn hear(&mut self, frame: &Frame) -> Result<Met, NoMemory>
         requires { self.old.latest ≤ frame.now.moment }
         ensures plan { self.new.plan ≡ self.old.plan }
         ensures latest { self.new.latest ≤ frame.now.moment }
         ensures stands { OnOk result ((log : ListOf KeyedFrame) → StandsAt self.old log → StandsAt self.new (logged (seen frame.now) log)) }
-        ensures lines { OnOk result ((log : ListOf KeyedFrame) → StandsAt self.old log → lines.new ≡ lines.old ++ on_port self.old.plan.timeout (seen frame.now) log (port_on (ports_of self.old.plan) (seen frame.now))) }
-        ensures badcrc { IfOk result (λ step. (log : ListOf KeyedFrame) → StandsAt self.old log → step.badcrc ≡ bad_on_port self.old.plan.timeout (seen frame.now) log (port_on (ports_of self.old.plan) (seen frame.now))) }
-        ensures behind { take (length lines.old) lines.new ≡ lines.old }
-        ensures err { OnErr result (lines.new ≡ lines.old) }
+        ensures lines { IfOk result (λ met. (log : ListOf KeyedFrame) → StandsAt self.old log → answer_lines (seen frame.now) (answer_in self.new frame.now.body.now met) ≡ on_port self.old.plan.timeout (seen frame.now) log (port_on (ports_of self.old.plan) (seen frame.now))) }
+        ensures badcrc { IfOk result (λ met. (log : ListOf KeyedFrame) → StandsAt self.old log → answer_is_bad (answer_in self.new frame.now.body.now met) ≡ bad_on_port self.old.plan.timeout (seen frame.now) log (port_on (ports_of self.old.plan) (seen frame.now))) }
+        ensures err { OnErr result ((log : ListOf KeyedFrame) → StandsAt self.old log → StandsAt self.new log) }
     {
         rx_table::laws::outcome_tells();
         let met = self.table.step(frame)?;
         self.latest = frame.moment;
-        // The same frame, lent for as long as the table is.
-        let lent = Frame {
-            body: frame.body,
-            ..*frame
-        };
-        let fed = self.table.lend(met, &lent);
-        let badcrc = push_fed(self.alloc, lines, frame, fed)?;
-        Ok(Stepped { badcrc })
+        Ok(met)
+    }
+
+    /// Whether a frame that was heard ends a transfer whose bytes don't fit their CRC.
+    #[inline(always)]
+    fn ends_badly(&self, rec: &Record, heard: Heard) -> bool
+        ensures { result ≡ heard_is_bad self.now rec.now heard }
+    {
+        let frame = heard.frame(rec);
+        is_bad(self.table.lend(heard.met, &frame))
     }
 
     /// The bytes that the buffers of the open sessions take.

@@ -1,6 +1,6 @@
 ghost use Rattle.std.specs.Prelude.{◌≡◌, ◌<◌, ◌≤◌, ◌+◌, ◌++◌, ◌∷◌, [], OnOk, decimal, length};
-ghost use Rattle.node_core.specs.Text.{line_text, end_text, bus_text, kind_text, source_text, payload_text, reading_text, place_words, received_words, spaced};
-ghost use Rattle.node_core.specs.Front.{in_front, front_words};
+ghost use Rattle.line_text.specs.Text.{in_front, spaced};
+ghost use Rattle.node_core.specs.Text.{line_text, end_text, bus_text, kind_text, source_text, payload_text, reading_text, place_words, received_words, front_words};
 
 use crate::hex_digits::push_hex;
 use crate::line::{Line, Reading, Refused, Rx};

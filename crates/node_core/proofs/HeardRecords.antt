@@ -1,0 +1,55 @@
+-- What a record came to is what the log says of it.
+use Rattle.std.proofs.Common.{◌≡◌, ◌∙◌, ℕ, ◌-◌, Bool, List, length, Option, Some, None, refl, sym, ap, subst}
+use Rattle.std.proofs.lemmas.Bool.{cond_both}
+use Rattle.std.specs.Option.{option_and_then}
+use Rattle.can_id.specs.Identifiers.{ident_of}
+use Rattle.can_id.specs.declared.ident.Ident.{Ident}
+use Rattle.tail_frame.specs.Frames.{FrameOf, framed, last_byte, is_discarded, tail_of, frame_of}
+use Rattle.tail_frame.specs.declared.logged.Record.{Record}
+use Rattle.rx_table.specs.Keys.{KeyedFrame}
+use Rattle.rx_table.specs.Table.{port_on}
+use Rattle.rx_table.specs.declared.fed.Met.{Met}
+use Rattle.node_core.specs.Came.{frame_with, answer_in, came_lines}
+use Rattle.node_core.specs.Heard.{ports_of, is_for, if_for, frame_for, frames}
+use Rattle.node_core.specs.Stands.{StandsAt, Stands}
+use Rattle.node_core.specs.Steps.{on_port, of_frame, got}
+use Rattle.node_core.specs.Told.{answer_lines}
+use Rattle.node_core.specs.declared.node.Node.{Node}
+
+-- a frame is its record with its identifier and its tail
+abbrev IsOf : Record → FrameOf → Type 0
+IsOf rec f = frame_with rec f.ident f.tail ≡ f
+
+of_byte : (rec : Record) (ident : Ident) (byte : Option ℕ) (f : FrameOf) → option_and_then (framed rec ident) byte ≡ Some f → IsOf rec f
+of_byte rec ident None f e = cc
+of_byte rec ident (Some byte) f e =
+    let g : FrameOf = frame_with rec ident (tail_of byte) in
+    cond_both (is_discarded ident (tail_of byte) (length rec.bytes - 1)) None (Some g) (λ o. o ≡ Some f → IsOf rec f)
+    (λ _ n. cc) (λ _ n. let it : g ≡ f = cc in subst (IsOf rec) it refl) e
+
+of_ident : (rec : Record) (ident : Option Ident) (f : FrameOf) → option_and_then (λ i. option_and_then (framed rec i) (last_byte rec.bytes)) ident ≡ Some f → IsOf rec f
+of_ident rec None f e = cc
+of_ident rec (Some ident) f e = of_byte rec ident (last_byte rec.bytes) f e
+
+of_node : (node : ℕ) (rec : Record) (heard : Option FrameOf) (f : FrameOf) → ((g : FrameOf) → heard ≡ Some g → IsOf rec g) → if_for node heard ≡ Some f → IsOf rec f
+of_node node rec None f is e = cc
+of_node node rec (Some g) f is e =
+    cond_both (is_for node g.ident) (Some g) None (λ o. o ≡ Some f → IsOf rec f) (λ _ n. is f n) (λ _ n. cc) e
+
+pub is_of : (node : ℕ) (rec : Record) (f : FrameOf) → Some f ≡ frame_for node rec → IsOf rec f
+is_of node rec f e = of_node node rec (frame_of rec) f (of_ident rec (ident_of rec.ident)) (sym e)
+
+-- what a frame came to gives the lines of its record
+pub heard_got : (old new : Node) (rec : Record) (f : FrameOf) (met : Met) (badcrc : Bool) → Some f ≡ frame_for old.plan.node rec
+    → ((log : List KeyedFrame) → StandsAt old log → answer_lines f (answer_in new f.body met) ≡ on_port old.plan.timeout f log (port_on (ports_of old.plan) f))
+    → (past : List Record) → Stands old past
+    → came_lines new rec (record { badcrc = badcrc; heard = Some (record { ident = f.ident; tail = f.tail; met = met }) }) ≡ got old.plan rec past
+unfolding came_lines
+heard_got old new rec f met badcrc frame_is h past s =
+    ap (λ (g : FrameOf). answer_lines g (answer_in new g.body met)) (is_of old.plan.node rec f frame_is)
+    ∙ (h (frames old.plan.node past) s ∙ ap (of_frame old.plan (frames old.plan.node past)) frame_is)
+
+pub none_got : (node : Node) (rec : Record) (badcrc : Bool) → None ≡ frame_for node.plan.node rec
+    → (past : List Record) → came_lines node rec (record { badcrc = badcrc; heard = None }) ≡ got node.plan rec past
+unfolding came_lines
+none_got node rec badcrc e past = ap (of_frame node.plan (frames node.plan.node past)) e

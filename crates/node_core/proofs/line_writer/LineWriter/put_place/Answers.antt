@@ -1,0 +1,15 @@
+use Rattle.std.proofs.Common.{append_assoc}
+use Rattle.node_core.proofs.line_writer.LineWriter.put_place.Goals as goal
+
+pub returns-clause-text : goal.returns-clause-text
+returns-clause-text c =
+    rw (
+      c.put_source.ensures.text,
+      c.put_slice-3.ensures.text,
+      c.put_number.ensures.text,
+      c.put_slice-2.ensures.text,
+      c.kind_word.ensures.text,
+      c.put_bus.ensures.text,
+      c.put_slice.ensures.text,
+      c.put_moment.ensures.text,
+    ) (simp append_assoc)

@@ -1,0 +1,43 @@
+-- What a record came to at a node, and the lines on it.
+use Rattle.std.specs.Prelude.{ℕ, ◌-◌, Bool, List, [], length, take, Option, Some, None}
+use Rattle.can_id.specs.declared.ident.Ident.{Ident}
+use Rattle.tail_frame.specs.Frames.{FrameOf}
+use Rattle.tail_frame.specs.declared.logged.Record.{Record}
+use Rattle.tail_frame.specs.declared.tail.Tail.{Tail}
+use Rattle.rx_table.specs.Places.{table_answer}
+use Rattle.rx_table.specs.Ports.{Answer}
+use Rattle.rx_table.specs.Table.{states}
+use Rattle.rx_table.specs.declared.fed.Met.{Met}
+use Rattle.node_core.specs.declared.came.Came.{Came}
+use Rattle.node_core.specs.declared.came.Heard.{Heard}
+use Rattle.node_core.specs.declared.line.Line.{Line}
+use Rattle.node_core.specs.declared.node.Node.{Node}
+use Rattle.node_core.specs.Shapes.{shape_extent}
+use Rattle.node_core.specs.Told.{answer_lines, answer_is_bad}
+
+-- the frame that a record with this identifier and this tail is
+abbrev pub frame_with : Record → Ident → Tail → FrameOf
+frame_with rec ident tail = record {
+  line = rec.line;
+  moment = rec.moment;
+  bus = rec.bus;
+  ident = ident;
+  tail = tail;
+  body = take (length rec.bytes - 1) rec.bytes;
+}
+
+-- what the node's table tells of a frame with this body
+abbrev pub answer_in : Node → List ℕ → Met → Answer
+answer_in node body met = table_answer (states shape_extent node.table.ports.items) body met
+
+abbrev pub heard_lines : Node → Record → Option Heard → List Line
+heard_lines node rec None = []
+heard_lines node rec (Some heard) = let f = frame_with rec heard.ident heard.tail in answer_lines f (answer_in node f.body heard.met)
+
+-- whether a frame that was heard ends a transfer whose bytes don't fit their CRC
+abbrev pub heard_is_bad : Node → Record → Heard → Bool
+heard_is_bad node rec heard = answer_is_bad (answer_in node (frame_with rec heard.ident heard.tail).body heard.met)
+
+-- the lines on what a record came to
+unfoldable pub came_lines : Node → Record → Came → List Line
+came_lines node rec came = heard_lines node rec came.heard

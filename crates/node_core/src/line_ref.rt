@@ -1,0 +1,62 @@
+//! A line of the report whose payload is lent.
+ghost use Rattle.std.specs.Prelude.{◌≡◌, IfOk};
+ghost use Rattle.node_core.specs.Told.{owned};
+
+use crate::line::{Line, Reading, Refused, Rx};
+use can_id::Key;
+use cy_bits::{Bytes, NoMemory};
+use std::alloc::Global;
+
+/// One line of the report, with its payload lent.
+#[derive(Clone, Copy, Debug)]
+pub enum LineRef<'a> {
+    /// A transfer was received.
+    Rx(RxRef<'a>),
+    /// A start frame came from a source that its port has no session for.
+    NoSession(Refused),
+}
+
+/// A transfer that was received, with its payload lent.
+#[derive(Clone, Copy, Debug)]
+pub struct RxRef<'a> {
+    /// When its first frame was received, in microseconds.
+    pub moment: u64,
+    /// The bus on which it was received: its place among the buses of the plan, counted from 0.
+    pub bus: u8,
+    /// The port, and the sender.
+    pub key: Key,
+    /// The priority of its last frame, 0 (exceptional) to 7 (optional).
+    pub priority: u8,
+    /// The transfer-ID, 0 to 31.
+    pub tid: u8,
+    /// What the payload says.
+    pub reading: Reading,
+    /// The line of the log with its first frame, counted from 1.
+    pub first: u64,
+    /// The line of the log with its last frame.
+    pub last: u64,
+    /// The payload, cut to the extent of the port.
+    pub payload: &'a [u8],
+}
+
+impl<'a> LineRef<'a> {
+    /// The same line, with a copy of the payload.
+    pub fn copy(&self, alloc: Global) -> Result<Line, NoMemory>
+        ensures { IfOk result (λ line. line ≡ owned self.now) }
+    {
+        match self {
+            LineRef::Rx(rx) => Ok(Line::Rx(Rx {
+                moment: rx.moment,
+                bus: rx.bus,
+                key: rx.key,
+                priority: rx.priority,
+                tid: rx.tid,
+                reading: rx.reading,
+                first: rx.first,
+                last: rx.last,
+                payload: Bytes::from_slice(alloc, rx.payload)?,
+            })),
+            LineRef::NoSession(refused) => Ok(Line::NoSession(*refused)),
+        }
+    }
+}
