@@ -3,6 +3,7 @@ pub mod Heard
 pub mod Held
 pub mod InTime
 pub mod LineSinks
+pub mod Puts
 pub mod Raw
 pub mod Reported
 pub mod Shapes

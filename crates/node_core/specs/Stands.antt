@@ -1,12 +1,15 @@
 -- The log that a node stands for.
-use Rattle.std.specs.Prelude.{◌≡◌, List}
+use Rattle.std.specs.Prelude.{◌≡◌, ◌++◌, Bool, List, ◌∷◌}
+use Rattle.tail_frame.specs.Frames.{FrameOf}
 use Rattle.tail_frame.specs.declared.logged.Record.{Record}
 use Rattle.rx_table.specs.Keys.{KeyedFrame}
 use Rattle.rx_table.specs.Ports.{ports_of as ports_in}
-use Rattle.rx_table.specs.Table.{states, StandsFor}
+use Rattle.rx_table.specs.Table.{states, StandsFor, logged, port_on}
 use Rattle.node_core.specs.declared.node.Node.{Node}
 use Rattle.node_core.specs.Heard.{ports_of, frames}
 use Rattle.node_core.specs.Shapes.{shape_extent}
+use Rattle.node_core.specs.Steps.{got, is_bad_at, on_port, bad_on_port}
+use Rattle.node_core.specs.declared.line.Line.{Line}
 
 -- its sessions are those of its plan's ports after these frames, the newest first
 pub record StandsAt (node : Node) (log : List KeyedFrame) : Type 0 where
@@ -17,3 +20,38 @@ pub record StandsAt (node : Node) (log : List KeyedFrame) : Type 0 where
 -- and after these records
 abbrev pub Stands : Node → List Record → Type 0
 Stands node past = StandsAt node (frames node.plan.node past)
+
+-- a node that takes a record stands for it too
+abbrev pub Takes : Record → Node → Node → Type 0
+Takes rec old new = (past : List Record) → Stands old past → Stands new (rec ∷ past)
+
+-- it stands for the records that it stood for
+abbrev pub StandsAsBefore : Node → Node → Type 0
+StandsAsBefore old new = (past : List Record) → Stands old past → Stands new past
+
+-- these are the lines that the next record gives
+abbrev pub Gives : Node → Record → List Line → Type 0
+Gives node rec lines = (past : List Record) → Stands node past → lines ≡ got node.plan rec past
+
+-- the next record appends the lines that it gives
+abbrev pub Appends : Node → Record → List Line → List Line → Type 0
+Appends node rec old new = (past : List Record) → Stands node past → new ≡ old ++ got node.plan rec past
+
+-- this is whether the next record ends a transfer whose bytes don't fit their CRC
+abbrev pub TellsBadCrc : Node → Record → Bool → Type 0
+TellsBadCrc node rec is_bad = (past : List Record) → Stands node past → is_bad ≡ is_bad_at node.plan rec past
+
+-- the same of a frame that is for the node
+abbrev pub TakesFrame : FrameOf → Node → Node → Type 0
+TakesFrame f old new = (log : List KeyedFrame) → StandsAt old log → StandsAt new (logged f log)
+
+abbrev pub KeepsSessions : Node → Node → Type 0
+KeepsSessions old new = (log : List KeyedFrame) → StandsAt old log → StandsAt new log
+
+abbrev pub FrameGives : Node → FrameOf → List Line → Type 0
+FrameGives node f lines =
+    (log : List KeyedFrame) → StandsAt node log → lines ≡ on_port node.plan.timeout f log (port_on (ports_of node.plan) f)
+
+abbrev pub FrameTellsBadCrc : Node → FrameOf → Bool → Type 0
+FrameTellsBadCrc node f is_bad =
+    (log : List KeyedFrame) → StandsAt node log → is_bad ≡ bad_on_port node.plan.timeout f log (port_on (ports_of node.plan) f)

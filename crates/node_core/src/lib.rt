@@ -17,6 +17,7 @@ pub mod port_shape;
 mod ports;
 mod raw_shape;
 pub mod text;
+mod words;
 
 pub use came::Came;
 pub use line::{Line, Reading, Refused, Rx};

@@ -36,17 +36,15 @@ pub struct Stepped {
 }
 
 impl Node {
-    ghost use Rattle.std.specs.Prelude.{◌≡◌, ◌≤◌, ◌++◌, ◌∷◌, [], List as ListOf, IfOk, OnOk, OnErr, length, take};
+    ghost use Rattle.std.specs.Prelude.{◌≡◌, ◌≤◌, [], List as ListOf, IfOk, OnOk, OnErr, length, take};
     ghost use Rattle.tail_frame.specs.Frames.{seen};
     ghost use Rattle.tail_frame.specs.declared.logged.Record.{Record as RecordOf};
     ghost use Rattle.node_plan.specs.Bound.{bound_of};
     ghost use Rattle.node_plan.specs.IsPlan.{IsPlan};
-    ghost use Rattle.rx_table.specs.Keys.{KeyedFrame};
-    ghost use Rattle.rx_table.specs.Table.{logged, port_on};
     ghost use Rattle.node_core.specs.Came.{answer_in, heard_is_bad, came_lines};
-    ghost use Rattle.node_core.specs.Heard.{ports_of};
-    ghost use Rattle.node_core.specs.Stands.{Stands, StandsAt};
-    ghost use Rattle.node_core.specs.Steps.{got, on_port, is_bad_at, bad_on_port, held_at};
+    ghost use Rattle.node_core.specs.Stands.{Stands, Takes, StandsAsBefore, Gives, Appends, TellsBadCrc};
+    ghost use Rattle.node_core.specs.Stands.{TakesFrame, KeepsSessions, FrameGives, FrameTellsBadCrc};
+    ghost use Rattle.node_core.specs.Steps.{held_at};
     ghost use Rattle.node_core.specs.Told.{answer_lines, answer_is_bad, told_lines};
 
     /// A node that runs by a plan of `read_plan`. It has heard nothing.
@@ -72,9 +70,9 @@ impl Node {
         requires { self.old.latest ≤ rec.now.moment }
         ensures plan { self.new.plan ≡ self.old.plan }
         ensures latest { self.new.latest ≤ rec.now.moment }
-        ensures stands { OnOk result ((past : ListOf RecordOf) → Stands self.old past → Stands self.new (rec.now ∷ past)) }
-        ensures lines { OnOk result ((past : ListOf RecordOf) → Stands self.old past → lines.new ≡ lines.old ++ got self.old.plan rec.now past) }
-        ensures badcrc { IfOk result (λ step. (past : ListOf RecordOf) → Stands self.old past → step.badcrc ≡ is_bad_at self.old.plan rec.now past) }
+        ensures stands { OnOk result (Takes rec.now self.old self.new) }
+        ensures lines { OnOk result (Appends self.old rec.now lines.old lines.new) }
+        ensures badcrc { IfOk result (λ step. TellsBadCrc self.old rec.now step.badcrc) }
         ensures behind { take (length lines.old) lines.new ≡ lines.old }
         ensures err { OnErr result (lines.new ≡ lines.old) }
     {
@@ -94,10 +92,10 @@ impl Node {
         requires { self.old.latest ≤ rec.now.moment }
         ensures plan { self.new.plan ≡ self.old.plan }
         ensures latest { self.new.latest ≤ rec.now.moment }
-        ensures stands { OnOk result ((past : ListOf RecordOf) → Stands self.old past → Stands self.new (rec.now ∷ past)) }
-        ensures lines { IfOk result (λ came. (past : ListOf RecordOf) → Stands self.old past → came_lines self.new rec.now came ≡ got self.old.plan rec.now past) }
-        ensures badcrc { IfOk result (λ came. (past : ListOf RecordOf) → Stands self.old past → came.badcrc ≡ is_bad_at self.old.plan rec.now past) }
-        ensures err { OnErr result ((past : ListOf RecordOf) → Stands self.old past → Stands self.new past) }
+        ensures stands { OnOk result (Takes rec.now self.old self.new) }
+        ensures lines { IfOk result (λ came. Gives self.old rec.now (came_lines self.new rec.now came)) }
+        ensures badcrc { IfOk result (λ came. TellsBadCrc self.old rec.now came.badcrc) }
+        ensures err { OnErr result (StandsAsBefore self.old self.new) }
     {
         match frame_for(self.plan.node, rec) {
             Some(frame) => {
@@ -135,10 +133,12 @@ impl Node {
         requires { self.old.latest ≤ frame.now.moment }
         ensures plan { self.new.plan ≡ self.old.plan }
         ensures latest { self.new.latest ≤ frame.now.moment }
-        ensures stands { OnOk result ((log : ListOf KeyedFrame) → StandsAt self.old log → StandsAt self.new (logged (seen frame.now) log)) }
-        ensures lines { IfOk result (λ met. (log : ListOf KeyedFrame) → StandsAt self.old log → answer_lines (seen frame.now) (answer_in self.new frame.now.body.now met) ≡ on_port self.old.plan.timeout (seen frame.now) log (port_on (ports_of self.old.plan) (seen frame.now))) }
-        ensures badcrc { IfOk result (λ met. (log : ListOf KeyedFrame) → StandsAt self.old log → answer_is_bad (answer_in self.new frame.now.body.now met) ≡ bad_on_port self.old.plan.timeout (seen frame.now) log (port_on (ports_of self.old.plan) (seen frame.now))) }
-        ensures err { OnErr result ((log : ListOf KeyedFrame) → StandsAt self.old log → StandsAt self.new log) }
+        ensures stands { OnOk result (TakesFrame (seen frame.now) self.old self.new) }
+        ensures lines { let f = seen frame.now in
+            IfOk result (λ met. FrameGives self.old f (answer_lines f (answer_in self.new f.body met))) }
+        ensures badcrc { let f = seen frame.now in
+            IfOk result (λ met. FrameTellsBadCrc self.old f (answer_is_bad (answer_in self.new f.body met))) }
+        ensures err { OnErr result (KeepsSessions self.old self.new) }
     {
         rx_table::laws::outcome_tells();
         let met = self.table.step(frame)?;

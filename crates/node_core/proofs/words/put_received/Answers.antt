@@ -1,5 +1,5 @@
 use Rattle.std.proofs.Common.{append_assoc}
-use Rattle.node_core.proofs.line_writer.put_received.Goals as goal
+use Rattle.node_core.proofs.words.put_received.Goals as goal
 
 pub returns-clause-text : goal.returns-clause-text
 returns-clause-text c =

@@ -1,0 +1,118 @@
+//! The words of a line.
+ghost use Rattle.std.specs.Prelude.{◌≡◌, ◌≤◌, ◌+◌, ◌*◌, ◌++◌, ◌∷◌, [], OnOk, decimal, length};
+ghost use Rattle.line_text.specs.Buffer.{text_of, room_of};
+ghost use Rattle.line_text.specs.Text.{spaced};
+ghost use Rattle.node_core.specs.Puts.{Puts};
+ghost use Rattle.node_core.specs.Text.{kind_text, source_text, payload_text, reading_text};
+ghost use Rattle.node_core.specs.Text.{transfer_words, received_words};
+
+use crate::line::Reading;
+use crate::line_ref::RxRef;
+use crate::numbers::Numbers;
+use can_id::Kind;
+use cy_bits::NoMemory;
+use line_text::TextBuffer;
+
+/// The most bytes of a line besides those of its payload, and of those behind them that are written too.
+pub const LINE: usize = 512;
+
+/// Takes memory for a line with this payload.
+#[inline(always)]
+pub fn reserve_for(text: &mut TextBuffer, payload: &[u8]) -> Result<(), NoMemory>
+    ensures text { text_of text.new ≡ text_of text.old }
+    ensures room { OnOk result (512 + 2 * length payload.now ≤ room_of text.new) }
+{
+    if payload.len() > (usize::MAX - LINE) / 2 {
+        return Err(NoMemory);
+    }
+    text.reserve(LINE + 2 * payload.len())
+}
+
+/// Appends priority, transfer-ID and the lines of the first and the last frame, each with a space behind.
+#[inline(always)]
+pub fn put_transfer(text: &mut TextBuffer, rx: &RxRef<'_>)
+    requires { 100 ≤ room_of text.old }
+    ensures text { let t = rx.now in
+        Puts (spaced (transfer_words t.priority t.tid t.first t.last)) text.old text.new }
+    ensures room { room_of text.old ≤ room_of text.new + 50 }
+{
+    text.put_byte_word(rx.priority);
+    text.put_byte_word(rx.tid);
+    text.put_number(rx.first);
+    text.put_slice(b" ");
+    text.put_number(rx.last);
+    text.put_slice(b" ");
+}
+
+/// Appends a payload in hex, or `-` where there is none.
+#[inline(always)]
+pub fn put_payload(text: &mut TextBuffer, payload: &[u8])
+    requires { 2 * length payload.now + 32 ≤ room_of text.old }
+    ensures text { Puts (payload_text payload.now) text.old text.new }
+    ensures room { room_of text.old ≤ room_of text.new + 2 * length payload.now + 1 }
+{
+    match payload {
+        [] => text.put_slice(b"-"),
+        _ => text.put_hex(payload),
+    }
+}
+
+/// Appends what the payload says, and a newline.
+#[inline(always)]
+pub fn put_reading(text: &mut TextBuffer, reading: Reading)
+    requires { 5 ≤ room_of text.old }
+    ensures { Puts (32 ∷ reading_text reading ++ 10 ∷ []) text.old text.new }
+{
+    match reading {
+        Reading::Raw => text.put_slice(b" raw\n"),
+    }
+}
+
+/// Appends the sender and a space.
+#[inline(always)]
+pub fn put_source(text: &mut TextBuffer, source: Option<u8>)
+    requires { 8 ≤ room_of text.old }
+    ensures text { Puts (source_text source ++ 32 ∷ []) text.old text.new }
+    ensures room { room_of text.old ≤ room_of text.new + 4 }
+{
+    match source {
+        Some(source) => text.put_byte_word(source),
+        None => text.put_slice(b"- "),
+    }
+}
+
+/// The word of a kind, with a space behind.
+#[inline(always)]
+pub fn kind_word(kind: Kind) -> &'static [u8]
+    ensures text { result.now ≡ kind_text kind ++ 32 ∷ [] }
+    ensures length { length result.now ≡ 4 }
+{
+    match kind {
+        Kind::Message => b"msg ",
+        Kind::Request => b"req ",
+        Kind::Response => b"res ",
+    }
+}
+
+/// Appends how much was received, each word with a space behind.
+pub fn put_received(text: &mut TextBuffer, numbers: &Numbers)
+    requires { 300 ≤ room_of text.old }
+    ensures text { Puts (spaced (received_words numbers.now)) text.old text.new }
+    ensures room { room_of text.old ≤ room_of text.new + 120 }
+{
+    put_label(text, b"records ", numbers.records);
+    put_label(text, b"delivered ", numbers.delivered);
+    put_label(text, b"badcrc ", numbers.badcrc);
+    put_label(text, b"nosession ", numbers.nosession);
+}
+
+/// Appends a label, a number and a space.
+pub fn put_label(text: &mut TextBuffer, label: &[u8], number: u64)
+    requires { length label.now + 25 ≤ room_of text.old }
+    ensures text { Puts (label.now ++ (decimal number ++ 32 ∷ [])) text.old text.new }
+    ensures room { room_of text.old ≤ room_of text.new + length label.now + 21 }
+{
+    text.put_slice(label);
+    text.put_number(number);
+    text.put_slice(b" ");
+}
