@@ -17,12 +17,12 @@ use Rattle.frame_log.specs.Order.{IsAhead}
 use Rattle.node_core.specs.declared.line.Line.{Line}
 use Rattle.node_core.specs.Heard.{frames}
 use Rattle.node_core.specs.Steps.{lines, steps}
-use Rattle.node_core.specs.Reported.{rxs, of_key, IsSession, Reported}
+use Rattle.session_lines.specs.Reported.{rxs, of_key, IsSession, Reported}
 use Rattle.node_run.specs.Ran.{Ran, HasRun, names_of, newest_first, steps_of}
 use Rattle.node_run.specs.declared.report.Report.{Report}
 use Rattle.node_run.specs.declared.status.Status.{Status}
 use Rattle.node_run.specs.declared.status.Status.TheVariants as status
-use Rattle.node_core.proofs.Projection.{rxs_append}
+use Rattle.session_lines.proofs.Projection.{rxs_append}
 use Rattle.node_run.proofs.Logs.{newest_onto}
 use Rattle.node_run.proofs.Runs.{lines_front}
 use Rattle.node_run.proofs.Steps.{records_steps}

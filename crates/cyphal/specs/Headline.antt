@@ -14,7 +14,7 @@ use Rattle.cy_outside.specs.Files.{Files}
 use Rattle.frame_log.specs.Log.{log_of}
 use Rattle.node_plan.specs.declared.plan.Plan.{Plan}
 use Rattle.node_core.specs.Heard.{frame_for}
-use Rattle.node_core.specs.Reported.{rxs, of_key, IsSession}
+use Rattle.session_lines.specs.Reported.{rxs, of_key, IsSession}
 use Rattle.node_run.specs.Ran.{names_of, newest_first}
 use Rattle.node_run.specs.declared.report.Report.{Report}
 use Rattle.node_run.specs.declared.status.Status.{Status}

@@ -15,7 +15,7 @@ use crate::work::work;
 use cy_outside::{Sink, Source, Tree};
 use dsdl_resolve::one_answer;
 use frame_log::ordered;
-use node_core::laws::reported;
+use session_lines::laws::reported;
 use node_run::{Report, Status};
 use once::{due_in_report, once_in_part, wire_explains_fields};
 use std::alloc::Global;

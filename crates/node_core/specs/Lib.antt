@@ -5,7 +5,6 @@ pub mod InTime
 pub mod LineSinks
 pub mod Puts
 pub mod Raw
-pub mod Reported
 pub mod Shapes
 pub mod Stands
 pub mod Steps

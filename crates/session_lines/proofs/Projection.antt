@@ -26,7 +26,7 @@ use Rattle.rx_table.specs.Table.{keyed, log_with, port_on}
 use Rattle.node_core.specs.Heard.{ports_of, frame_for, with_frame, frames}
 use Rattle.node_core.specs.Steps.{of_delivery, refused_line, of_session, of_source, on_port, of_frame, got, Step, Heard, records, lines}
 use Rattle.once.specs.Report.{Rx as RxOf, rx_of, reported}
-use Rattle.node_core.specs.Reported.{is_key, of_line, rxs, of_key, has_session, Reported}
+use Rattle.session_lines.specs.Reported.{is_key, of_line, rxs, of_key, has_session, Reported}
 
 -- one more source, another one
 has_other : (s x n : ℕ) (xs : List ℕ) → eqb x s ≡ false → has s (take n (xs ++ x ∷ [])) ≡ has s (take n xs)
