@@ -5,10 +5,12 @@ pub mod InTime
 pub mod LineSinks
 pub mod Puts
 pub mod Raw
+pub mod Seconds
 pub mod Shapes
 pub mod Stands
 pub mod Steps
 pub mod Tables
 pub mod Text
 pub mod Told
+pub mod Words
 pub mod Writer

@@ -26,6 +26,10 @@ kind_text Message = codes "msg"
 kind_text Request = codes "req"
 kind_text Response = codes "res"
 
+-- the name of a bus in a line on a message, with what stands on both sides of it
+abbrev pub message_word : BusPlan → List ℕ
+message_word bus = 32 ∷ bus.name ++ codes " msg "
+
 -- the sender's node-ID; an anonymous message has none
 abbrev pub source_text : Option ℕ → List ℕ
 source_text None = codes "-"
@@ -39,9 +43,13 @@ payload_text (b ∷ bs) = encode_upper (b ∷ bs)
 abbrev pub reading_text : Reading → List ℕ
 reading_text Raw = codes "raw"
 
+-- on which bus, at which port and from whom
+abbrev pub key_words : List BusPlan → ℕ → Key → List (List ℕ)
+key_words buses bus key = bus_text buses bus ∷ kind_text key.kind ∷ decimal key.port ∷ source_text key.source ∷ []
+
 -- when, on which bus, at which port and from whom
 abbrev pub place_words : List BusPlan → ℕ → ℕ → Key → List (List ℕ)
-place_words buses moment bus key = moment_text moment ∷ bus_text buses bus ∷ kind_text key.kind ∷ decimal key.port ∷ source_text key.source ∷ []
+place_words buses moment bus key = moment_text moment ∷ key_words buses bus key
 
 -- priority, transfer-ID, and the lines of the first and the last frame
 abbrev pub transfer_words : ℕ → ℕ → ℕ → ℕ → List (List ℕ)

@@ -10,7 +10,7 @@ use Rattle.node_core.specs.Told.{owned}
 
 -- the buses whose names its lines have
 unfoldable pub writes_for : LineWriter → List BusPlan
-writes_for writer = writer.buses
+writes_for writer = writer.names.buses
 
 -- it puts the text of a line behind a text
 abbrev pub Writes : LineWriter → LineRef → TextBuffer → TextBuffer → Type 0

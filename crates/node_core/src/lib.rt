@@ -1,6 +1,7 @@
 //! The node: what one record gives, line by line, and the text of these lines.
 #![tactic(auto)]
 
+mod bus_words;
 pub mod came;
 mod fed;
 mod heard;
@@ -16,7 +17,9 @@ pub mod numbers;
 pub mod port_shape;
 mod ports;
 mod raw_shape;
+mod second;
 pub mod text;
+mod word;
 mod words;
 
 pub use came::Came;

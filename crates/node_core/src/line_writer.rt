@@ -1,26 +1,28 @@
 //! The text of a report's lines.
-ghost use Rattle.std.specs.Prelude.{◌≡◌, ◌≤◌, ◌+◌, ◌++◌, ◌∷◌, [], OnOk, OnErr};
-ghost use Rattle.line_text.specs.Buffer.{text_of, room_of};
-ghost use Rattle.line_text.specs.Text.{spaced};
+ghost use Rattle.std.specs.Prelude.{◌≡◌, [], OnOk, OnErr};
+ghost use Rattle.line_text.specs.Buffer.{text_of};
 ghost use Rattle.node_core.specs.Puts.{Puts};
-ghost use Rattle.node_core.specs.Text.{end_text, bus_text, place_words};
+ghost use Rattle.node_core.specs.Text.{end_text};
 
+use crate::bus_words::BusWords;
 use crate::line::Refused;
 use crate::line_ref::{LineRef, RxRef};
 use crate::numbers::Numbers;
+use crate::second::Second;
 use crate::words::{
-    LINE, kind_word, put_label, put_payload, put_reading, put_received, put_source, put_transfer,
-    reserve_for,
+    LINE, put_key, put_label, put_payload, put_reading, put_received, put_transfer, reserve_for,
 };
-use can_id::Key;
-use cy_bits::{BusName, NoMemory, ShortList};
+use cy_bits::{NoMemory, ShortList};
 use line_text::TextBuffer;
 use node_plan::BusPlan;
 
-/// Puts the lines of a report together.
+/// Puts the lines of a report together. It keeps the words that lines have in common.
 #[derive(Drop)]
 pub struct LineWriter {
-    buses: ShortList<BusPlan, 3>,
+    /// The second of the last `rx` line.
+    second: Second,
+    /// The names of the buses.
+    names: BusWords,
 }
 
 #[tactic(auto, unfolding(crate::specs::Writer::writes_for))]
@@ -32,7 +34,8 @@ impl LineWriter {
         ensures { writes_for result ≡ buses.now }
     {
         LineWriter {
-            buses: copy_of(buses),
+            second: Second::of(0),
+            names: BusWords::new(buses),
         }
     }
 
@@ -72,8 +75,8 @@ impl LineWriter {
         ensures err { OnErr result (text_of text.new ≡ text_of text.old) }
     {
         reserve_for(text, rx.payload)?;
-        text.put_slice(b"rx ");
-        self.put_place(text, rx.moment, rx.bus, &rx.key);
+        self.second.put(text, rx.moment);
+        put_key(&self.names, text, rx.bus, &rx.key);
         put_transfer(text, rx);
         put_payload(text, rx.payload);
         put_reading(text, rx.reading);
@@ -90,65 +93,10 @@ impl LineWriter {
     {
         text.reserve(LINE)?;
         text.put_slice(b"nosession ");
-        self.put_place(text, refused.moment, refused.bus, &refused.key);
+        text.put_moment(refused.moment);
+        put_key(&self.names, text, refused.bus, &refused.key);
         text.put_number(refused.line);
         text.put_slice(b"\n");
         Ok(())
-    }
-
-    /// Appends when, on which bus, at which port and from whom, each word with a space behind.
-    #[inline(always)]
-    fn put_place(&mut self, text: &mut TextBuffer, moment: u64, bus: u8, key: &Key)
-        requires { 200 ≤ room_of text.old }
-        ensures buses { writes_for self.new ≡ writes_for self.old }
-        ensures text { Puts (spaced (place_words (writes_for self.old) moment bus key.now)) text.old text.new }
-        ensures room { room_of text.old ≤ room_of text.new + 90 }
-    {
-        text.put_moment(moment);
-        text.put_slice(b" ");
-        self.put_bus(text, bus);
-        text.put_slice(kind_word(key.kind));
-        text.put_number(key.port as u64);
-        text.put_slice(b" ");
-        put_source(text, key.source);
-    }
-
-    /// Appends the name of a bus and a space.
-    #[inline(always)]
-    fn put_bus(&self, text: &mut TextBuffer, bus: u8)
-        requires { 16 ≤ room_of text.old }
-        ensures text { Puts (bus_text (writes_for self.now) bus ++ 32 ∷ []) text.old text.new }
-        ensures room { room_of text.old ≤ room_of text.new + 16 }
-    {
-        match self.buses.get(bus as usize) {
-            Some(plan) => {
-                text.put_slice(plan.name.as_str().as_bytes());
-                text.put_slice(b" ");
-            }
-            None => text.put_slice(b" "),
-        }
-    }
-}
-
-/// The same buses.
-fn copy_of(buses: &ShortList<BusPlan, 3>) -> ShortList<BusPlan, 3>
-    ensures { result ≡ buses.now }
-{
-    let mut copied = ShortList::new();
-    for bus in buses.as_slice() {
-        copied.push(copy_of_bus(bus));
-    }
-    copied
-}
-
-/// The same bus.
-fn copy_of_bus(bus: &BusPlan) -> BusPlan
-    ensures { result ≡ bus.now }
-{
-    let text = bus.name.as_str();
-    BusPlan {
-        name: BusName::new(text).unwrap(),
-        mtu: bus.mtu,
-        rate: bus.rate,
     }
 }

@@ -4,12 +4,14 @@ ghost use Rattle.line_text.specs.Buffer.{text_of, room_of};
 ghost use Rattle.line_text.specs.Text.{spaced};
 ghost use Rattle.node_core.specs.Puts.{Puts};
 ghost use Rattle.node_core.specs.Text.{kind_text, source_text, payload_text, reading_text};
-ghost use Rattle.node_core.specs.Text.{transfer_words, received_words};
+ghost use Rattle.node_core.specs.Text.{key_words, transfer_words, received_words};
 
+use crate::bus_words::BusWords;
 use crate::line::Reading;
 use crate::line_ref::RxRef;
 use crate::numbers::Numbers;
-use can_id::Kind;
+use crate::word::Word;
+use can_id::{Key, Kind};
 use cy_bits::NoMemory;
 use line_text::TextBuffer;
 
@@ -28,20 +30,35 @@ pub fn reserve_for(text: &mut TextBuffer, payload: &[u8]) -> Result<(), NoMemory
     text.reserve(LINE + 2 * payload.len())
 }
 
+/// Appends on which bus, at which port and from whom, with a space in front and one behind each word.
+#[inline(always)]
+pub fn put_key(names: &BusWords, text: &mut TextBuffer, bus: u8, key: &Key)
+    requires { 160 ≤ room_of text.old }
+    ensures text { Puts (32 ∷ spaced (key_words names.now.buses bus key.now)) text.old text.new }
+    ensures room { room_of text.old ≤ room_of text.new + 68 }
+{
+    names.put(text, bus, key.kind);
+    Word::of_number(key.port as u64).put(text);
+    put_source(text, key.source);
+}
+
 /// Appends priority, transfer-ID and the lines of the first and the last frame, each with a space behind.
 #[inline(always)]
 pub fn put_transfer(text: &mut TextBuffer, rx: &RxRef<'_>)
     requires { 100 ≤ room_of text.old }
     ensures text { let t = rx.now in
         Puts (spaced (transfer_words t.priority t.tid t.first t.last)) text.old text.new }
-    ensures room { room_of text.old ≤ room_of text.new + 50 }
+    ensures room { room_of text.old ≤ room_of text.new + 72 }
 {
     text.put_byte_word(rx.priority);
     text.put_byte_word(rx.tid);
-    text.put_number(rx.first);
-    text.put_slice(b" ");
-    text.put_number(rx.last);
-    text.put_slice(b" ");
+    let last = Word::of_number(rx.last);
+    if rx.first == rx.last {
+        last.put(text);
+    } else {
+        Word::of_number(rx.first).put(text);
+    }
+    last.put(text);
 }
 
 /// Appends a payload in hex, or `-` where there is none.
