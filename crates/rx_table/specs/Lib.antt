@@ -8,5 +8,6 @@ pub mod Ports
 pub mod Laws
 pub mod Table
 pub mod Places
+pub mod PortViews
 pub mod SubjectPlaces
 pub mod Views

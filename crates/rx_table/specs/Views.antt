@@ -1,16 +1,23 @@
 -- A table of the code as the definitions see it, and what a frame does to it.
-use Rattle.std.specs.Prelude.{◌≡◌, ◌≤◌, ℕ, false, List, map, Result, IfOk, OnOk, OnErr}
+use Rattle.std.specs.Prelude.{◌≡◌, ◌≤◌, ◌&&◌, ◌==◌, ℕ, false, List, Option, map, Result, IfOk, OnOk, OnErr}
+use Rattle.std.specs.List.{position}
+use Rattle.can_id.specs.declared.key.Kind.{Kind}
 use Rattle.dsdl_types.specs.Schemas.{Sch}
 use Rattle.tail_frame.specs.Frames.{FrameOf, seen}
 use Rattle.tail_frame.specs.declared.frame.Frame.{Frame}
 use Rattle.rx_session.specs.Extents.{extent_bytes}
-use Rattle.rx_table.specs.Keys.{KeyedFrame}
+use Rattle.rx_session.specs.Seen.{record_of}
+use Rattle.rx_table.specs.Keys.{KeyedFrame, same_kind}
 use Rattle.rx_table.specs.Ports.{Port, PortState, Answer, ports_of, is_of_session}
-use Rattle.rx_table.specs.Places.{table_answer}
+use Rattle.rx_table.specs.Places.{table_answer, feed_nth, answer_nth, AddsNth}
 use Rattle.rx_table.specs.Table.{states, StandsFor, HeardBy, logged, answer_of, Told, Opens}
 use Rattle.rx_table.specs.declared.table.Table.{Table}
 use Rattle.rx_table.specs.declared.fed.Fed as code_fed
 use Rattle.rx_table.specs.declared.fed.Met as code_met
+
+-- the place of a subscription
+abbrev pub place_in : {S : Type 0} → Kind → ℕ → Table S → Option ℕ
+place_in kind port t = position (λ p. same_kind kind p.kind && (port == p.port)) t.ports.items
 
 module _ {S : Type 0} (shape : S → Sch) where
   -- its subscriptions with their sources
@@ -32,6 +39,17 @@ module _ {S : Type 0} (shape : S → Sch) where
   -- what a frame met, told with the payload lent from the frame or from a session
   abbrev pub told_by : Table S → Frame → code_met.Met → Answer
   told_by t frame met = table_answer (states_of t) frame.body.now met
+
+  -- its subscriptions after a frame of a source on the one at a place, what is answered, and whether that opens a
+  -- session
+  abbrev pub states_after : Table S → ℕ → ℕ → Frame → List PortState
+  states_after t place source frame = feed_nth t.timeout (states_of t) place source (record_of frame)
+
+  abbrev pub answer_after : Table S → ℕ → ℕ → Frame → Answer
+  answer_after t place source frame = answer_nth t.timeout (states_of t) place source (record_of frame)
+
+  abbrev pub OpensAtPlace : Table S → ℕ → ℕ → Frame → Type 0
+  OpensAtPlace t place source frame = AddsNth (states_of t) place source (record_of frame)
 
   -- the timeout, the subscriptions and their shapes stay
   pub record Keeps (old new : Table S) : Type 0 where

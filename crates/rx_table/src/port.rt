@@ -1,14 +1,14 @@
 ghost use Rattle.std.specs.Prelude.{◌≡◌, ◌<◌, IfOk, OnErr, OnOk, length, ◌==◌, ◌&&◌, nat_eq, None, true, ◌+◌, [], take, slice_get, Some, IfSome};
 ghost use Rattle.std.specs.List.{position, IsDistinct};
-ghost use Rattle.rx_table.specs.Ports.{sources_of, buffered};
+ghost use Rattle.rx_table.specs.PortViews.{entries_in, sources_in, buffered_in, subscription, after_frame, answer_to, OpensFor, after_first, answer_to_first, bytes_for};
 ghost use Rattle.indexmap.specs.IndexMap.{get};
 ghost use Rattle.tail_frame.specs.Frames.{seen};
 ghost use Rattle.rx_session.specs.Extents.{extent_bytes};
 ghost use Rattle.rx_session.specs.Seen.{record_of, step_answer, answer_of as outcome_of};
 ghost use Rattle.rx_session.specs.declared.outcome.Step.TheVariants.{Delivered};
 ghost use Rattle.rx_table.specs.Keys.{same_kind};
-ghost use Rattle.rx_table.specs.Places.{step_nth, outcome_nth, buffer_nth, opened, opened_answer, fed_entries, fed_answer, Adds, met_answer, grown};
-ghost use Rattle.rx_table.specs.Table.{entries_of, port_of, EntriesHeard, whole, answer_of, state_of, subscribed};
+ghost use Rattle.rx_table.specs.Places.{step_nth, outcome_nth, buffer_nth, met_answer};
+ghost use Rattle.rx_table.specs.Table.{EntriesHeard, whole, answer_of, state_of, subscribed};
 
 use crate::fed::{Fed, PortMet};
 use can_id::Kind;
@@ -40,7 +40,12 @@ impl<S: Shape> Port<S> {
     /// A subscription that has no source yet.
     pub(crate) fn new(alloc: Global, kind: Kind, port: u16, sources: u16, shape: S) -> Port<S>
         ensures state { state_of (extent_bytes S.shape) result
-            ≡ subscribed (record { kind = kind; port = port; sources = sources; extent = extent_bytes S.shape shape }) }
+            ≡ subscribed (record {
+              kind = kind;
+              port = port;
+              sources = sources;
+              extent = extent_bytes S.shape shape;
+            }) }
         ensures shape { result.shape ≡ shape }
         ensures kind { result.kind ≡ kind }
         ensures port { result.port ≡ port }
@@ -66,7 +71,8 @@ impl<S: Shape> Port<S> {
     /// What an anonymous frame delivers: its body, cut to the extent.
     #[tactic(auto, using(rx_session::proofs::Extents::bytes_are))]
     pub(crate) fn alone(&self, frame: &Frame) -> Front
-        ensures { step_answer frame.now.body.now (Delivered result) ≡ whole (seen frame.now) (extent_bytes S.shape self.now.shape) }
+        ensures { step_answer frame.now.body.now (Delivered result)
+            ≡ whole (seen frame.now) (extent_bytes S.shape self.now.shape) }
     {
         Front {
             bus: frame.bus,
@@ -81,7 +87,7 @@ impl<S: Shape> Port<S> {
 
     /// The first 128 sources that have a session.
     pub(crate) fn first_sources(&self) -> ShortList<u8, 128>
-        ensures { result ≡ take 128 (sources_of (entries_of self.now.sessions.entries)) }
+        ensures { result ≡ take 128 (sources_in self.now) }
     {
         let mut list = ShortList::new();
         let count = self.sessions.len().min(128);
@@ -100,17 +106,17 @@ impl<S: Shape> Port<S> {
         frame: &Frame,
         timeout: u64,
     ) -> Result<PortMet, NoMemory>
-        requires { EntriesHeard frame.now.moment (entries_of self.old.sessions.entries) }
-        ensures port { port_of (extent_bytes S.shape) self.new ≡ port_of (extent_bytes S.shape) self.old }
+        requires { EntriesHeard frame.now.moment (entries_in self.old) }
+        ensures port { subscription S.shape self.new ≡ subscription S.shape self.old }
         ensures shape { self.new.shape ≡ self.old.shape }
-        ensures entries { OnOk result (entries_of self.new.sessions.entries
-            ≡ fed_entries timeout (port_of (extent_bytes S.shape) self.old) (entries_of self.old.sessions.entries) source (record_of frame.now)) }
-        ensures answer { IfOk result (λ m. met_answer (entries_of self.new.sessions.entries) m
-            ≡ fed_answer timeout (port_of (extent_bytes S.shape) self.old) (entries_of self.old.sessions.entries) source (record_of frame.now)) }
-        ensures grown { IfOk result (λ met. buffered (entries_of self.new.sessions.entries)
-            ≡ buffered (entries_of self.old.sessions.entries) + grown (extent_bytes S.shape self.old.shape) met) }
-        ensures err { OnErr result (entries_of self.new.sessions.entries ≡ entries_of self.old.sessions.entries) }
-        ensures memory { OnErr result (Adds (port_of (extent_bytes S.shape) self.old) (entries_of self.old.sessions.entries) source (record_of frame.now)) }
+        ensures entries { OnOk result (entries_in self.new
+            ≡ after_frame S.shape timeout self.old source frame.now) }
+        ensures answer { IfOk result (λ m. met_answer (entries_in self.new) m
+            ≡ answer_to S.shape timeout self.old source frame.now) }
+        ensures grown { IfOk result (λ met.
+            buffered_in self.new ≡ buffered_in self.old + bytes_for S.shape self.old met) }
+        ensures err { OnErr result (entries_in self.new ≡ entries_in self.old) }
+        ensures memory { OnErr result (OpensFor S.shape self.old source frame.now) }
     {
         match self.index_of(source) {
             Some(index) => {
@@ -124,8 +130,8 @@ impl<S: Shape> Port<S> {
     /// The place of a source's session, without a search where the hint is right.
     #[inline(always)]
     fn index_of(&self, source: u8) -> Option<usize>
-        ensures index { result ≡ position (nat_eq source) (sources_of (entries_of self.now.sessions.entries)) }
-        ensures unique { IsDistinct nat_eq (sources_of (entries_of self.now.sessions.entries)) }
+        ensures index { result ≡ position (nat_eq source) (sources_in self.now) }
+        ensures unique { IsDistinct nat_eq (sources_in self.now) }
         ensures within { IfSome result (λ index. index < length self.now.sessions.entries) }
         ensures absent { result ≡ None → get nat_eq self.now.sessions source ≡ None }
     {
@@ -139,7 +145,7 @@ impl<S: Shape> Port<S> {
     /// Whether the session at a place is that of a source.
     #[inline(always)]
     fn is_at(&self, source: u8, index: usize) -> bool
-        ensures { result ≡ true → slice_get (sources_of (entries_of self.now.sessions.entries)) index ≡ Some source }
+        ensures { result ≡ true → slice_get (sources_in self.now) index ≡ Some source }
     {
         match self.sessions.get_index(index) {
             Some((key, _)) => *key == source,
@@ -156,15 +162,15 @@ impl<S: Shape> Port<S> {
         timeout: u64,
     ) -> Result<PortMet, NoMemory>
         requires { get nat_eq self.old.sessions source ≡ None }
-        ensures port { port_of (extent_bytes S.shape) self.new ≡ port_of (extent_bytes S.shape) self.old }
+        ensures port { subscription S.shape self.new ≡ subscription S.shape self.old }
         ensures shape { self.new.shape ≡ self.old.shape }
-        ensures entries { OnOk result (entries_of self.new.sessions.entries
-            ≡ opened timeout (port_of (extent_bytes S.shape) self.old) (entries_of self.old.sessions.entries) source (record_of frame.now)) }
-        ensures answer { IfOk result (λ m. met_answer (entries_of self.new.sessions.entries) m
-            ≡ opened_answer timeout (port_of (extent_bytes S.shape) self.old) (entries_of self.old.sessions.entries) (record_of frame.now)) }
-        ensures grown { IfOk result (λ met. buffered (entries_of self.new.sessions.entries)
-            ≡ buffered (entries_of self.old.sessions.entries) + grown (extent_bytes S.shape self.old.shape) met) }
-        ensures err { OnErr result (entries_of self.new.sessions.entries ≡ entries_of self.old.sessions.entries) }
+        ensures entries { OnOk result (entries_in self.new
+            ≡ after_first S.shape timeout self.old source frame.now) }
+        ensures answer { IfOk result (λ m. met_answer (entries_in self.new) m
+            ≡ answer_to_first S.shape timeout self.old frame.now) }
+        ensures grown { IfOk result (λ met.
+            buffered_in self.new ≡ buffered_in self.old + bytes_for S.shape self.old met) }
+        ensures err { OnErr result (entries_in self.new ≡ entries_in self.old) }
         ensures start { OnErr result (frame.now.tail.start ≡ true) }
         ensures room { OnErr result (length self.old.sessions.entries < self.old.sources) }
     {
@@ -185,14 +191,14 @@ impl<S: Shape> Port<S> {
     /// The session at a place takes a frame.
     fn step_at(&mut self, index: usize, frame: &Frame, timeout: u64) -> Step
         requires within { index < length self.old.sessions.entries }
-        requires order { EntriesHeard frame.now.moment (entries_of self.old.sessions.entries) }
-        ensures port { port_of (extent_bytes S.shape) self.new ≡ port_of (extent_bytes S.shape) self.old }
+        requires order { EntriesHeard frame.now.moment (entries_in self.old) }
+        ensures port { subscription S.shape self.new ≡ subscription S.shape self.old }
         ensures shape { self.new.shape ≡ self.old.shape }
-        ensures entries { entries_of self.new.sessions.entries
-            ≡ step_nth timeout (entries_of self.old.sessions.entries) index (record_of frame.now) }
-        ensures buffered { buffered (entries_of self.new.sessions.entries) ≡ buffered (entries_of self.old.sessions.entries) }
-        ensures outcome { step_answer (buffer_nth (entries_of self.new.sessions.entries) index) result
-            ≡ outcome_nth timeout (entries_of self.old.sessions.entries) index (record_of frame.now) }
+        ensures entries { entries_in self.new
+            ≡ step_nth timeout (entries_in self.old) index (record_of frame.now) }
+        ensures buffered { buffered_in self.new ≡ buffered_in self.old }
+        ensures outcome { step_answer (buffer_nth (entries_in self.new) index) result
+            ≡ outcome_nth timeout (entries_in self.old) index (record_of frame.now) }
     {
         let session = self.sessions.get_index_mut(index).unwrap();
         session.step(frame, timeout)
@@ -201,7 +207,7 @@ impl<S: Shape> Port<S> {
     /// The bytes of the buffer that was opened for a frame.
     #[tactic(auto, using(rx_session::proofs::Extents::bytes_are))]
     pub(crate) fn opened_bytes(&self, met: PortMet) -> u64
-        ensures { result ≡ grown (extent_bytes S.shape self.now.shape) met }
+        ensures { result ≡ bytes_for S.shape self.now met }
     {
         match met {
             PortMet::Opened { .. } => self.shape.extent_bytes() as u64,
@@ -211,7 +217,7 @@ impl<S: Shape> Port<S> {
 
     /// What a frame of a source came to, with the payload lent from its session.
     pub(crate) fn lend(&self, met: PortMet) -> Fed<'_>
-        ensures { answer_of result ≡ met_answer (entries_of self.now.sessions.entries) met }
+        ensures { answer_of result ≡ met_answer (entries_in self.now) met }
     {
         match met {
             PortMet::NoSession => Fed::NoSession,
@@ -223,7 +229,7 @@ impl<S: Shape> Port<S> {
 
     /// What the session at a place made of a frame, with the payload lent from its buffer.
     fn lend_at(&self, index: usize, step: Step) -> Outcome<'_>
-        ensures { outcome_of result ≡ step_answer (buffer_nth (entries_of self.now.sessions.entries) index) step }
+        ensures { outcome_of result ≡ step_answer (buffer_nth (entries_in self.now) index) step }
     {
         match self.sessions.get_index(index) {
             Some((_, session)) => session.lend(step),

@@ -33,21 +33,18 @@ pub struct Table<S> {
 const SUBJECTS: usize = 0x2000;
 
 impl<S: Shape> Table<S> {
-    ghost use Rattle.std.specs.Prelude.{◌&&◌, ◌==◌, ◌↔◌, ◌<◌, ◌≤◌, ◌++◌, ◌∷◌, [], IfOk, OnErr, OnOk, length, List, ℕ, Err, None, ◌≢◌, map, ◌+◌, is_some};
+    ghost use Rattle.std.specs.Prelude.{◌↔◌, ◌<◌, ◌≤◌, ◌++◌, ◌∷◌, [], IfOk, OnErr, OnOk, length, List, ℕ, Err, None, ◌≢◌, map, ◌+◌, is_some};
     ghost use Rattle.std.specs.Borrow.{sem};
     ghost use Rattle.std.specs.Io.BufRead.{Rests};
     ghost use Rattle.can_id.specs.declared.key.Kind.TheVariants.{Message};
-    ghost use Rattle.std.specs.List.{position};
     ghost use Rattle.std.specs.Option.{option_copied};
     ghost use Rattle.tail_frame.specs.Frames.{seen};
     ghost use Rattle.rx_session.specs.Extents.{extent_bytes};
-    ghost use Rattle.rx_session.specs.Seen.{record_of};
-    ghost use Rattle.rx_table.specs.Keys.{KeyedFrame, same_kind};
+    ghost use Rattle.rx_table.specs.Keys.{KeyedFrame};
     ghost use Rattle.rx_table.specs.Ports.{port_at, held, bound, held_of};
     ghost use Rattle.rx_table.specs.SubjectPlaces.{place_of};
-    ghost use Rattle.rx_table.specs.Places.{feed_nth, answer_nth, AddsNth};
     ghost use Rattle.rx_table.specs.Table.{StandsFor, answer_of, shape_at, admitted_on, subscribed};
-    ghost use Rattle.rx_table.specs.Views.{states_of, subscriptions, IsOfLog, HasHeardBy, told_by, Keeps, KeepsSessions, TakesIn, Answers, OpensOne, IsIdleAt, IsFed};
+    ghost use Rattle.rx_table.specs.Views.{states_of, subscriptions, place_in, states_after, answer_after, OpensAtPlace, IsOfLog, HasHeardBy, told_by, Keeps, KeepsSessions, TakesIn, Answers, OpensOne, IsIdleAt, IsFed};
     ghost use Rattle.rx_table.specs.declared.fed.SubscribeError.TheVariants.{Taken};
     ghost use Rattle.rx_table.specs.contracts.table.Table.{the_row};
 
@@ -87,14 +84,22 @@ impl<S: Shape> Table<S> {
         requires room { length self.old.ports.items < 2 ^ 16 }
         ensures timeout { self.new.timeout ≡ self.old.timeout }
         ensures ports { OnOk result (states_of S.shape self.new ≡ states_of S.shape self.old
-            ++ subscribed (record { kind = kind; port = port; sources = sources; extent = extent_bytes S.shape shape }) ∷ []) }
-        ensures count { OnOk result (length self.new.ports.items ≡ length self.old.ports.items + 1) }
+            ++ subscribed (record {
+              kind = kind;
+              port = port;
+              sources = sources;
+              extent = extent_bytes S.shape shape;
+            }) ∷ []) }
+        ensures count { OnOk result
+            (length self.new.ports.items ≡ length self.old.ports.items + 1) }
         ensures shapes { OnOk result (map (λ p. p.shape) self.new.ports.items
             ≡ map (λ p. p.shape) self.old.ports.items ++ shape ∷ []) }
         ensures stands { IsOfLog S.shape self.old []
             → OnOk result (StandsFor self.old.timeout [] (states_of S.shape self.new)) }
-        ensures heard { (now : ℕ) → HasHeardBy S.shape now self.old → OnOk result (HasHeardBy S.shape now self.new) }
-        ensures taken { (result ≡ Err Taken) ↔ (port_at kind port (subscriptions S.shape self.old) ≢ None) }
+        ensures heard { (now : ℕ) → HasHeardBy S.shape now self.old
+            → OnOk result (HasHeardBy S.shape now self.new) }
+        ensures taken { (result ≡ Err Taken)
+            ↔ (port_at kind port (subscriptions S.shape self.old) ≢ None) }
         ensures err { OnErr result (self.new.ports.items ≡ self.old.ports.items) }
     {
         if self.find(kind, port).is_some() {
@@ -137,8 +142,10 @@ impl<S: Shape> Table<S> {
     /// isn't a start, of a source with no session, is ignored.
     pub fn feed<'a>(&'a mut self, frame: &Frame<'a>) -> Result<Fed<'a>, NoMemory>
         requires { HasHeardBy S.shape frame.now.moment self.old }
-        ensures* after { sem 𝓛 (Rests (the_row S.row) self.entry (IsFed S.shape frame.now self.old result)) }
-        ensures told { IfOk result (λ fed. Answers S.shape self.old (seen frame.now) (answer_of fed)) }
+        ensures* after { sem 𝓛 (Rests (the_row S.row) self.entry
+            (IsFed S.shape frame.now self.old result)) }
+        ensures told { IfOk result (λ fed.
+            Answers S.shape self.old (seen frame.now) (answer_of fed)) }
         ensures memory { OnErr result (OpensOne S.shape self.old (seen frame.now)) }
     {
         match self.step(frame) {
@@ -176,11 +183,11 @@ impl<S: Shape> Table<S> {
         requires heard { HasHeardBy S.shape frame.now.moment self.old }
         ensures keeps { Keeps S.shape self.old self.new }
         ensures states { OnOk result (states_of S.shape self.new
-            ≡ feed_nth self.old.timeout (states_of S.shape self.old) place source (record_of frame.now)) }
+            ≡ states_after S.shape self.old place source frame.now) }
         ensures answer { IfOk result (λ met. told_by S.shape self.new frame.now met
-            ≡ answer_nth self.old.timeout (states_of S.shape self.old) place source (record_of frame.now)) }
+            ≡ answer_after S.shape self.old place source frame.now) }
         ensures err { OnErr result (KeepsSessions S.shape self.old self.new) }
-        ensures memory { OnErr result (AddsNth (states_of S.shape self.old) place source (record_of frame.now)) }
+        ensures memory { OnErr result (OpensAtPlace S.shape self.old place source frame.now) }
     {
         let port = &mut self.ports[place];
         match port.meet(self.alloc, source, frame, self.timeout) {
@@ -255,7 +262,7 @@ impl<S: Shape> Table<S> {
     /// The place of a subscription.
     #[inline(always)]
     fn find(&self, kind: Kind, port: u16) -> Option<usize>
-        ensures { result ≡ position (λ p. same_kind kind p.kind && (port == p.port)) self.now.ports.items }
+        ensures { result ≡ place_in kind port self.now }
     {
         match kind {
             Kind::Message => self.find_subject(port),
@@ -267,7 +274,7 @@ impl<S: Shape> Table<S> {
     /// The place of a subject's subscription, without a search where it is below 2^13.
     #[inline(always)]
     fn find_subject(&self, subject: u16) -> Option<usize>
-        ensures { result ≡ position (λ p. same_kind Message p.kind && (subject == p.port)) self.now.ports.items }
+        ensures { result ≡ place_in Message subject self.now }
     {
         match self.subjects.get(subject) {
             Some(code) => place_at(code),
@@ -278,7 +285,7 @@ impl<S: Shape> Table<S> {
     /// The place of a subscription, by a search.
     #[cold]
     fn search(&self, kind: Kind, port: u16) -> Option<usize>
-        ensures { result ≡ position (λ p. same_kind kind p.kind && (port == p.port)) self.now.ports.items }
+        ensures { result ≡ place_in kind port self.now }
     {
         self.ports.iter().position(|p| p.is(kind, port))
     }

@@ -1,5 +1,4 @@
-use Rattle.std.proofs.Common.{◌≡◌, ◌∙◌, sym, ap, subst, OnOk, IfOk, List, ℕ, position, nat_eq, Some, None, arith}
-use Rattle.std.specs.List.{IsDistinct}
+use Rattle.std.proofs.Common.{◌≡◌, ◌∙◌, sym, ap, subst, OnOk, IfOk, List, arith}
 use Rattle.std.proofs.lemmas.Bool.{cond-true, cond-false}
 use Rattle.transfer_crc.specs.Crc.{crc_more}
 use Rattle.rx_session.specs.Extents.{extent_bytes}
