@@ -1,5 +1,5 @@
 -- Lemmas on bytes that a text doesn't have.
-use Rattle.std.proofs.Common.{◌≡◌, ◌∙◌, ◌==◌, ◌<◌, ◌≤◌, ℕ, zero, suc, ◌+◌, ◌-◌, ◌*◌, Bool, true, false, List, [], ◌∷◌, ◌++◌, Option, Some, None, refl, sym, ap, subst, length, take, drop, arith}
+use Rattle.std.proofs.Common.{◌≡◌, ◌∙◌, ◌==◌, ℕ, suc, ◌+◌, ◌-◌, ◌*◌, Bool, true, false, List, [], ◌∷◌, ◌++◌, Option, Some, None, refl, sym, ap, length, take, drop, arith}
 use Rattle.std.specs.Prelude.{if◌then◌else◌, ◌||◌, ◌&&◌, nat_lt}
 use Rattle.std.specs.Str.{bytes_eq}
 use Rattle.std.proofs.lemmas.Bool.{eqb-true}
@@ -70,7 +70,6 @@ apart f x b e h = go (x == b) refl
     go : (v : Bool) → (x == b) ≡ v → (x == b) ≡ false
     go true k = let bad : false ≡ true = sym e ∙ ap f (eqb-true x b k) ∙ h in absurd cc
     go false k = k
-
 
 -- decimal digits have no other byte
 pub decimal-clean : (b n m : ℕ) (s : List ℕ) → (nat_lt b 48 || nat_lt 57 b) ≡ true → decimal_from n s ≡ Some m → cut b s ≡ None

@@ -1,5 +1,5 @@
 -- Lemmas on sixteen hex digits at a time.
-use Rattle.std.proofs.Common.{suc, zero, ◌≤◌, ◌*◌, take, ap₂, eqb, Bool, true, false, not, sym, ◌≡◌, ◌∙◌, ℕ, ◌+◌, ◌-◌, ◌%◌, ◌^◌, ◌<◌, List, [], ◌∷◌, length, map, cond, ltb, bit_or, replicate, get_or, refl, ap, arith, Fits, w8}
+use Rattle.std.proofs.Common.{suc, zero, ◌≤◌, take, ap₂, eqb, Bool, true, false, not, sym, ◌≡◌, ◌∙◌, ℕ, ◌+◌, ◌-◌, ◌%◌, ◌^◌, ◌<◌, List, [], ◌∷◌, length, map, cond, ltb, bit_or, replicate, get_or, refl, ap, arith, Fits, w8}
 use Rattle.std.specs.Simd.Lanes.{zip2, sel_l, top, Each1}
 use Rattle.std.specs.Simd.Lanes.{mask_l}
 use Rattle.std.proofs.lemmas.Simd.{length-zip2, tops_compared, mask_l-mod, leading_from_mask_l, trailing_mask_l}

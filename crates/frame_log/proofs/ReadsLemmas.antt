@@ -1,11 +1,11 @@
 -- Lemmas on how the parts of a line are read.
-use Rattle.std.proofs.Common.{◌≡◌, ◌∙◌, ◌==◌, ◌<◌, ◌≤◌, ℕ, zero, suc, ◌+◌, ◌-◌, ◌*◌, Bool, true, false, List, [], ◌∷◌, ◌++◌, Option, Some, None, refl, sym, ap, ap₂, subst, length, take, drop, get_or, arith, append_assoc, append-nil, length-append}
-use Rattle.std.specs.Prelude.{if◌then◌else◌, ◌||◌, ◌&&◌, nat_lt, nat_le, unwrap_or}
+use Rattle.std.proofs.Common.{◌≡◌, ◌∙◌, ◌==◌, ◌<◌, ◌≤◌, ℕ, suc, ◌+◌, ◌*◌, Bool, true, false, List, [], ◌∷◌, ◌++◌, Option, Some, None, refl, sym, ap, ap₂, subst, length, take, drop, get_or, arith, append_assoc, append-nil, length-append}
+use Rattle.std.specs.Prelude.{if◌then◌else◌, ◌||◌, nat_lt, nat_le, unwrap_or}
 use Rattle.std.proofs.lemmas.Bool.Decides.{nat_tests}
 use Rattle.std.proofs.lemmas.Grind.{common_steps}
 use Rattle.std.proofs.lemmas.List.{take-append-drop, get_or-drop, get_or-take}
 use Rattle.std.proofs.Math.Seq.{take-add, drop-cons, take-append-add, take-append_seam, drop-append_seam}
-use Rattle.frame_log.specs.Line.{◌>>=◌, Said, NoForm, Nothing, Frame, after, cut, front, decimal_from, hex_digit, hex_from, seconds_of, micros_of, bus_of, ident_of, bus_at, pairs_of, is_length, bytes_of, fd_bytes_of, hex_or, remote_or, data_of, unflagged, frame_of, frame_on, behind_ident, behind_bus, form_of, without_return, said_of_text, said_of}
+use Rattle.frame_log.specs.Line.{◌>>=◌, Said, NoForm, Nothing, Frame, after, cut, front, decimal_from, hex_digit, hex_from, seconds_of, micros_of, bus_of, ident_of, bus_at, pairs_of, is_length, bytes_of, hex_or, remote_or, data_of, unflagged, frame_of, frame_on, behind_ident, behind_bus, form_of, without_return, said_of_text, said_of}
 use Rattle.frame_log.specs.Steps.{IsLine}
 use Rattle.frame_log.specs.Reads.{front_of, bus_in, IsClean, Reads, IsHex, IsData}
 use Rattle.frame_log.proofs.LineLemmas.{yes, no, some_is}
@@ -239,6 +239,7 @@ said-is buses line said some short clean form =
   where
     within : (n : ℕ) → n ≤ 4096 → nat_lt 4096 n ≡ false
     within n h = grind (arith, nat_tests)
+
     above : (n : ℕ) → 0 < n → (n == 0) ≡ false
     above n h = grind (arith, nat_tests)
 
@@ -260,16 +261,16 @@ pub seen-is : (buses : List (List ℕ)) (w s1 s2 s3 s4 bytes : List ℕ) (k n m 
 seen-is buses w s1 s2 s3 s4 bytes k n m q seconds micros bus ident e1 e2 e3 e4 rf rm rb ri le hex total within wide =
     let text = take k w ++ (take 8 s1 ++ (take n s2 ++ (take 9 s3 ++ take m s4))) in
     let split : take q w ≡ text = ap (λ x. take x w) total ∙ take-add k (8 + (n + (9 + m))) w ∙ ap (λ t. take k w ++ take (8 + (n + (9 + m))) t) (sym e1)
-        ∙ ap (λ t. take k w ++ t) (take-add 8 (n + (9 + m)) s1 ∙ ap (λ t. take 8 s1 ++ take (n + (9 + m)) t) (sym e2)
-        ∙ ap (λ t. take 8 s1 ++ t) (take-add n (9 + m) s2 ∙ ap (λ t. take n s2 ++ take (9 + m) t) (sym e3)
-        ∙ ap (λ t. take n s2 ++ t) (take-add 9 m s3 ∙ ap (λ t. take 9 s3 ++ take m t) (sym e4)))) in
+    ∙ ap (λ t. take k w ++ t) (take-add 8 (n + (9 + m)) s1 ∙ ap (λ t. take 8 s1 ++ take (n + (9 + m)) t) (sym e2)
+    ∙ ap (λ t. take 8 s1 ++ t) (take-add n (9 + m) s2 ∙ ap (λ t. take n s2 ++ take (9 + m) t) (sym e3)
+    ∙ ap (λ t. take n s2 ++ t) (take-add 9 m s3 ∙ ap (λ t. take 9 s3 ++ take m t) (sym e4)))) in
     let clean : IsClean text = clean-both (take k w) _ rf.clean (clean-both (take 8 s1) _ rm.clean (clean-both (take n s2) _ rb.clean (clean-both (take 9 s3) (take m s4) ri.clean hex.clean))) in
     let here : IsClean (take q w) = subst IsClean (sym split) clean in
     let end : get_or w q 0 ≡ 10 = ap (λ x. get_or w x 0) total
-        ∙ sym (get_or-drop k w (8 + (n + (9 + m))) 0) ∙ ap (λ t. get_or t (8 + (n + (9 + m))) 0) (sym e1)
-        ∙ sym (get_or-drop 8 s1 (n + (9 + m)) 0) ∙ ap (λ t. get_or t (n + (9 + m)) 0) (sym e2)
-        ∙ sym (get_or-drop n s2 (9 + m) 0) ∙ ap (λ t. get_or t (9 + m) 0) (sym e3)
-        ∙ sym (get_or-drop 9 s3 m 0) ∙ ap (λ t. get_or t m 0) (sym e4) ∙ hex.end in
+    ∙ sym (get_or-drop k w (8 + (n + (9 + m))) 0) ∙ ap (λ t. get_or t (8 + (n + (9 + m))) 0) (sym e1)
+    ∙ sym (get_or-drop 8 s1 (n + (9 + m)) 0) ∙ ap (λ t. get_or t (n + (9 + m)) 0) (sym e2)
+    ∙ sym (get_or-drop n s2 (9 + m) 0) ∙ ap (λ t. get_or t (9 + m) 0) (sym e3)
+    ∙ sym (get_or-drop 9 s3 m 0) ∙ ap (λ t. get_or t m 0) (sym e4) ∙ hex.end in
     let count : length (take q w) ≡ q = length-front q w (omega (arith, within)) in record {
       line = line-at w q within end here.0;
       said_is = said-is buses (take q w) _ (omega (arith, count, total)) (omega (arith, count, within, wide)) here.1

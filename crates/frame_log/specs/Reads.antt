@@ -1,5 +1,5 @@
 -- How the parts of a line are read, whatever stands behind them.
-use Rattle.std.specs.Prelude.{◌≡◌, ◌≤◌, ◌<◌, ◌++◌, ℕ, List, Option, Some, None, length, take, slice_index}
+use Rattle.std.specs.Prelude.{◌≡◌, ◌++◌, ℕ, List, Option, Some, None, take, slice_index}
 use Rattle.frame_log.specs.Line.{◌>>=◌, after, cut, pairs_of, with_front, seconds_of, bus_of, bus_at, data_of, unflagged}
 
 -- `(SECONDS` and the point

@@ -104,7 +104,12 @@ impl LogReader {
         ensures same { (self.new.buses ≡ self.old.buses) × (self.new.held ≡ self.old.held) × (self.new.room ≡ self.old.room) × (self.new.is_ended ≡ self.old.is_ended) × (self.new.done ≡ self.old.done) }
     {
         written.bytes = Data::new();
-        if let Some(seen) = quick(&self.front, &self.buses, self.held.window(), &mut written.bytes) {
+        if let Some(seen) = quick(
+            &self.front,
+            &self.buses,
+            self.held.window(),
+            &mut written.bytes,
+        ) {
             if seen.len < self.held.as_slice().len() {
                 let found = Found::Frame {
                     moment: seen.moment,

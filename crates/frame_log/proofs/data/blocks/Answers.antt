@@ -1,4 +1,4 @@
-use Rattle.std.proofs.Common.{◌≡◌, ◌∙◌, ◌≤◌, ◌+◌, ◌*◌, ◌++◌, ap, sym, subst, map, take, drop, List, [], ℕ, refl, arith, rules}
+use Rattle.std.proofs.Common.{◌≡◌, ◌∙◌, ◌≤◌, ◌+◌, ◌*◌, ◌++◌, ap, sym, subst, map, take, drop, List, ℕ, refl, arith, rules}
 use Rattle.std.specs.List.{prefix_len}
 use Rattle.frame_log.specs.Line.{hex_digit}
 use Rattle.frame_log.specs.Reads.{IsHex}

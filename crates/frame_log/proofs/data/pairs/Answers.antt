@@ -1,4 +1,4 @@
-use Rattle.std.proofs.Common.{arith, sym, rules, ◌∙◌, ◌++◌, ◌+◌, ◌*◌, drop, ap, Some, List, ℕ}
+use Rattle.std.proofs.Common.{arith, sym, ◌∙◌, ◌++◌, ◌+◌, ◌*◌, drop, ap, Some, List, ℕ}
 use Rattle.std.proofs.lemmas.Grind.{common_steps}
 use Rattle.frame_log.specs.Line.{pairs_of, ◌>>=◌}
 use Rattle.frame_log.proofs.LineLemmas.{pairs_of-odd, pairs_of-more}

@@ -1,4 +1,4 @@
-use Rattle.std.proofs.Common.{◌*◌, List, ℕ, sym, subst, arith}
+use Rattle.std.proofs.Common.{List, ℕ, sym, subst, arith}
 use Rattle.frame_log.specs.Reads.{IsHex}
 use Rattle.frame_log.proofs.PairLemmas.{no_front}
 use Rattle.frame_log.proofs.ReadsLemmas.{classic-data}

@@ -1,4 +1,4 @@
-use Rattle.std.proofs.Common.{◌≡◌, ◌∙◌, ◌≤◌, ◌<◌, ◌+◌, ◌*◌, ◌/◌, ◌++◌, ap, subst, map, take, drop, length, List, ℕ, arith}
+use Rattle.std.proofs.Common.{◌≡◌, ◌∙◌, ◌≤◌, ◌+◌, ◌*◌, ◌/◌, ◌++◌, ap, map, take, drop, List, ℕ, arith}
 use Rattle.std.specs.List.{prefix_len}
 use Rattle.frame_log.specs.Line.{hex_digit}
 use Rattle.frame_log.specs.Lanes.{is_digit, bytes_of_pairs}

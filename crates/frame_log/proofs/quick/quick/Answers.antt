@@ -1,4 +1,4 @@
-use Rattle.std.proofs.Common.{◌≡◌, ◌∙◌, ◌≤◌, ◌<◌, ◌-◌, ◌*◌, ◌+◌, take, drop, length, List, ℕ, arith}
+use Rattle.std.proofs.Common.{◌-◌, ◌*◌, ◌+◌, take, drop, length, arith}
 use Rattle.frame_log.specs.Line.{Frame}
 use Rattle.frame_log.proofs.PairLemmas.{rest-is}
 use Rattle.frame_log.proofs.ReadsLemmas.{IsSeen, seen-is}

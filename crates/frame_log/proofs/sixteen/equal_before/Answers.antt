@@ -1,4 +1,4 @@
-use Rattle.std.proofs.Common.{◌∙◌, sym, arith}
+use Rattle.std.proofs.Common.{arith}
 use Rattle.frame_log.proofs.LaneLemmas.{mask_of_two, equal_all, equal_some}
 use Rattle.frame_log.proofs.sixteen.equal_before.Goals as goal
 

@@ -1,4 +1,4 @@
-use Rattle.std.proofs.Common.{◌≡◌, ◌∙◌, ◌≤◌, ℕ, List, take, ap, sym, subst, arith}
+use Rattle.std.proofs.Common.{◌≤◌, ℕ, List, subst, arith}
 use Rattle.frame_log.specs.Reads.{bus_in, Reads}
 use Rattle.frame_log.proofs.ReadsLemmas.{reads-kept}
 use Rattle.frame_log.proofs.buses.Buses.at.Goals as goal

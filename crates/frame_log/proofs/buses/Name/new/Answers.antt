@@ -1,4 +1,4 @@
-use Rattle.std.proofs.Common.{◌≡◌, ◌∙◌, Some, ap, sym, arith}
+use Rattle.std.proofs.Common.{◌≡◌, ◌∙◌, Some, ap, sym}
 use Rattle.frame_log.specs.Line.{bus_at}
 use Rattle.frame_log.proofs.ReadsLemmas.{bus-reads}
 use Rattle.frame_log.proofs.buses.Name.new.Goals as goal

@@ -1,6 +1,6 @@
-use Rattle.std.proofs.Common.{◌≡◌, ◌∙◌, ◌≤◌, ℕ, List, take, ap, sym, subst, arith}
+use Rattle.std.proofs.Common.{arith}
 use Rattle.std.proofs.lemmas.Bool.Decides.{nat_tests}
-use Rattle.frame_log.specs.Reads.{front_of, Reads}
+use Rattle.frame_log.specs.Reads.{front_of}
 use Rattle.frame_log.proofs.ReadsLemmas.{reads-kept}
 use Rattle.frame_log.proofs.front.Front.is_at.Goals as goal
 

@@ -1,4 +1,4 @@
-use Rattle.std.proofs.Common.{◌≡◌, ◌∙◌, ◌<◌, ◌+◌, ap, sym, subst, take, length, List, ℕ, arith}
+use Rattle.std.proofs.Common.{◌∙◌, ◌<◌, ◌+◌, ap, sym, subst, length, List, ℕ, arith}
 use Rattle.frame_log.specs.Line.{said_of}
 use Rattle.frame_log.proofs.ReadsLemmas.{line-held}
 use Rattle.frame_log.proofs.reader.LogReader.first_line.Goals as goal

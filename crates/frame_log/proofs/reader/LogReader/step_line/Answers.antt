@@ -1,5 +1,5 @@
 use Rattle.std.proofs.Common.{◌≡◌, ◌∙◌, ◌+◌, ◌++◌, ap, subst, sym, take, drop, length, List, ℕ, refl}
-use Rattle.frame_log.specs.Line.{Said, said_of}
+use Rattle.frame_log.specs.Line.{Said}
 use Rattle.frame_log.specs.Found.{said_by}
 use Rattle.frame_log.specs.Log.{Log, Place, given, given_by, log_from}
 use Rattle.frame_log.specs.Reader.{place_of, log_behind}
