@@ -17,27 +17,30 @@ use Rattle.node_core.specs.Told.{answer_lines}
 use Rattle.node_core.specs.declared.node.Node.{Node}
 
 -- a frame is its record with its identifier and its tail
-abbrev IsOf : Record → FrameOf → Type 0
-IsOf rec f = frame_with rec f.ident f.tail ≡ f
+pub record IsOf (rec : Record) (f : FrameOf) : Type 0 where
+  pub whole : frame_with rec f.ident f.tail ≡ f
+  pub ident : ident_of rec.ident ≡ Some f.ident
 
-of_byte : (rec : Record) (ident : Ident) (byte : Option ℕ) (f : FrameOf) → option_and_then (framed rec ident) byte ≡ Some f → IsOf rec f
-of_byte rec ident None f e = cc
-of_byte rec ident (Some byte) f e =
+of_byte : (rec : Record) (ident : Ident) (byte : Option ℕ) (f : FrameOf) → ident_of rec.ident ≡ Some ident
+    → option_and_then (framed rec ident) byte ≡ Some f → IsOf rec f
+of_byte rec ident None f is e = cc
+of_byte rec ident (Some byte) f is e =
     let g : FrameOf = frame_with rec ident (tail_of byte) in
     cond_both (is_discarded ident (tail_of byte) (length rec.bytes - 1)) None (Some g) (λ o. o ≡ Some f → IsOf rec f)
-    (λ _ n. cc) (λ _ n. let it : g ≡ f = cc in subst (IsOf rec) it refl) e
+    (λ _ n. cc) (λ _ n. let it : g ≡ f = cc in subst (IsOf rec) it (record { whole = refl; ident = is })) e
 
-of_ident : (rec : Record) (ident : Option Ident) (f : FrameOf) → option_and_then (λ i. option_and_then (framed rec i) (last_byte rec.bytes)) ident ≡ Some f → IsOf rec f
-of_ident rec None f e = cc
-of_ident rec (Some ident) f e = of_byte rec ident (last_byte rec.bytes) f e
+of_ident : (rec : Record) (ident : Option Ident) (f : FrameOf) → ident_of rec.ident ≡ ident
+    → option_and_then (λ i. option_and_then (framed rec i) (last_byte rec.bytes)) ident ≡ Some f → IsOf rec f
+of_ident rec None f is e = cc
+of_ident rec (Some ident) f is e = of_byte rec ident (last_byte rec.bytes) f is e
 
 of_node : (node : ℕ) (rec : Record) (heard : Option FrameOf) (f : FrameOf) → ((g : FrameOf) → heard ≡ Some g → IsOf rec g) → if_for node heard ≡ Some f → IsOf rec f
 of_node node rec None f is e = cc
 of_node node rec (Some g) f is e =
     cond_both (is_for node g.ident) (Some g) None (λ o. o ≡ Some f → IsOf rec f) (λ _ n. is f n) (λ _ n. cc) e
 
-pub is_of : (node : ℕ) (rec : Record) (f : FrameOf) → Some f ≡ frame_for node rec → IsOf rec f
-is_of node rec f e = of_node node rec (frame_of rec) f (of_ident rec (ident_of rec.ident)) (sym e)
+pub is_of : (node : ℕ) (rec : Record) (f : FrameOf) → frame_for node rec ≡ Some f → IsOf rec f
+is_of node rec f e = of_node node rec (frame_of rec) f (λ g. of_ident rec (ident_of rec.ident) g refl) e
 
 -- what a frame came to gives the lines of its record
 pub heard_got : (old new : Node) (rec : Record) (f : FrameOf) (met : Met) (badcrc : Bool) → Some f ≡ frame_for old.plan.node rec
@@ -46,7 +49,7 @@ pub heard_got : (old new : Node) (rec : Record) (f : FrameOf) (met : Met) (badcr
     → came_lines new rec (record { badcrc = badcrc; heard = Some (record { ident = f.ident; tail = f.tail; met = met }) }) ≡ got old.plan rec past
 unfolding came_lines
 heard_got old new rec f met badcrc frame_is h past s =
-    ap (λ (g : FrameOf). answer_lines g (answer_in new g.body met)) (is_of old.plan.node rec f frame_is)
+    ap (λ (g : FrameOf). answer_lines g (answer_in new g.body met)) (is_of old.plan.node rec f (sym frame_is)).whole
     ∙ (h (frames old.plan.node past) s ∙ ap (of_frame old.plan (frames old.plan.node past)) frame_is)
 
 pub none_got : (node : Node) (rec : Record) (badcrc : Bool) → None ≡ frame_for node.plan.node rec

@@ -1,5 +1,6 @@
 -- The ports of a node, and the frames that it hears.
-use Rattle.std.specs.Prelude.{ℕ, Bool, true, not, ◌&&◌, ◌==◌, if◌then◌else◌, List, [], ◌∷◌, map, Option, Some, None}
+use Rattle.std.specs.Prelude.{◌≡◌, ℕ, Bool, true, not, ◌&&◌, ◌==◌, if◌then◌else◌, List, [], ◌∷◌, map, Option, Some, None}
+use Rattle.can_id.specs.Identifiers.{is_set, field}
 use Rattle.can_id.specs.declared.ident.Ident.{Ident}
 use Rattle.can_id.specs.declared.ident.Ident.TheVariants.{Message, Anonymous, Service}
 use Rattle.can_id.specs.declared.key.Kind.TheVariants.{Message as message}
@@ -7,7 +8,7 @@ use Rattle.tail_frame.specs.Frames.{FrameOf, frame_of}
 use Rattle.tail_frame.specs.declared.logged.Record.{Record}
 use Rattle.rx_table.specs.Keys.{KeyedFrame}
 use Rattle.rx_table.specs.Ports.{Port}
-use Rattle.rx_table.specs.Table.{logged}
+use Rattle.rx_table.specs.Table.{logged, port_on}
 use Rattle.node_plan.specs.Bound.{extent_of}
 use Rattle.node_plan.specs.declared.plan.Plan.{Plan}
 use Rattle.node_plan.specs.declared.plan.Sub.{Sub}
@@ -42,3 +43,11 @@ with_frame (Some f) log = logged f log
 abbrev pub frames : ℕ → List Record → List KeyedFrame
 frames node [] = []
 frames node (rec ∷ past) = with_frame (frame_for node rec) (frames node past)
+
+-- the subject that a message's identifier says
+abbrev pub subject_in : ℕ → Option ℕ
+subject_in n = if is_set n 25 then None else Some (field n 8 13)
+
+-- if a record is a frame, it is on none of these ports
+abbrev pub IsElsewhere : List Port → Record → Type 0
+IsElsewhere ports rec = (node : ℕ) (f : FrameOf) → frame_for node rec ≡ Some f → port_on ports f ≡ None

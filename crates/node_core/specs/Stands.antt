@@ -1,14 +1,15 @@
 -- The log that a node stands for.
-use Rattle.std.specs.Prelude.{◌≡◌, ◌++◌, Bool, List, ◌∷◌}
+use Rattle.std.specs.Prelude.{◌≡◌, ◌≤◌, ◌++◌, ℕ, Bool, List, ◌∷◌}
 use Rattle.tail_frame.specs.Frames.{FrameOf}
 use Rattle.tail_frame.specs.declared.logged.Record.{Record}
 use Rattle.rx_table.specs.Keys.{KeyedFrame}
 use Rattle.rx_table.specs.Ports.{ports_of as ports_in}
 use Rattle.rx_table.specs.Table.{states, StandsFor, logged, port_on}
 use Rattle.node_core.specs.declared.node.Node.{Node}
+use Rattle.node_plan.specs.Bound.{bound_of}
 use Rattle.node_core.specs.Heard.{ports_of, frames}
 use Rattle.node_core.specs.Shapes.{shape_extent}
-use Rattle.node_core.specs.Steps.{got, is_bad_at, on_port, bad_on_port}
+use Rattle.node_core.specs.Steps.{got, is_bad_at, on_port, bad_on_port, held_at}
 use Rattle.node_core.specs.declared.line.Line.{Line}
 
 -- its sessions are those of its plan's ports after these frames, the newest first
@@ -41,17 +42,28 @@ Appends node rec old new = (past : List Record) → Stands node past → new ≡
 abbrev pub TellsBadCrc : Node → Record → Bool → Type 0
 TellsBadCrc node rec is_bad = (past : List Record) → Stands node past → is_bad ≡ is_bad_at node.plan rec past
 
--- the same of a frame that is for the node
+-- the buffers of its open sessions have so many bytes
+abbrev pub Holds : Node → ℕ → Type 0
+Holds node bytes = (past : List Record) → Stands node past → bytes ≡ held_at node.plan past
+
+-- so many bytes are no more than the plan allows
+abbrev pub IsWithinBound : Node → ℕ → Type 0
+IsWithinBound node bytes = (past : List Record) → Stands node past → bytes ≤ bound_of node.plan
+
+-- the same of a frame that is for the node: it stands for the frames with it
 abbrev pub TakesFrame : FrameOf → Node → Node → Type 0
 TakesFrame f old new = (log : List KeyedFrame) → StandsAt old log → StandsAt new (logged f log)
 
+-- it stands for the frames that it stood for
 abbrev pub KeepsSessions : Node → Node → Type 0
 KeepsSessions old new = (log : List KeyedFrame) → StandsAt old log → StandsAt new log
 
+-- these are the lines that the frame gives
 abbrev pub FrameGives : Node → FrameOf → List Line → Type 0
 FrameGives node f lines =
     (log : List KeyedFrame) → StandsAt node log → lines ≡ on_port node.plan.timeout f log (port_on (ports_of node.plan) f)
 
+-- this is whether the frame ends a transfer whose bytes don't fit their CRC
 abbrev pub FrameTellsBadCrc : Node → FrameOf → Bool → Type 0
 FrameTellsBadCrc node f is_bad =
     (log : List KeyedFrame) → StandsAt node log → is_bad ≡ bad_on_port node.plan.timeout f log (port_on (ports_of node.plan) f)

@@ -43,6 +43,10 @@ payload_text (b ∷ bs) = encode_upper (b ∷ bs)
 abbrev pub reading_text : Reading → List ℕ
 reading_text Raw = codes "raw"
 
+-- the name of a bus and a kind, with a space on each side of each
+abbrev pub bus_and_kind : List BusPlan → ℕ → Kind → List ℕ
+bus_and_kind buses bus kind = 32 ∷ spaced (bus_text buses bus ∷ kind_text kind ∷ [])
+
 -- on which bus, at which port and from whom
 abbrev pub key_words : List BusPlan → ℕ → Key → List (List ℕ)
 key_words buses bus key = bus_text buses bus ∷ kind_text key.kind ∷ decimal key.port ∷ source_text key.source ∷ []

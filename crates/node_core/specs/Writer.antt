@@ -1,5 +1,5 @@
 -- What a writer of lines writes.
-use Rattle.std.specs.Prelude.{◌≡◌, ◌++◌, ℕ, List}
+use Rattle.std.specs.Prelude.{◌≡◌, ◌++◌, List}
 use Rattle.line_text.specs.Buffer.{text_of}
 use Rattle.line_text.specs.declared.text_buffer.TextBuffer.{TextBuffer}
 use Rattle.node_plan.specs.declared.plan.BusPlan.{BusPlan}

@@ -21,10 +21,10 @@ pub struct BusWords {
 }
 
 impl BusWords {
-    ghost use Rattle.std.specs.Prelude.{◌≤◌, ◌+◌, ◌++◌, ◌∷◌, []};
+    ghost use Rattle.std.specs.Prelude.{◌≤◌, ◌+◌};
     ghost use Rattle.line_text.specs.Buffer.{room_of};
     ghost use Rattle.node_core.specs.Puts.{Puts};
-    ghost use Rattle.node_core.specs.Text.{bus_text, kind_text};
+    ghost use Rattle.node_core.specs.Text.{bus_text, bus_and_kind};
 
     /// The words of these buses.
     pub fn new(buses: &ShortList<BusPlan, 3>) -> BusWords
@@ -40,7 +40,7 @@ impl BusWords {
     #[inline(always)]
     pub fn put(&self, text: &mut TextBuffer, bus: u8, kind: Kind)
         requires { 64 ≤ room_of text.old }
-        ensures text { Puts (32 ∷ bus_text self.now.buses bus ++ 32 ∷ kind_text kind ++ 32 ∷ []) text.old text.new }
+        ensures text { Puts (bus_and_kind self.now.buses bus kind) text.old text.new }
         ensures room { room_of text.old ≤ room_of text.new + 32 }
     {
         match kind {
@@ -54,7 +54,7 @@ impl BusWords {
     #[inline(always)]
     fn put_message(&self, text: &mut TextBuffer, bus: u8)
         requires { 64 ≤ room_of text.old }
-        ensures text { Puts (32 ∷ bus_text self.now.buses bus ++ 32 ∷ kind_text Kind.Message ++ 32 ∷ []) text.old text.new }
+        ensures text { Puts (bus_and_kind self.now.buses bus Kind.Message) text.old text.new }
         ensures room { room_of text.old ≤ room_of text.new + 32 }
     {
         match self.messages.get(bus as usize) {
@@ -68,7 +68,7 @@ impl BusWords {
     #[inline(never)]
     fn put_any(&self, text: &mut TextBuffer, bus: u8, kind: Kind)
         requires { 64 ≤ room_of text.old }
-        ensures text { Puts (32 ∷ bus_text self.now.buses bus ++ 32 ∷ kind_text kind ++ 32 ∷ []) text.old text.new }
+        ensures text { Puts (bus_and_kind self.now.buses bus kind) text.old text.new }
         ensures room { room_of text.old ≤ room_of text.new + 32 }
     {
         text.put_slice(b" ");

@@ -1,14 +1,16 @@
-ghost use Rattle.std.specs.Prelude.{◌≡◌, option_map};
+ghost use Rattle.std.specs.Prelude.{◌≡◌, IfSome, option_map};
 ghost use Rattle.tail_frame.specs.Frames.{seen};
-ghost use Rattle.node_core.specs.Heard.{is_for, frame_for};
+ghost use Rattle.node_core.specs.Heard.{is_for, frame_for, subject_in};
 
 use can_id::Ident;
 use tail_frame::{Frame, Record, frame_of};
 
 /// The frame that a record is, or `None` where it is discarded, is the node's own, or is of a service of
 /// another node.
+#[inline(always)]
 pub fn frame_for(node: u8, rec: &Record) -> Option<Frame<'_>>
-    ensures { option_map seen result ≡ frame_for node rec.now }
+    ensures value { option_map seen result ≡ frame_for node rec.now }
+    ensures moment { IfSome result (λ frame. frame.moment ≡ rec.now.moment) }
 {
     let frame = frame_of(rec)?;
     if is_for(node, frame.ident) {
@@ -19,6 +21,7 @@ pub fn frame_for(node: u8, rec: &Record) -> Option<Frame<'_>>
 }
 
 /// Whether a frame is for the node.
+#[inline(always)]
 fn is_for(node: u8, ident: Ident) -> bool
     ensures { result ≡ is_for node ident }
 {
@@ -30,5 +33,17 @@ fn is_for(node: u8, ident: Ident) -> bool
             source,
             ..
         } => source != node && destination == node,
+    }
+}
+
+/// The subject that a message's identifier says; a service's says none.
+#[inline(always)]
+pub fn subject_in(ident: u32) -> Option<u16>
+    ensures { result ≡ subject_in ident }
+{
+    if ident / 0x200_0000 % 2 == 1 {
+        None
+    } else {
+        Some((ident / 0x100 % 0x2000) as u16)
     }
 }

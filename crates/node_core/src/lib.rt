@@ -5,10 +5,8 @@ mod bus_words;
 pub mod came;
 mod fed;
 mod heard;
-mod hex_digits;
 pub mod laws;
 pub mod line;
-mod line_buffer;
 pub mod line_ref;
 pub mod line_sink;
 pub mod line_writer;
@@ -18,7 +16,6 @@ pub mod port_shape;
 mod ports;
 mod raw_shape;
 mod second;
-pub mod text;
 mod word;
 mod words;
 
@@ -31,7 +28,6 @@ pub use node::{Node, Stepped};
 pub use numbers::Numbers;
 pub use port_shape::PortShape;
 pub use raw_shape::RawShape;
-pub use text::{push_end, push_text};
 
 #[cfg(test)]
 mod tests;

@@ -4,11 +4,12 @@ ghost use Rattle.node_core.specs.Shapes.{shape_extent};
 
 use crate::came::{Came, Heard};
 use crate::fed::{is_bad, line_on};
-use crate::heard::frame_for;
+use crate::heard::{frame_for, subject_in};
 use crate::line::Line;
 use crate::line_ref::LineRef;
 use crate::port_shape::PortShape;
 use crate::ports::table_of;
+use can_id::Kind;
 use cy_bits::{List, NoMemory};
 use node_plan::Plan;
 use rx_table::{Met, Table};
@@ -41,10 +42,14 @@ impl Node {
     ghost use Rattle.tail_frame.specs.declared.logged.Record.{Record as RecordOf};
     ghost use Rattle.node_plan.specs.Bound.{bound_of};
     ghost use Rattle.node_plan.specs.IsPlan.{IsPlan};
+    ghost use Rattle.std.specs.Bool.{OnTrue};
+    ghost use Rattle.rx_table.specs.Views.{subscriptions};
+    ghost use Rattle.node_core.specs.Heard.{IsElsewhere};
+    ghost use Rattle.node_core.specs.Shapes.{port_schema};
     ghost use Rattle.node_core.specs.Came.{answer_in, heard_is_bad, came_lines};
     ghost use Rattle.node_core.specs.Stands.{Stands, Takes, StandsAsBefore, Gives, Appends, TellsBadCrc};
     ghost use Rattle.node_core.specs.Stands.{TakesFrame, KeepsSessions, FrameGives, FrameTellsBadCrc};
-    ghost use Rattle.node_core.specs.Steps.{held_at};
+    ghost use Rattle.node_core.specs.Stands.{Holds, IsWithinBound};
     ghost use Rattle.node_core.specs.Told.{answer_lines, answer_is_bad, told_lines};
 
     /// A node that runs by a plan of `read_plan`. It has heard nothing.
@@ -97,6 +102,12 @@ impl Node {
         ensures badcrc { IfOk result (λ came. TellsBadCrc self.old rec.now came.badcrc) }
         ensures err { OnErr result (StandsAsBefore self.old self.new) }
     {
+        if self.passes_by(rec) {
+            return Ok(Came {
+                badcrc: false,
+                heard: None,
+            });
+        }
         match frame_for(self.plan.node, rec) {
             Some(frame) => {
                 let met = self.hear(&frame)?;
@@ -125,6 +136,18 @@ impl Node {
         let heard = came.heard?;
         let frame = heard.frame(rec);
         line_on(&frame, self.table.lend(heard.met, &frame))
+    }
+
+    /// Whether a record is of a message on no port of the plan. Its identifier says so, before it is read
+    /// as a frame.
+    #[inline(always)]
+    fn passes_by(&self, rec: &Record) -> bool
+        ensures { OnTrue result (IsElsewhere (subscriptions port_schema self.now.table) rec.now) }
+    {
+        match subject_in(rec.ident) {
+            Some(subject) => !self.table.takes(Kind::Message, subject),
+            None => false,
+        }
     }
 
     /// Takes a frame that is for the node.
@@ -157,8 +180,8 @@ impl Node {
 
     /// The bytes that the buffers of the open sessions take.
     pub fn held(&self) -> u64
-        ensures held { (past : ListOf RecordOf) → Stands self.now past → result ≡ held_at self.now.plan past }
-        ensures bound { (past : ListOf RecordOf) → Stands self.now past → result ≤ bound_of self.now.plan }
+        ensures held { Holds self.now result }
+        ensures bound { IsWithinBound self.now result }
     {
         self.table.held()
     }

@@ -1,4 +1,4 @@
-use Rattle.std.proofs.Common.{◌≡◌, ℕ, List, length, map, take}
+use Rattle.std.proofs.Common.{◌≡◌, length, map, take}
 use Rattle.node_core.specs.Text.{message_word}
 use Rattle.node_core.specs.Words.{word_text}
 use Rattle.node_core.proofs.bus_words.messages_of.Given as goal

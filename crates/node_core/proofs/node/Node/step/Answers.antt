@@ -1,18 +1,30 @@
+use Rattle.node_core.specs.Came.{came_lines}
+use Rattle.node_core.proofs.Elsewhere.{takes_by, gives_none, ends_none}
 use Rattle.node_core.proofs.HeardRecords.{heard_got, none_got}
 use Rattle.node_core.proofs.Steps.{frame_stands, stands_as_before, on_err}
 use Rattle.node_core.proofs.node.Node.step.Goals as goal
 
+pub returns-then-passes_by-clause-stands : goal.returns-then-passes_by-clause-stands
+returns-then-passes_by-clause-stands c = takes_by c.args.self.now c.args.rec.now c.if-passes_by.ensures
+
+pub returns-then-passes_by-clause-lines : goal.returns-then-passes_by-clause-lines
+unfolding came_lines
+returns-then-passes_by-clause-lines c = gives_none c.args.self.now c.args.rec.now c.if-passes_by.ensures
+
+pub returns-then-passes_by-clause-badcrc : goal.returns-then-passes_by-clause-badcrc
+returns-then-passes_by-clause-badcrc c = ends_none c.args.self.now c.args.rec.now c.if-passes_by.ensures
+
 pub returns-in_ok-met-in-Some-clause-stands : goal.returns-in_ok-met-in-Some-clause-stands
 returns-in_ok-met-in-Some-clause-stands c =
-    frame_stands c.args.self.now c.hear.new.self c.args.rec.now _ c.hear.ensures.plan c.in-Some.ensures c.in_ok-met-in-Some.ensures.stands
+    frame_stands c.args.self.now c.hear.new.self c.args.rec.now _ c.hear.ensures.plan c.in-Some.ensures.value c.in_ok-met-in-Some.ensures.stands
 
 pub returns-in_ok-met-in-Some-clause-lines : goal.returns-in_ok-met-in-Some-clause-lines
 returns-in_ok-met-in-Some-clause-lines c =
-    heard_got c.args.self.now c.hear.new.self c.args.rec.now _ _ _ c.in-Some.ensures c.in_ok-met-in-Some.ensures.lines
+    heard_got c.args.self.now c.hear.new.self c.args.rec.now _ _ _ c.in-Some.ensures.value c.in_ok-met-in-Some.ensures.lines
 
 pub returns-in_err-met-in-Some-clause-err : goal.returns-in_err-met-in-Some-clause-err
 returns-in_err-met-in-Some-clause-err c =
     on_err _ c.from_residual.result (stands_as_before c.args.self.now c.hear.new.self c.hear.ensures.plan c.in_err-met-in-Some.ensures.err)
 
 pub returns-in-None-clause-lines : goal.returns-in-None-clause-lines
-returns-in-None-clause-lines c = λ past _. none_got c.args.self.now c.args.rec.now _ c.in-None.ensures past
+returns-in-None-clause-lines c = λ past _. none_got c.args.self.now c.args.rec.now _ c.in-None.ensures.value past
