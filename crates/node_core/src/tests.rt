@@ -1,6 +1,6 @@
 use crate::{
     KeptLines, LineRef, LineSink, LineWriter, NoLines, Node, Numbers, PortShape, RawShape, Reading,
-    Refused, RxRef, push_end, push_text,
+    Refused, RxRef,
 };
 use can_id::{Key, Kind};
 use cy_bits::{BusName, List, NoMemory, ShortList};
