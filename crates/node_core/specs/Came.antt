@@ -32,7 +32,9 @@ answer_in node body met = table_answer (states shape_extent node.table.ports.ite
 
 abbrev pub heard_lines : Node → Record → Option Heard → List Line
 heard_lines node rec None = []
-heard_lines node rec (Some heard) = let f = frame_with rec heard.ident heard.tail in answer_lines f (answer_in node f.body heard.met)
+heard_lines node rec (Some heard) =
+    let f = frame_with rec heard.ident heard.tail in
+    answer_lines f (answer_in node f.body heard.met)
 
 -- whether a frame that was heard ends a transfer whose bytes don't fit their CRC
 abbrev pub heard_is_bad : Node → Record → Heard → Bool

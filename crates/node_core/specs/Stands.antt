@@ -61,9 +61,11 @@ KeepsSessions old new = (log : List KeyedFrame) → StandsAt old log → StandsA
 -- these are the lines that the frame gives
 abbrev pub FrameGives : Node → FrameOf → List Line → Type 0
 FrameGives node f lines =
-    (log : List KeyedFrame) → StandsAt node log → lines ≡ on_port node.plan.timeout f log (port_on (ports_of node.plan) f)
+    (log : List KeyedFrame) → StandsAt node log
+    → lines ≡ on_port node.plan.timeout f log (port_on (ports_of node.plan) f)
 
 -- this is whether the frame ends a transfer whose bytes don't fit their CRC
 abbrev pub FrameTellsBadCrc : Node → FrameOf → Bool → Type 0
 FrameTellsBadCrc node f is_bad =
-    (log : List KeyedFrame) → StandsAt node log → is_bad ≡ bad_on_port node.plan.timeout f log (port_on (ports_of node.plan) f)
+    (log : List KeyedFrame) → StandsAt node log
+    → is_bad ≡ bad_on_port node.plan.timeout f log (port_on (ports_of node.plan) f)

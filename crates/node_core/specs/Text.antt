@@ -84,6 +84,11 @@ received_words n =
     codes "records" ∷ decimal n.records ∷ codes "delivered" ∷ decimal n.delivered
     ∷ codes "badcrc" ∷ decimal n.badcrc ∷ codes "nosession" ∷ decimal n.nosession ∷ []
 
+-- how much was sent and held
+abbrev pub node_words : Numbers → List (List ℕ)
+node_words n =
+    codes "sent" ∷ decimal n.sent ∷ codes "held" ∷ decimal n.held ∷ codes "bound" ∷ decimal n.bound ∷ []
+
 -- the last line of a report that was read to its end
 abbrev pub end_text : Numbers → List ℕ
-end_text n = line_of ((codes "end" ∷ received_words n) ++ (codes "sent" ∷ decimal n.sent ∷ codes "held" ∷ decimal n.held ∷ codes "bound" ∷ decimal n.bound ∷ []))
+end_text n = line_of ((codes "end" ∷ received_words n) ++ node_words n)

@@ -17,7 +17,17 @@ outcome_lines key Ignored = []
 outcome_lines key Held = []
 outcome_lines key BadCrc = []
 outcome_lines key (Delivered bus priority tid first last moment payload) =
-    Rx (record { moment = moment; bus = bus; key = key; priority = priority; tid = tid; first = first; last = last; payload = payload; reading = Raw }) ∷ []
+    Rx (record {
+      moment = moment;
+      bus = bus;
+      key = key;
+      priority = priority;
+      tid = tid;
+      first = first;
+      last = last;
+      payload = payload;
+      reading = Raw;
+    }) ∷ []
 
 abbrev pub answer_lines : FrameOf → Answer → List Line
 answer_lines f NoPort = []

@@ -40,6 +40,7 @@ impl LineWriter {
     }
 
     /// Appends the text of a line. Want of memory leaves the text as it was.
+    #[inline(always)]
     pub fn push(&mut self, text: &mut TextBuffer, line: &LineRef<'_>) -> Result<(), NoMemory>
         ensures buses { writes_for self.new ≡ writes_for self.old }
         ensures ok { OnOk result (Writes self.old line.now text.old text.new) }
