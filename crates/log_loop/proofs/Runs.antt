@@ -189,7 +189,7 @@ has_taken v heard told left next_left old new past stop.Write gathered rest befo
 pub not_read_fault : (stat : Ended) → IsFinish stat → stat ≡ end.ReadFault → ⊥
 not_read_fault stat f e = subst IsFinish e f
 
-told_none : (told : Option (List ℕ)) → IfSome told (λ (left : List ℕ). unwrap_or told [] ≡ left)
+pub told_none : (told : Option (List ℕ)) → IfSome told (λ (left : List ℕ). unwrap_or told [] ≡ left)
 told_none None = tt
 told_none (Some left) = refl
 

@@ -155,7 +155,7 @@ pub record Streams (v : Voice) (told left : Option (List ℕ)) (reader : LogRead
   pub far : AllFar v taken past before after
 
 -- no bytes have such a front
-no_front : (front more : List ℕ) → [] ≡ front ++ more → 8192 < length more → ⊥
+pub no_front : (front more : List ℕ) → [] ≡ front ++ more → 8192 < length more → ⊥
 no_front front more e long =
     let size : length {A = ℕ} [] ≡ length (front ++ more) = ap (λ (l : List ℕ). length l) e in
     let sum : length (front ++ more) ≡ length front + length more = length-append front more in omega arith

@@ -1,12 +1,5 @@
-pub mod Texts
 pub mod Steps
-pub mod Written
-pub mod Logs
-pub mod Came
-pub mod Runs
 pub mod Starts
-pub mod Taken
-pub mod Comes
 pub mod Streams
 pub mod Roots
 pub mod Endings

@@ -1,10 +1,8 @@
 pub mod BoundText
 pub mod Compared
-pub mod Gathered
 pub mod Layouts
 pub mod Loaded
 pub mod NamedTypes
-pub mod Next
 pub mod Ran
 pub mod Streamed
 pub mod Taken

@@ -1,5 +1,5 @@
 ghost use Rattle.std.specs.Prelude.{◌≡◌};
-ghost use Rattle.node_run.specs.Ran.{IsEmpty};
+ghost use Rattle.node_run.specs.Ran.{IsEmpty, numbers_of};
 
 use cy_bits::List;
 use node_core::{Line, Numbers};
@@ -44,5 +44,20 @@ impl Report {
             bound: 0,
             failed: List::empty(alloc),
         }
+    }
+
+    /// Takes its numbers from these.
+    pub fn count(&mut self, numbers: &Numbers)
+        ensures numbers { numbers_of self.new ≡ numbers.now }
+        ensures lines { self.new.lines ≡ self.old.lines }
+        ensures failed { self.new.failed ≡ self.old.failed }
+    {
+        self.records = numbers.records;
+        self.delivered = numbers.delivered;
+        self.badcrc = numbers.badcrc;
+        self.nosession = numbers.nosession;
+        self.sent = numbers.sent;
+        self.held = numbers.held;
+        self.bound = numbers.bound;
     }
 }

@@ -1,6 +1,7 @@
 use compat_check::CompatWhy;
 use cy_bits::Text;
 use dsdl_resolve::DsdlWhy;
+use frame_log::LogWhy;
 use node_plan::PlanWhy;
 
 /// How a command ended.
@@ -49,17 +50,4 @@ pub enum Status {
     WriteFault,
     /// Memory was wanted and not given.
     NoMemory,
-}
-
-/// Why a line of a log is refused.
-#[derive(Clone, Copy, Debug, PartialEq, Eq)]
-pub enum LogWhy {
-    /// It has no form of a log line, or more than 4,096 bytes.
-    BadLine,
-    /// Its moment is below that of the record before.
-    TimeBack,
-    /// The plan has no such bus.
-    UnknownBus,
-    /// Its moment is more than 100,000 seconds after that of the first record.
-    TooFar,
 }

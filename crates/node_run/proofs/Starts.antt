@@ -1,0 +1,53 @@
+-- A run that heard nothing.
+use Rattle.std.proofs.Common.{◌≡◌, ◌∙◌, ℕ, ◌+◌, ◌*◌, List, [], ◌∷◌, length, take, Option, Some, None, refl, sym, ap, append-nil, arith}
+use Rattle.std.proofs.lemmas.Grind.{common_steps}
+use Rattle.std.specs.Prelude.{unwrap_or}
+use Rattle.rx_table.specs.Ports.{Port, held}
+use Rattle.frame_log.specs.Log.{log_of}
+use Rattle.log_loop.proofs.Runs.{told_none}
+use Rattle.log_loop.proofs.Written.{begins_none}
+use Rattle.node_plan.specs.Bound.{bound_of}
+use Rattle.node_plan.specs.declared.plan.Plan.{Plan}
+use Rattle.node_core.specs.declared.line.Line.{Line}
+use Rattle.node_core.specs.declared.numbers.Numbers.{Numbers}
+use Rattle.node_core.specs.Heard.{ports_of}
+use Rattle.node_core.specs.LineSinks.{put_behind}
+use Rattle.node_core.specs.Steps.{held_at}
+use Rattle.node_run.specs.declared.status.Status.TheVariants as status
+use Rattle.node_run.specs.Ran.{names_of, steps_of, reported, no_numbers, At, HasRun, whole_text}
+
+take_none : (n : ℕ) → take {A = ℕ} n [] ≡ []
+take_none n = grind (arith, common_steps)
+
+-- before its first frame a port holds nothing
+held_before : (ports : List Port) → held ports [] ≡ 0
+held_before [] = refl
+held_before (p ∷ ports) = ap (λ (s : List ℕ). length s * p.extent + held ports []) (take_none p.sources) ∙ (omega arith ∙ held_before ports)
+
+pub held_none : (plan : Plan) → held_at plan [] ≡ 0
+held_none plan = held_before (ports_of plan)
+
+pub put_none : (lines : Option (List Line)) → lines ≡ put_behind lines []
+put_none None = refl
+put_none (Some l) = ap Some (sym (append-nil l))
+
+-- the numbers of nothing, but for the bound
+pub at_none : (plan : Plan) (lines : Option (List Line)) (held bound : ℕ) → held ≡ held_at plan [] → bound ≡ bound_of plan → At plan [] (reported lines lines (record no_numbers { held = held; bound = bound }))
+at_none plan lines held bound h b = record {
+  reported = put_none lines;
+  counted = λ i. record { records = 0; delivered = 0; badcrc = 0; nosession = 0; sent = 0; held = h i; bound = b i };
+}
+
+-- memory was wanting before the first record
+pub has_none : (plan : Plan) (told : Option (List ℕ)) (lines : Option (List Line)) (bound : ℕ) (before : Option (List ℕ)) → bound ≡ bound_of plan
+    → HasRun plan told status.NoMemory (reported lines lines (record no_numbers { bound = bound })) before before
+has_none plan told lines bound before b =
+    let log = log_of (names_of plan) (unwrap_or told []) in
+    let all = steps_of plan log in record {
+      bytes = unwrap_or told [];
+      is = told_none told;
+      ran = record {
+        first = record { newer = all; past = []; parts = sym (append-nil all); at = at_none plan lines 0 bound (sym (held_none plan)) b };
+        written = begins_none (whole_text plan all log.refusal) before;
+      };
+    }
