@@ -9,8 +9,8 @@ use Rattle.dsdl_types.specs.declared.definition.Definition.{Definition}
 use Rattle.dsdl_types.specs.declared.definition.Parts.{Parts}
 use Rattle.dsdl_types.specs.declared.definition.Parts.TheVariants as parts
 use Rattle.dsdl_types.specs.declared.namespace.Namespace.{Namespace}
-use Rattle.node_run.specs.declared.named.NamedParts.{NamedParts}
-use Rattle.node_run.specs.declared.named.NamedParts.TheVariants as found
+use Rattle.node_run.specs.declared.types.named.NamedParts.{NamedParts}
+use Rattle.node_run.specs.declared.types.named.NamedParts.TheVariants as found
 
 -- a text without this end, where it has it
 abbrev pub without_end : List ℕ → List ℕ → Option (List ℕ)

@@ -1,20 +1,16 @@
-//! A run of a node over a log: which lines are reported, what is written and when, and how it ended.
+//! Two halves: `log`, what a plan's node does over a log, and `types`, what is written of a folder's types.
 #![tactic(auto)]
 
-mod bound_text;
-mod compared;
-mod layouts;
-pub mod named;
-mod namespace;
+pub mod log;
 pub mod report;
-mod run;
 pub mod status;
+pub mod types;
 
-pub use bound_text::bound;
-pub use compared::compat;
 pub use frame_log::LogWhy;
-pub use layouts::compile;
-pub use namespace::load;
+pub use log::bound_text::bound;
+pub use log::run::{run_log, run_over};
 pub use report::Report;
-pub use run::{run_log, run_over};
 pub use status::Status;
+pub use types::compared::compat;
+pub use types::layouts::compile;
+pub use types::namespace::load;

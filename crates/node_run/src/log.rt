@@ -1,0 +1,6 @@
+//! A plan and a log: the run of the node, and the bound on its memory.
+
+pub mod bound_text;
+pub mod run;
+pub mod running;
+pub mod tally;

@@ -1,0 +1,119 @@
+//! A run over a log.
+ghost use Rattle.std.specs.Prelude.{◌≡◌, ◌≤◌, [], map};
+ghost use Rattle.cy_outside.specs.Outside.{Rose};
+ghost use Rattle.node_plan.specs.Bound.{bound_of};
+ghost use Rattle.node_plan.specs.IsPlan.{IsPlan};
+ghost use Rattle.node_run.specs.Ran.{IsEmpty, HasRun, reported, of_report, names_of, status_of};
+ghost use Rattle.node_run.specs.Taken.{IsOfTaken};
+ghost use Rattle.node_run.specs.Streamed.{IsStreamed};
+
+use crate::log::running::Running;
+use crate::log::tally::Tally;
+use crate::report::Report;
+use crate::status::Status;
+use cy_bits::{BusName, List, ShortList};
+use cy_outside::{Sink, Source};
+use log_loop::{Ended, listen};
+use node_core::{KeptLines, LineSink, LineWriter, Node, Numbers};
+use node_plan::{BusPlan, Plan, bound};
+use std::alloc::Global;
+use std::mem;
+
+/// Runs the node of a plan over a log: a step for each record, and at the log's end the last line. A sink takes the
+/// lines of the steps, their text is written before the input is read again, and the numbers become those of the run.
+pub fn run_over<L: Source, O: Sink, K: LineSink>(
+    alloc: Global,
+    plan: Plan,
+    input: &mut L,
+    out: &mut O,
+    lines: &mut K,
+    numbers: &mut Numbers,
+) -> Status
+    requires plan { IsPlan plan }
+    ensures ran { HasRun plan (L.left input.old) result (reported (K.lines lines.old) (K.lines lines.new) numbers.new) (O.written out.old) (O.written out.new) }
+    ensures taken { result ≡ Status.ReadFault → IsOfTaken plan (L.left input.old) (L.left input.new) (reported (K.lines lines.old) (K.lines lines.new) numbers.new) (O.written out.old) (O.written out.new) }
+    ensures streamed { IsStreamed plan (L.left input.old) (L.left input.new) result (reported (K.lines lines.old) (K.lines lines.new) numbers.new) (O.written out.old) (O.written out.new) }
+    ensures read { result ≡ Status.ReadFault → Rose (L.faults input.old) (L.faults input.new) }
+    ensures write { result ≡ Status.WriteFault → Rose (O.faults out.old) (O.faults out.new) }
+    ensures kept { result ≡ Status.Ok → (L.faults input.new ≡ L.faults input.old) × (O.faults out.new ≡ O.faults out.old) }
+    ensures bound { numbers.new.bound ≡ bound_of plan }
+    ensures held { numbers.new.held ≤ numbers.new.bound }
+{
+    let names = names_of(&plan);
+    let mut writer = LineWriter::new(&plan.buses);
+    let bound = bound(&plan);
+    *numbers = Tally::new(0, bound).numbers;
+    let Ok(mut node) = Node::open(alloc, plan) else {
+        return Status::NoMemory;
+    };
+    let mut run = Running {
+        tally: Tally::new(node.held(), bound),
+        node: &mut node,
+        writer: &mut writer,
+        lines,
+    };
+    let ended = listen(alloc, &mut run, names, input, out);
+    *numbers = run.tally.numbers;
+    status_of(ended)
+}
+
+/// The same, whose lines and numbers a report takes.
+pub fn run_log<L: Source, O: Sink>(
+    alloc: Global,
+    plan: Plan,
+    input: &mut L,
+    out: &mut O,
+    report: &mut Report,
+) -> Status
+    requires plan { IsPlan plan }
+    requires empty { IsEmpty report.old }
+    ensures ran { HasRun plan (L.left input.old) result (of_report report.new) (O.written out.old) (O.written out.new) }
+    ensures taken { result ≡ Status.ReadFault → IsOfTaken plan (L.left input.old) (L.left input.new) (of_report report.new) (O.written out.old) (O.written out.new) }
+    ensures streamed { IsStreamed plan (L.left input.old) (L.left input.new) result (of_report report.new) (O.written out.old) (O.written out.new) }
+    ensures read { result ≡ Status.ReadFault → Rose (L.faults input.old) (L.faults input.new) }
+    ensures write { result ≡ Status.WriteFault → Rose (O.faults out.old) (O.faults out.new) }
+    ensures kept { result ≡ Status.Ok → (L.faults input.new ≡ L.faults input.old) × (O.faults out.new ≡ O.faults out.old) }
+    ensures bound { report.new.bound ≡ bound_of plan }
+    ensures held { report.new.held ≤ report.new.bound }
+    ensures failed { report.new.failed ≡ [] }
+{
+    let mut kept = KeptLines::new(alloc, mem::replace(&mut report.lines, List::empty(alloc)));
+    let mut numbers = Tally::new(0, 0).numbers;
+    let status = run_over(alloc, plan, input, out, &mut kept, &mut numbers);
+    report.lines = kept.into_list();
+    report.count(&numbers);
+    status
+}
+
+/// The status of a run, by how its loop over the log ended.
+fn status_of(ended: Ended) -> Status
+    ensures { result ≡ status_of ended }
+{
+    match ended {
+        Ended::Ok => Status::Ok,
+        Ended::Log { line, why } => Status::Log { line, why },
+        Ended::LogLong => Status::LogLong,
+        Ended::ReadFault => Status::ReadFault,
+        Ended::WriteFault => Status::WriteFault,
+        Ended::NoMemory => Status::NoMemory,
+    }
+}
+
+/// The names of a plan's buses.
+fn names_of(plan: &Plan) -> ShortList<BusName, 3>
+    ensures { result ≡ names_of plan.now }
+{
+    let mut names = ShortList::new();
+    for bus in plan.buses.as_slice() {
+        names.push(name_of(bus));
+    }
+    names
+}
+
+/// The name of a bus, copied.
+fn name_of(bus: &BusPlan) -> BusName
+    ensures { result ≡ bus.now.name }
+{
+    let text = bus.name.as_str();
+    BusName::new(text).unwrap()
+}

@@ -1,0 +1,6 @@
+//! The types of a folder: loaded, laid out, and compared.
+
+pub mod compared;
+pub mod layouts;
+pub mod named;
+pub mod namespace;
