@@ -26,7 +26,8 @@ pub fn flush<O: Sink>(out: &mut O, gathered: &mut TextBuffer) -> Result<(), Fail
 /// Writes what is gathered, where it is much.
 #[inline(always)]
 pub fn flush_much<O: Sink>(out: &mut O, gathered: &mut TextBuffer) -> Result<(), Failed>
-    ensures text { OnOk result (Gathered (text_of gathered.old) (text_of gathered.new) (O.written out.old) (O.written out.new)) }
+    ensures text { OnOk result
+        (Gathered (text_of gathered.old) (text_of gathered.new) (O.written out.old) (O.written out.new)) }
     ensures few { OnOk result (length (text_of gathered.new) ≤ 65536) }
     ensures begins { OnErr result (Begins (text_of gathered.old) (O.written out.old) (O.written out.new)) }
     ensures fault { OnErr result (Rose (O.faults out.old) (O.faults out.new)) }

@@ -31,16 +31,21 @@ pub trait Listener {
         requires moment { latest self.old ≤ rec.now.moment }
         requires line { line self.old < rec.now.line }
         requires few { length (text_of gathered.old) ≤ 65536 }
-        ensures heard { OnOk result ((first : Self) (past : List Record) → heard first self.old past → heard first self.new (rec.now ∷ past)) }
-        ensures broke { OnErr result ((first : Self) (past : List Record) → heard first self.old past → broke first self.new (rec.now ∷ past)) }
-        ensures text { OnOk result ((first : Self) (past : List Record) → heard first self.old past → text_of gathered.new ≡ text_of gathered.old ++ step_text first rec.now past) }
+        ensures heard { OnOk result ((first : Self) (past : List Record)
+            → heard first self.old past → heard first self.new (rec.now ∷ past)) }
+        ensures broke { OnErr result ((first : Self) (past : List Record)
+            → heard first self.old past → broke first self.new (rec.now ∷ past)) }
+        ensures text { OnOk result ((first : Self) (past : List Record) → heard first self.old past
+            → text_of gathered.new ≡ text_of gathered.old ++ step_text first rec.now past) }
         ensures latest { latest self.new ≤ rec.now.moment }
         ensures line { line self.new ≤ rec.now.line };
 
     /// Gathers what it says at the end.
     fn finish(&mut self, gathered: &mut TextBuffer) -> Result<(), NoMemory>
-        ensures heard { (first : Self) (past : List Record) → heard first self.old past → heard first self.new past }
-        ensures text { OnOk result ((first : Self) (past : List Record) → heard first self.old past → text_of gathered.new ≡ text_of gathered.old ++ last_text first past) };
+        ensures heard { (first : Self) (past : List Record)
+            → heard first self.old past → heard first self.new past }
+        ensures text { OnOk result ((first : Self) (past : List Record) → heard first self.old past
+            → text_of gathered.new ≡ text_of gathered.old ++ last_text first past) };
 
     /// Whoever heard all may break off there.
     ghost heard_broke: { (first now : Self) (past : List Record) → heard first now past → broke first now past };

@@ -34,15 +34,20 @@ pub fn next<L: Source, O: Sink>(
     written: &mut Record,
 ) -> Result<bool, Stop>
     requires { answer_of reader.old ≡ None }
-    ensures log { GoesOn reader.old reader.new (L.left input.old) (L.left input.new) (handed written.new result) }
-    ensures came { ComesBehind reader.old reader.new (L.left input.old) (L.left input.new) (text_of gathered.new) (handed written.new result) }
+    ensures log { GoesOn reader.old reader.new (L.left input.old) (L.left input.new)
+        (handed written.new result) }
+    ensures came { ComesBehind reader.old reader.new (L.left input.old) (L.left input.new)
+        (text_of gathered.new) (handed written.new result) }
     ensures reader { ReadsOn reader.old reader.new (handed written.new result) }
     ensures buses { buses_of reader.new ≡ buses_of reader.old }
     ensures end { saw_end reader.old ≡ false → saw_end reader.new ≡ true → IsAtEnd (L.left input.new) }
-    ensures text { Writes (text_of gathered.old) (text_of gathered.new) (O.written out.old) (O.written out.new) (handed written.new result) }
+    ensures text { Writes (text_of gathered.old) (text_of gathered.new)
+        (O.written out.old) (O.written out.new) (handed written.new result) }
     ensures few { OnOk result (length (text_of gathered.new) ≤ 65536) }
-    ensures cause { HasStopCause (L.faults input.old) (L.faults input.new) (O.faults out.old) (O.faults out.new) (handed written.new result) }
-    ensures failed { result ≡ Err (Stop.Log error.Failed) → (cut 10 (held_of reader.new) ≡ None) × (saw_end reader.new ≡ false) }
+    ensures cause { HasStopCause (L.faults input.old) (L.faults input.new)
+        (O.faults out.old) (O.faults out.new) (handed written.new result) }
+    ensures failed { result ≡ Err (Stop.Log error.Failed)
+        → (cut 10 (held_of reader.new) ≡ None) × (saw_end reader.new ≡ false) }
 {
     match reader.next_held_into(written) {
         Ok(true) => {
@@ -70,15 +75,20 @@ fn next_read<L: Source, O: Sink>(
     written: &mut Record,
 ) -> Result<bool, Stop>
     requires { answer_of reader.old ≡ None }
-    ensures log { GoesOn reader.old reader.new (L.left input.old) (L.left input.new) (handed written.new result) }
-    ensures came { ComesBehind reader.old reader.new (L.left input.old) (L.left input.new) (text_of waiting.new) (handed written.new result) }
+    ensures log { GoesOn reader.old reader.new (L.left input.old) (L.left input.new)
+        (handed written.new result) }
+    ensures came { ComesBehind reader.old reader.new (L.left input.old) (L.left input.new)
+        (text_of waiting.new) (handed written.new result) }
     ensures reader { ReadsOn reader.old reader.new (handed written.new result) }
     ensures buses { buses_of reader.new ≡ buses_of reader.old }
     ensures end { saw_end reader.old ≡ false → saw_end reader.new ≡ true → IsAtEnd (L.left input.new) }
-    ensures text { Writes (text_of waiting.old) (text_of waiting.new) (O.written out.old) (O.written out.new) (handed written.new result) }
+    ensures text { Writes (text_of waiting.old) (text_of waiting.new)
+        (O.written out.old) (O.written out.new) (handed written.new result) }
     ensures few { OnOk result (length (text_of waiting.new) ≤ 65536) }
-    ensures cause { HasStopCause (L.faults input.old) (L.faults input.new) (O.faults out.old) (O.faults out.new) (handed written.new result) }
-    ensures failed { result ≡ Err (Stop.Log error.Failed) → (cut 10 (held_of reader.new) ≡ None) × (saw_end reader.new ≡ false) }
+    ensures cause { HasStopCause (L.faults input.old) (L.faults input.new)
+        (O.faults out.old) (O.faults out.new) (handed written.new result) }
+    ensures failed { result ≡ Err (Stop.Log error.Failed)
+        → (cut 10 (held_of reader.new) ≡ None) × (saw_end reader.new ≡ false) }
 {
     let Ok(()) = flush(out, waiting) else {
         return Err(Stop::Write);

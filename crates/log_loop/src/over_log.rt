@@ -32,12 +32,19 @@ pub fn listen<M: Listener, L: Source, O: Sink>(
 ) -> Ended
     requires heard { M.heard listener.old listener.old [] }
     requires fresh { (M.latest listener.old ≡ 0) × (M.line listener.old ≡ 0) }
-    ensures gone { HasGone (voice buses (M.step_text listener.old) (M.last_text listener.old)) (M.heard listener.old listener.new) (M.broke listener.old listener.new) (L.left input.old) result (O.written out.old) (O.written out.new) }
-    ensures taken { result ≡ Ended.ReadFault → IsOfTaken (voice buses (M.step_text listener.old) (M.last_text listener.old)) (M.heard listener.old listener.new) (L.left input.old) (L.left input.new) (O.written out.old) (O.written out.new) }
-    ensures streamed { IsStreamed (voice buses (M.step_text listener.old) (M.last_text listener.old)) (M.heard listener.old listener.new) (L.left input.old) (L.left input.new) result (O.written out.old) (O.written out.new) }
+    ensures gone { let v = voice buses (M.step_text listener.old) (M.last_text listener.old) in
+        HasGone v (M.heard listener.old listener.new) (M.broke listener.old listener.new)
+        (L.left input.old) result (O.written out.old) (O.written out.new) }
+    ensures taken { let v = voice buses (M.step_text listener.old) (M.last_text listener.old) in
+        result ≡ Ended.ReadFault → IsOfTaken v (M.heard listener.old listener.new)
+        (L.left input.old) (L.left input.new) (O.written out.old) (O.written out.new) }
+    ensures streamed { let v = voice buses (M.step_text listener.old) (M.last_text listener.old) in
+        IsStreamed v (M.heard listener.old listener.new)
+        (L.left input.old) (L.left input.new) result (O.written out.old) (O.written out.new) }
     ensures read { result ≡ Ended.ReadFault → Rose (L.faults input.old) (L.faults input.new) }
     ensures write { result ≡ Ended.WriteFault → Rose (O.faults out.old) (O.faults out.new) }
-    ensures kept { result ≡ Ended.Ok → (L.faults input.new ≡ L.faults input.old) × (O.faults out.new ≡ O.faults out.old) }
+    ensures kept { result ≡ Ended.Ok
+        → (L.faults input.new ≡ L.faults input.old) × (O.faults out.new ≡ O.faults out.old) }
 {
     let Ok(mut reader) = LogReader::new(alloc, buses) else {
         return Ended::NoMemory;
@@ -59,12 +66,19 @@ fn hear_all<M: Listener, L: Source, O: Sink>(
     requires start { (place_of reader.old ≡ start) × (held_of reader.old ≡ []) }
     requires heard { M.heard listener.old listener.old [] }
     requires fresh { (M.latest listener.old ≡ 0) × (M.line listener.old ≡ 0) }
-    ensures gone { HasGone (voice (buses_of reader.old) (M.step_text listener.old) (M.last_text listener.old)) (M.heard listener.old listener.new) (M.broke listener.old listener.new) (L.left input.old) result (O.written out.old) (O.written out.new) }
-    ensures taken { result ≡ Ended.ReadFault → IsOfTaken (voice (buses_of reader.old) (M.step_text listener.old) (M.last_text listener.old)) (M.heard listener.old listener.new) (L.left input.old) (L.left input.new) (O.written out.old) (O.written out.new) }
-    ensures streamed { IsStreamed (voice (buses_of reader.old) (M.step_text listener.old) (M.last_text listener.old)) (M.heard listener.old listener.new) (L.left input.old) (L.left input.new) result (O.written out.old) (O.written out.new) }
+    ensures gone { let v = voice (buses_of reader.old) (M.step_text listener.old) (M.last_text listener.old) in
+        HasGone v (M.heard listener.old listener.new) (M.broke listener.old listener.new)
+        (L.left input.old) result (O.written out.old) (O.written out.new) }
+    ensures taken { let v = voice (buses_of reader.old) (M.step_text listener.old) (M.last_text listener.old) in
+        result ≡ Ended.ReadFault → IsOfTaken v (M.heard listener.old listener.new)
+        (L.left input.old) (L.left input.new) (O.written out.old) (O.written out.new) }
+    ensures streamed { let v = voice (buses_of reader.old) (M.step_text listener.old) (M.last_text listener.old) in
+        IsStreamed v (M.heard listener.old listener.new)
+        (L.left input.old) (L.left input.new) result (O.written out.old) (O.written out.new) }
     ensures read { result ≡ Ended.ReadFault → Rose (L.faults input.old) (L.faults input.new) }
     ensures write { result ≡ Ended.WriteFault → Rose (O.faults out.old) (O.faults out.new) }
-    ensures kept { result ≡ Ended.Ok → (L.faults input.new ≡ L.faults input.old) × (O.faults out.new ≡ O.faults out.old) }
+    ensures kept { result ≡ Ended.Ok
+        → (L.faults input.new ≡ L.faults input.old) × (O.faults out.new ≡ O.faults out.old) }
 {
     ordered();
     let mut gathered = TextBuffer::new(alloc);
@@ -90,9 +104,11 @@ fn hear_all<M: Listener, L: Source, O: Sink>(
 
 /// Writes what a listener says at the end behind what is gathered.
 fn end<M: Listener, O: Sink>(listener: &mut M, out: &mut O, gathered: &mut TextBuffer) -> Ended
-    ensures ok { result ≡ Ended.Ok → (first : M) (past : List Record) → M.heard first listener.old past → O.written out.new ≡ behind (O.written out.old) (text_of gathered.old ++ M.last_text first past) }
+    ensures ok { result ≡ Ended.Ok → (first : M) (past : List Record) → M.heard first listener.old past
+        → O.written out.new ≡ behind (O.written out.old) (text_of gathered.old ++ M.last_text first past) }
     ensures kept { result ≡ Ended.Ok → O.faults out.new ≡ O.faults out.old }
-    ensures begins { result ≡ Ended.WriteFault → (first : M) (past : List Record) → M.heard first listener.old past → Begins (text_of gathered.old ++ M.last_text first past) (O.written out.old) (O.written out.new) }
+    ensures begins { result ≡ Ended.WriteFault → (first : M) (past : List Record) → M.heard first listener.old past
+        → Begins (text_of gathered.old ++ M.last_text first past) (O.written out.old) (O.written out.new) }
     ensures write { result ≡ Ended.WriteFault → Rose (O.faults out.old) (O.faults out.new) }
     ensures memory { result ≡ Ended.NoMemory → O.written out.new ≡ O.written out.old }
     ensures heard { (first : M) (past : List Record) → M.heard first listener.old past → M.heard first listener.new past }

@@ -30,12 +30,17 @@ pub fn run_over<L: Source, O: Sink, K: LineSink>(
     numbers: &mut Numbers,
 ) -> Status
     requires plan { IsPlan plan }
-    ensures ran { HasRun plan (L.left input.old) result (reported (K.lines lines.old) (K.lines lines.new) numbers.new) (O.written out.old) (O.written out.new) }
-    ensures taken { result ≡ Status.ReadFault → IsOfTaken plan (L.left input.old) (L.left input.new) (reported (K.lines lines.old) (K.lines lines.new) numbers.new) (O.written out.old) (O.written out.new) }
-    ensures streamed { IsStreamed plan (L.left input.old) (L.left input.new) result (reported (K.lines lines.old) (K.lines lines.new) numbers.new) (O.written out.old) (O.written out.new) }
+    ensures ran { let r = reported (K.lines lines.old) (K.lines lines.new) numbers.new in
+        HasRun plan (L.left input.old) result r (O.written out.old) (O.written out.new) }
+    ensures taken { let r = reported (K.lines lines.old) (K.lines lines.new) numbers.new in
+        result ≡ Status.ReadFault
+        → IsOfTaken plan (L.left input.old) (L.left input.new) r (O.written out.old) (O.written out.new) }
+    ensures streamed { let r = reported (K.lines lines.old) (K.lines lines.new) numbers.new in
+        IsStreamed plan (L.left input.old) (L.left input.new) result r (O.written out.old) (O.written out.new) }
     ensures read { result ≡ Status.ReadFault → Rose (L.faults input.old) (L.faults input.new) }
     ensures write { result ≡ Status.WriteFault → Rose (O.faults out.old) (O.faults out.new) }
-    ensures kept { result ≡ Status.Ok → (L.faults input.new ≡ L.faults input.old) × (O.faults out.new ≡ O.faults out.old) }
+    ensures kept { result ≡ Status.Ok
+        → (L.faults input.new ≡ L.faults input.old) × (O.faults out.new ≡ O.faults out.old) }
     ensures bound { numbers.new.bound ≡ bound_of plan }
     ensures held { numbers.new.held ≤ numbers.new.bound }
 {
@@ -67,12 +72,17 @@ pub fn run_log<L: Source, O: Sink>(
 ) -> Status
     requires plan { IsPlan plan }
     requires empty { IsEmpty report.old }
-    ensures ran { HasRun plan (L.left input.old) result (of_report report.new) (O.written out.old) (O.written out.new) }
-    ensures taken { result ≡ Status.ReadFault → IsOfTaken plan (L.left input.old) (L.left input.new) (of_report report.new) (O.written out.old) (O.written out.new) }
-    ensures streamed { IsStreamed plan (L.left input.old) (L.left input.new) result (of_report report.new) (O.written out.old) (O.written out.new) }
+    ensures ran { let r = of_report report.new in
+        HasRun plan (L.left input.old) result r (O.written out.old) (O.written out.new) }
+    ensures taken { let r = of_report report.new in
+        result ≡ Status.ReadFault
+        → IsOfTaken plan (L.left input.old) (L.left input.new) r (O.written out.old) (O.written out.new) }
+    ensures streamed { let r = of_report report.new in
+        IsStreamed plan (L.left input.old) (L.left input.new) result r (O.written out.old) (O.written out.new) }
     ensures read { result ≡ Status.ReadFault → Rose (L.faults input.old) (L.faults input.new) }
     ensures write { result ≡ Status.WriteFault → Rose (O.faults out.old) (O.faults out.new) }
-    ensures kept { result ≡ Status.Ok → (L.faults input.new ≡ L.faults input.old) × (O.faults out.new ≡ O.faults out.old) }
+    ensures kept { result ≡ Status.Ok
+        → (L.faults input.new ≡ L.faults input.old) × (O.faults out.new ≡ O.faults out.old) }
     ensures bound { report.new.bound ≡ bound_of plan }
     ensures held { report.new.held ≤ report.new.bound }
     ensures failed { report.new.failed ≡ [] }

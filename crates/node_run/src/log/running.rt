@@ -78,8 +78,10 @@ fn tell<K: LineSink>(
     told: Option<LineRef<'_>>,
 ) -> Result<(), NoMemory>
     ensures buses { writes_for writer.new ≡ writes_for writer.old }
-    ensures text { OnOk result (text_of gathered.new ≡ text_of gathered.old ++ text (writes_for writer.old) (told_lines told.entry)) }
-    ensures adds { OnOk result (K.lines lines.new ≡ put_behind (K.lines lines.old) (told_lines told.entry)) }
+    ensures text { OnOk result
+        (text_of gathered.new ≡ text_of gathered.old ++ text (writes_for writer.old) (told_lines told.entry)) }
+    ensures adds { OnOk result
+        (K.lines lines.new ≡ put_behind (K.lines lines.old) (told_lines told.entry)) }
     ensures err { OnErr result (K.lines lines.new ≡ K.lines lines.old) }
 {
     match told {
