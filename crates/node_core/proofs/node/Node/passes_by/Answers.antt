@@ -7,11 +7,9 @@ use Rattle.can_id.specs.declared.ident.Ident.{Ident}
 use Rattle.can_id.specs.declared.ident.Ident.TheVariants.{Message, Anonymous}
 use Rattle.can_id.specs.declared.key.Kind.{Kind}
 use Rattle.can_id.specs.declared.key.Kind.TheVariants.{Message as message}
-use Rattle.tail_frame.specs.Frames.{FrameOf}
 use Rattle.tail_frame.specs.declared.logged.Record.{Record}
 use Rattle.rx_table.specs.Ports.{Port, port_at}
-use Rattle.rx_table.specs.Table.{port_on}
-use Rattle.node_core.specs.Heard.{frame_for, subject_in, IsElsewhere}
+use Rattle.node_core.specs.Heard.{subject_in, IsElsewhere}
 use Rattle.node_core.proofs.HeardRecords.{is_of}
 use Rattle.node_core.proofs.node.Node.passes_by.Goals as goal
 
