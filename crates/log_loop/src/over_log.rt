@@ -21,8 +21,8 @@ use line_text::TextBuffer;
 use std::alloc::Global;
 use tail_frame::Record;
 
-/// Lets a listener hear the log of an input, and writes what it says on each record, and at the log's end its last words.
-/// It has heard nothing, and hears from moment 0 and line 0 on.
+/// Lets a listener hear the log of an input, and writes what it says on each record, and at the log's end its last
+/// words. It has heard nothing, and hears from moment 0 and line 0 on.
 pub fn listen<M: Listener, L: Source, O: Sink>(
     alloc: Global,
     listener: &mut M,
@@ -104,10 +104,12 @@ fn hear_all<M: Listener, L: Source, O: Sink>(
 
 /// Writes what a listener says at the end behind what is gathered.
 fn end<M: Listener, O: Sink>(listener: &mut M, out: &mut O, gathered: &mut TextBuffer) -> Ended
-    ensures ok { result ≡ Ended.Ok → (first : M) (past : List Record) → M.heard first listener.old past
+    ensures ok { result ≡ Ended.Ok
+        → (first : M) (past : List Record) → M.heard first listener.old past
         → O.written out.new ≡ behind (O.written out.old) (text_of gathered.old ++ M.last_text first past) }
     ensures kept { result ≡ Ended.Ok → O.faults out.new ≡ O.faults out.old }
-    ensures begins { result ≡ Ended.WriteFault → (first : M) (past : List Record) → M.heard first listener.old past
+    ensures begins { result ≡ Ended.WriteFault
+        → (first : M) (past : List Record) → M.heard first listener.old past
         → Begins (text_of gathered.old ++ M.last_text first past) (O.written out.old) (O.written out.new) }
     ensures write { result ≡ Ended.WriteFault → Rose (O.faults out.old) (O.faults out.new) }
     ensures memory { result ≡ Ended.NoMemory → O.written out.new ≡ O.written out.old }

@@ -31,11 +31,14 @@ pub struct Running<'a, K> {
 }
 
 impl<'a, K: LineSink> Listener for Running<'a, K> {
-    ghost heard = { λ first now past. (now.lines.ghost_name ≡ first.lines.ghost_name)
-        × Hears first.node.now.plan now.node.now (writes_for now.writer.now) (reported (K.lines first.lines.now) (K.lines now.lines.now) now.tally.numbers) past };
+    ghost heard = { λ first now past.
+        let r = reported (K.lines first.lines.now) (K.lines now.lines.now) now.tally.numbers in
+        (now.lines.ghost_name ≡ first.lines.ghost_name)
+        × Hears first.node.now.plan now.node.now (writes_for now.writer.now) r past };
 
-    ghost broke = { λ first now past. (now.lines.ghost_name ≡ first.lines.ghost_name)
-        × BrokeOff first.node.now.plan (reported (K.lines first.lines.now) (K.lines now.lines.now) now.tally.numbers) past };
+    ghost broke = { λ first now past.
+        let r = reported (K.lines first.lines.now) (K.lines now.lines.now) now.tally.numbers in
+        (now.lines.ghost_name ≡ first.lines.ghost_name) × BrokeOff first.node.now.plan r past };
 
     ghost step_text = { λ first rec past. step_text first.node.now.plan rec past };
 
