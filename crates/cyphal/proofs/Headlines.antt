@@ -1,5 +1,5 @@
 -- From what was run to the headline.
-use Rattle.std.proofs.Common.{◌≡◌, ◌∙◌, inl, inr, ℕ, true, List, [], ◌++◌, Option, Some, sym, ap, subst, append-nil}
+use Rattle.std.proofs.Common.{◌≡◌, ◌∙◌, ◌⊎◌, inl, inr, ℕ, true, List, [], ◌++◌, Option, Some, sym, ap, subst, append-nil}
 use Rattle.std.proofs.lemmas.Bool.{both_ways, true≢false}
 use mathlib.Core.List.{reverse_aux}
 use Rattle.tail_frame.specs.declared.logged.Record.{Record}
@@ -26,8 +26,11 @@ use Rattle.session_lines.proofs.Projection.{rxs_append}
 use Rattle.node_run.proofs.Logs.{newest_onto}
 use Rattle.node_run.proofs.Runs.{lines_front}
 use Rattle.node_run.proofs.Steps.{records_steps}
-use Rattle.cyphal.specs.Words.{Compile, Compat, Run, Bound, command_of}
-use Rattle.cyphal.specs.Expected.{PlanAt, is_settled, WasRun, WasDone}
+use Rattle.cyphal.specs.Words.{Command}
+use Rattle.cyphal.specs.Job.{Told, Outcome, is_settled, NotDone}
+use Rattle.cyphal.specs.Plans.{PlanAt}
+use Rattle.cyphal.specs.jobs.Run.{HasRunAt}
+use Rattle.cyphal.specs.Expected.{job_asked, WasDone}
 use Rattle.cyphal.specs.Headline.{heard_as, logged_in, Asked, ExplainsIn, OnceOf, DueOf}
 use Rattle.cyphal.proofs.Frames.{frames_are, are_records, in_order}
 
@@ -69,39 +72,32 @@ whole plan log status.ReadFault report before after s r = absurd (true≢false (
 whole plan log status.WriteFault report before after s r = absurd (true≢false (sym s))
 whole plan log status.NoMemory report before after s r = absurd (true≢false (sym s))
 
--- the words and the tree name one plan
-one_path : (words : List (List ℕ)) (a b : List ℕ) → command_of words ≡ Some (Run a) → command_of words ≡ Some (Run b) → a ≡ b
-one_path words a b x y = let p : Some (Run a) ≡ Some (Run b) = sym x ∙ y in cc
-
--- and one command
-not_bound : (words : List (List ℕ)) (a b : List ℕ) → command_of words ≡ Some (Bound a) → command_of words ≡ Some (Run b) → ⊥
-not_bound words a b x y = let p : Some (Bound a) ≡ Some (Run b) = sym x ∙ y in absurd cc
-
-not_compiled : (words : List (List ℕ)) (a b : List ℕ) → command_of words ≡ Some (Compile a) → command_of words ≡ Some (Run b) → ⊥
-not_compiled words a b x y = let p : Some (Compile a) ≡ Some (Run b) = sym x ∙ y in absurd cc
-
-not_compared : (words : List (List ℕ)) (root new old b : List ℕ) → command_of words ≡ Some (Compat root new old) → command_of words ≡ Some (Run b) → ⊥
-not_compared words root new old b x y = let p : Some (Compat root new old) ≡ Some (Run b) = sym x ∙ y in absurd cc
-
+-- a file has one plan
 one_plan : (path : List ℕ) (tree : Files) (a b : Plan) → PlanAt path (Some tree) a → PlanAt path (Some tree) b → a ≡ b
 one_plan path tree a b x y =
     let t : Some x.0 ≡ Some y.0 = sym x.1 ∙ y.1 in
     let text : x.0 ≡ y.0 = cc in
     let g : Good a ≡ Good b = sym x.2 ∙ (ap plan_of text ∙ y.2) in cc
 
--- a plan at the path that the words name is the one that is asked for
-pub the_plan : (words : List (List ℕ)) (files : Option Files) (input : Option (List ℕ)) (path : List ℕ) (found plan : Plan) (bytes : List ℕ) → command_of words ≡ Some (Run path) → PlanAt path files found → Asked words files input plan bytes → found ≡ plan
-the_plan words files input path found plan bytes e at a =
-    let same : path ≡ a.path = one_path words path a.path e a.command in
-    one_plan a.path a.tree found plan (subst (λ t. PlanAt t (Some a.tree) found) same (subst (λ f. PlanAt path f found) a.is_tree at)) a.is_plan
+-- what was done where the words name a run: nothing, or that run
+pub run_done : (words : List (List ℕ)) (told : Told) (came : Outcome) (faults faults_new : ℕ) (plan : Plan) (bytes : List ℕ)
+    → WasDone words told came faults faults_new → (a : Asked words told plan bytes) → NotDone told came faults faults_new ⊎ HasRunAt a.path told came
+run_done words told came faults faults_new plan bytes w a = subst (λ (o : Option Command). NotDone told came faults faults_new ⊎ (job_asked o).did told came) a.command w
+
+-- it was of the plan that is asked for
+pub the_plan : (words : List (List ℕ)) (told : Told) (came : Outcome) (plan : Plan) (bytes : List ℕ) (a : Asked words told plan bytes) (r : HasRunAt a.path told came) → r.plan ≡ plan
+the_plan words told came plan bytes a r = one_plan a.path a.tree r.plan plan (subst (λ f. PlanAt a.path f r.plan) a.is_tree r.is) a.is_plan
 
 -- a run of a told plan over a told input
-ran : (words : List (List ℕ)) (files : Option Files) (input : Option (List ℕ)) (stat : Status) (report : Report) (before after : Option (List ℕ)) (plan : Plan) (bytes : List ℕ)
-    → WasRun words files input stat report before after → Asked words files input plan bytes → Ran plan (log_of (names_of plan) bytes) stat report before after
-ran words files input stat report before after plan bytes w a =
-    let same : w.run.plan ≡ plan = the_plan words files input w.path w.run.plan plan bytes w.asked w.run.is a in
-    let told : HasRun plan (Some bytes) stat report before after = subst (λ (q : Plan). HasRun q (Some bytes) stat report before after) same (subst (λ i. HasRun w.run.plan i stat report before after) a.is_input w.run.run) in
-    subst (λ (b : List ℕ). Ran plan (log_of (names_of plan) b) stat report before after) told.is told.ran
+ran : (words : List (List ℕ)) (told : Told) (came : Outcome) (plan : Plan) (bytes : List ℕ) (a : Asked words told plan bytes) → HasRunAt a.path told came
+    → Ran plan (log_of (names_of plan) bytes) came.status came.report came.before came.after
+ran words told came plan bytes a r =
+    let stat = came.status in
+    let report = came.report in
+    let same : r.plan ≡ plan = the_plan words told came plan bytes a r in
+    let run : HasRun plan (Some bytes) stat report came.before came.after =
+    subst (λ (q : Plan). HasRun q (Some bytes) stat report came.before came.after) same (subst (λ i. HasRun r.plan i stat report came.before came.after) a.is_input r.run) in
+    subst (λ (b : List ℕ). Ran plan (log_of (names_of plan) b) stat report came.before came.after) run.is run.ran
 
 module _ (plan : Plan) (bytes : List ℕ) (key : SessionKey) where
   abbrev past : List Record
@@ -124,28 +120,25 @@ abbrev InOrder : Type 0
 InOrder = (buses : List (List ℕ)) (bytes : List ℕ) → IsAhead 0 0 (log_of buses bytes).records
 
 pub once_of : Reported → WireExplainsFields → OnceInPart → InOrder
-    → (words : List (List ℕ)) (files : Option Files) (input : Option (List ℕ)) (stat : Status) (report : Report) (before after : Option (List ℕ))
-    → WasDone words files input stat report before after → OnceOf words files input report
-once_of law fields once order words files input stat report before after (inl n) plan bytes key p sent origin a s x =
-    subst (λ ls. SelectedRx p.extent sent origin (of_key plan key (logged_in plan bytes)) (rxs key ls)) (sym n.empty.reported) (record { sent_ones = tt; in_order = tt })
-once_of law fields once order words files input stat report before after (inr (inr (inl b))) plan bytes key p sent origin a s x = absurd (not_bound words b.path a.path b.asked a.command)
-once_of law fields once order words files input stat report before after (inr (inr (inr (inl c)))) plan bytes key p sent origin a s x = absurd (not_compiled words c.root a.path c.asked a.command)
-once_of law fields once order words files input stat report before after (inr (inr (inr (inr c)))) plan bytes key p sent origin a s x = absurd (not_compared words c.root c.new c.old a.path c.asked a.command)
-once_of law fields once order words files input stat report before after (inr (inl w)) plan bytes key p sent origin a s x =
-    let log = log_of (names_of plan) bytes in
-    let f = front plan log stat report before after (ran words files input stat report before after plan bytes w a) in
-    once plan.timeout p.extent sent key origin (frames plan.node (newest_first log)) (rxs key report.lines) (rxs key f.0)
-    (in_order plan.node log.records (order (names_of plan) bytes)) (by_fields plan bytes key fields sent origin x)
-    (sym (session plan bytes key law p s) ∙ (ap (rxs key) f.1 ∙ rxs_append key report.lines f.0))
+    → (words : List (List ℕ)) (told : Told) (came : Outcome) (faults faults_new : ℕ) → WasDone words told came faults faults_new → OnceOf words told came.report
+once_of law fields once order words told came faults faults_new w plan bytes key p sent origin a s x = by_run (run_done words told came faults faults_new plan bytes w a)
+  where
+    by_run : NotDone told came faults faults_new ⊎ HasRunAt a.path told came → SelectedRx p.extent sent origin (of_key plan key (logged_in plan bytes)) (rxs key came.report.lines)
+    by_run (inl n) = subst (λ ls. SelectedRx p.extent sent origin (of_key plan key (logged_in plan bytes)) (rxs key ls)) (sym n.empty.reported) (record { sent_ones = tt; in_order = tt })
+    by_run (inr r) =
+        let log = log_of (names_of plan) bytes in
+        let f = front plan log came.status came.report came.before came.after (ran words told came plan bytes a r) in
+        once plan.timeout p.extent sent key origin (frames plan.node (newest_first log)) (rxs key came.report.lines) (rxs key f.0)
+        (in_order plan.node log.records (order (names_of plan) bytes)) (by_fields plan bytes key fields sent origin x)
+        (sym (session plan bytes key law p s) ∙ (ap (rxs key) f.1 ∙ rxs_append key came.report.lines f.0))
 
 pub due_of : Reported → WireExplainsFields → DueInReport
-    → (words : List (List ℕ)) (files : Option Files) (input : Option (List ℕ)) (stat : Status) (report : Report) (before after : Option (List ℕ))
-    → WasDone words files input stat report before after → DueOf words files input stat report
-due_of law fields due words files input stat report before after (inl n) plan bytes key p sent origin q a s x settled d = absurd (both_ways (is_settled stat) n.not_settled settled)
-due_of law fields due words files input stat report before after (inr (inr (inl b))) plan bytes key p sent origin q a s x settled d = absurd (not_bound words b.path a.path b.asked a.command)
-due_of law fields due words files input stat report before after (inr (inr (inr (inl c)))) plan bytes key p sent origin q a s x settled d = absurd (not_compiled words c.root a.path c.asked a.command)
-due_of law fields due words files input stat report before after (inr (inr (inr (inr c)))) plan bytes key p sent origin q a s x settled d = absurd (not_compared words c.root c.new c.old a.path c.asked a.command)
-due_of law fields due words files input stat report before after (inr (inl w)) plan bytes key p sent origin q a s x settled d =
-    let all = whole plan (log_of (names_of plan) bytes) stat report before after settled (ran words files input stat report before after plan bytes w a) in
-    subst (AnyRx (λ rx. rx.last ≡ q.line)) (sym (ap (rxs key) all ∙ session plan bytes key law p s))
-    (due plan.timeout p.extent sent key origin (of_key plan key (logged_in plan bytes)) q (by_fields plan bytes key fields sent origin x) d)
+    → (words : List (List ℕ)) (told : Told) (came : Outcome) (faults faults_new : ℕ) → WasDone words told came faults faults_new → DueOf words told came
+due_of law fields due words told came faults faults_new w plan bytes key p sent origin q a s x settled d = by_run (run_done words told came faults faults_new plan bytes w a)
+  where
+    by_run : NotDone told came faults faults_new ⊎ HasRunAt a.path told came → AnyRx (λ rx. rx.last ≡ q.line) (rxs key came.report.lines)
+    by_run (inl n) = absurd (both_ways (is_settled came.status) n.not_settled settled)
+    by_run (inr r) =
+        let all = whole plan (log_of (names_of plan) bytes) came.status came.report came.before came.after settled (ran words told came plan bytes a r) in
+        subst (AnyRx (λ rx. rx.last ≡ q.line)) (sym (ap (rxs key) all ∙ session plan bytes key law p s))
+        (due plan.timeout p.extent sent key origin (of_key plan key (logged_in plan bytes)) q (by_fields plan bytes key fields sent origin x) d)

@@ -1,7 +1,10 @@
 pub mod ClapWords
 pub mod Parts
-pub mod Asked
-pub mod OneAnswer
+pub mod Plans
+pub mod Loaded
+pub mod Ended
+pub mod jobs
+pub mod OneStatus
 pub mod Frames
 pub mod Headlines
 pub mod Streaming

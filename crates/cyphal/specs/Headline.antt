@@ -17,18 +17,18 @@ use Rattle.node_core.specs.Heard.{frame_for}
 use Rattle.session_lines.specs.Reported.{rxs, of_key, IsSession}
 use Rattle.node_run.specs.Ran.{names_of, newest_first}
 use Rattle.node_run.specs.declared.report.Report.{Report}
-use Rattle.node_run.specs.declared.status.Status.{Status}
 use Rattle.cyphal.specs.Words.{Run, command_of}
-use Rattle.cyphal.specs.Expected.{PlanAt, is_settled}
+use Rattle.cyphal.specs.Job.{Told, Outcome, is_settled}
+use Rattle.cyphal.specs.Plans.{PlanAt}
 
 -- the words name a file of this plan, and the input has these bytes
-pub record Asked (words : List (List ℕ)) (files : Option Files) (input : Option (List ℕ)) (plan : Plan) (bytes : List ℕ) : Type 0 where
+pub record Asked (words : List (List ℕ)) (told : Told) (plan : Plan) (bytes : List ℕ) : Type 0 where
   pub path : List ℕ
   pub command : command_of words ≡ Some (Run path)
   pub tree : Files
-  pub is_tree : files ≡ Some tree
+  pub is_tree : told.files ≡ Some tree
   pub is_plan : PlanAt path (Some tree) plan
-  pub is_input : input ≡ Some bytes
+  pub is_input : told.input ≡ Some bytes
 
 -- the records of the input that count, the newest first
 abbrev pub logged_in : Plan → List ℕ → List Record
@@ -46,17 +46,17 @@ ExplainsIn plan bytes sent key origin = WireExplains (heard_as plan.node) plan.t
 
 -- once, however the run ended: what is reported of a session are sent transfers, in the order of the sent list, each at
 -- most once, cut to the extent
-abbrev pub OnceOf : List (List ℕ) → Option Files → Option (List ℕ) → Report → Type 0
-OnceOf words files input report =
+abbrev pub OnceOf : List (List ℕ) → Told → Report → Type 0
+OnceOf words told report =
     (plan : Plan) (bytes : List ℕ) (key : SessionKey) (p : Port) (sent : Sent) (origin : List Pair)
-    → Asked words files input plan bytes → IsSession plan key (logged_in plan bytes) p → ExplainsIn plan bytes sent key origin
+    → Asked words told plan bytes → IsSession plan key (logged_in plan bytes) p → ExplainsIn plan bytes sent key origin
     → SelectedRx p.extent sent origin (of_key plan key (logged_in plan bytes)) (rxs key report.lines)
 
 -- due, where all that counts of the input was run: each transfer of a session that came whole on the bus in force with a
 -- fresh transfer-ID is reported, on the line of its last frame
-abbrev pub DueOf : List (List ℕ) → Option Files → Option (List ℕ) → Status → Report → Type 0
-DueOf words files input stat report =
+abbrev pub DueOf : List (List ℕ) → Told → Outcome → Type 0
+DueOf words told came =
     (plan : Plan) (bytes : List ℕ) (key : SessionKey) (p : Port) (sent : Sent) (origin : List Pair) (q : KeyRecord)
-    → Asked words files input plan bytes → IsSession plan key (logged_in plan bytes) p → ExplainsIn plan bytes sent key origin
-    → is_settled stat ≡ true → IsDue plan.timeout sent origin (of_key plan key (logged_in plan bytes)) q
-    → AnyRx (λ rx. rx.last ≡ q.line) (rxs key report.lines)
+    → Asked words told plan bytes → IsSession plan key (logged_in plan bytes) p → ExplainsIn plan bytes sent key origin
+    → is_settled came.status ≡ true → IsDue plan.timeout sent origin (of_key plan key (logged_in plan bytes)) q
+    → AnyRx (λ rx. rx.last ≡ q.line) (rxs key came.report.lines)

@@ -1,6 +1,10 @@
 pub mod Words
 pub mod ClapShape
 pub mod ErrorLine
+pub mod Job
+pub mod Cause
+pub mod Plans
+pub mod jobs
 pub mod Expected
 pub mod Headline
 pub mod Streaming

@@ -1,8 +1,6 @@
 -- Which words are a command.
-use Rattle.std.specs.Prelude.{ℕ, Bool, true, false, ◌==◌, ◌&&◌, not, List, [], ◌∷◌, codes, Option, Some, None, if◌then◌else◌}
+use Rattle.std.specs.Prelude.{ℕ, Bool, false, ◌==◌, ◌&&◌, not, List, [], ◌∷◌, codes, Option, Some, None, if◌then◌else◌}
 use Rattle.std.specs.Str.{bytes_eq}
-use Rattle.cyphal.specs.declared.words.CommandName.{CommandName}
-use Rattle.cyphal.specs.declared.words.CommandName.TheVariants as name
 use Rattle.cyphal.specs.declared.words.Accepted.{Accepted}
 use Rattle.cyphal.specs.declared.words.Accepted.TheVariants as accepted
 
@@ -21,27 +19,6 @@ asked_by (accepted.Compat root new old) = Compat root.now new.now old.now
 asked_by (accepted.Run plan) = Run plan.now
 asked_by (accepted.Bound plan) = Bound plan.now
 
--- the name of a command
-abbrev pub name_of : Command → CommandName
-name_of (Compile root) = name.Compile
-name_of (Compat root new old) = name.Compat
-name_of (Run path) = name.Run
-name_of (Bound path) = name.Bound
-
--- the root of a command that has it alone
-abbrev pub root_of : Command → Option (List ℕ)
-root_of (Compile root) = Some root
-root_of (Compat root new old) = None
-root_of (Run path) = None
-root_of (Bound path) = None
-
--- the path of a command's plan
-abbrev pub path_of : Command → Option (List ℕ)
-path_of (Compile root) = None
-path_of (Compat root new old) = None
-path_of (Run path) = Some path
-path_of (Bound path) = Some path
-
 -- an argument isn't empty and begins with no hyphen
 abbrev pub is_argument : List ℕ → Bool
 is_argument [] = false
@@ -54,6 +31,21 @@ are_arguments root plan = (is_argument root && is_argument plan) && bytes_eq roo
 -- the arguments ROOT, NEW and OLD
 abbrev pub are_types : List ℕ → List ℕ → List ℕ → Bool
 are_types root new old = is_argument root && (is_argument new && is_argument old)
+
+-- the root of words that have it alone
+abbrev pub root_given : List (List ℕ) → Option (List ℕ)
+root_given (word ∷ root ∷ []) = if is_argument root then Some root else None
+root_given other = None
+
+-- the path of words that have a root and a plan
+abbrev pub plan_given : List (List ℕ) → Option (List ℕ)
+plan_given (word ∷ root ∷ plan ∷ []) = if is_argument root && is_argument plan then Some plan else None
+plan_given other = None
+
+-- the root and the names of two types of words that have these
+abbrev pub types_given : List (List ℕ) → Option (List ℕ × List ℕ × List ℕ)
+types_given (word ∷ root ∷ new ∷ old ∷ []) = if are_types root new old then Some (root, new, old) else None
+types_given other = None
 
 -- the command that a word names, of a root
 abbrev pub named_of_root : List ℕ → List ℕ → Option Command
@@ -76,11 +68,3 @@ command_of (word ∷ root ∷ []) = if is_argument root then named_of_root word 
 command_of (word ∷ root ∷ plan ∷ []) = if are_arguments root plan then named_of_plan word plan else None
 command_of (word ∷ root ∷ new ∷ old ∷ []) = if are_types root new old then named_of_types word root new old else None
 command_of (word ∷ root ∷ new ∷ old ∷ more ∷ rest) = None
-
--- whether a command takes of the input: a run alone does
-abbrev pub takes_input : Option Command → Bool
-takes_input None = false
-takes_input (Some (Compile root)) = false
-takes_input (Some (Compat root new old)) = false
-takes_input (Some (Run path)) = true
-takes_input (Some (Bound path)) = false

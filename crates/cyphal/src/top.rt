@@ -4,9 +4,11 @@ ghost use Rattle.cy_outside.specs.Outside.{Rose};
 ghost use Rattle.cy_outside.specs.Written.{behind, Begins};
 ghost use Rattle.node_run.specs.declared.status.Status.{Status as TheStatus};
 ghost use Rattle.node_run.specs.declared.status.Status.TheVariants.{Ok as OkStatus};
-ghost use Rattle.cyphal.specs.Words.{takes_input, command_of};
+ghost use Rattle.cyphal.specs.Words.{command_of};
 ghost use Rattle.cyphal.specs.ErrorLine.{error_line};
-ghost use Rattle.cyphal.specs.Expected.{Answers, is_told, is_fault, WasDone};
+ghost use Rattle.cyphal.specs.Job.{Outcome, told_by, is_fault};
+ghost use Rattle.cyphal.specs.Cause.{HasCauseOver};
+ghost use Rattle.cyphal.specs.Expected.{job_for, WasDone};
 ghost use Rattle.cyphal.specs.Headline.{OnceOf, DueOf};
 ghost use Rattle.cyphal.specs.Streaming.{TakenOf, StreamedOf};
 
@@ -38,26 +40,62 @@ pub fn top<T: Tree, L: Source, O: Sink, E: Sink>(
     out: &mut O,
     err: &mut E,
 ) -> Done
-    ensures answer { is_fault result.status ≡ false → Answers (command_of (map string_bytes words.now)) (T.files tree.old) (L.left input.old) result.status }
-    ensures exact { (stat : TheStatus) → is_told (command_of (map string_bytes words.now)) (T.files tree.old) (L.left input.old) ≡ true → Answers (command_of (map string_bytes words.now)) (T.files tree.old) (L.left input.old) stat
+    ensures answer { let job = job_for (map string_bytes words.now) in
+        let told = told_by (T.files tree.old) (L.left input.old) in
+        is_fault result.status ≡ false → job.expects told result.status }
+    ensures exact { let job = job_for (map string_bytes words.now) in
+        let told = told_by (T.files tree.old) (L.left input.old) in
+        (stat : TheStatus) → job.is_told told ≡ true → job.expects told stat
         → is_fault result.status ≡ false → result.status ≡ stat }
     ensures usage { (result.status ≡ Status.Usage) ↔ (command_of (map string_bytes words.now) ≡ None) }
-    ensures read { result.status ≡ Status.ReadFault → (Rose (T.faults tree.old) (T.faults tree.new) × (input.new ≡ input.old)) ⊎ Rose (L.faults input.old) (L.faults input.new) }
-    ensures unread { takes_input (command_of (map string_bytes words.now)) ≡ false → input.new ≡ input.old }
-    ensures write { result.status ≡ Status.WriteFault → Rose (O.faults out.old) (O.faults out.new) }
-    ensures kept { result.status ≡ Status.Ok → (T.faults tree.new ≡ T.faults tree.old) × (L.faults input.new ≡ L.faults input.old) × (O.faults out.new ≡ O.faults out.old) }
-    ensures ran { WasDone (map string_bytes words.now) (T.files tree.old) (L.left input.old) result.status result.report (O.written out.old) (O.written out.new) }
+    ensures cause { HasCauseOver (job_for (map string_bytes words.now)).takes_input result.status
+        (record { tree = T.faults tree.old; input = L.faults input.old; out = O.faults out.old; source = input.old })
+        (record { tree = T.faults tree.new; input = L.faults input.new; out = O.faults out.new; source = input.new }) }
+    ensures ran { let came : Outcome = record {
+      status = result.status;
+      report = result.report;
+      left = L.left input.new;
+      before = O.written out.old;
+      after = O.written out.new;
+    } in
+        let told = told_by (T.files tree.old) (L.left input.old) in
+        WasDone (map string_bytes words.now) told came (T.faults tree.old) (T.faults tree.new) }
     ensures held { result.report.held ≤ result.report.bound }
-    ensures complete { is_told (command_of (map string_bytes words.now)) (T.files tree.old) (L.left input.old) ≡ true → Answers (command_of (map string_bytes words.now)) (T.files tree.old) (L.left input.old) OkStatus
-        → ¬ Rose (T.faults tree.old) (T.faults tree.new) → ¬ Rose (L.faults input.old) (L.faults input.new) → ¬ Rose (O.faults out.old) (O.faults out.new)
+    ensures complete { let job = job_for (map string_bytes words.now) in
+        let told = told_by (T.files tree.old) (L.left input.old) in
+        job.is_told told ≡ true → job.expects told OkStatus
+        → ¬ Rose (T.faults tree.old) (T.faults tree.new)
+        → ¬ Rose (L.faults input.old) (L.faults input.new)
+        → ¬ Rose (O.faults out.old) (O.faults out.new)
         → (result.status ≡ Status.Ok) ⊎ (result.status ≡ Status.NoMemory) }
     // The headline, where the words, the files and the input are told and a sent list explains the records of a session.
-    ensures once { OnceOf (map string_bytes words.now) (T.files tree.old) (L.left input.old) result.report }
-    ensures due { DueOf (map string_bytes words.now) (T.files tree.old) (L.left input.old) result.status result.report }
+    ensures once { OnceOf (map string_bytes words.now) (told_by (T.files tree.old) (L.left input.old)) result.report }
+    ensures due { let came : Outcome = record {
+      status = result.status;
+      report = result.report;
+      left = L.left input.new;
+      before = O.written out.old;
+      after = O.written out.new;
+    } in
+        DueOf (map string_bytes words.now) (told_by (T.files tree.old) (L.left input.old)) came }
     // How far the input is taken, where the words, the files and the input are told.
-    ensures taken { result.status ≡ Status.ReadFault → ¬ Rose (T.faults tree.old) (T.faults tree.new)
-        → TakenOf (map string_bytes words.now) (T.files tree.old) (L.left input.old) (L.left input.new) result.report (O.written out.old) (O.written out.new) }
-    ensures streamed { StreamedOf (map string_bytes words.now) (T.files tree.old) (L.left input.old) (L.left input.new) result.status result.report (O.written out.old) (O.written out.new) }
+    ensures taken { let came : Outcome = record {
+      status = result.status;
+      report = result.report;
+      left = L.left input.new;
+      before = O.written out.old;
+      after = O.written out.new;
+    } in
+        result.status ≡ Status.ReadFault → ¬ Rose (T.faults tree.old) (T.faults tree.new)
+        → TakenOf (map string_bytes words.now) (told_by (T.files tree.old) (L.left input.old)) came }
+    ensures streamed { let came : Outcome = record {
+      status = result.status;
+      report = result.report;
+      left = L.left input.new;
+      before = O.written out.old;
+      after = O.written out.new;
+    } in
+        StreamedOf (map string_bytes words.now) (told_by (T.files tree.old) (L.left input.old)) came }
     ensures line { Begins (error_line result.status) (E.written err.old) (E.written err.new) }
     ensures whole_line { ¬ Rose (E.faults err.old) (E.faults err.new) → E.written err.new ≡ behind (E.written err.old) (error_line result.status) }
 {

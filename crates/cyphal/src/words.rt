@@ -1,10 +1,9 @@
 //! Which words are a command, and what its arguments are.
 ghost use Rattle.std.specs.Prelude.{◌≡◌, ℕ, List, IfOk, IfErr, Some, is_some, map, option_map, string_bytes, true, false};
-ghost use Rattle.std.specs.Option.{option_and_then};
 ghost use Rattle.clap.specs.Words.{app_of};
 ghost use Rattle.clap.specs.Walk.{rule_of};
 ghost use Rattle.cyphal.specs.ClapShape.{given, root_shape, types_shape, plan_shape};
-ghost use Rattle.cyphal.specs.Words.{asked_by, is_argument, are_types, are_arguments, named_of_root, named_of_types, named_of_plan, command_of, name_of, root_of, path_of};
+ghost use Rattle.cyphal.specs.Words.{asked_by, is_argument, are_types, are_arguments, root_given, plan_given, types_given, named_of_root, named_of_types, named_of_plan, command_of};
 
 use clap::{Arg, ArgAction, Command};
 use cy_bits::NoMemory;
@@ -33,102 +32,86 @@ pub enum Accepted<'a> {
     },
 }
 
-/// The name of a command.
-#[derive(Clone, Copy)]
-pub enum CommandName {
-    Compile,
-    Compat,
-    Run,
-    Bound,
-}
-
-/// The command that the words are; none where they aren't accepted. It wants memory where they are.
+/// The command that the words are, so `compile ROOT`, `compat ROOT NEW OLD`, `run none PLAN` or `bound none PLAN`; none
+/// where they aren't accepted. It wants memory where they are.
 pub fn command_of<'a>(alloc: Global, words: &'a [String]) -> Result<Option<Accepted<'a>>, NoMemory>
     ensures is { IfOk result (λ given. option_map asked_by given ≡ command_of (map string_bytes words.entry.now)) }
     ensures memory { IfErr result (λ _. is_some (command_of (map string_bytes words.entry.now)) ≡ true) }
 {
-    match command_name(words) {
-        None => Ok(None),
-        Some(CommandName::Compile) => match root_word(alloc, words) {
-            Ok(root) => Ok(Some(Accepted::Compile { root })),
-            Err(_) => Err(NoMemory),
-        },
-        Some(CommandName::Compat) => match types_words(alloc, words) {
-            Ok(given) => Ok(Some(given)),
-            Err(_) => Err(NoMemory),
-        },
-        Some(CommandName::Run) => match plan_word(alloc, words) {
-            Ok(plan) => Ok(Some(Accepted::Run { plan })),
-            Err(_) => Err(NoMemory),
-        },
-        Some(CommandName::Bound) => match plan_word(alloc, words) {
-            Ok(plan) => Ok(Some(Accepted::Bound { plan })),
-            Err(_) => Err(NoMemory),
-        },
-    }
-}
-
-/// Which command the words are, so `compile ROOT`, `compat ROOT NEW OLD`, `run none PLAN` or `bound none PLAN`; none
-/// where they aren't accepted.
-fn command_name(words: &[String]) -> Option<CommandName>
-    ensures { result ≡ option_map name_of (command_of (map string_bytes words.now)) }
-{
     match words {
         [word, root] => {
             if is_argument(root.as_str()) {
-                named_of_root(word.as_str())
+                match of_root(word.as_str(), root.as_str()) {
+                    None => Ok(None),
+                    Some(_) => {
+                        let root = root_word(alloc, words)?;
+                        Ok(of_root(word.as_str(), root))
+                    }
+                }
             } else {
-                None
+                Ok(None)
             }
         }
         [word, root, plan] => {
             if are_arguments(root.as_str(), plan.as_str()) {
-                named_of_plan(word.as_str())
+                match of_plan(word.as_str(), plan.as_str()) {
+                    None => Ok(None),
+                    Some(_) => {
+                        let plan = plan_word(alloc, words)?;
+                        Ok(of_plan(word.as_str(), plan))
+                    }
+                }
             } else {
-                None
+                Ok(None)
             }
         }
         [word, root, new, old] => {
             if are_types(root.as_str(), new.as_str(), old.as_str()) {
-                named_of_types(word.as_str())
+                match of_types(word.as_str(), root.as_str(), new.as_str(), old.as_str()) {
+                    None => Ok(None),
+                    Some(_) => {
+                        let (root, new, old) = types_words(alloc, words)?;
+                        Ok(of_types(word.as_str(), root, new, old))
+                    }
+                }
             } else {
-                None
+                Ok(None)
             }
         }
-        _ => None,
+        _ => Ok(None),
     }
 }
 
-/// Which command of a root alone a word names.
-fn named_of_root(word: &str) -> Option<CommandName>
-    ensures { (root : List ℕ) → result ≡ option_map name_of (named_of_root word.now root) }
+/// The command of a root alone that a word names.
+fn of_root<'a>(word: &str, root: &'a str) -> Option<Accepted<'a>>
+    ensures { option_map asked_by result ≡ named_of_root word.now root.entry.now }
 {
     if word == "compile" {
-        Some(CommandName::Compile)
+        Some(Accepted::Compile { root })
     } else {
         None
     }
 }
 
-/// Which command of two types of a root a word names.
-fn named_of_types(word: &str) -> Option<CommandName>
-    ensures { (root new old : List ℕ) → result ≡ option_map name_of (named_of_types word.now root new old) }
+/// The command of two types of a root that a word names.
+fn of_types<'a>(word: &str, root: &'a str, new: &'a str, old: &'a str) -> Option<Accepted<'a>>
+    ensures { option_map asked_by result ≡ named_of_types word.now root.entry.now new.entry.now old.entry.now }
 {
     if word == "compat" {
-        Some(CommandName::Compat)
+        Some(Accepted::Compat { root, new, old })
     } else {
         None
     }
 }
 
-/// Which command of a plan a word names.
-fn named_of_plan(word: &str) -> Option<CommandName>
-    ensures { (plan : List ℕ) → result ≡ option_map name_of (named_of_plan word.now plan) }
+/// The command of a plan that a word names.
+fn of_plan<'a>(word: &str, plan: &'a str) -> Option<Accepted<'a>>
+    ensures { option_map asked_by result ≡ named_of_plan word.now plan.entry.now }
 {
     if word == "run" {
-        Some(CommandName::Run)
+        Some(Accepted::Run { plan })
     } else if word == "bound" {
-        Some(CommandName::Bound)
+        Some(Accepted::Bound { plan })
     } else {
         None
     }
@@ -194,8 +177,8 @@ fn plan_shape<'a>(alloc: Global) -> Result<Command<'a>, NoMemory>
 
 /// The root of accepted words that have it alone. It refuses nothing, and wants memory.
 fn root_word<'a>(alloc: Global, words: &'a [String]) -> Result<&'a str, NoMemory>
-    requires { is_some (option_and_then root_of (command_of (map string_bytes words.now))) ≡ true }
-    ensures { IfOk result (λ root. option_and_then root_of (command_of (map string_bytes words.entry.now)) ≡ Some root.now) }
+    requires { is_some (root_given (map string_bytes words.now)) ≡ true }
+    ensures { IfOk result (λ root. root_given (map string_bytes words.entry.now) ≡ Some root.now) }
 {
     let command = root_shape(alloc)?;
     match command.try_get_matches_from(words) {
@@ -205,9 +188,12 @@ fn root_word<'a>(alloc: Global, words: &'a [String]) -> Result<&'a str, NoMemory
 }
 
 /// The arguments of accepted words that name two types. It refuses nothing, and wants memory.
-fn types_words<'a>(alloc: Global, words: &'a [String]) -> Result<Accepted<'a>, NoMemory>
-    requires { option_map name_of (command_of (map string_bytes words.now)) ≡ Some CommandName.Compat }
-    ensures { IfOk result (λ given. command_of (map string_bytes words.entry.now) ≡ Some (asked_by given)) }
+fn types_words<'a>(
+    alloc: Global,
+    words: &'a [String],
+) -> Result<(&'a str, &'a str, &'a str), NoMemory>
+    requires { is_some (types_given (map string_bytes words.now)) ≡ true }
+    ensures { IfOk result (λ given. types_given (map string_bytes words.entry.now) ≡ Some (given.0.now, given.1.now, given.2.now)) }
 {
     let command = types_shape(alloc)?;
     match command.try_get_matches_from(words) {
@@ -215,7 +201,7 @@ fn types_words<'a>(alloc: Global, words: &'a [String]) -> Result<Accepted<'a>, N
             let root = matches.get_str("ROOT").unwrap();
             let new = matches.get_str("NEW").unwrap();
             let old = matches.get_str("OLD").unwrap();
-            Ok(Accepted::Compat { root, new, old })
+            Ok((root, new, old))
         }
         Err(_) => Err(NoMemory),
     }
@@ -223,8 +209,8 @@ fn types_words<'a>(alloc: Global, words: &'a [String]) -> Result<Accepted<'a>, N
 
 /// The path of the plan of accepted words that have one. It refuses nothing, and wants memory.
 fn plan_word<'a>(alloc: Global, words: &'a [String]) -> Result<&'a str, NoMemory>
-    requires { is_some (option_and_then path_of (command_of (map string_bytes words.now))) ≡ true }
-    ensures { IfOk result (λ plan. option_and_then path_of (command_of (map string_bytes words.entry.now)) ≡ Some plan.now) }
+    requires { is_some (plan_given (map string_bytes words.now)) ≡ true }
+    ensures { IfOk result (λ plan. plan_given (map string_bytes words.entry.now) ≡ Some plan.now) }
 {
     let command = plan_shape(alloc)?;
     match command.try_get_matches_from(words) {

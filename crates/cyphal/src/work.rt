@@ -1,14 +1,20 @@
 //! The work of each command.
-ghost use Rattle.std.specs.Prelude.{◌≡◌, ◌⊎◌, ◌↔◌, ◌≤◌, ℕ, Option, None, false, IfSome, IfOk, IfErr, OnOk, map, string_bytes};
+ghost use Rattle.std.specs.Prelude.{◌≡◌, ◌⊎◌, ◌↔◌, ◌≤◌, ℕ, Option, None, true, false, IfSome, IfOk, IfErr, OnOk, map, string_bytes};
 ghost use Rattle.cy_outside.specs.Outside.{Rose};
 ghost use Rattle.node_plan.specs.IsPlan.{IsPlan};
 ghost use Rattle.node_plan.specs.declared.plan.Plan.{Plan as ThePlan};
 ghost use Rattle.node_plan.specs.declared.plan.PlanWhy.{PlanWhy as Why};
 ghost use Rattle.node_run.specs.Ran.{IsEmpty};
 ghost use Rattle.node_run.specs.declared.status.Status.{Status as TheStatus};
-ghost use Rattle.cyphal.specs.Words.{takes_input, command_of};
-ghost use Rattle.cyphal.specs.Streaming.{TookNothing, TookAt, WasTaken};
-ghost use Rattle.cyphal.specs.Expected.{Answers, Compiles, Compares, on_path, on_run, on_bound, is_fault, is_settled, PlanAt, NotRun, HasRunAt, HasBoundAt, HasCompiledAt, HasComparedAt, WasDone};
+ghost use Rattle.cyphal.specs.Words.{asked_by, command_of};
+ghost use Rattle.cyphal.specs.Job.{Outcome, told_by, is_fault, is_settled, NotDone, WroteNothing};
+ghost use Rattle.cyphal.specs.Cause.{HasCause, HasCauseOver};
+ghost use Rattle.cyphal.specs.Plans.{on_path, PlanAt};
+ghost use Rattle.cyphal.specs.jobs.Compile.{Compiles, HasCompiledAt};
+ghost use Rattle.cyphal.specs.jobs.Compat.{Compares, HasComparedAt};
+ghost use Rattle.cyphal.specs.jobs.Run.{run_job, HasRunAt};
+ghost use Rattle.cyphal.specs.jobs.Bound.{on_bound, HasBoundAt};
+ghost use Rattle.cyphal.specs.Expected.{job_of, job_for, WasDone};
 
 use crate::words::{Accepted, command_of};
 use cy_bits::Text;
@@ -27,15 +33,22 @@ pub fn work<T: Tree, L: Source, O: Sink>(
     report: &mut Report,
 ) -> Status
     requires { IsEmpty report.old }
-    ensures answer { is_fault result ≡ false → Answers (command_of (map string_bytes words.now)) (T.files tree.old) (L.left input.old) result }
+    ensures answer { let job = job_for (map string_bytes words.now) in
+        let told = told_by (T.files tree.old) (L.left input.old) in
+        is_fault result ≡ false → job.expects told result }
     ensures usage { (result ≡ Status.Usage) ↔ (command_of (map string_bytes words.now) ≡ None) }
-    ensures read { result ≡ Status.ReadFault → (Rose (T.faults tree.old) (T.faults tree.new) × (input.new ≡ input.old)) ⊎ Rose (L.faults input.old) (L.faults input.new) }
-    ensures unread { takes_input (command_of (map string_bytes words.now)) ≡ false → input.new ≡ input.old }
-    ensures write { result ≡ Status.WriteFault → Rose (O.faults out.old) (O.faults out.new) }
-    ensures kept { result ≡ Status.Ok → (T.faults tree.new ≡ T.faults tree.old) × (L.faults input.new ≡ L.faults input.old) × (O.faults out.new ≡ O.faults out.old) }
-    ensures ran { WasDone (map string_bytes words.now) (T.files tree.old) (L.left input.old) result report.new (O.written out.old) (O.written out.new) }
-    ensures took { TookNothing result (L.left input.old) (L.left input.new) (T.faults tree.old) (T.faults tree.new)
-        ⊎ WasTaken (map string_bytes words.now) (T.files tree.old) (L.left input.old) (L.left input.new) result report.new (O.written out.old) (O.written out.new) }
+    ensures cause { HasCauseOver (job_for (map string_bytes words.now)).takes_input result
+        (record { tree = T.faults tree.old; input = L.faults input.old; out = O.faults out.old; source = input.old })
+        (record { tree = T.faults tree.new; input = L.faults input.new; out = O.faults out.new; source = input.new }) }
+    ensures ran { let came : Outcome = record {
+      status = result;
+      report = report.new;
+      left = L.left input.new;
+      before = O.written out.old;
+      after = O.written out.new;
+    } in
+        let told = told_by (T.files tree.old) (L.left input.old) in
+        WasDone (map string_bytes words.now) told came (T.faults tree.old) (T.faults tree.new) }
     ensures held { report.new.held ≤ report.new.bound }
 {
     let command = match command_of(alloc, words) {
@@ -43,7 +56,39 @@ pub fn work<T: Tree, L: Source, O: Sink>(
         Ok(None) => return Status::Usage,
         Err(_) => return Status::NoMemory,
     };
-    match command {
+    carry_out(alloc, command, tree, input, out, report)
+}
+
+/// Does what a command asks for.
+fn carry_out<T: Tree, L: Source, O: Sink>(
+    alloc: Global,
+    given: Accepted<'_>,
+    tree: &mut T,
+    input: &mut L,
+    out: &mut O,
+    report: &mut Report,
+) -> Status
+    requires { IsEmpty report.old }
+    ensures answer { let job = job_of (asked_by given.entry) in
+        let told = told_by (T.files tree.old) (L.left input.old) in
+        is_fault result ≡ false → job.expects told result }
+    ensures usage { ¬ (result ≡ Status.Usage) }
+    ensures cause { HasCauseOver (job_of (asked_by given.entry)).takes_input result
+        (record { tree = T.faults tree.old; input = L.faults input.old; out = O.faults out.old; source = input.old })
+        (record { tree = T.faults tree.new; input = L.faults input.new; out = O.faults out.new; source = input.new }) }
+    ensures ran { let came : Outcome = record {
+      status = result;
+      report = report.new;
+      left = L.left input.new;
+      before = O.written out.old;
+      after = O.written out.new;
+    } in
+        let job = job_of (asked_by given.entry) in
+        let told = told_by (T.files tree.old) (L.left input.old) in
+        NotDone told came (T.faults tree.old) (T.faults tree.new) ⊎ job.did told came }
+    ensures held { report.new.held ≤ report.new.bound }
+{
+    match given {
         Accepted::Compile { root } => compile_root(alloc, root, tree, out),
         Accepted::Compat { root, new, old } => compat_types(alloc, root, new, old, tree, out),
         Accepted::Run { plan } => run_plan(alloc, plan, tree, input, out, report),
@@ -54,11 +99,10 @@ pub fn work<T: Tree, L: Source, O: Sink>(
 /// Writes the layouts of the types below a root.
 fn compile_root<T: Tree, O: Sink>(alloc: Global, root: &str, tree: &mut T, out: &mut O) -> Status
     ensures answer { is_fault result ≡ false → Compiles root.now (T.files tree.old) result }
-    ensures usage { ¬ (result ≡ Status.Usage) }
-    ensures read { result ≡ Status.ReadFault → Rose (T.faults tree.old) (T.faults tree.new) }
-    ensures write { result ≡ Status.WriteFault → Rose (O.faults out.old) (O.faults out.new) }
-    ensures kept { result ≡ Status.Ok → (T.faults tree.new ≡ T.faults tree.old) × (O.faults out.new ≡ O.faults out.old) }
-    ensures ran { ((O.written out.new ≡ O.written out.old) × (is_settled result ≡ false))
+    ensures cause { HasCause result
+        (record { tree = T.faults tree.old; out = O.faults out.old })
+        (record { tree = T.faults tree.new; out = O.faults out.new }) }
+    ensures ran { WroteNothing result (O.written out.old) (O.written out.new)
         ⊎ HasCompiledAt root.now (T.files tree.old) result (O.written out.old) (O.written out.new) }
 {
     let names = match load(alloc, tree, root) {
@@ -78,11 +122,10 @@ fn compat_types<T: Tree, O: Sink>(
     out: &mut O,
 ) -> Status
     ensures answer { is_fault result ≡ false → Compares root.now new.now old.now (T.files tree.old) result }
-    ensures usage { ¬ (result ≡ Status.Usage) }
-    ensures read { result ≡ Status.ReadFault → Rose (T.faults tree.old) (T.faults tree.new) }
-    ensures write { result ≡ Status.WriteFault → Rose (O.faults out.old) (O.faults out.new) }
-    ensures kept { result ≡ Status.Ok → (T.faults tree.new ≡ T.faults tree.old) × (O.faults out.new ≡ O.faults out.old) }
-    ensures ran { ((O.written out.new ≡ O.written out.old) × (is_settled result ≡ false))
+    ensures cause { HasCause result
+        (record { tree = T.faults tree.old; out = O.faults out.old })
+        (record { tree = T.faults tree.new; out = O.faults out.new }) }
+    ensures ran { WroteNothing result (O.written out.old) (O.written out.new)
         ⊎ HasComparedAt root.now new.now old.now (T.files tree.old) result (O.written out.old) (O.written out.new) }
 {
     let names = match load(alloc, tree, root) {
@@ -102,15 +145,21 @@ fn run_plan<T: Tree, L: Source, O: Sink>(
     report: &mut Report,
 ) -> Status
     requires { IsEmpty report.old }
-    ensures answer { is_fault result ≡ false → IfSome (on_run path.now (T.files tree.old) (L.left input.old)) (λ stat. result ≡ stat) }
+    ensures answer { let told = told_by (T.files tree.old) (L.left input.old) in
+        is_fault result ≡ false → (run_job path.now).expects told result }
     ensures usage { ¬ (result ≡ Status.Usage) }
-    ensures read { result ≡ Status.ReadFault → (Rose (T.faults tree.old) (T.faults tree.new) × (input.new ≡ input.old)) ⊎ Rose (L.faults input.old) (L.faults input.new) }
-    ensures write { result ≡ Status.WriteFault → Rose (O.faults out.old) (O.faults out.new) }
-    ensures kept { result ≡ Status.Ok → (T.faults tree.new ≡ T.faults tree.old) × (L.faults input.new ≡ L.faults input.old) × (O.faults out.new ≡ O.faults out.old) }
-    ensures ran { NotRun result report.new (O.written out.old) (O.written out.new)
-        ⊎ HasRunAt path.now (T.files tree.old) (L.left input.old) result report.new (O.written out.old) (O.written out.new) }
-    ensures took { TookNothing result (L.left input.old) (L.left input.new) (T.faults tree.old) (T.faults tree.new)
-        ⊎ TookAt path.now (T.files tree.old) (L.left input.old) (L.left input.new) result report.new (O.written out.old) (O.written out.new) }
+    ensures cause { HasCauseOver true result
+        (record { tree = T.faults tree.old; input = L.faults input.old; out = O.faults out.old; source = input.old })
+        (record { tree = T.faults tree.new; input = L.faults input.new; out = O.faults out.new; source = input.new }) }
+    ensures ran { let came : Outcome = record {
+      status = result;
+      report = report.new;
+      left = L.left input.new;
+      before = O.written out.old;
+      after = O.written out.new;
+    } in
+        let told = told_by (T.files tree.old) (L.left input.old) in
+        NotDone told came (T.faults tree.old) (T.faults tree.new) ⊎ HasRunAt path.now told came }
     ensures held { report.new.held ≤ report.new.bound }
 {
     let plan = match plan_at(alloc, path, tree) {
@@ -123,11 +172,10 @@ fn run_plan<T: Tree, L: Source, O: Sink>(
 /// Writes the memory bound of the plan at a path.
 fn bound_plan<T: Tree, O: Sink>(alloc: Global, path: &str, tree: &mut T, out: &mut O) -> Status
     ensures answer { is_fault result ≡ false → IfSome (on_bound path.now (T.files tree.old)) (λ stat. result ≡ stat) }
-    ensures usage { ¬ (result ≡ Status.Usage) }
-    ensures read { result ≡ Status.ReadFault → Rose (T.faults tree.old) (T.faults tree.new) }
-    ensures write { result ≡ Status.WriteFault → Rose (O.faults out.old) (O.faults out.new) }
-    ensures kept { result ≡ Status.Ok → (T.faults tree.new ≡ T.faults tree.old) × (O.faults out.new ≡ O.faults out.old) }
-    ensures ran { ((O.written out.new ≡ O.written out.old) × (is_settled result ≡ false))
+    ensures cause { HasCause result
+        (record { tree = T.faults tree.old; out = O.faults out.old })
+        (record { tree = T.faults tree.new; out = O.faults out.new }) }
+    ensures ran { WroteNothing result (O.written out.old) (O.written out.new)
         ⊎ HasBoundAt path.now (T.files tree.old) result (O.written out.old) (O.written out.new) }
 {
     let plan = match plan_at(alloc, path, tree) {

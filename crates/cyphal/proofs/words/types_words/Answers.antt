@@ -1,5 +1,4 @@
 use Rattle.std.proofs.Common.{◌≡◌, ◌∙◌, Some}
-use Rattle.cyphal.specs.Words.{Compat}
 use Rattle.cyphal.proofs.ClapWords.{has_types, some_now, now_is}
 use Rattle.cyphal.proofs.words.types_words.Goals as goal
 
@@ -24,4 +23,4 @@ returns-in-Ok c =
     let root : h.root ≡ c.unwrap-root.result.now = now_is _ c.unwrap-root.result _ h.root c.unwrap-root.ensures c.get_str.ensures h.is_root in
     let new : h.new ≡ c.unwrap-new.result.now = now_is _ c.unwrap-new.result _ h.new c.unwrap-new.ensures c.get_str-in-Ok.ensures h.is_new in
     let old : h.old ≡ c.unwrap-old.result.now = now_is _ c.unwrap-old.result _ h.old c.unwrap-old.ensures c.get_str-in-Ok-2.ensures h.is_old in
-    h.asked ∙ (λ i. Some (Compat (root i) (new i) (old i)))
+    h.asked ∙ (λ i. Some (root i, new i, old i))

@@ -1,6 +1,6 @@
 use Rattle.std.proofs.Common.{List, ℕ, Some, Err, sym, ap, subst}
 use Rattle.cy_outside.specs.Files.{ReadsFront}
-use Rattle.cyphal.proofs.Asked.{missing_answer, error_answer, plan_there}
+use Rattle.cyphal.proofs.Plans.{missing_answer, error_answer, plan_there}
 use Rattle.cyphal.proofs.work.plan_at.Goals as goal
 
 pub returns-in-Ok-None-clause-answer : goal.returns-in-Ok-None-clause-answer

@@ -1,0 +1,21 @@
+-- What is asked for has one status, where all that decides it is told.
+use Rattle.std.proofs.Common.{◌∙◌, Option, Some, None, sym}
+use Rattle.dsdl_resolve.specs.Laws.{HaveOneAnswer}
+use Rattle.cyphal.specs.Words.{Command, Compile, Compat, Run, Bound}
+use Rattle.cyphal.specs.Expected.{job_of, job_asked}
+use Rattle.cyphal.proofs.jobs.Single.{IsSingle}
+use Rattle.cyphal.proofs.jobs.Compile as compile
+use Rattle.cyphal.proofs.jobs.Compat as compat
+use Rattle.cyphal.proofs.jobs.Run as run
+use Rattle.cyphal.proofs.jobs.Bound as bound
+
+module _ (law : HaveOneAnswer) where
+  single : (command : Command) → IsSingle (job_of command)
+  single (Compile root) = compile.single law root
+  single (Compat root new old) = compat.single law root new old
+  single (Run path) = run.single path
+  single (Bound path) = bound.single path
+
+  pub one_status : (command : Option Command) → IsSingle (job_asked command)
+  one_status None told s t h a b = a ∙ sym b
+  one_status (Some command) told s t h a b = single command told s t h a b

@@ -1,0 +1,5 @@
+pub mod Single
+pub mod Compile
+pub mod Compat
+pub mod Run
+pub mod Bound

@@ -1,0 +1,49 @@
+-- A run has one status, that of its log's end.
+use Rattle.std.proofs.Common.{◌≡◌, ◌∙◌, ℕ, true, false, List, Option, Some, None, IfSome, refl, sym, ap, subst, is_some, ◌&&◌}
+use Rattle.cy_outside.specs.Files.{Files}
+use Rattle.node_plan.specs.declared.plan.Plan.{Plan}
+use Rattle.frame_log.specs.Log.{Log, log_of}
+use Rattle.node_run.specs.Ran.{Ran, HasRun, names_of, refused, refusal_of}
+use Rattle.node_run.specs.declared.report.Report.{Report}
+use Rattle.node_run.specs.declared.status.LogWhy.{LogWhy}
+use Rattle.node_run.specs.declared.status.LogWhy.TheVariants as why
+use Rattle.node_run.specs.declared.status.Status.{Status}
+use Rattle.node_run.specs.declared.status.Status.TheVariants as status
+use Rattle.cyphal.specs.Job.{is_fault}
+use Rattle.cyphal.specs.jobs.Run.{ending, over, on_run, run_job}
+use Rattle.cyphal.proofs.Plans.{same_asked, path_told}
+use Rattle.cyphal.proofs.jobs.Single.{IsSingle}
+
+named : (n : ℕ) (w : LogWhy) → refused (refusal_of n w) ≡ status.Log n w
+named n why.BadLine = refl
+named n why.TimeBack = refl
+named n why.UnknownBus = refl
+named n why.TooFar = refl
+
+-- a status that is no fault is that of the log's end
+ended_so : (plan : Plan) (log : Log) (stat : Status) (report : Report) (before after : Option (List ℕ)) → is_fault stat ≡ false → Ran plan log stat report before after → stat ≡ ending log.refusal
+ended_so plan log status.Ok report before after h r = ap ending (sym r.0)
+ended_so plan log status.Usage report before after h r = absurd r
+ended_so plan log (status.Dsdl file n w) report before after h r = absurd r
+ended_so plan log (status.Plan n w) report before after h r = absurd r
+ended_so plan log (status.Log n w) report before after h r = sym (ap ending r.0 ∙ named n w)
+ended_so plan log (status.NotNewer path w) report before after h r = absurd r
+ended_so plan log status.LogLong report before after h r = ap ending (sym r.0)
+ended_so plan log (status.NoFile path) report before after h r = absurd r
+ended_so plan log status.ReadFault report before after h r = absurd cc
+ended_so plan log status.WriteFault report before after h r = absurd cc
+ended_so plan log status.NoMemory report before after h r = absurd cc
+
+-- a run's status is the one that is asked for
+pub plan_answer : (plan : Plan) (input : Option (List ℕ)) (stat : Status) (report : Report) (before after : Option (List ℕ)) → is_fault stat ≡ false → HasRun plan input stat report before after → IfSome (over input plan) (λ s. stat ≡ s)
+plan_answer plan None stat report before after h r = tt
+plan_answer plan (Some bytes) stat report before after h r =
+    ended_so plan (log_of (names_of plan) r.bytes) stat report before after h r.ran ∙ ap (λ b. ending (log_of (names_of plan) b).refusal) r.is
+
+by_told : (path : List ℕ) (files : Option Files) (input : Option (List ℕ)) (s t : Status) → (is_some files && is_some input) ≡ true → IfSome (on_run path files input) (λ x. s ≡ x) → IfSome (on_run path files input) (λ x. t ≡ x) → s ≡ t
+by_told path None input s t h a b = absurd cc
+by_told path (Some tree) None s t h a b = absurd cc
+by_told path (Some tree) (Some bytes) s t h a b = same_asked (on_run path (Some tree) (Some bytes)) s t (path_told path tree (over (Some bytes)) (λ plan. refl)) a b
+
+pub single : (path : List ℕ) → IsSingle (run_job path)
+single path told s t h a b = by_told path told.files told.input s t h a b

@@ -1,0 +1,32 @@
+-- Why a command ended as it did.
+use Rattle.std.specs.Prelude.{◌≡◌, ◌⊎◌, ℕ, Bool, false}
+use Rattle.cy_outside.specs.Outside.{Rose}
+use Rattle.node_run.specs.declared.status.Status.{Status}
+use Rattle.node_run.specs.declared.status.Status.TheVariants as status
+
+-- the counts of faults of a tree and an output
+pub record Counts : Type 0 where
+  pub tree : ℕ
+  pub out : ℕ
+
+-- of a command that is given no input: a fault comes only where a count rose, and each stays where all was done
+pub record HasCause (stat : Status) (old new : Counts) : Type 0 where
+  pub usage : ¬ (stat ≡ status.Usage)
+  pub read : stat ≡ status.ReadFault → Rose old.tree new.tree
+  pub write : stat ≡ status.WriteFault → Rose old.out new.out
+  pub kept : stat ≡ status.Ok → (new.tree ≡ old.tree) × (new.out ≡ old.out)
+
+-- the counts of a tree, an input and an output, and the input
+pub record Outside (L : Type 0) : Type 0 where
+  pub tree : ℕ
+  pub input : ℕ
+  pub out : ℕ
+  pub source : L
+
+-- the same of any command, by whether it takes of the input: where it does not, or where the tree failed, the input
+-- stays as it was
+pub record HasCauseOver {L : Type 0} (takes : Bool) (stat : Status) (old new : Outside L) : Type 0 where
+  pub read : stat ≡ status.ReadFault → (Rose old.tree new.tree × (new.source ≡ old.source)) ⊎ Rose old.input new.input
+  pub unread : takes ≡ false → new.source ≡ old.source
+  pub write : stat ≡ status.WriteFault → Rose old.out new.out
+  pub kept : stat ≡ status.Ok → (new.tree ≡ old.tree) × (new.input ≡ old.input) × (new.out ≡ old.out)

@@ -1,0 +1,62 @@
+-- What is said of a command: each file of specs/jobs/ makes one job.
+use Rattle.std.specs.Prelude.{◌≡◌, ℕ, Bool, true, false, List, Option}
+use Rattle.cy_outside.specs.Files.{Files}
+use Rattle.cy_outside.specs.Outside.{Rose}
+use Rattle.node_run.specs.Ran.{IsEmpty}
+use Rattle.node_run.specs.declared.report.Report.{Report}
+use Rattle.node_run.specs.declared.status.Status.{Status}
+use Rattle.node_run.specs.declared.status.Status.TheVariants as status
+
+-- what the outside tells as the call begins: the files of the tree, and the bytes of the input
+pub record Told : Type 0 where
+  pub files : Option Files
+  pub input : Option (List ℕ)
+
+abbrev pub told_by : Option Files → Option (List ℕ) → Told
+told_by files input = record { files = files; input = input }
+
+-- what a call came to: its status, its report, what is left of the input, and what was written before and after it
+pub record Outcome : Type 0 where
+  pub status : Status
+  pub report : Report
+  pub left : Option (List ℕ)
+  pub before : Option (List ℕ)
+  pub after : Option (List ℕ)
+
+-- a command with its arguments
+pub record Job : Type 1 where
+  -- whether it takes of the input
+  pub takes_input : Bool
+  -- whether all that decides its status is told
+  pub is_told : Told → Bool
+  -- a status is what it asks for, as far as what is told decides it
+  pub expects : Told → Status → Type 0
+  -- what it did, where it did something
+  pub did : Told → Outcome → Type 0
+
+-- the statuses that may come at any time
+abbrev pub is_fault : Status → Bool
+is_fault status.ReadFault = true
+is_fault status.WriteFault = true
+is_fault status.NoMemory = true
+is_fault other = false
+
+-- the statuses of a run over all of the log that counts
+abbrev pub is_settled : Status → Bool
+is_settled status.Ok = true
+is_settled (status.Log n why) = true
+is_settled status.LogLong = true
+is_settled other = false
+
+-- nothing was run, written or taken, and a read fault is one of the tree
+pub record NotDone (told : Told) (came : Outcome) (faults faults_new : ℕ) : Type 0 where
+  pub empty : IsEmpty came.report
+  pub written : came.after ≡ came.before
+  pub not_settled : is_settled came.status ≡ false
+  pub left : came.left ≡ told.input
+  pub tree : came.status ≡ status.ReadFault → Rose faults faults_new
+
+-- a command that is given neither an input nor a report wrote nothing
+pub record WroteNothing (stat : Status) (before after : Option (List ℕ)) : Type 0 where
+  pub written : after ≡ before
+  pub not_settled : is_settled stat ≡ false

@@ -1,0 +1,4 @@
+pub mod Compile
+pub mod Compat
+pub mod Run
+pub mod Bound

@@ -1,0 +1,28 @@
+-- `compat ROOT NEW OLD`: whether one type of a root is newer than another.
+use Rattle.std.specs.Prelude.{◌≡◌, ◌⊎◌, ℕ, false, ◌||◌, List, Option, is_some}
+use Rattle.cy_outside.specs.Files.{Files}
+use Rattle.dsdl_types.specs.declared.namespace.Namespace.{Namespace}
+use Rattle.node_run.specs.Compared.{compared, HasCompared}
+use Rattle.node_run.specs.Loaded.{is_none, IsLoaded, IsNotLoaded}
+use Rattle.node_run.specs.Ran.{IsEmpty}
+use Rattle.node_run.specs.declared.status.Status.{Status}
+use Rattle.cyphal.specs.Job.{Job, is_fault}
+
+-- what comparing two types of a root comes to: why the root has no namespace, or how the comparison in it ends
+abbrev pub Compares : List ℕ → List ℕ → List ℕ → Option Files → Status → Type 0
+Compares root new old files stat = (is_fault stat ≡ false) × (IsNotLoaded root files stat ⊎ ((names : Namespace) × IsLoaded root files names × (stat ≡ compared names new old)))
+
+-- two types of the namespace of a root were compared, and what was written of it
+pub record HasComparedAt (root new old : List ℕ) (files : Option Files) (stat : Status) (before after : Option (List ℕ)) : Type 0 where
+  pub names : Namespace
+  pub is : IsLoaded root files names
+  pub compared : HasCompared names new old stat before after
+
+-- no files are needed where the root is `none`
+abbrev pub compat_job : List ℕ → List ℕ → List ℕ → Job
+compat_job root new old = record {
+  takes_input = false;
+  is_told = λ told. is_none root || is_some told.files;
+  expects = λ told stat. Compares root new old told.files stat;
+  did = λ told came. HasComparedAt root new old told.files came.status came.before came.after × IsEmpty came.report;
+}

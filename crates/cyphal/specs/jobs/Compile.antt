@@ -1,0 +1,32 @@
+-- `compile ROOT`: the layouts of the types below a root.
+use Rattle.std.specs.Prelude.{ℕ, false, ◌||◌, List, Option, is_some}
+use Rattle.cy_outside.specs.Files.{Files}
+use Rattle.dsdl_types.specs.declared.namespace.Namespace.{Namespace}
+use Rattle.node_run.specs.Layouts.{HasLayouts}
+use Rattle.node_run.specs.Loaded.{is_none, IsLoaded, IsNotLoaded}
+use Rattle.node_run.specs.Ran.{IsEmpty}
+use Rattle.node_run.specs.declared.status.Status.{Status}
+use Rattle.node_run.specs.declared.status.Status.TheVariants as status
+use Rattle.cyphal.specs.Job.{Job}
+
+-- what compiling the files of a root comes to: their namespace, or why there is none
+abbrev pub Compiles : List ℕ → Option Files → Status → Type 0
+Compiles root files status.Ok = (names : Namespace) × IsLoaded root files names
+Compiles root files (status.NoFile path) = IsNotLoaded root files (status.NoFile path)
+Compiles root files (status.Dsdl path line why) = IsNotLoaded root files (status.Dsdl path line why)
+Compiles root files other = ⊥
+
+-- the layouts of the namespace of a root were written, as far as the status says
+pub record HasCompiledAt (root : List ℕ) (files : Option Files) (stat : Status) (before after : Option (List ℕ)) : Type 0 where
+  pub names : Namespace
+  pub is : IsLoaded root files names
+  pub layouts : HasLayouts names stat before after
+
+-- no files are needed where the root is `none`
+abbrev pub compile_job : List ℕ → Job
+compile_job root = record {
+  takes_input = false;
+  is_told = λ told. is_none root || is_some told.files;
+  expects = λ told stat. Compiles root told.files stat;
+  did = λ told came. HasCompiledAt root told.files came.status came.before came.after × IsEmpty came.report;
+}
