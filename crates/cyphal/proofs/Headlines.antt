@@ -90,14 +90,14 @@ the_plan words told came plan bytes a r = one_plan a.path a.tree r.plan plan (su
 
 -- a run of a told plan over a told input
 ran : (words : List (List ℕ)) (told : Told) (came : Outcome) (plan : Plan) (bytes : List ℕ) (a : Asked words told plan bytes) → HasRunAt a.path told came
-    → Ran plan (log_of (names_of plan) bytes) came.status came.report came.before came.after
+    → Ran plan (log_of (names_of plan) bytes) came.status came.report told.written came.written
 ran words told came plan bytes a r =
     let stat = came.status in
     let report = came.report in
     let same : r.plan ≡ plan = the_plan words told came plan bytes a r in
-    let run : HasRun plan (Some bytes) stat report came.before came.after =
-    subst (λ (q : Plan). HasRun q (Some bytes) stat report came.before came.after) same (subst (λ i. HasRun r.plan i stat report came.before came.after) a.is_input r.run) in
-    subst (λ (b : List ℕ). Ran plan (log_of (names_of plan) b) stat report came.before came.after) run.is run.ran
+    let run : HasRun plan (Some bytes) stat report told.written came.written =
+    subst (λ (q : Plan). HasRun q (Some bytes) stat report told.written came.written) same (subst (λ i. HasRun r.plan i stat report told.written came.written) a.is_input r.run) in
+    subst (λ (b : List ℕ). Ran plan (log_of (names_of plan) b) stat report told.written came.written) run.is run.ran
 
 module _ (plan : Plan) (bytes : List ℕ) (key : SessionKey) where
   abbrev past : List Record
@@ -127,7 +127,7 @@ once_of law fields once order words told came faults faults_new w plan bytes key
     by_run (inl n) = subst (λ ls. SelectedRx p.extent sent origin (of_key plan key (logged_in plan bytes)) (rxs key ls)) (sym n.empty.reported) (record { sent_ones = tt; in_order = tt })
     by_run (inr r) =
         let log = log_of (names_of plan) bytes in
-        let f = front plan log came.status came.report came.before came.after (ran words told came plan bytes a r) in
+        let f = front plan log came.status came.report told.written came.written (ran words told came plan bytes a r) in
         once plan.timeout p.extent sent key origin (frames plan.node (newest_first log)) (rxs key came.report.lines) (rxs key f.0)
         (in_order plan.node log.records (order (names_of plan) bytes)) (by_fields plan bytes key fields sent origin x)
         (sym (session plan bytes key law p s) ∙ (ap (rxs key) f.1 ∙ rxs_append key came.report.lines f.0))
@@ -139,6 +139,6 @@ due_of law fields due words told came faults faults_new w plan bytes key p sent 
     by_run : NotDone told came faults faults_new ⊎ HasRunAt a.path told came → AnyRx (λ rx. rx.last ≡ q.line) (rxs key came.report.lines)
     by_run (inl n) = absurd (both_ways (is_settled came.status) n.not_settled settled)
     by_run (inr r) =
-        let all = whole plan (log_of (names_of plan) bytes) came.status came.report came.before came.after settled (ran words told came plan bytes a r) in
+        let all = whole plan (log_of (names_of plan) bytes) came.status came.report told.written came.written settled (ran words told came plan bytes a r) in
         subst (AnyRx (λ rx. rx.last ≡ q.line)) (sym (ap (rxs key) all ∙ session plan bytes key law p s))
         (due plan.timeout p.extent sent key origin (of_key plan key (logged_in plan bytes)) q (by_fields plan bytes key fields sent origin x) d)

@@ -3,7 +3,7 @@ pub mod Parts
 pub mod Plans
 pub mod Loaded
 pub mod Ended
-pub mod jobs
+pub mod statuses
 pub mod OneStatus
 pub mod Frames
 pub mod Headlines

@@ -3,11 +3,11 @@ use Rattle.std.proofs.Common.{◌∙◌, Option, Some, None, sym}
 use Rattle.dsdl_resolve.specs.Laws.{HaveOneAnswer}
 use Rattle.cyphal.specs.Words.{Command, Compile, Compat, Run, Bound}
 use Rattle.cyphal.specs.Expected.{job_of, job_asked}
-use Rattle.cyphal.proofs.jobs.Single.{IsSingle}
-use Rattle.cyphal.proofs.jobs.Compile as compile
-use Rattle.cyphal.proofs.jobs.Compat as compat
-use Rattle.cyphal.proofs.jobs.Run as run
-use Rattle.cyphal.proofs.jobs.Bound as bound
+use Rattle.cyphal.proofs.statuses.Single.{IsSingle}
+use Rattle.cyphal.proofs.statuses.Compile as compile
+use Rattle.cyphal.proofs.statuses.Compat as compat
+use Rattle.cyphal.proofs.statuses.Run as run
+use Rattle.cyphal.proofs.statuses.Bound as bound
 
 module _ (law : HaveOneAnswer) where
   single : (command : Command) → IsSingle (job_of command)

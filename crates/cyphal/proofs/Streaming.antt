@@ -16,15 +16,15 @@ module _ (words : List (List ℕ)) (told : Told) (came : Outcome) (faults faults
   pub taken_of : WasDone words told came faults faults_new → came.status ≡ status.ReadFault → (Rose faults faults_new → ⊥) → TakenOf words told came
   taken_of w e none plan bytes a = by_run (run_done words told came faults faults_new plan bytes w a)
     where
-      by_run : NotDone told came faults faults_new ⊎ HasRunAt a.path told came → IsOfTaken plan told.input came.left came.report came.before came.after
+      by_run : NotDone told came faults faults_new ⊎ HasRunAt a.path told came → IsOfTaken plan told.input came.left came.report told.written came.written
       by_run (inl n) = absurd (none (n.tree e))
-      by_run (inr r) = subst (λ (q : Plan). IsOfTaken q told.input came.left came.report came.before came.after) (the_plan words told came plan bytes a r) (r.taken e)
+      by_run (inr r) = subst (λ (q : Plan). IsOfTaken q told.input came.left came.report told.written came.written) (the_plan words told came plan bytes a r) (r.taken e)
 
   pub streamed_of : WasDone words told came faults faults_new → StreamedOf words told came
   streamed_of w plan bytes a = by_run (run_done words told came faults faults_new plan bytes w a)
     where
-      by_run : NotDone told came faults faults_new ⊎ HasRunAt a.path told came → IsStreamed plan told.input came.left came.status came.report came.before came.after
+      by_run : NotDone told came faults faults_new ⊎ HasRunAt a.path told came → IsStreamed plan told.input came.left came.status came.report told.written came.written
       by_run (inl n) =
-          subst (λ (o : Option (List ℕ)). IsStreamed plan told.input o came.status came.report came.before came.after) (sym n.left)
-          (streamed_none plan told.input came.status came.report came.before came.after)
-      by_run (inr r) = subst (λ (q : Plan). IsStreamed q told.input came.left came.status came.report came.before came.after) (the_plan words told came plan bytes a r) r.streamed
+          subst (λ (o : Option (List ℕ)). IsStreamed plan told.input o came.status came.report told.written came.written) (sym n.left)
+          (streamed_none plan told.input came.status came.report told.written came.written)
+      by_run (inr r) = subst (λ (q : Plan). IsStreamed q told.input came.left came.status came.report told.written came.written) (the_plan words told came plan bytes a r) r.streamed

@@ -9,6 +9,9 @@ pub record Counts : Type 0 where
   pub tree : ℕ
   pub out : ℕ
 
+abbrev pub counts : ℕ → ℕ → Counts
+counts tree out = record { tree = tree; out = out }
+
 -- of a command that is given no input: a fault comes only where a count rose, and each stays where all was done
 pub record HasCause (stat : Status) (old new : Counts) : Type 0 where
   pub usage : ¬ (stat ≡ status.Usage)
@@ -23,10 +26,16 @@ pub record Outside (L : Type 0) : Type 0 where
   pub out : ℕ
   pub source : L
 
+abbrev pub outside : {L : Type 0} → ℕ → ℕ → ℕ → L → Outside L
+outside tree input out source = record { tree = tree; input = input; out = out; source = source }
+
 -- the same of any command, by whether it takes of the input: where it does not, or where the tree failed, the input
 -- stays as it was
-pub record HasCauseOver {L : Type 0} (takes : Bool) (stat : Status) (old new : Outside L) : Type 0 where
-  pub read : stat ≡ status.ReadFault → (Rose old.tree new.tree × (new.source ≡ old.source)) ⊎ Rose old.input new.input
+pub record HasCauseOver {L : Type 0} (takes : Bool) (stat : Status)
+    (old new : Outside L) : Type 0 where
+  pub read : stat ≡ status.ReadFault
+      → (Rose old.tree new.tree × (new.source ≡ old.source)) ⊎ Rose old.input new.input
   pub unread : takes ≡ false → new.source ≡ old.source
   pub write : stat ≡ status.WriteFault → Rose old.out new.out
-  pub kept : stat ≡ status.Ok → (new.tree ≡ old.tree) × (new.input ≡ old.input) × (new.out ≡ old.out)
+  pub kept : stat ≡ status.Ok
+      → (new.tree ≡ old.tree) × (new.input ≡ old.input) × (new.out ≡ old.out)

@@ -14,8 +14,8 @@ root_shape = with_rule (new_app (codes "cyphal")) (given (codes "ROOT"))
 
 -- a root and the names of two types
 abbrev pub types_shape : App
-types_shape = with_rule (with_rule (with_rule (new_app (codes "cyphal")) (given (codes "ROOT"))) (given (codes "NEW"))) (given (codes "OLD"))
+types_shape = with_rule (with_rule root_shape (given (codes "NEW"))) (given (codes "OLD"))
 
 -- a root and a plan
 abbrev pub plan_shape : App
-plan_shape = with_rule (with_rule (new_app (codes "cyphal")) (given (codes "ROOT"))) (given (codes "PLAN"))
+plan_shape = with_rule root_shape (given (codes "PLAN"))

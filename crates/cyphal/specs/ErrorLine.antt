@@ -50,7 +50,8 @@ dsdl_why_text dsdl_why.TooBig = codes "TooBig"
 
 -- a line of a DSDL file, and why it is refused
 abbrev pub in_file : List ℕ → ℕ → List ℕ → List ℕ
-in_file file n why = codes "cyphal: " ++ (file ++ (codes ":" ++ (decimal n ++ (codes ": " ++ (why ++ 10 ∷ [])))))
+in_file file n why =
+    codes "cyphal: " ++ (file ++ (codes ":" ++ (decimal n ++ (codes ": " ++ (why ++ 10 ∷ [])))))
 
 -- a line of an input, and why it is refused
 abbrev pub numbered : List ℕ → ℕ → List ℕ → List ℕ

@@ -34,4 +34,5 @@ job_for words = job_asked (command_of words)
 
 -- what was done: nothing, or what the words ask for
 abbrev pub WasDone : List (List ℕ) → Told → Outcome → ℕ → ℕ → Type 0
-WasDone words told came faults faults_new = NotDone told came faults faults_new ⊎ (job_for words).did told came
+WasDone words told came faults faults_new =
+    NotDone told came faults faults_new ⊎ (job_for words).did told came

@@ -34,6 +34,10 @@ pub record Asked (words : List (List ℕ)) (told : Told) (plan : Plan) (bytes : 
 abbrev pub logged_in : Plan → List ℕ → List Record
 logged_in plan bytes = newest_first (log_of (names_of plan) bytes)
 
+-- the records of a session among them
+abbrev pub of_session_in : Plan → List ℕ → SessionKey → List KeyRecord
+of_session_in plan bytes key = of_key plan key (logged_in plan bytes)
+
 -- the frame of a session that a record is, to the node: discarded frames, anonymous ones, the node's own and those of
 -- services for other nodes are none
 abbrev pub heard_as : ℕ → Record → Option KeyedFrame
@@ -42,21 +46,25 @@ heard_as node rec = option_and_then keyed (frame_for node rec)
 -- each record of a session is, by identifier and data, the frame of the sent list that its pair in `origin` names,
 -- received less than the timeout after it was sent; on each bus these pairs never fall; and there is no chance match
 abbrev pub ExplainsIn : Plan → List ℕ → Sent → SessionKey → List Pair → Type 0
-ExplainsIn plan bytes sent key origin = WireExplains (heard_as plan.node) plan.timeout sent key origin (logged_in plan bytes)
+ExplainsIn plan bytes sent key origin =
+    WireExplains (heard_as plan.node) plan.timeout sent key origin (logged_in plan bytes)
 
 -- once, however the run ended: what is reported of a session are sent transfers, in the order of the sent list, each at
 -- most once, cut to the extent
 abbrev pub OnceOf : List (List ℕ) → Told → Report → Type 0
 OnceOf words told report =
     (plan : Plan) (bytes : List ℕ) (key : SessionKey) (p : Port) (sent : Sent) (origin : List Pair)
-    → Asked words told plan bytes → IsSession plan key (logged_in plan bytes) p → ExplainsIn plan bytes sent key origin
-    → SelectedRx p.extent sent origin (of_key plan key (logged_in plan bytes)) (rxs key report.lines)
+    → Asked words told plan bytes → IsSession plan key (logged_in plan bytes) p
+    → ExplainsIn plan bytes sent key origin
+    → SelectedRx p.extent sent origin (of_session_in plan bytes key) (rxs key report.lines)
 
 -- due, where all that counts of the input was run: each transfer of a session that came whole on the bus in force with a
 -- fresh transfer-ID is reported, on the line of its last frame
 abbrev pub DueOf : List (List ℕ) → Told → Outcome → Type 0
 DueOf words told came =
-    (plan : Plan) (bytes : List ℕ) (key : SessionKey) (p : Port) (sent : Sent) (origin : List Pair) (q : KeyRecord)
-    → Asked words told plan bytes → IsSession plan key (logged_in plan bytes) p → ExplainsIn plan bytes sent key origin
-    → is_settled came.status ≡ true → IsDue plan.timeout sent origin (of_key plan key (logged_in plan bytes)) q
+    (plan : Plan) (bytes : List ℕ) (key : SessionKey) (p : Port) (sent : Sent) (origin : List Pair)
+    (q : KeyRecord)
+    → Asked words told plan bytes → IsSession plan key (logged_in plan bytes) p
+    → ExplainsIn plan bytes sent key origin → is_settled came.status ≡ true
+    → IsDue plan.timeout sent origin (of_session_in plan bytes key) q
     → AnyRx (λ rx. rx.last ≡ q.line) (rxs key came.report.lines)

@@ -7,21 +7,38 @@ use Rattle.node_run.specs.declared.report.Report.{Report}
 use Rattle.node_run.specs.declared.status.Status.{Status}
 use Rattle.node_run.specs.declared.status.Status.TheVariants as status
 
--- what the outside tells as the call begins: the files of the tree, and the bytes of the input
+-- what the outside tells as the call begins: the files of the tree, the bytes of the input, and what was written before
 pub record Told : Type 0 where
   pub files : Option Files
   pub input : Option (List ℕ)
+  pub written : Option (List ℕ)
 
-abbrev pub told_by : Option Files → Option (List ℕ) → Told
-told_by files input = record { files = files; input = input }
+abbrev pub told_by : Option Files → Option (List ℕ) → Option (List ℕ) → Told
+told_by files input written = record { files = files; input = input; written = written }
 
--- what a call came to: its status, its report, what is left of the input, and what was written before and after it
+-- what a call came to: its status, its report, what is left of the input, and what is written at its end
 pub record Outcome : Type 0 where
   pub status : Status
   pub report : Report
   pub left : Option (List ℕ)
+  pub written : Option (List ℕ)
+
+abbrev pub outcome : Status → Report → Option (List ℕ) → Option (List ℕ) → Outcome
+outcome stat report left written =
+    record { status = stat; report = report; left = left; written = written }
+
+-- what a command came to that is given neither an input nor a report: its status, and what was written before and after it
+pub record Printed : Type 0 where
+  pub status : Status
   pub before : Option (List ℕ)
   pub after : Option (List ℕ)
+
+abbrev pub printed : Status → Option (List ℕ) → Option (List ℕ) → Printed
+printed stat before after = record { status = stat; before = before; after = after }
+
+-- the same of any command
+abbrev pub print_of : Told → Outcome → Printed
+print_of told came = printed came.status told.written came.written
 
 -- a command with its arguments
 pub record Job : Type 1 where
@@ -51,12 +68,12 @@ is_settled other = false
 -- nothing was run, written or taken, and a read fault is one of the tree
 pub record NotDone (told : Told) (came : Outcome) (faults faults_new : ℕ) : Type 0 where
   pub empty : IsEmpty came.report
-  pub written : came.after ≡ came.before
+  pub written : came.written ≡ told.written
   pub not_settled : is_settled came.status ≡ false
   pub left : came.left ≡ told.input
   pub tree : came.status ≡ status.ReadFault → Rose faults faults_new
 
 -- a command that is given neither an input nor a report wrote nothing
-pub record WroteNothing (stat : Status) (before after : Option (List ℕ)) : Type 0 where
-  pub written : after ≡ before
-  pub not_settled : is_settled stat ≡ false
+pub record WroteNothing (print : Printed) : Type 0 where
+  pub written : print.after ≡ print.before
+  pub not_settled : is_settled print.status ≡ false

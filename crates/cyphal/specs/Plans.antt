@@ -1,5 +1,5 @@
 -- What the file of a plan comes to.
-use Rattle.std.specs.Prelude.{◌≡◌, ℕ, List, Option, Some, None, ⊤}
+use Rattle.std.specs.Prelude.{◌≡◌, ℕ, List, Option, Some, None, IfSome, ⊤}
 use Rattle.std.specs.FinMap as map
 use Rattle.cy_outside.specs.Files.{Files}
 use Rattle.node_plan.specs.Plan.{PlanIs, Good, Bad, plan_of}
@@ -23,4 +23,10 @@ on_path path (Some files) rest = on_file path (map.get files path) rest
 -- the plan is that of the file at a path
 abbrev pub PlanAt : List ℕ → Option Files → Plan → Type 0
 PlanAt path None plan = ⊤
-PlanAt path (Some files) plan = (text : List ℕ) × (map.get files path ≡ Some text) × (plan_of text ≡ Good plan)
+PlanAt path (Some files) plan =
+    (text : List ℕ) × (map.get files path ≡ Some text) × (plan_of text ≡ Good plan)
+
+-- whatever is asked of the plan at a path, this status is what is asked for
+abbrev pub RefusesAt : List ℕ → Option Files → Status → Type 0
+RefusesAt path files stat =
+    (rest : Plan → Option Status) → IfSome (on_path path files rest) (λ s. stat ≡ s)

@@ -39,12 +39,14 @@ root_given other = None
 
 -- the path of words that have a root and a plan
 abbrev pub plan_given : List (List ℕ) → Option (List ℕ)
-plan_given (word ∷ root ∷ plan ∷ []) = if is_argument root && is_argument plan then Some plan else None
+plan_given (word ∷ root ∷ plan ∷ []) =
+    if is_argument root && is_argument plan then Some plan else None
 plan_given other = None
 
 -- the root and the names of two types of words that have these
 abbrev pub types_given : List (List ℕ) → Option (List ℕ × List ℕ × List ℕ)
-types_given (word ∷ root ∷ new ∷ old ∷ []) = if are_types root new old then Some (root, new, old) else None
+types_given (word ∷ root ∷ new ∷ old ∷ []) =
+    if are_types root new old then Some (root, new, old) else None
 types_given other = None
 
 -- the command that a word names, of a root
@@ -53,11 +55,14 @@ named_of_root word root = if bytes_eq word (codes "compile") then Some (Compile 
 
 -- the command that a word names, of a plan
 abbrev pub named_of_plan : List ℕ → List ℕ → Option Command
-named_of_plan word plan = if bytes_eq word (codes "run") then Some (Run plan) else (if bytes_eq word (codes "bound") then Some (Bound plan) else None)
+named_of_plan word plan =
+    if bytes_eq word (codes "run") then Some (Run plan)
+    else (if bytes_eq word (codes "bound") then Some (Bound plan) else None)
 
 -- the command that a word names, of two types of a root
 abbrev pub named_of_types : List ℕ → List ℕ → List ℕ → List ℕ → Option Command
-named_of_types word root new old = if bytes_eq word (codes "compat") then Some (Compat root new old) else None
+named_of_types word root new old =
+    if bytes_eq word (codes "compat") then Some (Compat root new old) else None
 
 -- what the words ask for, where they are accepted: `compile ROOT`, `compat ROOT NEW OLD`, `run ROOT PLAN` or
 -- `bound ROOT PLAN`
@@ -65,6 +70,8 @@ abbrev pub command_of : List (List ℕ) → Option Command
 command_of [] = None
 command_of (word ∷ []) = None
 command_of (word ∷ root ∷ []) = if is_argument root then named_of_root word root else None
-command_of (word ∷ root ∷ plan ∷ []) = if are_arguments root plan then named_of_plan word plan else None
-command_of (word ∷ root ∷ new ∷ old ∷ []) = if are_types root new old then named_of_types word root new old else None
+command_of (word ∷ root ∷ plan ∷ []) =
+    if are_arguments root plan then named_of_plan word plan else None
+command_of (word ∷ root ∷ new ∷ old ∷ []) =
+    if are_types root new old then named_of_types word root new old else None
 command_of (word ∷ root ∷ new ∷ old ∷ more ∷ rest) = None

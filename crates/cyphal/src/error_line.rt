@@ -15,8 +15,10 @@ use node_run::{LogWhy, Status};
 
 /// Writes the line of a status, in pieces; of `Ok` there is none.
 pub fn put_error<E: Sink>(err: &mut E, status: &Status) -> Result<(), Failed>
-    ensures written { OnOk result (E.written err.new ≡ behind (E.written err.old) (error_line status.now)) }
-    ensures begins { OnErr result (Begins (error_line status.now) (E.written err.old) (E.written err.new)) }
+    ensures written { OnOk result
+        (E.written err.new ≡ behind (E.written err.old) (error_line status.now)) }
+    ensures begins { OnErr result
+        (Begins (error_line status.now) (E.written err.old) (E.written err.new)) }
     ensures fault { OnErr result (Rose (E.faults err.old) (E.faults err.new)) }
 {
     match status {
@@ -50,8 +52,10 @@ pub fn put_error<E: Sink>(err: &mut E, status: &Status) -> Result<(), Failed>
 
 /// Writes the line of a file, folder or type that isn't there.
 fn put_missing<E: Sink>(err: &mut E, path: &str) -> Result<(), Failed>
-    ensures written { OnOk result (E.written err.new ≡ behind (E.written err.old) (missing path.now)) }
-    ensures begins { OnErr result (Begins (missing path.now) (E.written err.old) (E.written err.new)) }
+    ensures written { OnOk result
+        (E.written err.new ≡ behind (E.written err.old) (missing path.now)) }
+    ensures begins { OnErr result
+        (Begins (missing path.now) (E.written err.old) (E.written err.new)) }
     ensures fault { OnErr result (Rose (E.faults err.old) (E.faults err.new)) }
 {
     let parts = [
@@ -64,8 +68,10 @@ fn put_missing<E: Sink>(err: &mut E, path: &str) -> Result<(), Failed>
 
 /// Writes the line of a type that isn't newer.
 fn put_not_newer<E: Sink>(err: &mut E, path: &str, why: &[u8]) -> Result<(), Failed>
-    ensures written { OnOk result (E.written err.new ≡ behind (E.written err.old) (not_newer path.now why.now)) }
-    ensures begins { OnErr result (Begins (not_newer path.now why.now) (E.written err.old) (E.written err.new)) }
+    ensures written { OnOk result
+        (E.written err.new ≡ behind (E.written err.old) (not_newer path.now why.now)) }
+    ensures begins { OnErr result
+        (Begins (not_newer path.now why.now) (E.written err.old) (E.written err.new)) }
     ensures fault { OnErr result (Rose (E.faults err.old) (E.faults err.new)) }
 {
     let parts = [
@@ -80,8 +86,10 @@ fn put_not_newer<E: Sink>(err: &mut E, path: &str, why: &[u8]) -> Result<(), Fai
 
 /// Writes the line of a DSDL file that is refused.
 fn put_refused_file<E: Sink>(err: &mut E, file: &str, line: u32, why: DsdlWhy) -> Result<(), Failed>
-    ensures written { OnOk result (E.written err.new ≡ behind (E.written err.old) (in_file file.now line (dsdl_why_text why))) }
-    ensures begins { OnErr result (Begins (in_file file.now line (dsdl_why_text why)) (E.written err.old) (E.written err.new)) }
+    ensures written { let text = in_file file.now line (dsdl_why_text why) in
+        OnOk result (E.written err.new ≡ behind (E.written err.old) text) }
+    ensures begins { let text = in_file file.now line (dsdl_why_text why) in
+        OnErr result (Begins text (E.written err.old) (E.written err.new)) }
     ensures fault { OnErr result (Rose (E.faults err.old) (E.faults err.new)) }
 {
     match why {
@@ -113,8 +121,10 @@ fn put_in_file<E: Sink>(
     word: &'static [u8],
     detail: &[u8],
 ) -> Result<(), Failed>
-    ensures written { OnOk result (E.written err.new ≡ behind (E.written err.old) (in_file file.now line (word.now ++ detail.now))) }
-    ensures begins { OnErr result (Begins (in_file file.now line (word.now ++ detail.now)) (E.written err.old) (E.written err.new)) }
+    ensures written { let text = in_file file.now line (word.now ++ detail.now) in
+        OnOk result (E.written err.new ≡ behind (E.written err.old) text) }
+    ensures begins { let text = in_file file.now line (word.now ++ detail.now) in
+        OnErr result (Begins text (E.written err.old) (E.written err.new)) }
     ensures fault { OnErr result (Rose (E.faults err.old) (E.faults err.new)) }
 {
     let mut buffer = Buffer::new();
@@ -134,8 +144,10 @@ fn put_in_file<E: Sink>(
 
 /// Writes the line of an input's line that is refused.
 fn put_numbered<E: Sink>(err: &mut E, head: &[u8], n: u64, why: &[u8]) -> Result<(), Failed>
-    ensures written { OnOk result (E.written err.new ≡ behind (E.written err.old) (numbered head.now n why.now)) }
-    ensures begins { OnErr result (Begins (numbered head.now n why.now) (E.written err.old) (E.written err.new)) }
+    ensures written { OnOk result
+        (E.written err.new ≡ behind (E.written err.old) (numbered head.now n why.now)) }
+    ensures begins { OnErr result
+        (Begins (numbered head.now n why.now) (E.written err.old) (E.written err.new)) }
     ensures fault { OnErr result (Rose (E.faults err.old) (E.faults err.new)) }
 {
     let mut buffer = Buffer::new();
@@ -146,8 +158,10 @@ fn put_numbered<E: Sink>(err: &mut E, head: &[u8], n: u64, why: &[u8]) -> Result
 
 /// Writes parts, one behind another.
 fn put_parts<E: Sink>(err: &mut E, parts: &[&[u8]]) -> Result<(), Failed>
-    ensures written { OnOk result (E.written err.new ≡ behind (E.written err.old) (flat_map (λ part. part.now) parts.now)) }
-    ensures begins { OnErr result (Begins (flat_map (λ part. part.now) parts.now) (E.written err.old) (E.written err.new)) }
+    ensures written { OnOk result
+        (E.written err.new ≡ behind (E.written err.old) (flat_map (λ part. part.now) parts.now)) }
+    ensures begins { OnErr result
+        (Begins (flat_map (λ part. part.now) parts.now) (E.written err.old) (E.written err.new)) }
     ensures fault { OnErr result (Rose (E.faults err.old) (E.faults err.new)) }
 {
     for part in parts {

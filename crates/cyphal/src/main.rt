@@ -6,6 +6,8 @@ ghost use Rattle.cyphal.specs.ErrorLine.{code_of};
 
 mod error_line;
 mod help;
+mod jobs;
+mod plan_file;
 #[cfg(test)]
 mod tests;
 mod top;

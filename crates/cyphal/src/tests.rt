@@ -11,8 +11,8 @@ const LOG: &[u8] = b"(0.000000) can0 107D552A#01000000000000E0\n";
 
 const RX: &[u8] = b"rx 0.000000 can0 msg 7509 42 4 0 1 1 01000000000000 raw\n";
 
-const ALL: &[u8] =
-    b"rx 0.000000 can0 msg 7509 42 4 0 1 1 01000000000000 raw\nend records 1 delivered 1 badcrc 0 nosession 0 sent 0 held 7 bound 28\n";
+const ALL: &[u8] = b"rx 0.000000 can0 msg 7509 42 4 0 1 1 01000000000000 raw\n\
+      end records 1 delivered 1 badcrc 0 nosession 0 sent 0 held 7 bound 28\n";
 
 /// How many empty lines come behind the log, which calls of the tree, the input and the output fail, and what the
 /// run comes to: among others, how many bytes of the input are left at least.
@@ -137,8 +137,9 @@ fn a_fault_ends_a_run_and_leaves_a_beginning(rt: HostRuntime) -> Result<(), Fail
 
 const NUM: &[u8] = b"uint8 a\nuint12 b\n@sealed\n";
 
-const LAYOUTS: &[u8] =
-    b"type demo.Num.1.0 message - extent 24 sealed lengths {24}\nfield a saturated uint8 at {0} size {8}\nfield b saturated uint12 at {8} size {12}\n";
+const LAYOUTS: &[u8] = b"type demo.Num.1.0 message - extent 24 sealed lengths {24}\n\
+      field a saturated uint8 at {0} size {8}\n\
+      field b saturated uint12 at {8} size {12}\n";
 
 /// A root, the text of the one file below the folder `types`, which calls of the tree and the output fail, and what
 /// compiling the root comes to.

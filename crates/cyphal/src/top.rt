@@ -6,8 +6,8 @@ ghost use Rattle.node_run.specs.declared.status.Status.{Status as TheStatus};
 ghost use Rattle.node_run.specs.declared.status.Status.TheVariants.{Ok as OkStatus};
 ghost use Rattle.cyphal.specs.Words.{command_of};
 ghost use Rattle.cyphal.specs.ErrorLine.{error_line};
-ghost use Rattle.cyphal.specs.Job.{Outcome, told_by, is_fault};
-ghost use Rattle.cyphal.specs.Cause.{HasCauseOver};
+ghost use Rattle.cyphal.specs.Job.{outcome, told_by, is_fault};
+ghost use Rattle.cyphal.specs.Cause.{outside, HasCauseOver};
 ghost use Rattle.cyphal.specs.Expected.{job_for, WasDone};
 ghost use Rattle.cyphal.specs.Headline.{OnceOf, DueOf};
 ghost use Rattle.cyphal.specs.Streaming.{TakenOf, StreamedOf};
@@ -41,63 +41,48 @@ pub fn top<T: Tree, L: Source, O: Sink, E: Sink>(
     err: &mut E,
 ) -> Done
     ensures answer { let job = job_for (map string_bytes words.now) in
-        let told = told_by (T.files tree.old) (L.left input.old) in
+        let told = told_by (T.files tree.old) (L.left input.old) (O.written out.old) in
         is_fault result.status ≡ false → job.expects told result.status }
     ensures exact { let job = job_for (map string_bytes words.now) in
-        let told = told_by (T.files tree.old) (L.left input.old) in
+        let told = told_by (T.files tree.old) (L.left input.old) (O.written out.old) in
         (stat : TheStatus) → job.is_told told ≡ true → job.expects told stat
         → is_fault result.status ≡ false → result.status ≡ stat }
-    ensures usage { (result.status ≡ Status.Usage) ↔ (command_of (map string_bytes words.now) ≡ None) }
-    ensures cause { HasCauseOver (job_for (map string_bytes words.now)).takes_input result.status
-        (record { tree = T.faults tree.old; input = L.faults input.old; out = O.faults out.old; source = input.old })
-        (record { tree = T.faults tree.new; input = L.faults input.new; out = O.faults out.new; source = input.new }) }
-    ensures ran { let came : Outcome = record {
-      status = result.status;
-      report = result.report;
-      left = L.left input.new;
-      before = O.written out.old;
-      after = O.written out.new;
-    } in
-        let told = told_by (T.files tree.old) (L.left input.old) in
-        WasDone (map string_bytes words.now) told came (T.faults tree.old) (T.faults tree.new) }
+    ensures usage { (result.status ≡ Status.Usage)
+        ↔ (command_of (map string_bytes words.now) ≡ None) }
+    ensures cause { let job = job_for (map string_bytes words.now) in
+        let old = outside (T.faults tree.old) (L.faults input.old) (O.faults out.old) input.old in
+        let new = outside (T.faults tree.new) (L.faults input.new) (O.faults out.new) input.new in
+        HasCauseOver job.takes_input result.status old new }
+    ensures ran { let words = map string_bytes words.now in
+        let told = told_by (T.files tree.old) (L.left input.old) (O.written out.old) in
+        let came = outcome result.status result.report (L.left input.new) (O.written out.new) in
+        WasDone words told came (T.faults tree.old) (T.faults tree.new) }
     ensures held { result.report.held ≤ result.report.bound }
     ensures complete { let job = job_for (map string_bytes words.now) in
-        let told = told_by (T.files tree.old) (L.left input.old) in
+        let told = told_by (T.files tree.old) (L.left input.old) (O.written out.old) in
         job.is_told told ≡ true → job.expects told OkStatus
         → ¬ Rose (T.faults tree.old) (T.faults tree.new)
         → ¬ Rose (L.faults input.old) (L.faults input.new)
         → ¬ Rose (O.faults out.old) (O.faults out.new)
         → (result.status ≡ Status.Ok) ⊎ (result.status ≡ Status.NoMemory) }
     // The headline, where the words, the files and the input are told and a sent list explains the records of a session.
-    ensures once { OnceOf (map string_bytes words.now) (told_by (T.files tree.old) (L.left input.old)) result.report }
-    ensures due { let came : Outcome = record {
-      status = result.status;
-      report = result.report;
-      left = L.left input.new;
-      before = O.written out.old;
-      after = O.written out.new;
-    } in
-        DueOf (map string_bytes words.now) (told_by (T.files tree.old) (L.left input.old)) came }
+    ensures once { let told = told_by (T.files tree.old) (L.left input.old) (O.written out.old) in
+        OnceOf (map string_bytes words.now) told result.report }
+    ensures due { let told = told_by (T.files tree.old) (L.left input.old) (O.written out.old) in
+        let came = outcome result.status result.report (L.left input.new) (O.written out.new) in
+        DueOf (map string_bytes words.now) told came }
     // How far the input is taken, where the words, the files and the input are told.
-    ensures taken { let came : Outcome = record {
-      status = result.status;
-      report = result.report;
-      left = L.left input.new;
-      before = O.written out.old;
-      after = O.written out.new;
-    } in
+    ensures taken { let told = told_by (T.files tree.old) (L.left input.old) (O.written out.old) in
+        let came = outcome result.status result.report (L.left input.new) (O.written out.new) in
         result.status ≡ Status.ReadFault → ¬ Rose (T.faults tree.old) (T.faults tree.new)
-        → TakenOf (map string_bytes words.now) (told_by (T.files tree.old) (L.left input.old)) came }
-    ensures streamed { let came : Outcome = record {
-      status = result.status;
-      report = result.report;
-      left = L.left input.new;
-      before = O.written out.old;
-      after = O.written out.new;
-    } in
-        StreamedOf (map string_bytes words.now) (told_by (T.files tree.old) (L.left input.old)) came }
+        → TakenOf (map string_bytes words.now) told came }
+    ensures streamed { let words = map string_bytes words.now in
+        let told = told_by (T.files tree.old) (L.left input.old) (O.written out.old) in
+        let came = outcome result.status result.report (L.left input.new) (O.written out.new) in
+        StreamedOf words told came }
     ensures line { Begins (error_line result.status) (E.written err.old) (E.written err.new) }
-    ensures whole_line { ¬ Rose (E.faults err.old) (E.faults err.new) → E.written err.new ≡ behind (E.written err.old) (error_line result.status) }
+    ensures whole_line { ¬ Rose (E.faults err.old) (E.faults err.new)
+        → E.written err.new ≡ behind (E.written err.old) (error_line result.status) }
 {
     reported();
     once_in_part();

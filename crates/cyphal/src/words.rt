@@ -1,5 +1,5 @@
 //! Which words are a command, and what its arguments are.
-ghost use Rattle.std.specs.Prelude.{◌≡◌, ℕ, List, IfOk, IfErr, Some, is_some, map, option_map, string_bytes, true, false};
+ghost use Rattle.std.specs.Prelude.{◌≡◌, ℕ, List, IfOk, OnErr, Some, is_some, map, option_map, string_bytes, true, false};
 ghost use Rattle.clap.specs.Words.{app_of};
 ghost use Rattle.clap.specs.Walk.{rule_of};
 ghost use Rattle.cyphal.specs.ClapShape.{given, root_shape, types_shape, plan_shape};
@@ -35,8 +35,10 @@ pub enum Accepted<'a> {
 /// The command that the words are, so `compile ROOT`, `compat ROOT NEW OLD`, `run none PLAN` or `bound none PLAN`; none
 /// where they aren't accepted. It wants memory where they are.
 pub fn command_of<'a>(alloc: Global, words: &'a [String]) -> Result<Option<Accepted<'a>>, NoMemory>
-    ensures is { IfOk result (λ given. option_map asked_by given ≡ command_of (map string_bytes words.entry.now)) }
-    ensures memory { IfErr result (λ _. is_some (command_of (map string_bytes words.entry.now)) ≡ true) }
+    ensures is { let asked = command_of (map string_bytes words.entry.now) in
+        IfOk result (λ given. option_map asked_by given ≡ asked) }
+    ensures memory { let asked = command_of (map string_bytes words.entry.now) in
+        OnErr result (is_some asked ≡ true) }
 {
     match words {
         [word, root] => {
@@ -95,7 +97,8 @@ fn of_root<'a>(word: &str, root: &'a str) -> Option<Accepted<'a>>
 
 /// The command of two types of a root that a word names.
 fn of_types<'a>(word: &str, root: &'a str, new: &'a str, old: &'a str) -> Option<Accepted<'a>>
-    ensures { option_map asked_by result ≡ named_of_types word.now root.entry.now new.entry.now old.entry.now }
+    ensures { option_map asked_by result
+        ≡ named_of_types word.now root.entry.now new.entry.now old.entry.now }
 {
     if word == "compat" {
         Some(Accepted::Compat { root, new, old })
@@ -193,7 +196,8 @@ fn types_words<'a>(
     words: &'a [String],
 ) -> Result<(&'a str, &'a str, &'a str), NoMemory>
     requires { is_some (types_given (map string_bytes words.now)) ≡ true }
-    ensures { IfOk result (λ given. types_given (map string_bytes words.entry.now) ≡ Some (given.0.now, given.1.now, given.2.now)) }
+    ensures { let given = types_given (map string_bytes words.entry.now) in
+        IfOk result (λ got. given ≡ Some (got.0.now, got.1.now, got.2.now)) }
 {
     let command = types_shape(alloc)?;
     match command.try_get_matches_from(words) {

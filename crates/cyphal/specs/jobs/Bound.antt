@@ -6,7 +6,7 @@ use Rattle.node_run.specs.BoundText.{HasBound}
 use Rattle.node_run.specs.Ran.{IsEmpty}
 use Rattle.node_run.specs.declared.status.Status.{Status}
 use Rattle.node_run.specs.declared.status.Status.TheVariants as status
-use Rattle.cyphal.specs.Job.{Job}
+use Rattle.cyphal.specs.Job.{Job, Printed, print_of}
 use Rattle.cyphal.specs.Plans.{on_path, PlanAt}
 
 -- each plan has a memory bound
@@ -14,15 +14,15 @@ abbrev pub on_bound : List ℕ → Option Files → Option Status
 on_bound path files = on_path path files (λ plan. Some status.Ok)
 
 -- the memory bound of the plan at a path was written, as far as the status says
-pub record HasBoundAt (path : List ℕ) (files : Option Files) (stat : Status) (before after : Option (List ℕ)) : Type 0 where
+pub record HasBoundAt (path : List ℕ) (files : Option Files) (print : Printed) : Type 0 where
   pub plan : Plan
   pub is : PlanAt path files plan
-  pub bound : HasBound plan stat before after
+  pub bound : HasBound plan print.status print.before print.after
 
 abbrev pub bound_job : List ℕ → Job
 bound_job path = record {
   takes_input = false;
   is_told = λ told. is_some told.files;
   expects = λ told stat. IfSome (on_bound path told.files) (λ s. stat ≡ s);
-  did = λ told came. HasBoundAt path told.files came.status came.before came.after × IsEmpty came.report;
+  did = λ told came. HasBoundAt path told.files (print_of told came) × IsEmpty came.report;
 }

@@ -6,17 +6,24 @@ use Rattle.node_run.specs.Compared.{compared, HasCompared}
 use Rattle.node_run.specs.Loaded.{is_none, IsLoaded, IsNotLoaded}
 use Rattle.node_run.specs.Ran.{IsEmpty}
 use Rattle.node_run.specs.declared.status.Status.{Status}
-use Rattle.cyphal.specs.Job.{Job, is_fault}
+use Rattle.cyphal.specs.Job.{Job, Printed, print_of, is_fault}
+
+-- the root has a namespace, and this is how the comparison in it ends
+abbrev pub CompareIn : List ℕ → List ℕ → List ℕ → Option Files → Status → Type 0
+CompareIn root new old files stat =
+    (names : Namespace) × IsLoaded root files names × (stat ≡ compared names new old)
 
 -- what comparing two types of a root comes to: why the root has no namespace, or how the comparison in it ends
 abbrev pub Compares : List ℕ → List ℕ → List ℕ → Option Files → Status → Type 0
-Compares root new old files stat = (is_fault stat ≡ false) × (IsNotLoaded root files stat ⊎ ((names : Namespace) × IsLoaded root files names × (stat ≡ compared names new old)))
+Compares root new old files stat = (is_fault stat ≡ false)
+    × (IsNotLoaded root files stat ⊎ CompareIn root new old files stat)
 
 -- two types of the namespace of a root were compared, and what was written of it
-pub record HasComparedAt (root new old : List ℕ) (files : Option Files) (stat : Status) (before after : Option (List ℕ)) : Type 0 where
+pub record HasComparedAt (root new old : List ℕ) (files : Option Files)
+    (print : Printed) : Type 0 where
   pub names : Namespace
   pub is : IsLoaded root files names
-  pub compared : HasCompared names new old stat before after
+  pub compared : HasCompared names new old print.status print.before print.after
 
 -- no files are needed where the root is `none`
 abbrev pub compat_job : List ℕ → List ℕ → List ℕ → Job
@@ -24,5 +31,6 @@ compat_job root new old = record {
   takes_input = false;
   is_told = λ told. is_none root || is_some told.files;
   expects = λ told stat. Compares root new old told.files stat;
-  did = λ told came. HasComparedAt root new old told.files came.status came.before came.after × IsEmpty came.report;
+  did = λ told came.
+      HasComparedAt root new old told.files (print_of told came) × IsEmpty came.report;
 }

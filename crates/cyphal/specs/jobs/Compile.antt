@@ -7,7 +7,7 @@ use Rattle.node_run.specs.Loaded.{is_none, IsLoaded, IsNotLoaded}
 use Rattle.node_run.specs.Ran.{IsEmpty}
 use Rattle.node_run.specs.declared.status.Status.{Status}
 use Rattle.node_run.specs.declared.status.Status.TheVariants as status
-use Rattle.cyphal.specs.Job.{Job}
+use Rattle.cyphal.specs.Job.{Job, Printed, print_of}
 
 -- what compiling the files of a root comes to: their namespace, or why there is none
 abbrev pub Compiles : List ℕ → Option Files → Status → Type 0
@@ -17,10 +17,10 @@ Compiles root files (status.Dsdl path line why) = IsNotLoaded root files (status
 Compiles root files other = ⊥
 
 -- the layouts of the namespace of a root were written, as far as the status says
-pub record HasCompiledAt (root : List ℕ) (files : Option Files) (stat : Status) (before after : Option (List ℕ)) : Type 0 where
+pub record HasCompiledAt (root : List ℕ) (files : Option Files) (print : Printed) : Type 0 where
   pub names : Namespace
   pub is : IsLoaded root files names
-  pub layouts : HasLayouts names stat before after
+  pub layouts : HasLayouts names print.status print.before print.after
 
 -- no files are needed where the root is `none`
 abbrev pub compile_job : List ℕ → Job
@@ -28,5 +28,5 @@ compile_job root = record {
   takes_input = false;
   is_told = λ told. is_none root || is_some told.files;
   expects = λ told stat. Compiles root told.files stat;
-  did = λ told came. HasCompiledAt root told.files came.status came.before came.after × IsEmpty came.report;
+  did = λ told came. HasCompiledAt root told.files (print_of told came) × IsEmpty came.report;
 }

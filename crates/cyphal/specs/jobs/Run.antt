@@ -29,9 +29,11 @@ on_run path files input = on_path path files (over input)
 pub record HasRunAt (path : List ℕ) (told : Told) (came : Outcome) : Type 0 where
   pub plan : Plan
   pub is : PlanAt path told.files plan
-  pub run : HasRun plan told.input came.status came.report came.before came.after
-  pub taken : came.status ≡ status.ReadFault → IsOfTaken plan told.input came.left came.report came.before came.after
-  pub streamed : IsStreamed plan told.input came.left came.status came.report came.before came.after
+  pub run : HasRun plan told.input came.status came.report told.written came.written
+  pub taken : came.status ≡ status.ReadFault
+      → IsOfTaken plan told.input came.left came.report told.written came.written
+  pub streamed :
+      IsStreamed plan told.input came.left came.status came.report told.written came.written
 
 abbrev pub run_job : List ℕ → Job
 run_job path = record {

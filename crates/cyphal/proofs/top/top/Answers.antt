@@ -12,13 +12,13 @@ use Rattle.cyphal.proofs.top.top.Goals as goal
 pub returns-clause-exact : goal.returns-clause-exact
 returns-clause-exact g c stat told asked settled =
     let command = command_of (map string_bytes c.args.words.now) in
-    let outside = told_by (g.T.Tree.files c.args.tree.now) (g.L.Source.left c.args.input.now) in
+    let outside = told_by (g.T.Tree.files c.args.tree.now) (g.L.Source.left c.args.input.now) (g.O.Sink.written c.args.out.now) in
     one_status c.one_answer.ensures command outside c.work-status.result stat told (c.work-status.ensures.answer settled) asked
 
 pub returns-clause-complete : goal.returns-clause-complete
 returns-clause-complete g c told ok x y z =
     let command = command_of (map string_bytes c.args.words.now) in
-    let outside = told_by (g.T.Tree.files c.args.tree.now) (g.L.Source.left c.args.input.now) in
+    let outside = told_by (g.T.Tree.files c.args.tree.now) (g.L.Source.left c.args.input.now) (g.O.Sink.written c.args.out.now) in
     let cause = c.work-status.ensures.cause in
     completed c.work-status.result _ _ _ _ (λ h. one_status c.one_answer.ensures command outside c.work-status.result status.Ok told (c.work-status.ensures.answer h) ok) cause.read cause.write x y z
 

@@ -14,7 +14,7 @@ use Rattle.node_run.specs.Loaded.{is_none}
 use Rattle.cyphal.specs.Job.{is_fault}
 use Rattle.cyphal.specs.jobs.Compat.{Compares, compat_job}
 use Rattle.cyphal.proofs.Loaded.{Comes, loaded, Found, found_told, not_loaded, one}
-use Rattle.cyphal.proofs.jobs.Single.{IsSingle}
+use Rattle.cyphal.proofs.statuses.Single.{IsSingle}
 
 -- a comparison's status is the one that is asked for
 pub compared_answer : (names : Namespace) (new old : List ℕ) (stat : Status) (before after : Option (List ℕ)) → HasCompared names new old stat before after → is_fault stat ≡ false → stat ≡ compared names new old

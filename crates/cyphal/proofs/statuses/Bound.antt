@@ -5,7 +5,7 @@ use Rattle.node_run.specs.declared.status.Status.{Status}
 use Rattle.node_run.specs.declared.status.Status.TheVariants as status
 use Rattle.cyphal.specs.jobs.Bound.{on_bound, bound_job}
 use Rattle.cyphal.proofs.Plans.{same_asked, path_told}
-use Rattle.cyphal.proofs.jobs.Single.{IsSingle}
+use Rattle.cyphal.proofs.statuses.Single.{IsSingle}
 
 by_told : (path : List ℕ) (files : Option Files) (s t : Status) → is_some files ≡ true → IfSome (on_bound path files) (λ x. s ≡ x) → IfSome (on_bound path files) (λ x. t ≡ x) → s ≡ t
 by_told path None s t h a b = absurd cc

@@ -8,7 +8,7 @@ use Rattle.node_run.specs.declared.status.Status.{Status}
 use Rattle.node_run.specs.declared.status.Status.TheVariants as status
 use Rattle.cyphal.specs.jobs.Compile.{Compiles, compile_job}
 use Rattle.cyphal.proofs.Loaded.{Comes, loaded, Found, found_told, not_loaded, one}
-use Rattle.cyphal.proofs.jobs.Single.{IsSingle}
+use Rattle.cyphal.proofs.statuses.Single.{IsSingle}
 
 -- every namespace has layouts
 abbrev laid_out : Namespace → Status

@@ -1,6 +1,6 @@
 use Rattle.cyphal.proofs.Plans.{good_answer}
-use Rattle.cyphal.proofs.jobs.Run.{plan_answer}
-use Rattle.cyphal.proofs.work.run_plan.Goals as goal
+use Rattle.cyphal.proofs.statuses.Run.{plan_answer}
+use Rattle.cyphal.proofs.jobs.run.run_plan.Goals as goal
 
 pub returns-clause-answer : goal.returns-clause-answer
 returns-clause-answer g c h =

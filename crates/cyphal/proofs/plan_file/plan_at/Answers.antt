@@ -1,7 +1,7 @@
 use Rattle.std.proofs.Common.{List, ℕ, Some, Err, sym, ap, subst}
 use Rattle.cy_outside.specs.Files.{ReadsFront}
 use Rattle.cyphal.proofs.Plans.{missing_answer, error_answer, plan_there}
-use Rattle.cyphal.proofs.work.plan_at.Goals as goal
+use Rattle.cyphal.proofs.plan_file.plan_at.Goals as goal
 
 pub returns-in-Ok-None-clause-answer : goal.returns-in-Ok-None-clause-answer
 returns-in-Ok-None-clause-answer g c h rest =

@@ -1,5 +1,5 @@
 -- A run has one status, that of its log's end.
-use Rattle.std.proofs.Common.{◌≡◌, ◌∙◌, ℕ, true, false, List, Option, Some, None, IfSome, refl, sym, ap, subst, is_some, ◌&&◌}
+use Rattle.std.proofs.Common.{◌≡◌, ◌∙◌, ℕ, true, false, List, Option, Some, None, IfSome, refl, sym, ap, is_some, ◌&&◌}
 use Rattle.cy_outside.specs.Files.{Files}
 use Rattle.node_plan.specs.declared.plan.Plan.{Plan}
 use Rattle.frame_log.specs.Log.{Log, log_of}
@@ -12,7 +12,7 @@ use Rattle.node_run.specs.declared.status.Status.TheVariants as status
 use Rattle.cyphal.specs.Job.{is_fault}
 use Rattle.cyphal.specs.jobs.Run.{ending, over, on_run, run_job}
 use Rattle.cyphal.proofs.Plans.{same_asked, path_told}
-use Rattle.cyphal.proofs.jobs.Single.{IsSingle}
+use Rattle.cyphal.proofs.statuses.Single.{IsSingle}
 
 named : (n : ℕ) (w : LogWhy) → refused (refusal_of n w) ≡ status.Log n w
 named n why.BadLine = refl

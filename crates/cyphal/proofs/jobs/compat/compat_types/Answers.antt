@@ -1,6 +1,6 @@
 use Rattle.std.proofs.Common.{inr}
-use Rattle.cyphal.proofs.jobs.Compat.{compared_answer, compared_usage, compared_read}
-use Rattle.cyphal.proofs.work.compat_types.Goals as goal
+use Rattle.cyphal.proofs.statuses.Compat.{compared_answer, compared_usage, compared_read}
+use Rattle.cyphal.proofs.jobs.compat.compat_types.Goals as goal
 
 pub returns-clause-answer : goal.returns-clause-answer
 returns-clause-answer g c h =

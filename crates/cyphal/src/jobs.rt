@@ -1,0 +1,5 @@
+//! The commands, a file each.
+pub mod bound;
+pub mod compat;
+pub mod compile;
+pub mod run;
