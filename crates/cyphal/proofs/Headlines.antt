@@ -27,10 +27,11 @@ use Rattle.node_run.proofs.Logs.{newest_onto}
 use Rattle.node_run.proofs.Runs.{lines_front}
 use Rattle.node_run.proofs.Steps.{records_steps}
 use Rattle.cyphal.specs.Words.{Command}
+use Rattle.cyphal.specs.Cause.{Outside}
 use Rattle.cyphal.specs.Job.{Told, Outcome, is_settled, NotDone}
 use Rattle.cyphal.specs.Plans.{PlanAt}
 use Rattle.cyphal.specs.jobs.Run.{HasRunAt}
-use Rattle.cyphal.specs.Expected.{job_asked, WasDone}
+use Rattle.cyphal.specs.Expected.{job_asked, job_for, WasDone}
 use Rattle.cyphal.specs.Headline.{heard_as, logged_in, Asked, ExplainsIn, OnceOf, DueOf}
 use Rattle.cyphal.proofs.Frames.{frames_are, are_records, in_order}
 
@@ -79,10 +80,16 @@ one_plan path tree a b x y =
     let text : x.0 ≡ y.0 = cc in
     let g : Good a ≡ Good b = sym x.2 ∙ (ap plan_of text ∙ y.2) in cc
 
--- what was done where the words name a run: nothing, or that run
-pub run_done : (words : List (List ℕ)) (told : Told) (came : Outcome) (faults faults_new : ℕ) (plan : Plan) (bytes : List ℕ)
-    → WasDone words told came faults faults_new → (a : Asked words told plan bytes) → NotDone told came faults faults_new ⊎ HasRunAt a.path told came
-run_done words told came faults faults_new plan bytes w a = subst (λ (o : Option Command). NotDone told came faults faults_new ⊎ (job_asked o).did told came) a.command w
+-- what was done where the words name a run: that run
+pub did_run : (words : List (List ℕ)) (told : Told) (came : Outcome) (plan : Plan) (bytes : List ℕ)
+    → (job_for words).did told came → (a : Asked words told plan bytes) → HasRunAt a.path told came
+did_run words told came plan bytes d a = subst (λ (o : Option Command). (job_asked o).did told came) a.command d
+
+-- or nothing
+pub run_done : {L : Type 0} (words : List (List ℕ)) (told : Told) (came : Outcome) (old new : Outside L) (plan : Plan) (bytes : List ℕ)
+    → WasDone words told came old new → (a : Asked words told plan bytes) → NotDone told came old new ⊎ HasRunAt a.path told came
+run_done words told came old new plan bytes (inl n) a = inl n
+run_done words told came old new plan bytes (inr d) a = inr (did_run words told came plan bytes d a)
 
 -- it was of the plan that is asked for
 pub the_plan : (words : List (List ℕ)) (told : Told) (came : Outcome) (plan : Plan) (bytes : List ℕ) (a : Asked words told plan bytes) (r : HasRunAt a.path told came) → r.plan ≡ plan
@@ -120,10 +127,10 @@ abbrev InOrder : Type 0
 InOrder = (buses : List (List ℕ)) (bytes : List ℕ) → IsAhead 0 0 (log_of buses bytes).records
 
 pub once_of : Reported → WireExplainsFields → OnceInPart → InOrder
-    → (words : List (List ℕ)) (told : Told) (came : Outcome) (faults faults_new : ℕ) → WasDone words told came faults faults_new → OnceOf words told came.report
-once_of law fields once order words told came faults faults_new w plan bytes key p sent origin a s x = by_run (run_done words told came faults faults_new plan bytes w a)
+    → {L : Type 0} (words : List (List ℕ)) (told : Told) (came : Outcome) (old new : Outside L) → WasDone words told came old new → OnceOf words told came.report
+once_of law fields once order words told came old new w plan bytes key p sent origin a s x = by_run (run_done words told came old new plan bytes w a)
   where
-    by_run : NotDone told came faults faults_new ⊎ HasRunAt a.path told came → SelectedRx p.extent sent origin (of_key plan key (logged_in plan bytes)) (rxs key came.report.lines)
+    by_run : NotDone told came old new ⊎ HasRunAt a.path told came → SelectedRx p.extent sent origin (of_key plan key (logged_in plan bytes)) (rxs key came.report.lines)
     by_run (inl n) = subst (λ ls. SelectedRx p.extent sent origin (of_key plan key (logged_in plan bytes)) (rxs key ls)) (sym n.empty.reported) (record { sent_ones = tt; in_order = tt })
     by_run (inr r) =
         let log = log_of (names_of plan) bytes in
@@ -133,10 +140,10 @@ once_of law fields once order words told came faults faults_new w plan bytes key
         (sym (session plan bytes key law p s) ∙ (ap (rxs key) f.1 ∙ rxs_append key came.report.lines f.0))
 
 pub due_of : Reported → WireExplainsFields → DueInReport
-    → (words : List (List ℕ)) (told : Told) (came : Outcome) (faults faults_new : ℕ) → WasDone words told came faults faults_new → DueOf words told came
-due_of law fields due words told came faults faults_new w plan bytes key p sent origin q a s x settled d = by_run (run_done words told came faults faults_new plan bytes w a)
+    → {L : Type 0} (words : List (List ℕ)) (told : Told) (came : Outcome) (old new : Outside L) → WasDone words told came old new → DueOf words told came
+due_of law fields due words told came old new w plan bytes key p sent origin q a s x settled d = by_run (run_done words told came old new plan bytes w a)
   where
-    by_run : NotDone told came faults faults_new ⊎ HasRunAt a.path told came → AnyRx (λ rx. rx.last ≡ q.line) (rxs key came.report.lines)
+    by_run : NotDone told came old new ⊎ HasRunAt a.path told came → AnyRx (λ rx. rx.last ≡ q.line) (rxs key came.report.lines)
     by_run (inl n) = absurd (both_ways (is_settled came.status) n.not_settled settled)
     by_run (inr r) =
         let all = whole plan (log_of (names_of plan) bytes) came.status came.report told.written came.written settled (ran words told came plan bytes a r) in

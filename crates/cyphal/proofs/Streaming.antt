@@ -1,29 +1,28 @@
 -- From what was taken to what is promised of it.
 use Rattle.std.proofs.Common.{◌≡◌, ◌⊎◌, inl, inr, ℕ, List, Option, sym, subst}
-use Rattle.cy_outside.specs.Outside.{Rose}
 use Rattle.node_plan.specs.declared.plan.Plan.{Plan}
 use Rattle.node_run.specs.Streamed.{IsStreamed}
 use Rattle.node_run.specs.Taken.{IsOfTaken}
 use Rattle.node_run.specs.declared.status.Status.TheVariants as status
 use Rattle.node_run.proofs.Streams.{streamed_none}
+use Rattle.cyphal.specs.Cause.{Outside}
 use Rattle.cyphal.specs.Job.{Told, Outcome, NotDone}
 use Rattle.cyphal.specs.jobs.Run.{HasRunAt}
 use Rattle.cyphal.specs.Expected.{WasDone}
 use Rattle.cyphal.specs.Streaming.{TakenOf, StreamedOf}
-use Rattle.cyphal.proofs.Headlines.{run_done, the_plan}
+use Rattle.cyphal.proofs.Headlines.{did_run, run_done, the_plan}
 
-module _ (words : List (List ℕ)) (told : Told) (came : Outcome) (faults faults_new : ℕ) where
-  pub taken_of : WasDone words told came faults faults_new → came.status ≡ status.ReadFault → (Rose faults faults_new → ⊥) → TakenOf words told came
-  taken_of w e none plan bytes a = by_run (run_done words told came faults faults_new plan bytes w a)
-    where
-      by_run : NotDone told came faults faults_new ⊎ HasRunAt a.path told came → IsOfTaken plan told.input came.left came.report told.written came.written
-      by_run (inl n) = absurd (none (n.tree e))
-      by_run (inr r) = subst (λ (q : Plan). IsOfTaken q told.input came.left came.report told.written came.written) (the_plan words told came plan bytes a r) (r.taken e)
+module _ {L : Type 0} (words : List (List ℕ)) (told : Told) (came : Outcome) (old new : Outside L) where
+  pub taken_of : WasDone words told came old new → came.status ≡ status.ReadFault → NotDone told came old new ⊎ TakenOf words told came
+  taken_of (inl n) e = inl n
+  taken_of (inr d) e = inr (λ plan bytes a.
+      (let r = did_run words told came plan bytes d a in
+      subst (λ (q : Plan). IsOfTaken q told.input came.left came.report told.written came.written) (the_plan words told came plan bytes a r) (r.taken e)))
 
-  pub streamed_of : WasDone words told came faults faults_new → StreamedOf words told came
-  streamed_of w plan bytes a = by_run (run_done words told came faults faults_new plan bytes w a)
+  pub streamed_of : WasDone words told came old new → StreamedOf words told came
+  streamed_of w plan bytes a = by_run (run_done words told came old new plan bytes w a)
     where
-      by_run : NotDone told came faults faults_new ⊎ HasRunAt a.path told came → IsStreamed plan told.input came.left came.status came.report told.written came.written
+      by_run : NotDone told came old new ⊎ HasRunAt a.path told came → IsStreamed plan told.input came.left came.status came.report told.written came.written
       by_run (inl n) =
           subst (λ (o : Option (List ℕ)). IsStreamed plan told.input o came.status came.report told.written came.written) (sym n.left)
           (streamed_none plan told.input came.status came.report told.written came.written)

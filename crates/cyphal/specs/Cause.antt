@@ -1,5 +1,5 @@
 -- Why a command ended as it did.
-use Rattle.std.specs.Prelude.{◌≡◌, ◌⊎◌, ℕ, Bool, false}
+use Rattle.std.specs.Prelude.{◌≡◌, ◌⊎◌, ℕ, Bool, true, false}
 use Rattle.cy_outside.specs.Outside.{Rose}
 use Rattle.node_run.specs.declared.status.Status.{Status}
 use Rattle.node_run.specs.declared.status.Status.TheVariants as status
@@ -29,13 +29,23 @@ pub record Outside (L : Type 0) : Type 0 where
 abbrev pub outside : {L : Type 0} → ℕ → ℕ → ℕ → L → Outside L
 outside tree input out source = record { tree = tree; input = input; out = out; source = source }
 
--- the same of any command, by whether it takes of the input: where it does not, or where the tree failed, the input
--- stays as it was
+-- the statuses of what is refused before any of the input is taken
+abbrev pub is_refused : Status → Bool
+is_refused status.Usage = true
+is_refused (status.Dsdl file line why) = true
+is_refused (status.Plan line why) = true
+is_refused (status.NotNewer path why) = true
+is_refused (status.NoFile path) = true
+is_refused other = false
+
+-- the same of any command, by whether it takes of the input: where it does not, where it
+-- is refused, or where the tree failed, the input stays as it was
 pub record HasCauseOver {L : Type 0} (takes : Bool) (stat : Status)
     (old new : Outside L) : Type 0 where
   pub read : stat ≡ status.ReadFault
       → (Rose old.tree new.tree × (new.source ≡ old.source)) ⊎ Rose old.input new.input
   pub unread : takes ≡ false → new.source ≡ old.source
+  pub refused : is_refused stat ≡ true → new.source ≡ old.source
   pub write : stat ≡ status.WriteFault → Rose old.out new.out
   pub kept : stat ≡ status.Ok
       → (new.tree ≡ old.tree) × (new.input ≡ old.input) × (new.out ≡ old.out)

@@ -2,6 +2,7 @@
 use Rattle.std.specs.Prelude.{◌≡◌, ◌⊎◌, ℕ, true, false, List, Option, Some, None}
 use Rattle.node_run.specs.declared.status.Status.TheVariants as status
 use Rattle.cyphal.specs.Words.{Command, Compile, Compat, Run, Bound, command_of}
+use Rattle.cyphal.specs.Cause.{Outside}
 use Rattle.cyphal.specs.Job.{Told, Outcome, Job, NotDone}
 use Rattle.cyphal.specs.jobs.Compile.{compile_job}
 use Rattle.cyphal.specs.jobs.Compat.{compat_job}
@@ -33,6 +34,5 @@ abbrev pub job_for : List (List ℕ) → Job
 job_for words = job_asked (command_of words)
 
 -- what was done: nothing, or what the words ask for
-abbrev pub WasDone : List (List ℕ) → Told → Outcome → ℕ → ℕ → Type 0
-WasDone words told came faults faults_new =
-    NotDone told came faults faults_new ⊎ (job_for words).did told came
+abbrev pub WasDone : {L : Type 0} → List (List ℕ) → Told → Outcome → Outside L → Outside L → Type 0
+WasDone words told came old new = NotDone told came old new ⊎ (job_for words).did told came

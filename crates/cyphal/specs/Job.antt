@@ -6,6 +6,7 @@ use Rattle.node_run.specs.Ran.{IsEmpty}
 use Rattle.node_run.specs.declared.report.Report.{Report}
 use Rattle.node_run.specs.declared.status.Status.{Status}
 use Rattle.node_run.specs.declared.status.Status.TheVariants as status
+use Rattle.cyphal.specs.Cause.{Outside}
 
 -- what the outside tells as the call begins: the files of the tree, the bytes of the input, and what was written before
 pub record Told : Type 0 where
@@ -65,15 +66,18 @@ is_settled (status.Log n why) = true
 is_settled status.LogLong = true
 is_settled other = false
 
--- nothing was run, written or taken, and a read fault is one of the tree
-pub record NotDone (told : Told) (came : Outcome) (faults faults_new : ℕ) : Type 0 where
+-- nothing was run, written or taken: no write failed, and a read fault is one of the tree
+pub record NotDone {L : Type 0} (told : Told) (came : Outcome) (old new : Outside L) : Type 0 where
   pub empty : IsEmpty came.report
   pub written : came.written ≡ told.written
   pub not_settled : is_settled came.status ≡ false
+  pub not_write : ¬ (came.status ≡ status.WriteFault)
   pub left : came.left ≡ told.input
-  pub tree : came.status ≡ status.ReadFault → Rose faults faults_new
+  pub source : new.source ≡ old.source
+  pub tree : came.status ≡ status.ReadFault → Rose old.tree new.tree
 
 -- a command that is given neither an input nor a report wrote nothing
 pub record WroteNothing (print : Printed) : Type 0 where
   pub written : print.after ≡ print.before
   pub not_settled : is_settled print.status ≡ false
+  pub not_write : ¬ (print.status ≡ status.WriteFault)

@@ -1,8 +1,9 @@
 pub mod Words
 pub mod ClapShape
 pub mod ErrorLine
-pub mod Job
+pub mod Help
 pub mod Cause
+pub mod Job
 pub mod Plans
 pub mod jobs
 pub mod Expected

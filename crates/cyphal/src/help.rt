@@ -1,4 +1,8 @@
 //! What the program says of itself.
+ghost use Rattle.std.specs.Prelude.{◌≡◌, None, OnSome, map, string_bytes};
+ghost use Rattle.std.specs.Option.{option_copied};
+ghost use Rattle.cyphal.specs.Help.{own_answer};
+ghost use Rattle.cyphal.specs.Words.{command_of};
 
 /// What `--help` answers.
 pub const HELP: &str = "\
@@ -29,14 +33,19 @@ statuses: 0 done, 1 usage, 2 DSDL file refused, 3 plan refused, 4 log refused,
 /// What `--version` answers.
 pub const VERSION: &str = "cyphal 0.1.0\n";
 
-/// What the program itself answers, where the words ask for that alone.
-pub fn own_answer(words: &[String]) -> Option<&'static str> {
+/// What the program itself answers, where the words ask for that alone. Such words are no command.
+pub fn own_answer(words: &[String]) -> Option<&'static str>
+    ensures is { option_copied result ≡ own_answer (map string_bytes words.now) }
+    ensures alone { OnSome result (command_of (map string_bytes words.now) ≡ None) }
+{
     let [word] = words else {
         return None;
     };
-    match word.as_str() {
-        "--help" => Some(HELP),
-        "--version" => Some(VERSION),
-        _ => None,
+    if word.as_str() == "--help" {
+        Some(HELP)
+    } else if word.as_str() == "--version" {
+        Some(VERSION)
+    } else {
+        None
     }
 }

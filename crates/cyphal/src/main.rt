@@ -8,18 +8,18 @@ mod error_line;
 mod help;
 mod jobs;
 mod plan_file;
+mod program;
 #[cfg(test)]
 mod tests;
 mod top;
 mod words;
 mod work;
 
-use cy_outside::{RealSink, RealSource, RealTree, put_all};
-use help::own_answer;
+use cy_outside::{RealSink, RealSource, RealTree};
 use node_run::Status;
+use program::program;
 use std::io;
 use std::process::ExitCode;
-use top::top;
 
 fn main(rt: HostRuntime) -> io::Result<ExitCode> {
     let alloc = rt.alloc();
@@ -28,14 +28,7 @@ fn main(rt: HostRuntime) -> io::Result<ExitCode> {
     let mut input = RealSource::new(rt.stdin());
     let mut out = RealSink::new(rt.stdout());
     let mut err = RealSink::new(rt.stderr());
-    if let Some(text) = own_answer(words.as_slice()) {
-        let status = match put_all(&mut out, text.as_bytes()) {
-            Ok(()) => Status::Ok,
-            Err(_) => Status::WriteFault,
-        };
-        return Ok(ExitCode::from(code_of(&status)));
-    }
-    let done = top(
+    let code = program(
         alloc,
         words.as_slice(),
         &mut tree,
@@ -43,7 +36,7 @@ fn main(rt: HostRuntime) -> io::Result<ExitCode> {
         &mut out,
         &mut err,
     );
-    Ok(ExitCode::from(code_of(&done.status)))
+    Ok(ExitCode::from(code))
 }
 
 /// The number of a status, with which the program ends.

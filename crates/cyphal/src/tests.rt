@@ -1,4 +1,6 @@
 use crate::code_of;
+use crate::help::HELP;
+use crate::program::program;
 use crate::top::top;
 use cy_bits::List;
 use cy_outside::{File, MemSink, MemSource, MemTree};
@@ -324,6 +326,70 @@ fn types_are_compared_by_name(rt: HostRuntime) -> Result<(), Fail> {
             &mut err,
         );
         assert_eq!(rt; code_of(&done.status), row.code);
+        assert_eq!(rt; out.written.as_slice(), row.written);
+        assert_eq!(rt; err.written.as_slice(), row.line);
+    }
+    Ok(())
+}
+
+/// The one word of a call, which calls of the output fail, and what is written where.
+#[derive(Clone, Copy)]
+struct StreamRow {
+    word: &'static str,
+    out: &'static [u64],
+    code: u8,
+    written: &'static [u8],
+    line: &'static [u8],
+}
+
+#[test]
+fn answers_go_to_the_output_and_errors_elsewhere(rt: HostRuntime) -> Result<(), Fail> {
+    let rows = [
+        StreamRow {
+            word: "--help",
+            out: &[],
+            code: 0,
+            written: HELP.as_bytes(),
+            line: b"",
+        },
+        StreamRow {
+            word: "--version",
+            out: &[],
+            code: 0,
+            written: b"cyphal 0.1.0\n",
+            line: b"",
+        },
+        StreamRow {
+            word: "--version",
+            out: &[0],
+            code: 9,
+            written: b"",
+            line: b"",
+        },
+        StreamRow {
+            word: "compile",
+            out: &[],
+            code: 1,
+            written: b"",
+            line: b"cyphal: usage\n",
+        },
+    ];
+    for row in &rows {
+        let alloc = rt.alloc();
+        let words = vec![in alloc; String::from_str(alloc, row.word)?]?;
+        let mut tree = MemTree::new(List::empty(alloc), &[]).ok_or(AllocError)?;
+        let mut input = MemSource::new(b"", &[]);
+        let mut out = MemSink::new(alloc, row.out);
+        let mut err = MemSink::new(alloc, &[]);
+        let code = program(
+            alloc,
+            words.as_slice(),
+            &mut tree,
+            &mut input,
+            &mut out,
+            &mut err,
+        );
+        assert_eq!(rt; code, row.code);
         assert_eq!(rt; out.written.as_slice(), row.written);
         assert_eq!(rt; err.written.as_slice(), row.line);
     }

@@ -6,7 +6,7 @@ ghost use Rattle.node_run.specs.declared.status.Status.{Status as TheStatus};
 ghost use Rattle.node_run.specs.declared.status.Status.TheVariants.{Ok as OkStatus};
 ghost use Rattle.cyphal.specs.Words.{command_of};
 ghost use Rattle.cyphal.specs.ErrorLine.{error_line};
-ghost use Rattle.cyphal.specs.Job.{outcome, told_by, is_fault};
+ghost use Rattle.cyphal.specs.Job.{outcome, told_by, is_fault, NotDone};
 ghost use Rattle.cyphal.specs.Cause.{outside, HasCauseOver};
 ghost use Rattle.cyphal.specs.Expected.{job_for, WasDone};
 ghost use Rattle.cyphal.specs.Headline.{OnceOf, DueOf};
@@ -56,7 +56,9 @@ pub fn top<T: Tree, L: Source, O: Sink, E: Sink>(
     ensures ran { let words = map string_bytes words.now in
         let told = told_by (T.files tree.old) (L.left input.old) (O.written out.old) in
         let came = outcome result.status result.report (L.left input.new) (O.written out.new) in
-        WasDone words told came (T.faults tree.old) (T.faults tree.new) }
+        let old = outside (T.faults tree.old) (L.faults input.old) (O.faults out.old) input.old in
+        let new = outside (T.faults tree.new) (L.faults input.new) (O.faults out.new) input.new in
+        WasDone words told came old new }
     ensures held { result.report.held ≤ result.report.bound }
     ensures complete { let job = job_for (map string_bytes words.now) in
         let told = told_by (T.files tree.old) (L.left input.old) (O.written out.old) in
@@ -71,11 +73,13 @@ pub fn top<T: Tree, L: Source, O: Sink, E: Sink>(
     ensures due { let told = told_by (T.files tree.old) (L.left input.old) (O.written out.old) in
         let came = outcome result.status result.report (L.left input.new) (O.written out.new) in
         DueOf (map string_bytes words.now) told came }
-    // How far the input is taken, where the words, the files and the input are told.
-    ensures taken { let told = told_by (T.files tree.old) (L.left input.old) (O.written out.old) in
+    // How far the input is taken where a read fails: not at all, where the tree failed, or up to the last whole line.
+    ensures taken { let words = map string_bytes words.now in
+        let told = told_by (T.files tree.old) (L.left input.old) (O.written out.old) in
         let came = outcome result.status result.report (L.left input.new) (O.written out.new) in
-        result.status ≡ Status.ReadFault → ¬ Rose (T.faults tree.old) (T.faults tree.new)
-        → TakenOf (map string_bytes words.now) told came }
+        let old = outside (T.faults tree.old) (L.faults input.old) (O.faults out.old) input.old in
+        let new = outside (T.faults tree.new) (L.faults input.new) (O.faults out.new) input.new in
+        result.status ≡ Status.ReadFault → NotDone told came old new ⊎ TakenOf words told came }
     ensures streamed { let words = map string_bytes words.now in
         let told = told_by (T.files tree.old) (L.left input.old) (O.written out.old) in
         let came = outcome result.status result.report (L.left input.new) (O.written out.new) in

@@ -36,7 +36,9 @@ pub fn work<T: Tree, L: Source, O: Sink>(
     ensures ran { let words = map string_bytes words.now in
         let told = told_by (T.files tree.old) (L.left input.old) (O.written out.old) in
         let came = outcome result report.new (L.left input.new) (O.written out.new) in
-        WasDone words told came (T.faults tree.old) (T.faults tree.new) }
+        let old = outside (T.faults tree.old) (L.faults input.old) (O.faults out.old) input.old in
+        let new = outside (T.faults tree.new) (L.faults input.new) (O.faults out.new) input.new in
+        WasDone words told came old new }
     ensures held { report.new.held ≤ report.new.bound }
 {
     let command = match command_of(alloc, words) {
@@ -68,7 +70,9 @@ fn carry_out<T: Tree, L: Source, O: Sink>(
     ensures ran { let job = job_of (asked_by given.entry) in
         let told = told_by (T.files tree.old) (L.left input.old) (O.written out.old) in
         let came = outcome result report.new (L.left input.new) (O.written out.new) in
-        NotDone told came (T.faults tree.old) (T.faults tree.new) ⊎ job.did told came }
+        let old = outside (T.faults tree.old) (L.faults input.old) (O.faults out.old) input.old in
+        let new = outside (T.faults tree.new) (L.faults input.new) (O.faults out.new) input.new in
+        NotDone told came old new ⊎ job.did told came }
     ensures held { report.new.held ≤ report.new.bound }
 {
     match given {

@@ -9,6 +9,7 @@ use Rattle.node_run.specs.declared.status.LogWhy.{LogWhy}
 use Rattle.node_run.specs.declared.status.LogWhy.TheVariants as why
 use Rattle.node_run.specs.declared.status.Status.{Status}
 use Rattle.node_run.specs.declared.status.Status.TheVariants as status
+use Rattle.cyphal.specs.Cause.{is_refused}
 use Rattle.cyphal.specs.Job.{is_fault}
 use Rattle.cyphal.specs.jobs.Run.{ending, over, on_run, run_job}
 use Rattle.cyphal.proofs.Plans.{same_asked, path_told}
@@ -39,6 +40,23 @@ pub plan_answer : (plan : Plan) (input : Option (List ℕ)) (stat : Status) (rep
 plan_answer plan None stat report before after h r = tt
 plan_answer plan (Some bytes) stat report before after h r =
     ended_so plan (log_of (names_of plan) r.bytes) stat report before after h r.ran ∙ ap (λ b. ending (log_of (names_of plan) b).refusal) r.is
+
+-- a run over a log is none of the refusals before it
+no_refusal : (plan : Plan) (log : Log) (stat : Status) (report : Report) (before after : Option (List ℕ)) → is_refused stat ≡ true → Ran plan log stat report before after → ⊥
+no_refusal plan log status.Ok report before after h r = absurd cc
+no_refusal plan log status.Usage report before after h r = r
+no_refusal plan log (status.Dsdl file n w) report before after h r = r
+no_refusal plan log (status.Plan n w) report before after h r = r
+no_refusal plan log (status.Log n w) report before after h r = absurd cc
+no_refusal plan log (status.NotNewer path w) report before after h r = r
+no_refusal plan log status.LogLong report before after h r = absurd cc
+no_refusal plan log (status.NoFile path) report before after h r = r
+no_refusal plan log status.ReadFault report before after h r = absurd cc
+no_refusal plan log status.WriteFault report before after h r = absurd cc
+no_refusal plan log status.NoMemory report before after h r = absurd cc
+
+pub run_not_refused : (plan : Plan) (input : Option (List ℕ)) (stat : Status) (report : Report) (before after : Option (List ℕ)) → is_refused stat ≡ true → HasRun plan input stat report before after → ⊥
+run_not_refused plan input stat report before after h r = no_refusal plan (log_of (names_of plan) r.bytes) stat report before after h r.ran
 
 by_told : (path : List ℕ) (files : Option Files) (input : Option (List ℕ)) (s t : Status) → (is_some files && is_some input) ≡ true → IfSome (on_run path files input) (λ x. s ≡ x) → IfSome (on_run path files input) (λ x. t ≡ x) → s ≡ t
 by_told path None input s t h a b = absurd cc

@@ -1,6 +1,7 @@
 -- `run none PLAN`: a plan over the log of the input.
 use Rattle.std.specs.Prelude.{◌≡◌, ℕ, true, ◌&&◌, List, Option, Some, None, is_some, IfSome}
 use Rattle.cy_outside.specs.Files.{Files}
+use Rattle.node_plan.specs.Bound.{bound_of}
 use Rattle.node_plan.specs.declared.plan.Plan.{Plan}
 use Rattle.frame_log.specs.Log.{log_of}
 use Rattle.frame_log.specs.declared.error.LogError.{LogError}
@@ -25,11 +26,13 @@ over (Some bytes) plan = Some (ending (log_of (names_of plan) bytes).refusal)
 abbrev pub on_run : List ℕ → Option Files → Option (List ℕ) → Option Status
 on_run path files input = on_path path files (over input)
 
--- the plan at a path was run over the input, what was written while it was taken, and what where it failed
+-- the plan at a path was run over the input: what was written while it was taken, and what where it failed; the memory
+-- bound is the plan's however the run ended
 pub record HasRunAt (path : List ℕ) (told : Told) (came : Outcome) : Type 0 where
   pub plan : Plan
   pub is : PlanAt path told.files plan
   pub run : HasRun plan told.input came.status came.report told.written came.written
+  pub bound : came.report.bound ≡ bound_of plan
   pub taken : came.status ≡ status.ReadFault
       → IsOfTaken plan told.input came.left came.report told.written came.written
   pub streamed :

@@ -29,7 +29,9 @@ pub fn run_plan<T: Tree, L: Source, O: Sink>(
         HasCauseOver job.takes_input result old new }
     ensures ran { let told = told_by (T.files tree.old) (L.left input.old) (O.written out.old) in
         let came = outcome result report.new (L.left input.new) (O.written out.new) in
-        NotDone told came (T.faults tree.old) (T.faults tree.new) ⊎ HasRunAt path.now told came }
+        let old = outside (T.faults tree.old) (L.faults input.old) (O.faults out.old) input.old in
+        let new = outside (T.faults tree.new) (L.faults input.new) (O.faults out.new) input.new in
+        NotDone told came old new ⊎ HasRunAt path.now told came }
     ensures held { report.new.held ≤ report.new.bound }
 {
     let plan = match plan_at(alloc, path, tree) {

@@ -1,8 +1,18 @@
+use Rattle.std.proofs.Common.{inr}
 use Rattle.cyphal.proofs.Plans.{good_answer}
-use Rattle.cyphal.proofs.statuses.Run.{plan_answer}
+use Rattle.cyphal.proofs.statuses.Run.{plan_answer, run_not_refused}
 use Rattle.cyphal.proofs.jobs.run.run_plan.Goals as goal
 
 pub returns-clause-answer : goal.returns-clause-answer
 returns-clause-answer g c h =
     good_answer (g.T.Tree.files c.args.tree.now) c.args.path.now _ c.run_log.result c.in-Ok.plan c.in-Ok.ensures.plan
     (plan_answer c.in-Ok.plan (g.L.Source.left c.args.input.now) c.run_log.result c.run_log.new.report (g.O.Sink.written c.args.out.now) (g.O.Sink.written c.run_log.new.out) h c.run_log.ensures.ran)
+
+pub returns-clause-cause : goal.returns-clause-cause
+returns-clause-cause g c = record {
+  read = λ e. inr (c.run_log.ensures.read e);
+  unread = λ e. absurd cc;
+  refused = λ e. absurd (run_not_refused c.in-Ok.plan (g.L.Source.left c.args.input.now) c.run_log.result c.run_log.new.report (g.O.Sink.written c.args.out.now) (g.O.Sink.written c.run_log.new.out) e c.run_log.ensures.ran);
+  write = c.run_log.ensures.write;
+  kept = λ e. (c.in-Ok.ensures.kept, (c.run_log.ensures.kept e).0, (c.run_log.ensures.kept e).1);
+}

@@ -1,0 +1,17 @@
+-- What the program answers of itself.
+use Rattle.std.specs.Prelude.{◌≡◌, ◌⊎◌, ℕ, List, [], ◌∷◌, codes, Option, Some, None, if◌then◌else◌}
+use Rattle.std.specs.Str.{bytes_eq}
+use Rattle.cy_outside.specs.Written.{behind, Begins}
+use Rattle.cyphal.specs.declared.help.TheConstants.{HELP, VERSION}
+
+-- the answer to `--help` or `--version`, where this is the only word
+abbrev pub own_answer : List (List ℕ) → Option (List ℕ)
+own_answer (word ∷ []) =
+    if bytes_eq word (codes "--help") then Some HELP.now
+    else (if bytes_eq word (codes "--version") then Some VERSION.now else None)
+own_answer other = None
+
+-- the program ended with this number, and all of an answer was written, or a beginning where a write failed
+abbrev pub HasAnswered : List ℕ → ℕ → Option (List ℕ) → Option (List ℕ) → Type 0
+HasAnswered text code before after =
+    ((code ≡ 0) × (after ≡ behind before text)) ⊎ ((code ≡ 9) × Begins text before after)
