@@ -8,3 +8,4 @@ pub mod OneStatus
 pub mod Frames
 pub mod Headlines
 pub mod Streaming
+pub mod Premises

@@ -9,3 +9,4 @@ pub mod jobs
 pub mod Expected
 pub mod Headline
 pub mod Streaming
+pub mod Premises

@@ -7,6 +7,7 @@ ghost use Rattle.cyphal.specs.ErrorLine.{code_of};
 mod error_line;
 mod help;
 mod jobs;
+mod law;
 mod plan_file;
 mod program;
 #[cfg(test)]
