@@ -1,0 +1,54 @@
+-- Which lines have a text of their own.
+use Rattle.std.specs.Prelude.{◌≡◌, ◌≢◌, ◌<◌, ◌^◌, ◌∷◌, [], ⊤, List, length, All, AllPairs, IsTrue}
+use Rattle.std.specs.Option.{ForSome}
+use Rattle.hex.specs.Hex.{IsBytes}
+use Rattle.can_id.specs.declared.key.Key.{Key}
+use Rattle.node_plan.specs.declared.plan.BusPlan.{BusPlan}
+use Rattle.node_plan.specs.Names.{is_bus_name}
+use Rattle.node_core.specs.declared.line.Line.{Line}
+use Rattle.node_core.specs.declared.line.Line.TheVariants.{Rx, NoSession}
+use Rattle.node_core.specs.declared.line.Rx.{Rx as Received}
+use Rattle.node_core.specs.declared.line.Refused.{Refused}
+use Rattle.node_core.specs.Text.{text}
+
+-- buses with names of letters, digits and `_`, of which no two are the same
+pub record AreNamed (buses : List BusPlan) : Type 0 where
+  pub names : All (λ bus. IsTrue (is_bus_name bus.name)) buses
+  pub differ : AllPairs (λ a b. a.name ≢ b.name) buses
+
+-- a key of a port of 16 bits
+pub record IsKey (key : Key) : Type 0 where
+  pub port : key.port < 2 ^ 16
+  pub source : ForSome key.source (λ s. s < 256)
+
+-- a transfer on one of these buses, with numbers of the widths that its fields have
+pub record IsReceived (buses : List BusPlan) (rx : Received) : Type 0 where
+  pub moment : rx.moment < 2 ^ 64
+  pub bus : rx.bus < length buses
+  pub key : IsKey rx.key
+  pub priority : rx.priority < 256
+  pub tid : rx.tid < 256
+  pub first : rx.first < 2 ^ 64
+  pub last : rx.last < 2 ^ 64
+  pub payload : IsBytes rx.payload
+
+-- the same of a start frame that has no session
+pub record IsRefused (buses : List BusPlan) (refused : Refused) : Type 0 where
+  pub moment : refused.moment < 2 ^ 64
+  pub bus : refused.bus < length buses
+  pub key : IsKey refused.key
+  pub line : refused.line < 2 ^ 64
+
+abbrev pub IsLineOn : List BusPlan → Line → Type 0
+IsLineOn buses (Rx rx) = IsReceived buses rx
+IsLineOn buses (NoSession refused) = IsRefused buses refused
+
+abbrev pub AreLinesOn : List BusPlan → List Line → Type 0
+AreLinesOn buses [] = ⊤
+AreLinesOn buses (line ∷ lines) = IsLineOn buses line × AreLinesOn buses lines
+
+-- no two lists of lines have one text
+abbrev pub TextTellsLines : Type 0
+TextTellsLines =
+    (buses : List BusPlan) (a b : List Line) → AreNamed buses → AreLinesOn buses a → AreLinesOn buses b
+    → text buses a ≡ text buses b → a ≡ b
