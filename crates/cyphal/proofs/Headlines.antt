@@ -1,6 +1,7 @@
 -- From what was run to the headline.
-use Rattle.std.proofs.Common.{◌≡◌, ◌∙◌, ◌⊎◌, inl, inr, ℕ, true, List, [], ◌++◌, Option, Some, sym, ap, subst, append-nil}
+use Rattle.std.proofs.Common.{◌≡◌, ◌∙◌, ◌⊎◌, inl, inr, ℕ, true, false, List, [], ◌∷◌, ◌++◌, Option, Some, None, refl, sym, ap, subst, append-nil, append_assoc}
 use Rattle.std.proofs.lemmas.Bool.{both_ways, true≢false}
+use Rattle.std.proofs.lemmas.List.{append_cancel_left}
 use mathlib.Core.List.{reverse_aux}
 use Rattle.tail_frame.specs.declared.logged.Record.{Record}
 use Rattle.rx_table.specs.Keys.{SessionKey, KeyedFrame, history}
@@ -8,70 +9,145 @@ use Rattle.rx_table.specs.Ports.{Port}
 use Rattle.frag.specs.Sent.{Pair}
 use Rattle.frag.specs.declared.sent.Sent.{Sent}
 use Rattle.once.specs.Raw.{WireExplainsFields}
-use Rattle.once.specs.Report.{AnyRx, Explains, SelectedRx, OnceInPart, DueInReport, reported}
+use Rattle.once.specs.Report.{AnyRx, Explains, SelectedRx, OnceInPart, DueInReport}
+use Rattle.once.specs.Report as rx_report
 use Rattle.cy_outside.specs.Files.{Files}
+use Rattle.cy_outside.specs.Written.{behind, Begins}
 use Rattle.node_plan.specs.Plan.{Good, plan_of}
 use Rattle.node_plan.specs.declared.plan.Plan.{Plan}
 use Rattle.frame_log.specs.Log.{Log, log_of}
 use Rattle.frame_log.specs.Order.{IsAhead}
+use Rattle.log_loop.proofs.Logs.{newest_onto}
+use Rattle.log_loop.proofs.Written.{begins_none}
 use Rattle.node_core.specs.declared.line.Line.{Line}
 use Rattle.node_core.specs.Heard.{frames}
-use Rattle.node_core.specs.Steps.{lines, steps}
-use Rattle.session_lines.specs.Reported.{rxs, of_key, IsSession, Reported}
-use Rattle.node_run.specs.Ran.{Ran, HasRun, names_of, newest_first, steps_of}
-use Rattle.node_run.specs.declared.report.Report.{Report}
+use Rattle.node_core.specs.LineSinks.{put_behind}
+use Rattle.node_core.specs.Steps.{Step, lines, lines_at, steps}
+use Rattle.node_core.specs.Text.{text}
+use Rattle.session_lines.specs.Reported.{rxs, of_key, IsSession, Reported as SessionLines}
+use Rattle.session_lines.proofs.Projection.{rxs_append}
+use Rattle.node_run.specs.Ran.{Reported, At, AtFirst, Ran, HasRun, names_of, newest_first, steps_of, end_part, whole_text}
 use Rattle.node_run.specs.declared.status.Status.{Status}
 use Rattle.node_run.specs.declared.status.Status.TheVariants as status
-use Rattle.session_lines.proofs.Projection.{rxs_append}
-use Rattle.node_run.proofs.Logs.{newest_onto}
-use Rattle.node_run.proofs.Runs.{lines_front}
-use Rattle.node_run.proofs.Steps.{records_steps}
+use Rattle.node_run.proofs.Steps.{lines_front, records_steps, steps_newer, text_append}
 use Rattle.cyphal.specs.Words.{Command}
 use Rattle.cyphal.specs.Cause.{Outside}
 use Rattle.cyphal.specs.Job.{Told, Outcome, is_settled, NotDone}
 use Rattle.cyphal.specs.Plans.{PlanAt}
 use Rattle.cyphal.specs.jobs.Run.{HasRunAt}
 use Rattle.cyphal.specs.Expected.{job_asked, job_for, WasDone}
-use Rattle.cyphal.specs.Headline.{heard_as, logged_in, Asked, ExplainsIn, OnceOf, DueOf}
+use Rattle.cyphal.specs.Headline.{heard_as, log_in, logged_in, lines_of, report_text, Asked, ExplainsIn, OnceIn, DueIn, Headline, HeadlineOf, HasPut, OncePut, DuePut}
 use Rattle.cyphal.proofs.Frames.{frames_are, are_records, in_order}
 
--- a report has the first lines of a log
-abbrev IsFront : Plan → Log → Report → Type 0
-IsFront plan log report = (rest : List Line) × (lines plan (steps_of plan log) ≡ report.lines ++ rest)
+-- the lines of the first steps are the first lines
+lines_newer : (plan : Plan) (newer past : List Step) → (more : List Line) × (lines plan (newer ++ past) ≡ lines plan past ++ more)
+lines_newer plan [] past = ([], sym (append-nil (lines plan past)))
+lines_newer plan (s ∷ newer) past =
+    let f = lines_newer plan newer past in
+    let at = lines_at plan s (newer ++ past) in
+    (f.0 ++ at, ap (λ t. t ++ at) f.1 ∙ append_assoc (lines plan past) f.0 at)
 
-all_lines : (plan : Plan) (log : Log) (report : Report) → report.lines ≡ lines plan (steps_of plan log) → IsFront plan log report
-all_lines plan log report e = ([], sym (append-nil report.lines ∙ e))
+-- the first lines of a log were put, and no other
+record IsFront (plan : Plan) (log : Log) (r : Reported) : Type 0 where
+  mine : List Line
+  rest : List Line
+  put : r.new ≡ put_behind r.old mine
+  whole : lines plan (steps_of plan log) ≡ mine ++ rest
 
--- whatever the status, the report has the first lines of the log
-front : (plan : Plan) (log : Log) (stat : Status) (report : Report) (before after : Option (List ℕ)) → Ran plan log stat report before after → IsFront plan log report
-front plan log status.Ok report before after r = all_lines plan log report r.1.at.reported
-front plan log status.Usage report before after r = absurd r
-front plan log (status.Dsdl file n w) report before after r = absurd r
-front plan log (status.Plan n w) report before after r = absurd r
-front plan log (status.Log n w) report before after r = all_lines plan log report r.1.at.reported
-front plan log (status.NotNewer path w) report before after r = absurd r
-front plan log status.LogLong report before after r = all_lines plan log report r.1.at.reported
-front plan log (status.NoFile path) report before after r = absurd r
-front plan log status.ReadFault report before after r =
-    let more = lines_front plan r.came r.left in
-    let all : newest_first log ≡ reverse_aux r.left r.came = ap (λ t. reverse_aux t []) r.parts ∙ newest_onto r.came r.left in
-    (more.0, ap (λ t. lines plan (steps plan t)) all ∙ (more.1 ∙ ap (λ t. t ++ more.0) (sym r.settled.at.reported)))
-front plan log status.WriteFault report before after r = (r.broke.rest, r.broke.reported)
-front plan log status.NoMemory report before after r = (r.broke.rest, r.broke.reported)
+first_lines : (plan : Plan) (log : Log) (r : Reported) → AtFirst plan (steps_of plan log) r → IsFront plan log r
+first_lines plan log r f =
+    let more = lines_newer plan f.newer f.past in
+    record { mine = lines plan f.past; rest = more.0; put = f.at.reported; whole = ap (lines plan) f.parts ∙ more.1 }
 
--- where the run wasn't cut short, it has all of them
-whole : (plan : Plan) (log : Log) (stat : Status) (report : Report) (before after : Option (List ℕ)) → is_settled stat ≡ true → Ran plan log stat report before after → report.lines ≡ lines plan (steps_of plan log)
-whole plan log status.Ok report before after s r = r.1.at.reported
-whole plan log status.Usage report before after s r = absurd r
-whole plan log (status.Dsdl file n w) report before after s r = absurd r
-whole plan log (status.Plan n w) report before after s r = absurd r
-whole plan log (status.Log n w) report before after s r = r.1.at.reported
-whole plan log (status.NotNewer path w) report before after s r = absurd r
-whole plan log status.LogLong report before after s r = r.1.at.reported
-whole plan log (status.NoFile path) report before after s r = absurd r
-whole plan log status.ReadFault report before after s r = absurd (true≢false (sym s))
-whole plan log status.WriteFault report before after s r = absurd (true≢false (sym s))
-whole plan log status.NoMemory report before after s r = absurd (true≢false (sym s))
+all_lines : (plan : Plan) (log : Log) (r : Reported) → At plan (steps_of plan log) r → IsFront plan log r
+all_lines plan log r a = record { mine = lines plan (steps_of plan log); rest = []; put = a.reported; whole = sym (append-nil (lines plan (steps_of plan log))) }
+
+-- the records that came are the first ones
+came_first : (log : Log) (came left : List Record) → log.records ≡ reverse_aux came left → newest_first log ≡ reverse_aux left came
+came_first log came left e = ap (λ t. reverse_aux t []) e ∙ newest_onto came left
+
+-- so their lines are the first lines
+came_lines : (plan : Plan) (log : Log) (came left : List Record) → log.records ≡ reverse_aux came left → (rest : List Line) × (lines plan (steps_of plan log) ≡ lines plan (steps plan came) ++ rest)
+came_lines plan log came left e =
+    let more = lines_front plan came left in
+    (more.0, ap (λ t. lines plan (steps plan t)) (came_first log came left e) ∙ more.1)
+
+-- whatever the status, the first lines of the log were put
+front : (plan : Plan) (log : Log) (stat : Status) (r : Reported) (before after : Option (List ℕ)) → Ran plan log stat r before after → IsFront plan log r
+front plan log status.Ok r before after x = all_lines plan log r x.1.at
+front plan log status.Usage r before after x = absurd x
+front plan log (status.Dsdl file n w) r before after x = absurd x
+front plan log (status.Plan n w) r before after x = absurd x
+front plan log (status.Log n w) r before after x = all_lines plan log r x.1.at
+front plan log (status.NotNewer path w) r before after x = absurd x
+front plan log status.LogLong r before after x = all_lines plan log r x.1.at
+front plan log (status.NoFile path) r before after x = absurd x
+front plan log status.ReadFault r before after x =
+    let more = came_lines plan log x.came x.left x.parts in
+    record { mine = lines plan (steps plan x.came); rest = more.0; put = x.settled.at.reported; whole = more.1 }
+front plan log status.WriteFault r before after x = first_lines plan log r x.first
+front plan log status.NoMemory r before after x = first_lines plan log r x.first
+
+-- where the run wasn't cut short, all of them were put
+whole : (plan : Plan) (log : Log) (stat : Status) (r : Reported) (before after : Option (List ℕ)) → is_settled stat ≡ true → Ran plan log stat r before after → r.new ≡ put_behind r.old (lines plan (steps_of plan log))
+whole plan log status.Ok r before after s x = x.1.at.reported
+whole plan log status.Usage r before after s x = absurd x
+whole plan log (status.Dsdl file n w) r before after s x = absurd x
+whole plan log (status.Plan n w) r before after s x = absurd x
+whole plan log (status.Log n w) r before after s x = x.1.at.reported
+whole plan log (status.NotNewer path w) r before after s x = absurd x
+whole plan log status.LogLong r before after s x = x.1.at.reported
+whole plan log (status.NoFile path) r before after s x = absurd x
+whole plan log status.ReadFault r before after s x = absurd (true≢false (sym s))
+whole plan log status.WriteFault r before after s x = absurd (true≢false (sym s))
+whole plan log status.NoMemory r before after s x = absurd (true≢false (sym s))
+
+-- and all was written
+abbrev text_in : Plan → Log → List ℕ
+text_in plan log = whole_text plan (steps_of plan log) log.refusal
+
+written_whole : (plan : Plan) (log : Log) (stat : Status) (r : Reported) (before after : Option (List ℕ)) → is_settled stat ≡ true → Ran plan log stat r before after → after ≡ behind before (text_in plan log)
+written_whole plan log status.Ok r before after s x = x.1.written
+written_whole plan log status.Usage r before after s x = absurd x
+written_whole plan log (status.Dsdl file n w) r before after s x = absurd x
+written_whole plan log (status.Plan n w) r before after s x = absurd x
+written_whole plan log (status.Log n w) r before after s x = x.1.written
+written_whole plan log (status.NotNewer path w) r before after s x = absurd x
+written_whole plan log status.LogLong r before after s x = x.1.written
+written_whole plan log (status.NoFile path) r before after s x = absurd x
+written_whole plan log status.ReadFault r before after s x = absurd (true≢false (sym s))
+written_whole plan log status.WriteFault r before after s x = absurd (true≢false (sym s))
+written_whole plan log status.NoMemory r before after s x = absurd (true≢false (sym s))
+
+-- whatever the status, a beginning of it was written
+begins_whole : (bytes : List ℕ) (before after : Option (List ℕ)) → after ≡ behind before bytes → Begins bytes before after
+begins_whole bytes before after w = record { front = bytes; rest = []; whole = sym (append-nil bytes); written = w }
+
+begins_came : (plan : Plan) (log : Log) (came left : List Record) (before after : Option (List ℕ)) → log.records ≡ reverse_aux came left → after ≡ behind before (text plan.buses (lines plan (steps plan came)) ++ []) → Begins (text_in plan log) before after
+begins_came plan log came left before after e w =
+    let more = came_lines plan log came left e in
+    let first = text plan.buses (lines plan (steps plan came)) in
+    let last = end_part plan (steps_of plan log) log.refusal in record {
+      front = first;
+      rest = text plan.buses more.0 ++ last;
+      whole =
+          ap (λ t. t ++ last) (ap (text plan.buses) more.1 ∙ text_append plan.buses (lines plan (steps plan came)) more.0)
+          ∙ append_assoc first (text plan.buses more.0) last;
+      written = w ∙ ap (behind before) (append-nil first);
+    }
+
+written_first : (plan : Plan) (log : Log) (stat : Status) (r : Reported) (before after : Option (List ℕ)) → Ran plan log stat r before after → Begins (text_in plan log) before after
+written_first plan log status.Ok r before after x = begins_whole (text_in plan log) before after x.1.written
+written_first plan log status.Usage r before after x = absurd x
+written_first plan log (status.Dsdl file n w) r before after x = absurd x
+written_first plan log (status.Plan n w) r before after x = absurd x
+written_first plan log (status.Log n w) r before after x = begins_whole (text_in plan log) before after x.1.written
+written_first plan log (status.NotNewer path w) r before after x = absurd x
+written_first plan log status.LogLong r before after x = begins_whole (text_in plan log) before after x.1.written
+written_first plan log (status.NoFile path) r before after x = absurd x
+written_first plan log status.ReadFault r before after x = begins_came plan log x.came x.left before after x.parts x.settled.written
+written_first plan log status.WriteFault r before after x = x.written
+written_first plan log status.NoMemory r before after x = x.written
 
 -- a file has one plan
 one_plan : (path : List ℕ) (tree : Files) (a b : Plan) → PlanAt path (Some tree) a → PlanAt path (Some tree) b → a ≡ b
@@ -97,24 +173,24 @@ the_plan words told came plan bytes a r = one_plan a.path a.tree r.plan plan (su
 
 -- a run of a told plan over a told input
 ran : (words : List (List ℕ)) (told : Told) (came : Outcome) (plan : Plan) (bytes : List ℕ) (a : Asked words told plan bytes) → HasRunAt a.path told came
-    → Ran plan (log_of (names_of plan) bytes) came.status came.report told.written came.written
+    → Ran plan (log_in plan bytes) came.status came.reported told.written came.written
 ran words told came plan bytes a r =
     let stat = came.status in
-    let report = came.report in
+    let put = came.reported in
     let same : r.plan ≡ plan = the_plan words told came plan bytes a r in
-    let run : HasRun plan (Some bytes) stat report told.written came.written =
-    subst (λ (q : Plan). HasRun q (Some bytes) stat report told.written came.written) same (subst (λ i. HasRun r.plan i stat report told.written came.written) a.is_input r.run) in
-    subst (λ (b : List ℕ). Ran plan (log_of (names_of plan) b) stat report told.written came.written) run.is run.ran
+    let run : HasRun plan (Some bytes) stat put told.written came.written =
+    subst (λ (q : Plan). HasRun q (Some bytes) stat put told.written came.written) same (subst (λ i. HasRun r.plan i stat put told.written came.written) a.is_input r.run) in
+    subst (λ (b : List ℕ). Ran plan (log_of (names_of plan) b) stat put told.written came.written) run.is run.ran
 
 module _ (plan : Plan) (bytes : List ℕ) (key : SessionKey) where
   abbrev past : List Record
   past = logged_in plan bytes
 
   -- what is reported of a session over the whole log
-  session : Reported → (p : Port) → IsSession plan key past p → rxs key (lines plan (steps plan past)) ≡ reported plan.timeout p.extent (of_key plan key past)
+  session : SessionLines → (p : Port) → IsSession plan key past p → rxs key (lines plan (steps plan past)) ≡ rx_report.reported plan.timeout p.extent (of_key plan key past)
   session law p s =
       let e = records_steps plan past in
-      law plan key (steps plan past) p (subst (λ t. IsSession plan key t p) (sym e) s) ∙ ap (λ t. reported plan.timeout p.extent (of_key plan key t)) e
+      law plan key (steps plan past) p (subst (λ t. IsSession plan key t p) (sym e) s) ∙ ap (λ t. rx_report.reported plan.timeout p.extent (of_key plan key t)) e
 
   -- a sent list that explains its records by identifier and data explains them by their fields
   by_fields : WireExplainsFields → (sent : Sent) (origin : List Pair) → ExplainsIn plan bytes sent key origin → Explains plan.timeout sent key origin (of_key plan key past)
@@ -126,26 +202,70 @@ module _ (plan : Plan) (bytes : List ℕ) (key : SessionKey) where
 abbrev InOrder : Type 0
 InOrder = (buses : List (List ℕ)) (bytes : List ℕ) → IsAhead 0 0 (log_of buses bytes).records
 
-pub once_of : Reported → WireExplainsFields → OnceInPart → InOrder
-    → {L : Type 0} (words : List (List ℕ)) (told : Told) (came : Outcome) (old new : Outside L) → WasDone words told came old new → OnceOf words told came.report
-once_of law fields once order words told came old new w plan bytes key p sent origin a s x = by_run (run_done words told came old new plan bytes w a)
-  where
-    by_run : NotDone told came old new ⊎ HasRunAt a.path told came → SelectedRx p.extent sent origin (of_key plan key (logged_in plan bytes)) (rxs key came.report.lines)
-    by_run (inl n) = subst (λ ls. SelectedRx p.extent sent origin (of_key plan key (logged_in plan bytes)) (rxs key ls)) (sym n.empty.reported) (record { sent_ones = tt; in_order = tt })
-    by_run (inr r) =
-        let log = log_of (names_of plan) bytes in
-        let f = front plan log came.status came.report told.written came.written (ran words told came plan bytes a r) in
-        once plan.timeout p.extent sent key origin (frames plan.node (newest_first log)) (rxs key came.report.lines) (rxs key f.0)
-        (in_order plan.node log.records (order (names_of plan) bytes)) (by_fields plan bytes key fields sent origin x)
-        (sym (session plan bytes key law p s) ∙ (ap (rxs key) f.1 ∙ rxs_append key came.report.lines f.0))
+-- of each front of the lines of a log
+once_in : SessionLines → WireExplainsFields → OnceInPart → InOrder → (plan : Plan) (bytes : List ℕ) (mine rest : List Line) → lines_of plan bytes ≡ mine ++ rest → OnceIn plan bytes mine
+once_in law fields once order plan bytes mine rest e key p sent origin s x =
+    once plan.timeout p.extent sent key origin (frames plan.node (logged_in plan bytes)) (rxs key mine) (rxs key rest)
+    (in_order plan.node (log_in plan bytes).records (order (names_of plan) bytes)) (by_fields plan bytes key fields sent origin x)
+    (sym (session plan bytes key law p s) ∙ (ap (rxs key) e ∙ rxs_append key mine rest))
 
-pub due_of : Reported → WireExplainsFields → DueInReport
-    → {L : Type 0} (words : List (List ℕ)) (told : Told) (came : Outcome) (old new : Outside L) → WasDone words told came old new → DueOf words told came
-due_of law fields due words told came old new w plan bytes key p sent origin q a s x settled d = by_run (run_done words told came old new plan bytes w a)
-  where
-    by_run : NotDone told came old new ⊎ HasRunAt a.path told came → AnyRx (λ rx. rx.last ≡ q.line) (rxs key came.report.lines)
-    by_run (inl n) = absurd (both_ways (is_settled came.status) n.not_settled settled)
-    by_run (inr r) =
-        let all = whole plan (log_of (names_of plan) bytes) came.status came.report told.written came.written settled (ran words told came plan bytes a r) in
-        subst (AnyRx (λ rx. rx.last ≡ q.line)) (sym (ap (rxs key) all ∙ session plan bytes key law p s))
-        (due plan.timeout p.extent sent key origin (of_key plan key (logged_in plan bytes)) q (by_fields plan bytes key fields sent origin x) d)
+-- of all of them
+due_in : SessionLines → WireExplainsFields → DueInReport → (plan : Plan) (bytes : List ℕ) → DueIn plan bytes (lines_of plan bytes)
+due_in law fields due plan bytes key p sent origin q s x d =
+    subst (AnyRx (λ rx. rx.last ≡ q.line)) (sym (session plan bytes key law p s))
+    (due plan.timeout p.extent sent key origin (of_key plan key (logged_in plan bytes)) q (by_fields plan bytes key fields sent origin x) d)
+
+module _ {L : Type 0} (words : List (List ℕ)) (told : Told) (came : Outcome) (old new : Outside L) (done : WasDone words told came old new) where
+  settled_text : (plan : Plan) (bytes : List ℕ) → Asked words told plan bytes → is_settled came.status ≡ true → came.written ≡ behind told.written (report_text plan bytes)
+  settled_text plan bytes a s = by_run (run_done words told came old new plan bytes done a)
+    where
+      by_run : NotDone told came old new ⊎ HasRunAt a.path told came → came.written ≡ behind told.written (report_text plan bytes)
+      by_run (inl n) = absurd (both_ways (is_settled came.status) n.not_settled s)
+      by_run (inr r) = written_whole plan (log_in plan bytes) came.status came.reported told.written came.written s (ran words told came plan bytes a r)
+
+  first_text : (plan : Plan) (bytes : List ℕ) → Asked words told plan bytes → Begins (report_text plan bytes) told.written came.written
+  first_text plan bytes a = by_run (run_done words told came old new plan bytes done a)
+    where
+      by_run : NotDone told came old new ⊎ HasRunAt a.path told came → Begins (report_text plan bytes) told.written came.written
+      by_run (inl n) = subst (λ w. Begins (report_text plan bytes) told.written w) (sym n.written) (begins_none (report_text plan bytes) told.written)
+      by_run (inr r) = written_first plan (log_in plan bytes) came.status came.reported told.written came.written (ran words told came plan bytes a r)
+
+  pub headline_of : SessionLines → WireExplainsFields → OnceInPart → DueInReport → InOrder → HeadlineOf words told came
+  headline_of law fields once due order plan bytes a = record {
+    written = settled_text plan bytes a;
+    begun = first_text plan bytes a;
+    once = once_in law fields once order plan bytes;
+    due = due_in law fields due plan bytes;
+  }
+
+  -- what a sink tells is what was put
+  same_put : (mine put : List Line) → HasPut came.reported mine → came.reported.new ≡ put_behind came.reported.old put → put ≡ mine
+  same_put mine put h e =
+      let all : Some (h.0 ++ put) ≡ Some (h.0 ++ mine) = ap (λ o. put_behind o put) (sym h.1) ∙ (sym e ∙ h.2) in
+      append_cancel_left h.0 put mine cc
+
+  -- the lines that were put are the first of the log
+  front_put : (plan : Plan) (bytes : List ℕ) (mine : List Line) → Asked words told plan bytes → HasPut came.reported mine → (rest : List Line) × (lines_of plan bytes ≡ mine ++ rest)
+  front_put plan bytes mine a h = by_run (run_done words told came old new plan bytes done a)
+    where
+      by_run : NotDone told came old new ⊎ HasRunAt a.path told came → (rest : List Line) × (lines_of plan bytes ≡ mine ++ rest)
+      by_run (inl n) =
+          let none : [] ≡ mine = same_put mine [] h (n.empty.lines ∙ (h.1 ∙ (ap Some (sym (append-nil h.0)) ∙ ap (λ o. put_behind o []) (sym h.1)))) in
+          (lines_of plan bytes, ap (λ m. m ++ lines_of plan bytes) none)
+      by_run (inr r) =
+          let f = front plan (log_in plan bytes) came.status came.reported told.written came.written (ran words told came plan bytes a r) in
+          (f.rest, f.whole ∙ ap (λ m. m ++ f.rest) (same_put mine f.mine h f.put))
+
+  -- where all that counts was run, they are all
+  whole_put : (plan : Plan) (bytes : List ℕ) (mine : List Line) → Asked words told plan bytes → HasPut came.reported mine → is_settled came.status ≡ true → lines_of plan bytes ≡ mine
+  whole_put plan bytes mine a h s = by_run (run_done words told came old new plan bytes done a)
+    where
+      by_run : NotDone told came old new ⊎ HasRunAt a.path told came → lines_of plan bytes ≡ mine
+      by_run (inl n) = absurd (both_ways (is_settled came.status) n.not_settled s)
+      by_run (inr r) = same_put mine (lines_of plan bytes) h (whole plan (log_in plan bytes) came.status came.reported told.written came.written s (ran words told came plan bytes a r))
+
+  pub once_of : HeadlineOf words told came → OncePut words told came
+  once_of head mine h plan bytes a = let f = front_put plan bytes mine a h in (head plan bytes a).once mine f.0 f.1
+
+  pub due_of : HeadlineOf words told came → DuePut words told came
+  due_of head mine h plan bytes a s = subst (λ ls. DueIn plan bytes ls) (whole_put plan bytes mine a h s) (head plan bytes a).due

@@ -8,4 +8,5 @@ pub mod OneStatus
 pub mod Frames
 pub mod Headlines
 pub mod Streaming
+pub mod Answered
 pub mod Premises

@@ -21,7 +21,7 @@ use Rattle.once.proofs.Selection.{follows_parts}
 use Rattle.node_plan.specs.declared.plan.Plan.{Plan}
 use Rattle.node_plan.specs.declared.plan.SubShape.TheVariants.{Raw}
 use Rattle.node_plan.specs.Plan.{Good, plan_of}
-use Rattle.node_core.specs.Reported.{of_key, IsSession}
+use Rattle.session_lines.specs.Reported.{of_key, IsSession}
 use Rattle.cyphal.specs.Words.{Run, command_of}
 use Rattle.cyphal.specs.Job.{told_by}
 use Rattle.cyphal.specs.Plans.{PlanAt}

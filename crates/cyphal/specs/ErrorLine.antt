@@ -8,8 +8,8 @@ use Rattle.dsdl_resolve.specs.declared.error.DsdlWhy.{DsdlWhy}
 use Rattle.dsdl_resolve.specs.declared.error.DsdlWhy.TheVariants as dsdl_why
 use Rattle.node_plan.specs.declared.plan.PlanWhy.{PlanWhy}
 use Rattle.node_plan.specs.declared.plan.PlanWhy.TheVariants as plan_why
-use Rattle.node_run.specs.declared.status.LogWhy.{LogWhy}
-use Rattle.node_run.specs.declared.status.LogWhy.TheVariants as log_why
+use Rattle.frame_log.specs.declared.error.LogWhy.{LogWhy}
+use Rattle.frame_log.specs.declared.error.LogWhy.TheVariants as log_why
 use Rattle.node_run.specs.declared.status.Status.{Status}
 use Rattle.node_run.specs.declared.status.Status.TheVariants as status
 

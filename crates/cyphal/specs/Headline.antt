@@ -1,6 +1,6 @@
 -- The headline: of each session only sent transfers are reported, in order and at most once, and each transfer that
--- is due is.
-use Rattle.std.specs.Prelude.{◌≡◌, ℕ, true, List, Option, Some, option_and_then}
+-- is due is; and what is written is the text of this report.
+use Rattle.std.specs.Prelude.{◌≡◌, ◌++◌, ℕ, true, List, Option, Some, option_and_then}
 use Rattle.tail_frame.specs.Chains.{KeyRecord}
 use Rattle.tail_frame.specs.declared.logged.Record.{Record}
 use Rattle.rx_table.specs.Keys.{SessionKey, KeyedFrame}
@@ -11,12 +11,16 @@ use Rattle.frag.specs.declared.sent.Sent.{Sent}
 use Rattle.once.specs.Raw.{WireExplains}
 use Rattle.once.specs.Report.{AnyRx, SelectedRx, IsDue}
 use Rattle.cy_outside.specs.Files.{Files}
-use Rattle.frame_log.specs.Log.{log_of}
+use Rattle.cy_outside.specs.Written.{behind, Begins}
+use Rattle.frame_log.specs.Log.{Log, log_of}
 use Rattle.node_plan.specs.declared.plan.Plan.{Plan}
+use Rattle.node_core.specs.declared.line.Line.{Line}
 use Rattle.node_core.specs.Heard.{frame_for}
+use Rattle.node_core.specs.Steps.{lines}
+use Rattle.node_core.specs.Text.{text}
 use Rattle.session_lines.specs.Reported.{rxs, of_key, IsSession}
-use Rattle.node_run.specs.Ran.{names_of, newest_first}
-use Rattle.node_run.specs.declared.report.Report.{Report}
+use Rattle.node_run.specs.Ran.{Reported, names_of, newest_first, steps_of, end_part}
+use Rattle.node_run.specs.declared.status.Status.{Status}
 use Rattle.cyphal.specs.Words.{Run, command_of}
 use Rattle.cyphal.specs.Job.{Told, Outcome, is_settled}
 use Rattle.cyphal.specs.Plans.{PlanAt}
@@ -49,22 +53,74 @@ abbrev pub ExplainsIn : Plan → List ℕ → Sent → SessionKey → List Pair 
 ExplainsIn plan bytes sent key origin =
     WireExplains (heard_as plan.node) plan.timeout sent key origin (logged_in plan bytes)
 
--- once, however the run ended: what is reported of a session are sent transfers, in the order of the sent list, each at
--- most once, cut to the extent
-abbrev pub OnceOf : List (List ℕ) → Told → Report → Type 0
-OnceOf words told report =
-    (plan : Plan) (bytes : List ℕ) (key : SessionKey) (p : Port) (sent : Sent) (origin : List Pair)
-    → Asked words told plan bytes → IsSession plan key (logged_in plan bytes) p
-    → ExplainsIn plan bytes sent key origin
-    → SelectedRx p.extent sent origin (of_session_in plan bytes key) (rxs key report.lines)
+-- the log of the input
+abbrev pub log_in : Plan → List ℕ → Log
+log_in plan bytes = log_of (names_of plan) bytes
 
--- due, where all that counts of the input was run: each transfer of a session that came whole on the bus in force with a
--- fresh transfer-ID is reported, on the line of its last frame
-abbrev pub DueOf : List (List ℕ) → Told → Outcome → Type 0
-DueOf words told came =
-    (plan : Plan) (bytes : List ℕ) (key : SessionKey) (p : Port) (sent : Sent) (origin : List Pair)
-    (q : KeyRecord)
-    → Asked words told plan bytes → IsSession plan key (logged_in plan bytes) p
-    → ExplainsIn plan bytes sent key origin → is_settled came.status ≡ true
+-- its lines
+abbrev pub lines_of : Plan → List ℕ → List Line
+lines_of plan bytes = lines plan (steps_of plan (log_in plan bytes))
+
+-- the text of its lines, and where it was read to its end the last line
+abbrev pub report_text : Plan → List ℕ → List ℕ
+report_text plan bytes =
+    text plan.buses (lines_of plan bytes)
+    ++ end_part plan (steps_of plan (log_in plan bytes)) (log_in plan bytes).refusal
+
+-- once: what these lines say of a session are sent transfers, in the order of the sent list, each at most once, cut to
+-- the extent
+abbrev pub OnceIn : Plan → List ℕ → List Line → Type 0
+OnceIn plan bytes lines =
+    (key : SessionKey) (p : Port) (sent : Sent) (origin : List Pair)
+    → IsSession plan key (logged_in plan bytes) p → ExplainsIn plan bytes sent key origin
+    → SelectedRx p.extent sent origin (of_session_in plan bytes key) (rxs key lines)
+
+-- due: each transfer of a session that came whole on the bus in force with a fresh transfer-ID is among these lines, with
+-- the line of its last frame
+abbrev pub DueIn : Plan → List ℕ → List Line → Type 0
+DueIn plan bytes lines =
+    (key : SessionKey) (p : Port) (sent : Sent) (origin : List Pair) (q : KeyRecord)
+    → IsSession plan key (logged_in plan bytes) p → ExplainsIn plan bytes sent key origin
     → IsDue plan.timeout sent origin (of_session_in plan bytes key) q
-    → AnyRx (λ rx. rx.last ≡ q.line) (rxs key came.report.lines)
+    → AnyRx (λ rx. rx.last ≡ q.line) (rxs key lines)
+
+-- The headline over what is written: where all that counts of the input was run it is the text of the lines of the log,
+-- and a beginning of it however the run ended. These lines, and each front of them, say of a session only what was sent,
+-- at most once; and all of them say what is due.
+pub record Headline (plan : Plan) (bytes : List ℕ) (stat : Status)
+    (before after : Option (List ℕ)) : Type 0 where
+  pub written : is_settled stat ≡ true → after ≡ behind before (report_text plan bytes)
+  pub begun : Begins (report_text plan bytes) before after
+  pub once : (front rest : List Line) → lines_of plan bytes ≡ front ++ rest
+      → OnceIn plan bytes front
+  pub due : DueIn plan bytes (lines_of plan bytes)
+
+-- of words that ask for a run of a told plan over a told input
+abbrev pub HeadlineOf : List (List ℕ) → Told → Outcome → Type 0
+HeadlineOf words told came =
+    (plan : Plan) (bytes : List ℕ) → Asked words told plan bytes
+    → Headline plan bytes came.status told.written came.written
+
+-- the lines that were put, where the sink of lines tells them
+abbrev pub HasPut : Reported → List Line → Type 0
+HasPut reported mine =
+    (before : List Line) × (reported.old ≡ Some before) × (reported.new ≡ Some (before ++ mine))
+
+-- once, of the lines of a report, however the run ended
+abbrev pub OnceOf : List (List ℕ) → Told → List Line → Type 0
+OnceOf words told mine =
+    (plan : Plan) (bytes : List ℕ) → Asked words told plan bytes → OnceIn plan bytes mine
+
+-- due, of the lines of a report where all that counts of the input was run
+abbrev pub DueOf : List (List ℕ) → Told → Status → List Line → Type 0
+DueOf words told stat mine =
+    (plan : Plan) (bytes : List ℕ) → Asked words told plan bytes → is_settled stat ≡ true
+    → DueIn plan bytes mine
+
+-- both, of the lines that a sink of lines tells
+abbrev pub OncePut : List (List ℕ) → Told → Outcome → Type 0
+OncePut words told came = (mine : List Line) → HasPut came.reported mine → OnceOf words told mine
+
+abbrev pub DuePut : List (List ℕ) → Told → Outcome → Type 0
+DuePut words told came =
+    (mine : List Line) → HasPut came.reported mine → DueOf words told came.status mine

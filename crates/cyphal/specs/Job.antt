@@ -2,8 +2,7 @@
 use Rattle.std.specs.Prelude.{◌≡◌, ℕ, Bool, true, false, List, Option}
 use Rattle.cy_outside.specs.Files.{Files}
 use Rattle.cy_outside.specs.Outside.{Rose}
-use Rattle.node_run.specs.Ran.{IsEmpty}
-use Rattle.node_run.specs.declared.report.Report.{Report}
+use Rattle.node_run.specs.Ran.{Reported, no_numbers}
 use Rattle.node_run.specs.declared.status.Status.{Status}
 use Rattle.node_run.specs.declared.status.Status.TheVariants as status
 use Rattle.cyphal.specs.Cause.{Outside}
@@ -17,18 +16,18 @@ pub record Told : Type 0 where
 abbrev pub told_by : Option Files → Option (List ℕ) → Option (List ℕ) → Told
 told_by files input written = record { files = files; input = input; written = written }
 
--- what a call came to: its status, its report, what is left of the input, and what is written at its end
+-- what a call came to: its status, what it reported, what is left of the input, and what is written at its end
 pub record Outcome : Type 0 where
   pub status : Status
-  pub report : Report
+  pub reported : Reported
   pub left : Option (List ℕ)
   pub written : Option (List ℕ)
 
-abbrev pub outcome : Status → Report → Option (List ℕ) → Option (List ℕ) → Outcome
-outcome stat report left written =
-    record { status = stat; report = report; left = left; written = written }
+abbrev pub outcome : Status → Reported → Option (List ℕ) → Option (List ℕ) → Outcome
+outcome stat reported left written =
+    record { status = stat; reported = reported; left = left; written = written }
 
--- what a command came to that is given neither an input nor a report: its status, and what was written before and after it
+-- what a command came to that is given neither an input nor a sink of lines: its status, and what was written before and after it
 pub record Printed : Type 0 where
   pub status : Status
   pub before : Option (List ℕ)
@@ -40,6 +39,11 @@ printed stat before after = record { status = stat; before = before; after = aft
 -- the same of any command
 abbrev pub print_of : Told → Outcome → Printed
 print_of told came = printed came.status told.written came.written
+
+-- no line was put, and nothing was counted
+pub record ReportsNothing (reported : Reported) : Type 0 where
+  pub lines : reported.new ≡ reported.old
+  pub counted : reported.numbers ≡ no_numbers
 
 -- a command with its arguments
 pub record Job : Type 1 where
@@ -68,7 +72,7 @@ is_settled other = false
 
 -- nothing was run, written or taken: no write failed, and a read fault is one of the tree
 pub record NotDone {L : Type 0} (told : Told) (came : Outcome) (old new : Outside L) : Type 0 where
-  pub empty : IsEmpty came.report
+  pub empty : ReportsNothing came.reported
   pub written : came.written ≡ told.written
   pub not_settled : is_settled came.status ≡ false
   pub not_write : ¬ (came.status ≡ status.WriteFault)
@@ -76,7 +80,7 @@ pub record NotDone {L : Type 0} (told : Told) (came : Outcome) (old new : Outsid
   pub source : new.source ≡ old.source
   pub tree : came.status ≡ status.ReadFault → Rose old.tree new.tree
 
--- a command that is given neither an input nor a report wrote nothing
+-- a command that is given neither an input nor a sink of lines wrote nothing
 pub record WroteNothing (print : Printed) : Type 0 where
   pub written : print.after ≡ print.before
   pub not_settled : is_settled print.status ≡ false

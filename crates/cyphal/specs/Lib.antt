@@ -9,4 +9,5 @@ pub mod jobs
 pub mod Expected
 pub mod Headline
 pub mod Streaming
+pub mod Answered
 pub mod Premises

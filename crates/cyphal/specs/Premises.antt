@@ -11,7 +11,7 @@ use Rattle.frag.specs.declared.sent.Transfer.{Transfer}
 use Rattle.once.specs.Report.{IsDue}
 use Rattle.cy_outside.specs.Files.{Files}
 use Rattle.node_plan.specs.declared.plan.Plan.{Plan}
-use Rattle.node_core.specs.Reported.{IsSession}
+use Rattle.session_lines.specs.Reported.{IsSession}
 use Rattle.cyphal.specs.Job.{Told, told_by}
 use Rattle.cyphal.specs.Headline.{Asked, logged_in, of_session_in, ExplainsIn}
 

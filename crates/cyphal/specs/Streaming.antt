@@ -11,10 +11,10 @@ use Rattle.cyphal.specs.Headline.{Asked}
 abbrev pub TakenOf : List (List ℕ) → Told → Outcome → Type 0
 TakenOf words told came =
     (plan : Plan) (bytes : List ℕ) → Asked words told plan bytes
-    → IsOfTaken plan told.input came.left came.report told.written came.written
+    → IsOfTaken plan told.input came.left came.reported told.written came.written
 
 -- however a run ended: no more than 8,192 bytes were taken of the input before the lines on what came before them were written
 abbrev pub StreamedOf : List (List ℕ) → Told → Outcome → Type 0
 StreamedOf words told came =
     (plan : Plan) (bytes : List ℕ) → Asked words told plan bytes
-    → IsStreamed plan told.input came.left came.status came.report told.written came.written
+    → IsStreamed plan told.input came.left came.status came.reported told.written came.written

@@ -9,9 +9,10 @@ use compat_check::CompatWhy;
 use cy_outside::{Failed, Sink, put_all};
 use dsdl_names::NameError;
 use dsdl_resolve::DsdlWhy;
+use frame_log::LogWhy;
 use itoa::Buffer;
 use node_plan::PlanWhy;
-use node_run::{LogWhy, Status};
+use node_run::Status;
 
 /// Writes the line of a status, in pieces; of `Ok` there is none.
 pub fn put_error<E: Sink>(err: &mut E, status: &Status) -> Result<(), Failed>

@@ -10,6 +10,7 @@ mod jobs;
 mod law;
 mod plan_file;
 mod program;
+mod run_words;
 #[cfg(test)]
 mod tests;
 mod top;

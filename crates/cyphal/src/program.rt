@@ -1,16 +1,20 @@
 //! The whole program, over any outside.
-ghost use Rattle.std.specs.Prelude.{◌≡◌, IfSome, IsSome, map, string_bytes};
+ghost use Rattle.std.specs.Prelude.{◌≡◌, None, IfSome, IsSome, map, string_bytes};
+ghost use Rattle.cyphal.specs.Answered.{left_by, stream, HasEnded};
+ghost use Rattle.cyphal.specs.Cause.{outside};
 ghost use Rattle.cyphal.specs.Help.{own_answer, HasAnswered};
+ghost use Rattle.cyphal.specs.Job.{told_by};
 
 use crate::code_of;
 use crate::help::own_answer;
-use crate::top::top;
+use crate::run_words::run_words;
 use cy_outside::{Sink, Source, Tree, put_all};
+use node_core::NoLines;
 use node_run::Status;
 use std::alloc::Global;
 
-/// Answers on `out` what is asked of the program itself, and does everything else that the words ask for. It gives
-/// the number with which the program ends.
+/// Answers on `out` what is asked of the program itself, and does everything else that the words ask for. It keeps no
+/// line of its report. It gives the number with which the program ends.
 pub fn program<T: Tree, L: Source, O: Sink, E: Sink>(
     alloc: Global,
     words: &[String],
@@ -22,6 +26,14 @@ pub fn program<T: Tree, L: Source, O: Sink, E: Sink>(
     ensures own { IfSome (own_answer (map string_bytes words.now)) (λ text.
         HasAnswered text result (O.written out.old) (O.written out.new)) }
     ensures quiet { IsSome (own_answer (map string_bytes words.now)) → err.new ≡ err.old }
+    ensures ended { let words = map string_bytes words.now in
+        let told = told_by (T.files tree.old) (L.left input.old) (O.written out.old) in
+        let left = left_by (L.left input.new) (O.written out.new) in
+        let old = outside (T.faults tree.old) (L.faults input.old) (O.faults out.old) input.old in
+        let new = outside (T.faults tree.new) (L.faults input.new) (O.faults out.new) input.new in
+        let err_old = stream (E.faults err.old) (E.written err.old) in
+        let err_new = stream (E.faults err.new) (E.written err.new) in
+        own_answer words ≡ None → HasEnded words told result left old new err_old err_new }
 {
     if let Some(text) = own_answer(words) {
         return match put_all(out, text.as_bytes()) {
@@ -29,6 +41,6 @@ pub fn program<T: Tree, L: Source, O: Sink, E: Sink>(
             Err(_) => code_of(&Status::WriteFault),
         };
     }
-    let done = top(alloc, words, tree, input, out, err);
+    let done = run_words(alloc, words, tree, input, out, err, &mut NoLines);
     code_of(&done.status)
 }

@@ -137,6 +137,33 @@ fn a_fault_ends_a_run_and_leaves_a_beginning(rt: HostRuntime) -> Result<(), Fail
     Ok(())
 }
 
+#[test]
+fn the_program_writes_what_a_run_writes(rt: HostRuntime) -> Result<(), Fail> {
+    let alloc = rt.alloc();
+    let words = vec![in alloc;
+        String::from_str(alloc, "run")?,
+        String::from_str(alloc, "none")?,
+        String::from_str(alloc, "plan")?,
+    ]?;
+    let files = List::new(vec![in alloc; File::new(alloc, "plan", PLAN)?]?);
+    let mut tree = MemTree::new(files, &[]).ok_or(AllocError)?;
+    let mut input = MemSource::new(LOG, &[]);
+    let mut out = MemSink::new(alloc, &[]);
+    let mut err = MemSink::new(alloc, &[]);
+    let code = program(
+        alloc,
+        words.as_slice(),
+        &mut tree,
+        &mut input,
+        &mut out,
+        &mut err,
+    );
+    assert_eq!(rt; code, 0);
+    assert_eq!(rt; out.written.as_slice(), ALL);
+    assert_eq!(rt; err.written.as_slice(), b"");
+    Ok(())
+}
+
 const NUM: &[u8] = b"uint8 a\nuint12 b\n@sealed\n";
 
 const LAYOUTS: &[u8] = b"type demo.Num.1.0 message - extent 24 sealed lengths {24}\n\

@@ -1,7 +1,8 @@
-//! The top call.
-ghost use Rattle.std.specs.Prelude.{◌≡◌, ◌⊎◌, ◌↔◌, ◌≤◌, None, true, false, map, string_bytes};
+//! The top call: the report keeps its lines.
+ghost use Rattle.std.specs.Prelude.{◌≡◌, ◌⊎◌, ◌↔◌, ◌≤◌, None, [], true, false, map, string_bytes};
 ghost use Rattle.cy_outside.specs.Outside.{Rose};
 ghost use Rattle.cy_outside.specs.Written.{behind, Begins};
+ghost use Rattle.node_run.specs.Ran.{numbers_of, of_report};
 ghost use Rattle.node_run.specs.declared.status.Status.{Status as TheStatus};
 ghost use Rattle.node_run.specs.declared.status.Status.TheVariants.{Ok as OkStatus};
 ghost use Rattle.cyphal.specs.Words.{command_of};
@@ -9,17 +10,14 @@ ghost use Rattle.cyphal.specs.ErrorLine.{error_line};
 ghost use Rattle.cyphal.specs.Job.{outcome, told_by, is_fault, NotDone};
 ghost use Rattle.cyphal.specs.Cause.{outside, HasCauseOver};
 ghost use Rattle.cyphal.specs.Expected.{job_for, WasDone};
-ghost use Rattle.cyphal.specs.Headline.{OnceOf, DueOf};
+ghost use Rattle.cyphal.specs.Headline.{HeadlineOf, OnceOf, DueOf};
 ghost use Rattle.cyphal.specs.Streaming.{TakenOf, StreamedOf};
 
-use crate::error_line::put_error;
-use crate::work::work;
+use crate::run_words::run_words;
+use cy_bits::List;
 use cy_outside::{Sink, Source, Tree};
-use dsdl_resolve::one_answer;
-use frame_log::ordered;
-use session_lines::laws::reported;
+use node_core::{KeptLines, Line, Numbers};
 use node_run::{Report, Status};
-use once::{due_in_report, once_in_part, wire_explains_fields};
 use std::alloc::Global;
 
 /// What a command came to.
@@ -55,7 +53,8 @@ pub fn top<T: Tree, L: Source, O: Sink, E: Sink>(
         HasCauseOver job.takes_input result.status old new }
     ensures ran { let words = map string_bytes words.now in
         let told = told_by (T.files tree.old) (L.left input.old) (O.written out.old) in
-        let came = outcome result.status result.report (L.left input.new) (O.written out.new) in
+        let came = outcome result.status (of_report result.report)
+        (L.left input.new) (O.written out.new) in
         let old = outside (T.faults tree.old) (L.faults input.old) (O.faults out.old) input.old in
         let new = outside (T.faults tree.new) (L.faults input.new) (O.faults out.new) input.new in
         WasDone words told came old new }
@@ -67,35 +66,51 @@ pub fn top<T: Tree, L: Source, O: Sink, E: Sink>(
         → ¬ Rose (L.faults input.old) (L.faults input.new)
         → ¬ Rose (O.faults out.old) (O.faults out.new)
         → (result.status ≡ Status.Ok) ⊎ (result.status ≡ Status.NoMemory) }
-    // The headline, where the words, the files and the input are told and a sent list explains the records of a session.
+    // The report says nothing of files that were served.
+    ensures failed { result.report.failed ≡ [] }
+    // The headline, where the words, the files and the input are told: of what is written, and of the report.
+    ensures headline { let told = told_by (T.files tree.old) (L.left input.old) (O.written out.old) in
+        let came = outcome result.status (of_report result.report)
+        (L.left input.new) (O.written out.new) in
+        HeadlineOf (map string_bytes words.now) told came }
     ensures once { let told = told_by (T.files tree.old) (L.left input.old) (O.written out.old) in
-        OnceOf (map string_bytes words.now) told result.report }
+        OnceOf (map string_bytes words.now) told result.report.lines }
     ensures due { let told = told_by (T.files tree.old) (L.left input.old) (O.written out.old) in
-        let came = outcome result.status result.report (L.left input.new) (O.written out.new) in
-        DueOf (map string_bytes words.now) told came }
+        DueOf (map string_bytes words.now) told result.status result.report.lines }
     // How far the input is taken where a read fails: not at all, where the tree failed, or up to the last whole line.
     ensures taken { let words = map string_bytes words.now in
         let told = told_by (T.files tree.old) (L.left input.old) (O.written out.old) in
-        let came = outcome result.status result.report (L.left input.new) (O.written out.new) in
+        let came = outcome result.status (of_report result.report)
+        (L.left input.new) (O.written out.new) in
         let old = outside (T.faults tree.old) (L.faults input.old) (O.faults out.old) input.old in
         let new = outside (T.faults tree.new) (L.faults input.new) (O.faults out.new) input.new in
         result.status ≡ Status.ReadFault → NotDone told came old new ⊎ TakenOf words told came }
     ensures streamed { let words = map string_bytes words.now in
         let told = told_by (T.files tree.old) (L.left input.old) (O.written out.old) in
-        let came = outcome result.status result.report (L.left input.new) (O.written out.new) in
+        let came = outcome result.status (of_report result.report)
+        (L.left input.new) (O.written out.new) in
         StreamedOf words told came }
     ensures line { Begins (error_line result.status) (E.written err.old) (E.written err.new) }
     ensures whole_line { ¬ Rose (E.faults err.old) (E.faults err.new)
         → E.written err.new ≡ behind (E.written err.old) (error_line result.status) }
 {
-    reported();
-    once_in_part();
-    due_in_report();
-    wire_explains_fields();
-    ordered();
-    one_answer();
+    let mut kept = KeptLines::new(alloc, List::empty(alloc));
+    let done = run_words(alloc, words, tree, input, out, err, &mut kept);
+    let report = report_of(alloc, kept.into_list(), &done.numbers);
+    Done {
+        status: done.status,
+        report,
+    }
+}
+
+/// The report of these lines and numbers.
+fn report_of(alloc: Global, lines: List<Line>, numbers: &Numbers) -> Report
+    ensures lines { result.lines ≡ lines }
+    ensures numbers { numbers_of result ≡ numbers.now }
+    ensures failed { result.failed ≡ [] }
+{
     let mut report = Report::empty(alloc);
-    let status = work(alloc, words, tree, input, out, &mut report);
-    let _ = put_error(err, &status);
-    Done { status, report }
+    report.lines = lines;
+    report.count(numbers);
+    report
 }

@@ -1,6 +1,6 @@
 //! What the words ask for is done here, by the command that they are.
 ghost use Rattle.std.specs.Prelude.{◌≡◌, ◌⊎◌, ◌↔◌, ◌≤◌, None, false, map, string_bytes};
-ghost use Rattle.node_run.specs.Ran.{IsEmpty};
+ghost use Rattle.node_run.specs.Ran.{reported, no_numbers};
 ghost use Rattle.cyphal.specs.Words.{asked_by, command_of};
 ghost use Rattle.cyphal.specs.Job.{outcome, told_by, is_fault, NotDone};
 ghost use Rattle.cyphal.specs.Cause.{outside, HasCauseOver};
@@ -12,19 +12,21 @@ use crate::jobs::compile::compile_root;
 use crate::jobs::run::run_plan;
 use crate::words::{Accepted, command_of};
 use cy_outside::{Sink, Source, Tree};
-use node_run::{Report, Status};
+use node_core::{LineSink, Numbers};
+use node_run::Status;
 use std::alloc::Global;
 
 /// Does what the words ask for.
-pub fn work<T: Tree, L: Source, O: Sink>(
+pub fn work<T: Tree, L: Source, O: Sink, K: LineSink>(
     alloc: Global,
     words: &[String],
     tree: &mut T,
     input: &mut L,
     out: &mut O,
-    report: &mut Report,
+    lines: &mut K,
+    numbers: &mut Numbers,
 ) -> Status
-    requires { IsEmpty report.old }
+    requires { numbers.old ≡ no_numbers }
     ensures answer { let job = job_for (map string_bytes words.now) in
         let told = told_by (T.files tree.old) (L.left input.old) (O.written out.old) in
         is_fault result ≡ false → job.expects told result }
@@ -35,30 +37,32 @@ pub fn work<T: Tree, L: Source, O: Sink>(
         HasCauseOver job.takes_input result old new }
     ensures ran { let words = map string_bytes words.now in
         let told = told_by (T.files tree.old) (L.left input.old) (O.written out.old) in
-        let came = outcome result report.new (L.left input.new) (O.written out.new) in
+        let came = outcome result (reported (K.lines lines.old) (K.lines lines.new) numbers.new)
+        (L.left input.new) (O.written out.new) in
         let old = outside (T.faults tree.old) (L.faults input.old) (O.faults out.old) input.old in
         let new = outside (T.faults tree.new) (L.faults input.new) (O.faults out.new) input.new in
         WasDone words told came old new }
-    ensures held { report.new.held ≤ report.new.bound }
+    ensures held { numbers.new.held ≤ numbers.new.bound }
 {
     let command = match command_of(alloc, words) {
         Ok(Some(command)) => command,
         Ok(None) => return Status::Usage,
         Err(_) => return Status::NoMemory,
     };
-    carry_out(alloc, command, tree, input, out, report)
+    carry_out(alloc, command, tree, input, out, lines, numbers)
 }
 
 /// Does what a command asks for.
-fn carry_out<T: Tree, L: Source, O: Sink>(
+fn carry_out<T: Tree, L: Source, O: Sink, K: LineSink>(
     alloc: Global,
     given: Accepted<'_>,
     tree: &mut T,
     input: &mut L,
     out: &mut O,
-    report: &mut Report,
+    lines: &mut K,
+    numbers: &mut Numbers,
 ) -> Status
-    requires { IsEmpty report.old }
+    requires { numbers.old ≡ no_numbers }
     ensures answer { let job = job_of (asked_by given.entry) in
         let told = told_by (T.files tree.old) (L.left input.old) (O.written out.old) in
         is_fault result ≡ false → job.expects told result }
@@ -69,16 +73,17 @@ fn carry_out<T: Tree, L: Source, O: Sink>(
         HasCauseOver job.takes_input result old new }
     ensures ran { let job = job_of (asked_by given.entry) in
         let told = told_by (T.files tree.old) (L.left input.old) (O.written out.old) in
-        let came = outcome result report.new (L.left input.new) (O.written out.new) in
+        let came = outcome result (reported (K.lines lines.old) (K.lines lines.new) numbers.new)
+        (L.left input.new) (O.written out.new) in
         let old = outside (T.faults tree.old) (L.faults input.old) (O.faults out.old) input.old in
         let new = outside (T.faults tree.new) (L.faults input.new) (O.faults out.new) input.new in
         NotDone told came old new ⊎ job.did told came }
-    ensures held { report.new.held ≤ report.new.bound }
+    ensures held { numbers.new.held ≤ numbers.new.bound }
 {
     match given {
         Accepted::Compile { root } => compile_root(alloc, root, tree, out),
         Accepted::Compat { root, new, old } => compat_types(alloc, root, new, old, tree, out),
-        Accepted::Run { plan } => run_plan(alloc, plan, tree, input, out, report),
+        Accepted::Run { plan } => run_plan(alloc, plan, tree, input, out, lines, numbers),
         Accepted::Bound { plan } => bound_plan(alloc, plan, tree, out),
     }
 }

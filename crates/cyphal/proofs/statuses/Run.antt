@@ -3,10 +3,9 @@ use Rattle.std.proofs.Common.{◌≡◌, ◌∙◌, ℕ, true, false, List, Opti
 use Rattle.cy_outside.specs.Files.{Files}
 use Rattle.node_plan.specs.declared.plan.Plan.{Plan}
 use Rattle.frame_log.specs.Log.{Log, log_of}
-use Rattle.node_run.specs.Ran.{Ran, HasRun, names_of, refused, refusal_of}
-use Rattle.node_run.specs.declared.report.Report.{Report}
-use Rattle.node_run.specs.declared.status.LogWhy.{LogWhy}
-use Rattle.node_run.specs.declared.status.LogWhy.TheVariants as why
+use Rattle.node_run.specs.Ran.{Reported, Ran, HasRun, names_of, refused, refusal_of}
+use Rattle.frame_log.specs.declared.error.LogWhy.{LogWhy}
+use Rattle.frame_log.specs.declared.error.LogWhy.TheVariants as why
 use Rattle.node_run.specs.declared.status.Status.{Status}
 use Rattle.node_run.specs.declared.status.Status.TheVariants as status
 use Rattle.cyphal.specs.Cause.{is_refused}
@@ -22,41 +21,41 @@ named n why.UnknownBus = refl
 named n why.TooFar = refl
 
 -- a status that is no fault is that of the log's end
-ended_so : (plan : Plan) (log : Log) (stat : Status) (report : Report) (before after : Option (List ℕ)) → is_fault stat ≡ false → Ran plan log stat report before after → stat ≡ ending log.refusal
-ended_so plan log status.Ok report before after h r = ap ending (sym r.0)
-ended_so plan log status.Usage report before after h r = absurd r
-ended_so plan log (status.Dsdl file n w) report before after h r = absurd r
-ended_so plan log (status.Plan n w) report before after h r = absurd r
-ended_so plan log (status.Log n w) report before after h r = sym (ap ending r.0 ∙ named n w)
-ended_so plan log (status.NotNewer path w) report before after h r = absurd r
-ended_so plan log status.LogLong report before after h r = ap ending (sym r.0)
-ended_so plan log (status.NoFile path) report before after h r = absurd r
-ended_so plan log status.ReadFault report before after h r = absurd cc
-ended_so plan log status.WriteFault report before after h r = absurd cc
-ended_so plan log status.NoMemory report before after h r = absurd cc
+ended_so : (plan : Plan) (log : Log) (stat : Status) (put : Reported) (before after : Option (List ℕ)) → is_fault stat ≡ false → Ran plan log stat put before after → stat ≡ ending log.refusal
+ended_so plan log status.Ok put before after h r = ap ending (sym r.0)
+ended_so plan log status.Usage put before after h r = absurd r
+ended_so plan log (status.Dsdl file n w) put before after h r = absurd r
+ended_so plan log (status.Plan n w) put before after h r = absurd r
+ended_so plan log (status.Log n w) put before after h r = sym (ap ending r.0 ∙ named n w)
+ended_so plan log (status.NotNewer path w) put before after h r = absurd r
+ended_so plan log status.LogLong put before after h r = ap ending (sym r.0)
+ended_so plan log (status.NoFile path) put before after h r = absurd r
+ended_so plan log status.ReadFault put before after h r = absurd cc
+ended_so plan log status.WriteFault put before after h r = absurd cc
+ended_so plan log status.NoMemory put before after h r = absurd cc
 
 -- a run's status is the one that is asked for
-pub plan_answer : (plan : Plan) (input : Option (List ℕ)) (stat : Status) (report : Report) (before after : Option (List ℕ)) → is_fault stat ≡ false → HasRun plan input stat report before after → IfSome (over input plan) (λ s. stat ≡ s)
-plan_answer plan None stat report before after h r = tt
-plan_answer plan (Some bytes) stat report before after h r =
-    ended_so plan (log_of (names_of plan) r.bytes) stat report before after h r.ran ∙ ap (λ b. ending (log_of (names_of plan) b).refusal) r.is
+pub plan_answer : (plan : Plan) (input : Option (List ℕ)) (stat : Status) (put : Reported) (before after : Option (List ℕ)) → is_fault stat ≡ false → HasRun plan input stat put before after → IfSome (over input plan) (λ s. stat ≡ s)
+plan_answer plan None stat put before after h r = tt
+plan_answer plan (Some bytes) stat put before after h r =
+    ended_so plan (log_of (names_of plan) r.bytes) stat put before after h r.ran ∙ ap (λ b. ending (log_of (names_of plan) b).refusal) r.is
 
 -- a run over a log is none of the refusals before it
-no_refusal : (plan : Plan) (log : Log) (stat : Status) (report : Report) (before after : Option (List ℕ)) → is_refused stat ≡ true → Ran plan log stat report before after → ⊥
-no_refusal plan log status.Ok report before after h r = absurd cc
-no_refusal plan log status.Usage report before after h r = r
-no_refusal plan log (status.Dsdl file n w) report before after h r = r
-no_refusal plan log (status.Plan n w) report before after h r = r
-no_refusal plan log (status.Log n w) report before after h r = absurd cc
-no_refusal plan log (status.NotNewer path w) report before after h r = r
-no_refusal plan log status.LogLong report before after h r = absurd cc
-no_refusal plan log (status.NoFile path) report before after h r = r
-no_refusal plan log status.ReadFault report before after h r = absurd cc
-no_refusal plan log status.WriteFault report before after h r = absurd cc
-no_refusal plan log status.NoMemory report before after h r = absurd cc
+no_refusal : (plan : Plan) (log : Log) (stat : Status) (put : Reported) (before after : Option (List ℕ)) → is_refused stat ≡ true → Ran plan log stat put before after → ⊥
+no_refusal plan log status.Ok put before after h r = absurd cc
+no_refusal plan log status.Usage put before after h r = r
+no_refusal plan log (status.Dsdl file n w) put before after h r = r
+no_refusal plan log (status.Plan n w) put before after h r = r
+no_refusal plan log (status.Log n w) put before after h r = absurd cc
+no_refusal plan log (status.NotNewer path w) put before after h r = r
+no_refusal plan log status.LogLong put before after h r = absurd cc
+no_refusal plan log (status.NoFile path) put before after h r = r
+no_refusal plan log status.ReadFault put before after h r = absurd cc
+no_refusal plan log status.WriteFault put before after h r = absurd cc
+no_refusal plan log status.NoMemory put before after h r = absurd cc
 
-pub run_not_refused : (plan : Plan) (input : Option (List ℕ)) (stat : Status) (report : Report) (before after : Option (List ℕ)) → is_refused stat ≡ true → HasRun plan input stat report before after → ⊥
-run_not_refused plan input stat report before after h r = no_refusal plan (log_of (names_of plan) r.bytes) stat report before after h r.ran
+pub run_not_refused : (plan : Plan) (input : Option (List ℕ)) (stat : Status) (put : Reported) (before after : Option (List ℕ)) → is_refused stat ≡ true → HasRun plan input stat put before after → ⊥
+run_not_refused plan input stat put before after h r = no_refusal plan (log_of (names_of plan) r.bytes) stat put before after h r.ran
 
 by_told : (path : List ℕ) (files : Option Files) (input : Option (List ℕ)) (s t : Status) → (is_some files && is_some input) ≡ true → IfSome (on_run path files input) (λ x. s ≡ x) → IfSome (on_run path files input) (λ x. t ≡ x) → s ≡ t
 by_told path None input s t h a b = absurd cc

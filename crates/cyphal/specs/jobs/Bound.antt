@@ -3,10 +3,9 @@ use Rattle.std.specs.Prelude.{◌≡◌, ℕ, false, List, Option, Some, is_some
 use Rattle.cy_outside.specs.Files.{Files}
 use Rattle.node_plan.specs.declared.plan.Plan.{Plan}
 use Rattle.node_run.specs.BoundText.{HasBound}
-use Rattle.node_run.specs.Ran.{IsEmpty}
 use Rattle.node_run.specs.declared.status.Status.{Status}
 use Rattle.node_run.specs.declared.status.Status.TheVariants as status
-use Rattle.cyphal.specs.Job.{Job, Printed, print_of}
+use Rattle.cyphal.specs.Job.{Job, Printed, ReportsNothing, print_of}
 use Rattle.cyphal.specs.Plans.{on_path, PlanAt}
 
 -- each plan has a memory bound
@@ -24,5 +23,5 @@ bound_job path = record {
   takes_input = false;
   is_told = λ told. is_some told.files;
   expects = λ told stat. IfSome (on_bound path told.files) (λ s. stat ≡ s);
-  did = λ told came. HasBoundAt path told.files (print_of told came) × IsEmpty came.report;
+  did = λ told came. HasBoundAt path told.files (print_of told came) × ReportsNothing came.reported;
 }

@@ -4,9 +4,8 @@ use Rattle.cy_outside.specs.Files.{Files}
 use Rattle.dsdl_types.specs.declared.namespace.Namespace.{Namespace}
 use Rattle.node_run.specs.Compared.{compared, HasCompared}
 use Rattle.node_run.specs.Loaded.{is_none, IsLoaded, IsNotLoaded}
-use Rattle.node_run.specs.Ran.{IsEmpty}
 use Rattle.node_run.specs.declared.status.Status.{Status}
-use Rattle.cyphal.specs.Job.{Job, Printed, print_of, is_fault}
+use Rattle.cyphal.specs.Job.{Job, Printed, ReportsNothing, print_of, is_fault}
 
 -- the root has a namespace, and this is how the comparison in it ends
 abbrev pub CompareIn : List ℕ → List ℕ → List ℕ → Option Files → Status → Type 0
@@ -32,5 +31,5 @@ compat_job root new old = record {
   is_told = λ told. is_none root || is_some told.files;
   expects = λ told stat. Compares root new old told.files stat;
   did = λ told came.
-      HasComparedAt root new old told.files (print_of told came) × IsEmpty came.report;
+      HasComparedAt root new old told.files (print_of told came) × ReportsNothing came.reported;
 }

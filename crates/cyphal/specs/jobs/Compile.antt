@@ -4,10 +4,9 @@ use Rattle.cy_outside.specs.Files.{Files}
 use Rattle.dsdl_types.specs.declared.namespace.Namespace.{Namespace}
 use Rattle.node_run.specs.Layouts.{HasLayouts}
 use Rattle.node_run.specs.Loaded.{is_none, IsLoaded, IsNotLoaded}
-use Rattle.node_run.specs.Ran.{IsEmpty}
 use Rattle.node_run.specs.declared.status.Status.{Status}
 use Rattle.node_run.specs.declared.status.Status.TheVariants as status
-use Rattle.cyphal.specs.Job.{Job, Printed, print_of}
+use Rattle.cyphal.specs.Job.{Job, Printed, ReportsNothing, print_of}
 
 -- what compiling the files of a root comes to: their namespace, or why there is none
 abbrev pub Compiles : List ℕ → Option Files → Status → Type 0
@@ -28,5 +27,6 @@ compile_job root = record {
   takes_input = false;
   is_told = λ told. is_none root || is_some told.files;
   expects = λ told stat. Compiles root told.files stat;
-  did = λ told came. HasCompiledAt root told.files (print_of told came) × IsEmpty came.report;
+  did = λ told came.
+      HasCompiledAt root told.files (print_of told came) × ReportsNothing came.reported;
 }

@@ -31,12 +31,12 @@ on_run path files input = on_path path files (over input)
 pub record HasRunAt (path : List ℕ) (told : Told) (came : Outcome) : Type 0 where
   pub plan : Plan
   pub is : PlanAt path told.files plan
-  pub run : HasRun plan told.input came.status came.report told.written came.written
-  pub bound : came.report.bound ≡ bound_of plan
+  pub run : HasRun plan told.input came.status came.reported told.written came.written
+  pub bound : came.reported.numbers.bound ≡ bound_of plan
   pub taken : came.status ≡ status.ReadFault
-      → IsOfTaken plan told.input came.left came.report told.written came.written
+      → IsOfTaken plan told.input came.left came.reported told.written came.written
   pub streamed :
-      IsStreamed plan told.input came.left came.status came.report told.written came.written
+      IsStreamed plan told.input came.left came.status came.reported told.written came.written
 
 abbrev pub run_job : List ℕ → Job
 run_job path = record {

@@ -1,25 +1,27 @@
 //! `run none PLAN`: a plan over the log of the input.
 ghost use Rattle.std.specs.Prelude.{◌≡◌, ◌⊎◌, ◌≤◌, false};
-ghost use Rattle.node_run.specs.Ran.{IsEmpty};
+ghost use Rattle.node_run.specs.Ran.{reported, no_numbers};
 ghost use Rattle.cyphal.specs.Job.{outcome, told_by, is_fault, NotDone};
 ghost use Rattle.cyphal.specs.Cause.{outside, HasCauseOver};
 ghost use Rattle.cyphal.specs.jobs.Run.{run_job, HasRunAt};
 
 use crate::plan_file::plan_at;
 use cy_outside::{Sink, Source, Tree};
-use node_run::{Report, Status, run_log};
+use node_core::{LineSink, Numbers};
+use node_run::{Status, run_over};
 use std::alloc::Global;
 
-/// Runs the plan at a path over the input.
-pub fn run_plan<T: Tree, L: Source, O: Sink>(
+/// Runs the plan at a path over the input. A sink takes the lines of its report, and the numbers become those of the run.
+pub fn run_plan<T: Tree, L: Source, O: Sink, K: LineSink>(
     alloc: Global,
     path: &str,
     tree: &mut T,
     input: &mut L,
     out: &mut O,
-    report: &mut Report,
+    lines: &mut K,
+    numbers: &mut Numbers,
 ) -> Status
-    requires { IsEmpty report.old }
+    requires { numbers.old ≡ no_numbers }
     ensures answer { let told = told_by (T.files tree.old) (L.left input.old) (O.written out.old) in
         is_fault result ≡ false → (run_job path.now).expects told result }
     ensures usage { ¬ (result ≡ Status.Usage) }
@@ -28,15 +30,16 @@ pub fn run_plan<T: Tree, L: Source, O: Sink>(
         let new = outside (T.faults tree.new) (L.faults input.new) (O.faults out.new) input.new in
         HasCauseOver job.takes_input result old new }
     ensures ran { let told = told_by (T.files tree.old) (L.left input.old) (O.written out.old) in
-        let came = outcome result report.new (L.left input.new) (O.written out.new) in
+        let came = outcome result (reported (K.lines lines.old) (K.lines lines.new) numbers.new)
+        (L.left input.new) (O.written out.new) in
         let old = outside (T.faults tree.old) (L.faults input.old) (O.faults out.old) input.old in
         let new = outside (T.faults tree.new) (L.faults input.new) (O.faults out.new) input.new in
         NotDone told came old new ⊎ HasRunAt path.now told came }
-    ensures held { report.new.held ≤ report.new.bound }
+    ensures held { numbers.new.held ≤ numbers.new.bound }
 {
     let plan = match plan_at(alloc, path, tree) {
         Ok(plan) => plan,
         Err(status) => return status,
     };
-    run_log(alloc, plan, input, out, report)
+    run_over(alloc, plan, input, out, lines, numbers)
 }

@@ -1,38 +1,42 @@
-use Rattle.cyphal.proofs.Headlines.{once_of, due_of}
-use Rattle.cyphal.proofs.Ended.{completed}
-use Rattle.cyphal.proofs.OneStatus.{one_status}
-use Rattle.node_run.specs.declared.status.Status.TheVariants as status
-use Rattle.cyphal.proofs.Streaming.{taken_of, streamed_of}
-use Rattle.cyphal.proofs.Parts.{begins_either}
-use Rattle.std.proofs.Common.{map, string_bytes}
-use Rattle.cyphal.specs.Words.{command_of}
-use Rattle.cyphal.specs.Job.{told_by}
+use Rattle.std.proofs.Common.{◌≡◌, ◌∙◌, ◌⊎◌, [], Some, sym, ap, subst, map, string_bytes}
+use Rattle.node_run.specs.Ran.{Reported}
+use Rattle.cyphal.specs.Cause.{outside}
+use Rattle.cyphal.specs.Job.{outcome, told_by, NotDone}
+use Rattle.cyphal.specs.Streaming.{TakenOf, StreamedOf}
+use Rattle.cyphal.proofs.Answered.{kept_report}
 use Rattle.cyphal.proofs.top.top.Goals as goal
 
-pub returns-clause-exact : goal.returns-clause-exact
-returns-clause-exact g c stat told asked settled =
-    let command = command_of (map string_bytes c.args.words.now) in
-    let outside = told_by (g.T.Tree.files c.args.tree.now) (g.L.Source.left c.args.input.now) (g.O.Sink.written c.args.out.now) in
-    one_status c.one_answer.ensures command outside c.work-status.result stat told (c.work-status.ensures.answer settled) asked
-
-pub returns-clause-complete : goal.returns-clause-complete
-returns-clause-complete g c told ok x y z =
-    let command = command_of (map string_bytes c.args.words.now) in
-    let outside = told_by (g.T.Tree.files c.args.tree.now) (g.L.Source.left c.args.input.now) (g.O.Sink.written c.args.out.now) in
-    let cause = c.work-status.ensures.cause in
-    completed c.work-status.result _ _ _ _ (λ h. one_status c.one_answer.ensures command outside c.work-status.result status.Ok told (c.work-status.ensures.answer h) ok) cause.read cause.write x y z
-
-pub returns-clause-line : goal.returns-clause-line
-returns-clause-line g c = begins_either c.put_error.result _ _ _ c.put_error.ensures.written c.put_error.ensures.begins
-
 pub returns-clause-once : goal.returns-clause-once
-returns-clause-once g c = once_of c.reported.ensures c.wire_explains_fields.ensures c.once_in_part.ensures c.ordered.ensures.order _ _ _ _ _ c.work-status.ensures.ran
+returns-clause-once g c =
+    c.run_words-done.ensures.once c.report_of-report.result.lines
+    ([], ap Some (c.new-kept.ensures ∙ c.empty.ensures), ap Some (sym (c.report_of-report.ensures.lines ∙ c.into_list.ensures)))
 
 pub returns-clause-due : goal.returns-clause-due
-returns-clause-due g c = due_of c.reported.ensures c.wire_explains_fields.ensures c.due_in_report.ensures _ _ _ _ _ c.work-status.ensures.ran
+returns-clause-due g c =
+    c.run_words-done.ensures.due c.report_of-report.result.lines
+    ([], ap Some (c.new-kept.ensures ∙ c.empty.ensures), ap Some (sym (c.report_of-report.ensures.lines ∙ c.into_list.ensures)))
 
 pub returns-clause-taken : goal.returns-clause-taken
-returns-clause-taken g c = taken_of _ _ _ _ _ c.work-status.ensures.ran
+returns-clause-taken g c fault =
+    let done = c.run_words-done in
+    let report = c.report_of-report.result in
+    let told = told_by (g.T.Tree.files c.args.tree.now) (g.L.Source.left c.args.input.now) (g.O.Sink.written c.args.out.now) in
+    let old = outside (g.T.Tree.faults c.args.tree.now) (g.L.Source.faults c.args.input.now) (g.O.Sink.faults c.args.out.now) c.args.input.now in
+    let new = outside (g.T.Tree.faults done.new.tree) (g.L.Source.faults done.new.input) (g.O.Sink.faults done.new.out) done.new.input in
+    let left = g.L.Source.left done.new.input in
+    let written = g.O.Sink.written done.new.out in
+    let kept = kept_report c.new-kept.result.lines done.new.lines.lines done.result.numbers report
+    (c.new-kept.ensures ∙ c.empty.ensures) (c.report_of-report.ensures.lines ∙ c.into_list.ensures) c.report_of-report.ensures.numbers in
+    subst (λ (r : Reported). NotDone told (outcome done.result.status r left written) old new ⊎ TakenOf (map string_bytes c.args.words.now) told (outcome done.result.status r left written))
+    kept (done.ensures.taken fault)
 
 pub returns-clause-streamed : goal.returns-clause-streamed
-returns-clause-streamed g c = streamed_of _ _ _ _ _ c.work-status.ensures.ran
+returns-clause-streamed g c =
+    let done = c.run_words-done in
+    let report = c.report_of-report.result in
+    let told = told_by (g.T.Tree.files c.args.tree.now) (g.L.Source.left c.args.input.now) (g.O.Sink.written c.args.out.now) in
+    let left = g.L.Source.left done.new.input in
+    let written = g.O.Sink.written done.new.out in
+    let kept = kept_report c.new-kept.result.lines done.new.lines.lines done.result.numbers report
+    (c.new-kept.ensures ∙ c.empty.ensures) (c.report_of-report.ensures.lines ∙ c.into_list.ensures) c.report_of-report.ensures.numbers in
+    subst (λ (r : Reported). StreamedOf (map string_bytes c.args.words.now) told (outcome done.result.status r left written)) kept done.ensures.streamed

@@ -1,18 +1,19 @@
 use Rattle.std.proofs.Common.{inr}
+use Rattle.node_run.specs.Ran.{reported}
 use Rattle.cyphal.proofs.Plans.{good_answer}
 use Rattle.cyphal.proofs.statuses.Run.{plan_answer, run_not_refused}
 use Rattle.cyphal.proofs.jobs.run.run_plan.Goals as goal
 
 pub returns-clause-answer : goal.returns-clause-answer
 returns-clause-answer g c h =
-    good_answer (g.T.Tree.files c.args.tree.now) c.args.path.now _ c.run_log.result c.in-Ok.plan c.in-Ok.ensures.plan
-    (plan_answer c.in-Ok.plan (g.L.Source.left c.args.input.now) c.run_log.result c.run_log.new.report (g.O.Sink.written c.args.out.now) (g.O.Sink.written c.run_log.new.out) h c.run_log.ensures.ran)
+    good_answer (g.T.Tree.files c.args.tree.now) c.args.path.now _ c.run_over.result c.in-Ok.plan c.in-Ok.ensures.plan
+    (plan_answer c.in-Ok.plan (g.L.Source.left c.args.input.now) c.run_over.result (reported (g.K.LineSink.lines c.args.lines.now) (g.K.LineSink.lines c.run_over.new.lines) c.run_over.new.numbers) (g.O.Sink.written c.args.out.now) (g.O.Sink.written c.run_over.new.out) h c.run_over.ensures.ran)
 
 pub returns-clause-cause : goal.returns-clause-cause
 returns-clause-cause g c = record {
-  read = λ e. inr (c.run_log.ensures.read e);
+  read = λ e. inr (c.run_over.ensures.read e);
   unread = λ e. absurd cc;
-  refused = λ e. absurd (run_not_refused c.in-Ok.plan (g.L.Source.left c.args.input.now) c.run_log.result c.run_log.new.report (g.O.Sink.written c.args.out.now) (g.O.Sink.written c.run_log.new.out) e c.run_log.ensures.ran);
-  write = c.run_log.ensures.write;
-  kept = λ e. (c.in-Ok.ensures.kept, (c.run_log.ensures.kept e).0, (c.run_log.ensures.kept e).1);
+  refused = λ e. absurd (run_not_refused c.in-Ok.plan (g.L.Source.left c.args.input.now) c.run_over.result (reported (g.K.LineSink.lines c.args.lines.now) (g.K.LineSink.lines c.run_over.new.lines) c.run_over.new.numbers) (g.O.Sink.written c.args.out.now) (g.O.Sink.written c.run_over.new.out) e c.run_over.ensures.ran);
+  write = c.run_over.ensures.write;
+  kept = λ e. (c.in-Ok.ensures.kept, (c.run_over.ensures.kept e).0, (c.run_over.ensures.kept e).1);
 }

@@ -1,0 +1,49 @@
+use Rattle.std.proofs.Common.{map, string_bytes}
+use Rattle.cyphal.proofs.Headlines.{headline_of, once_of, due_of}
+use Rattle.cyphal.proofs.Ended.{completed}
+use Rattle.cyphal.proofs.OneStatus.{one_status}
+use Rattle.node_run.specs.declared.status.Status.TheVariants as status
+use Rattle.cyphal.proofs.Streaming.{taken_of, streamed_of}
+use Rattle.cyphal.proofs.Parts.{begins_either}
+use Rattle.cyphal.specs.Words.{command_of}
+use Rattle.cyphal.specs.Job.{told_by}
+use Rattle.cyphal.proofs.run_words.run_words.Goals as goal
+
+pub returns-clause-exact : goal.returns-clause-exact
+returns-clause-exact g c stat told asked settled =
+    let command = command_of (map string_bytes c.args.words.now) in
+    let outside = told_by (g.T.Tree.files c.args.tree.now) (g.L.Source.left c.args.input.now) (g.O.Sink.written c.args.out.now) in
+    one_status c.one_answer.ensures command outside c.work-status.result stat told (c.work-status.ensures.answer settled) asked
+
+pub returns-clause-complete : goal.returns-clause-complete
+returns-clause-complete g c told ok x y z =
+    let command = command_of (map string_bytes c.args.words.now) in
+    let outside = told_by (g.T.Tree.files c.args.tree.now) (g.L.Source.left c.args.input.now) (g.O.Sink.written c.args.out.now) in
+    let cause = c.work-status.ensures.cause in
+    completed c.work-status.result _ _ _ _ (λ h. one_status c.one_answer.ensures command outside c.work-status.result status.Ok told (c.work-status.ensures.answer h) ok) cause.read cause.write x y z
+
+pub returns-clause-line : goal.returns-clause-line
+returns-clause-line g c = begins_either c.put_error.result _ _ _ c.put_error.ensures.written c.put_error.ensures.begins
+
+pub returns-clause-headline : goal.returns-clause-headline
+returns-clause-headline g c =
+    headline_of _ _ _ _ _ c.work-status.ensures.ran
+    c.reported.ensures c.wire_explains_fields.ensures c.once_in_part.ensures c.due_in_report.ensures c.ordered.ensures.order
+
+pub returns-clause-once : goal.returns-clause-once
+returns-clause-once g c =
+    once_of _ _ _ _ _ c.work-status.ensures.ran
+    (headline_of _ _ _ _ _ c.work-status.ensures.ran
+    c.reported.ensures c.wire_explains_fields.ensures c.once_in_part.ensures c.due_in_report.ensures c.ordered.ensures.order)
+
+pub returns-clause-due : goal.returns-clause-due
+returns-clause-due g c =
+    due_of _ _ _ _ _ c.work-status.ensures.ran
+    (headline_of _ _ _ _ _ c.work-status.ensures.ran
+    c.reported.ensures c.wire_explains_fields.ensures c.once_in_part.ensures c.due_in_report.ensures c.ordered.ensures.order)
+
+pub returns-clause-taken : goal.returns-clause-taken
+returns-clause-taken g c = taken_of _ _ _ _ _ c.work-status.ensures.ran
+
+pub returns-clause-streamed : goal.returns-clause-streamed
+returns-clause-streamed g c = streamed_of _ _ _ _ _ c.work-status.ensures.ran
