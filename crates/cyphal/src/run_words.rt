@@ -59,9 +59,8 @@ pub fn run_words<T: Tree, L: Source, O: Sink, E: Sink, K: LineSink>(
         HasCauseOver job.takes_input result.status old new }
     ensures ran { let words = map string_bytes words.now in
         let told = told_by (T.files tree.old) (L.left input.old) (O.written out.old) in
-        let came = outcome result.status
-        (reported (K.lines lines.old) (K.lines lines.new) result.numbers)
-        (L.left input.new) (O.written out.new) in
+        let put = reported (K.lines lines.old) (K.lines lines.new) result.numbers in
+        let came = outcome result.status put (L.left input.new) (O.written out.new) in
         let old = outside (T.faults tree.old) (L.faults input.old) (O.faults out.old) input.old in
         let new = outside (T.faults tree.new) (L.faults input.new) (O.faults out.new) input.new in
         WasDone words told came old new }
@@ -76,34 +75,29 @@ pub fn run_words<T: Tree, L: Source, O: Sink, E: Sink, K: LineSink>(
     // The headline, where the words, the files and the input are told: of what is written, and of the lines where the
     // sink tells them.
     ensures headline { let told = told_by (T.files tree.old) (L.left input.old) (O.written out.old) in
-        let came = outcome result.status
-        (reported (K.lines lines.old) (K.lines lines.new) result.numbers)
-        (L.left input.new) (O.written out.new) in
+        let put = reported (K.lines lines.old) (K.lines lines.new) result.numbers in
+        let came = outcome result.status put (L.left input.new) (O.written out.new) in
         HeadlineOf (map string_bytes words.now) told came }
     ensures once { let told = told_by (T.files tree.old) (L.left input.old) (O.written out.old) in
-        let came = outcome result.status
-        (reported (K.lines lines.old) (K.lines lines.new) result.numbers)
-        (L.left input.new) (O.written out.new) in
+        let put = reported (K.lines lines.old) (K.lines lines.new) result.numbers in
+        let came = outcome result.status put (L.left input.new) (O.written out.new) in
         OncePut (map string_bytes words.now) told came }
     ensures due { let told = told_by (T.files tree.old) (L.left input.old) (O.written out.old) in
-        let came = outcome result.status
-        (reported (K.lines lines.old) (K.lines lines.new) result.numbers)
-        (L.left input.new) (O.written out.new) in
+        let put = reported (K.lines lines.old) (K.lines lines.new) result.numbers in
+        let came = outcome result.status put (L.left input.new) (O.written out.new) in
         DuePut (map string_bytes words.now) told came }
     // How far the input is taken where a read fails: not at all, where the tree failed, or up to the last whole line.
     ensures taken { let words = map string_bytes words.now in
         let told = told_by (T.files tree.old) (L.left input.old) (O.written out.old) in
-        let came = outcome result.status
-        (reported (K.lines lines.old) (K.lines lines.new) result.numbers)
-        (L.left input.new) (O.written out.new) in
+        let put = reported (K.lines lines.old) (K.lines lines.new) result.numbers in
+        let came = outcome result.status put (L.left input.new) (O.written out.new) in
         let old = outside (T.faults tree.old) (L.faults input.old) (O.faults out.old) input.old in
         let new = outside (T.faults tree.new) (L.faults input.new) (O.faults out.new) input.new in
         result.status ≡ Status.ReadFault → NotDone told came old new ⊎ TakenOf words told came }
     ensures streamed { let words = map string_bytes words.now in
         let told = told_by (T.files tree.old) (L.left input.old) (O.written out.old) in
-        let came = outcome result.status
-        (reported (K.lines lines.old) (K.lines lines.new) result.numbers)
-        (L.left input.new) (O.written out.new) in
+        let put = reported (K.lines lines.old) (K.lines lines.new) result.numbers in
+        let came = outcome result.status put (L.left input.new) (O.written out.new) in
         StreamedOf words told came }
     ensures line { Begins (error_line result.status) (E.written err.old) (E.written err.new) }
     ensures whole_line { ¬ Rose (E.faults err.old) (E.faults err.new)

@@ -53,8 +53,8 @@ pub fn top<T: Tree, L: Source, O: Sink, E: Sink>(
         HasCauseOver job.takes_input result.status old new }
     ensures ran { let words = map string_bytes words.now in
         let told = told_by (T.files tree.old) (L.left input.old) (O.written out.old) in
-        let came = outcome result.status (of_report result.report)
-        (L.left input.new) (O.written out.new) in
+        let put = of_report result.report in
+        let came = outcome result.status put (L.left input.new) (O.written out.new) in
         let old = outside (T.faults tree.old) (L.faults input.old) (O.faults out.old) input.old in
         let new = outside (T.faults tree.new) (L.faults input.new) (O.faults out.new) input.new in
         WasDone words told came old new }
@@ -70,8 +70,8 @@ pub fn top<T: Tree, L: Source, O: Sink, E: Sink>(
     ensures failed { result.report.failed ≡ [] }
     // The headline, where the words, the files and the input are told: of what is written, and of the report.
     ensures headline { let told = told_by (T.files tree.old) (L.left input.old) (O.written out.old) in
-        let came = outcome result.status (of_report result.report)
-        (L.left input.new) (O.written out.new) in
+        let put = of_report result.report in
+        let came = outcome result.status put (L.left input.new) (O.written out.new) in
         HeadlineOf (map string_bytes words.now) told came }
     ensures once { let told = told_by (T.files tree.old) (L.left input.old) (O.written out.old) in
         OnceOf (map string_bytes words.now) told result.report.lines }
@@ -80,15 +80,15 @@ pub fn top<T: Tree, L: Source, O: Sink, E: Sink>(
     // How far the input is taken where a read fails: not at all, where the tree failed, or up to the last whole line.
     ensures taken { let words = map string_bytes words.now in
         let told = told_by (T.files tree.old) (L.left input.old) (O.written out.old) in
-        let came = outcome result.status (of_report result.report)
-        (L.left input.new) (O.written out.new) in
+        let put = of_report result.report in
+        let came = outcome result.status put (L.left input.new) (O.written out.new) in
         let old = outside (T.faults tree.old) (L.faults input.old) (O.faults out.old) input.old in
         let new = outside (T.faults tree.new) (L.faults input.new) (O.faults out.new) input.new in
         result.status ≡ Status.ReadFault → NotDone told came old new ⊎ TakenOf words told came }
     ensures streamed { let words = map string_bytes words.now in
         let told = told_by (T.files tree.old) (L.left input.old) (O.written out.old) in
-        let came = outcome result.status (of_report result.report)
-        (L.left input.new) (O.written out.new) in
+        let put = of_report result.report in
+        let came = outcome result.status put (L.left input.new) (O.written out.new) in
         StreamedOf words told came }
     ensures line { Begins (error_line result.status) (E.written err.old) (E.written err.new) }
     ensures whole_line { ¬ Rose (E.faults err.old) (E.faults err.new)

@@ -37,8 +37,8 @@ pub fn work<T: Tree, L: Source, O: Sink, K: LineSink>(
         HasCauseOver job.takes_input result old new }
     ensures ran { let words = map string_bytes words.now in
         let told = told_by (T.files tree.old) (L.left input.old) (O.written out.old) in
-        let came = outcome result (reported (K.lines lines.old) (K.lines lines.new) numbers.new)
-        (L.left input.new) (O.written out.new) in
+        let put = reported (K.lines lines.old) (K.lines lines.new) numbers.new in
+        let came = outcome result put (L.left input.new) (O.written out.new) in
         let old = outside (T.faults tree.old) (L.faults input.old) (O.faults out.old) input.old in
         let new = outside (T.faults tree.new) (L.faults input.new) (O.faults out.new) input.new in
         WasDone words told came old new }
@@ -73,8 +73,8 @@ fn carry_out<T: Tree, L: Source, O: Sink, K: LineSink>(
         HasCauseOver job.takes_input result old new }
     ensures ran { let job = job_of (asked_by given.entry) in
         let told = told_by (T.files tree.old) (L.left input.old) (O.written out.old) in
-        let came = outcome result (reported (K.lines lines.old) (K.lines lines.new) numbers.new)
-        (L.left input.new) (O.written out.new) in
+        let put = reported (K.lines lines.old) (K.lines lines.new) numbers.new in
+        let came = outcome result put (L.left input.new) (O.written out.new) in
         let old = outside (T.faults tree.old) (L.faults input.old) (O.faults out.old) input.old in
         let new = outside (T.faults tree.new) (L.faults input.new) (O.faults out.new) input.new in
         NotDone told came old new ⊎ job.did told came }

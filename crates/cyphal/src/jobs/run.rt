@@ -30,8 +30,8 @@ pub fn run_plan<T: Tree, L: Source, O: Sink, K: LineSink>(
         let new = outside (T.faults tree.new) (L.faults input.new) (O.faults out.new) input.new in
         HasCauseOver job.takes_input result old new }
     ensures ran { let told = told_by (T.files tree.old) (L.left input.old) (O.written out.old) in
-        let came = outcome result (reported (K.lines lines.old) (K.lines lines.new) numbers.new)
-        (L.left input.new) (O.written out.new) in
+        let put = reported (K.lines lines.old) (K.lines lines.new) numbers.new in
+        let came = outcome result put (L.left input.new) (O.written out.new) in
         let old = outside (T.faults tree.old) (L.faults input.old) (O.faults out.old) input.old in
         let new = outside (T.faults tree.new) (L.faults input.new) (O.faults out.new) input.new in
         NotDone told came old new ⊎ HasRunAt path.now told came }
