@@ -1,0 +1,11 @@
+pub mod Refusals
+pub mod Constants
+pub mod Operators
+pub mod Literal
+pub mod Compare
+pub mod Binary
+pub mod Unary
+pub mod Sizes
+pub mod Member
+pub mod Value
+pub mod Text

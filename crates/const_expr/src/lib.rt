@@ -1,0 +1,21 @@
+//! The constants that expressions of DSDL definitions are worth.
+#![tactic(auto)]
+
+mod binary;
+mod constant;
+mod error;
+mod gathered;
+mod literal;
+mod member;
+mod operator;
+mod scope;
+mod text;
+mod unary;
+mod value;
+mod why;
+
+pub use constant::Const;
+pub use error::ExprError;
+pub use scope::{NamedConst, Scope, TypeConsts};
+pub use text::print_text;
+pub use value::eval;

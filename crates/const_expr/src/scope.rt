@@ -1,0 +1,38 @@
+use crate::constant::Const;
+use bit_length::LengthSet;
+use cy_bits::{List, Text};
+use dsdl_names::{FullName, TypeId};
+use dsdl_types::Namespace;
+
+/// What the names in an expression mean.
+#[derive(Drop)]
+pub struct Scope {
+    /// The constants that stand earlier in the section, in order.
+    pub constants: List<NamedConst>,
+    /// The lengths that the section so far can have, which `_offset_` means; nothing where it means nothing.
+    pub offset: Option<LengthSet>,
+    /// The types that references mean.
+    pub namespace: Namespace,
+    /// The full name of the type whose definition the expression stands in.
+    pub own: FullName,
+    /// The constants of the messages of the namespace.
+    pub members: List<TypeConsts>,
+}
+
+/// A constant with its name.
+#[derive(Drop)]
+pub struct NamedConst {
+    /// Its name.
+    pub name: Text,
+    /// What it is worth.
+    pub value: Const,
+}
+
+/// The constants of a message.
+#[derive(Drop)]
+pub struct TypeConsts {
+    /// The type.
+    pub id: TypeId,
+    /// Its constants, in order.
+    pub constants: List<NamedConst>,
+}
