@@ -24,3 +24,5 @@ lengths_layer ns = search (rules, the_lemmas)
 
 pub type_layer : (id : TypeId) → out-Const (c.Named id) ≡ o.Named id
 type_layer id = search (rules, the_lemmas)
+
+pub ruleset layers = (number_layer, truth_layer, text_layer, set_layer, lengths_layer, type_layer)

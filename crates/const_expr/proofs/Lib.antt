@@ -1,2 +1,6 @@
 pub mod Layers
+pub mod Keeps
+pub mod OrderLemmas
+pub mod SetLemmas
+pub mod Wholes
 mod Rows

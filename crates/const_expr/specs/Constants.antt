@@ -1,6 +1,6 @@
 -- Constants as what they are made of, and the ascending sets of them.
-use Rattle.std.specs.Prelude.{◌≡◌, ℕ, ◌==◌, ℤ, pos, Bool, List, [], ◌∷◌, map, AllPairs, Option, Some, None, Result, Ok, Err, if◌then◌else◌}
-use Rattle.std.specs.List.{list_any, list_all}
+use Rattle.std.specs.Prelude.{◌≡◌, ℕ, ◌==◌, ◌≤◌, length, ℤ, pos, Bool, true, false, List, [], ◌∷◌, map, AllPairs, Option, Some, None, Result, Ok, Err, if◌then◌else◌}
+use Rattle.std.specs.List.{list_any, list_all, insert}
 use Rattle.std.specs.declared.cmp.Ordering.{Ordering}
 use Rattle.std.specs.declared.cmp.Ordering.TheVariants.{Less, Equal, Greater}
 use Rattle.std.specs.Ordering.{nat_cmp, bool_cmp, is_eq}
@@ -63,14 +63,14 @@ placed Equal x y ys inserted = y ∷ ys
 placed Greater x y ys inserted = y ∷ inserted
 
 -- a set with one constant more, unless it is a member
-unfoldable pub insert : Const → List Const → List Const
-insert x [] = x ∷ []
-insert x (y ∷ ys) = placed (const_order x y) x y ys (insert x ys)
+unfoldable pub with_one : Const → List Const → List Const
+with_one x [] = x ∷ []
+with_one x (y ∷ ys) = placed (const_order x y) x y ys (with_one x ys)
 
 -- a set with more constants
 abbrev pub with_all : List Const → List Const → List Const
 with_all set [] = set
-with_all set (x ∷ xs) = with_all (insert x set) xs
+with_all set (x ∷ xs) = with_all (with_one x set) xs
 
 -- constants ascending, each once
 abbrev pub gathered : List Const → List Const
@@ -103,3 +103,8 @@ kind_in (x ∷ xs) = kind (out-Const x)
 
 abbrev pub are_of_one_kind : List Const → List Const → Bool
 are_of_one_kind xs ys = kind_in xs == kind_in ys
+
+-- the place at which a constant goes into a set, or none where it is a member
+abbrev pub IsPlace : List Const → Const → Option ℕ → Type 0
+IsPlace xs x None = (with_one x xs ≡ xs) × (has xs x ≡ true)
+IsPlace xs x (Some i) = (i ≤ length xs) × (with_one x xs ≡ insert xs i x) × (has xs x ≡ false)

@@ -5,13 +5,17 @@ mod binary;
 mod constant;
 mod error;
 mod gathered;
+mod listed;
 mod literal;
 mod member;
 mod operator;
+mod order;
 mod scope;
+mod set;
 mod text;
 mod unary;
 mod value;
+mod whole;
 mod why;
 
 pub use constant::Const;
