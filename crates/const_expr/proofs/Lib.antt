@@ -3,4 +3,5 @@ pub mod Keeps
 pub mod OrderLemmas
 pub mod SetLemmas
 pub mod Wholes
+pub mod CompareLemmas
 mod Rows

@@ -3,7 +3,7 @@ use Rattle.std.proofs.Common.{◌≡◌, ◌≢◌, ◌⊎◌, inl, inr, ℕ, ze
 use Rattle.std.specs.List.{insert, list_any}
 use Rattle.std.specs.Ordering.{is_eq, ordering_reverse}
 use Rattle.std.specs.declared.cmp.Ordering.{Ordering}
-use Rattle.std.proofs.lemmas.List.Kept.{AllPairs-cons}
+use Rattle.std.proofs.lemmas.List.Kept.{AllPairs-cons, AllPairs-filter}
 use Rattle.std.proofs.lemmas.List.Elements.{All-cons, All-nil, All-tail}
 use Rattle.const_expr.specs.declared.constant.Const.{Const}
 use Rattle.const_expr.specs.Constants.{const_order, placed, with_one, with_all, IsAscending, has, IsPlace}
@@ -52,7 +52,7 @@ unlike_less r e f = cc
 unlike_greater : (r : Ordering) → r ≡ Greater → r ≢ Equal
 unlike_greater r e f = cc
 
-side : (k i : ℕ) → (k < i) ⊎ (i ≤ k)
+pub side : (k i : ℕ) → (k < i) ⊎ (i ≤ k)
 side k zero = inr (omega arith)
 side zero (suc i) = inl (omega arith)
 side (suc k) (suc i) = elim (side k i) [ inl h ↦ inl (omega arith) | inr h ↦ inr (omega arith) ]
@@ -158,3 +158,6 @@ all_ascend set (x ∷ more) asc = all_ascend (with_one x set) more (one_ascends 
 
 pub none_ascends : IsAscending []
 none_ascends i j d lt h = absurd (omega arith)
+
+pub some_ascend : (test : Const → Bool) (xs : List Const) → IsAscending xs → IsAscending (filter test xs)
+some_ascend test xs asc = AllPairs-filter (λ x y. const_order x y ≡ Less) test xs asc

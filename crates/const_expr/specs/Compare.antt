@@ -1,5 +1,5 @@
 -- Comparing constants.
-use Rattle.std.specs.Prelude.{Bool, true, false, not, ◌&&◌, List, Option, Some, None, Result, Ok, Err, if◌then◌else◌}
+use Rattle.std.specs.Prelude.{ℕ, ◌==◌, Bool, true, false, not, ◌&&◌, List, Option, Some, None, Result, Ok, Err, if◌then◌else◌}
 use Rattle.std.specs.Str.{bytes_eq}
 use Rattle.std.specs.Ordering.{is_eq, bool_cmp}
 use Rattle.std.specs.declared.cmp.Ordering.{Ordering}
@@ -12,7 +12,7 @@ use Rattle.const_expr.specs.declared.operator.Relation.{Relation}
 use Rattle.const_expr.specs.declared.operator.Relation.TheVariants as relation
 use Rattle.const_expr.specs.declared.why.Why.{Why}
 use Rattle.const_expr.specs.declared.why.Why.TheVariants as why
-use Rattle.const_expr.specs.Constants.{Layer, naturals, is_within, are_of_one_kind}
+use Rattle.const_expr.specs.Constants.{Layer, naturals, is_within, kind_in}
 
 abbrev pub is_below : Ordering → Bool
 is_below Less = true
@@ -52,11 +52,17 @@ members (o.Set xs) = Some xs
 members (o.Lengths ns) = Some (naturals ns)
 members _ = None
 
--- of two sets whose members are of one kind
-abbrev pub of_sets : Relation → Option (List Const) → Option (List Const) → Result Const Why
-of_sets r (Some xs) (Some ys) = if are_of_one_kind xs ys then Ok (c.Truth (of_inclusion r (is_within xs ys) (is_within ys xs))) else Err why.Kind
-of_sets r (Some xs) None = Err why.Kind
-of_sets r None ys = Err why.Kind
+-- the kind of the members of a set
+abbrev pub member_kind : Layer → ℕ
+member_kind (o.Set xs) = kind_in xs
+member_kind (o.Lengths ns) = 0
+member_kind _ = 3
+
+-- of two sets, whose members are of one kind or not
+abbrev pub of_sets : Relation → Bool → Option (List Const) → Option (List Const) → Result Const Why
+of_sets r same (Some xs) (Some ys) = if same then Ok (c.Truth (of_inclusion r (is_within xs ys) (is_within ys xs))) else Err why.Kind
+of_sets r same (Some xs) None = Err why.Kind
+of_sets r same None ys = Err why.Kind
 
 -- Two numbers, truth values, strings or sets of one kind; a set of lengths counts as a set of numbers. Truth
 -- values and strings have no order, sets are ordered by inclusion.
@@ -64,4 +70,4 @@ abbrev pub compared : Relation → Layer → Layer → Result Const Why
 compared r (o.Number x) (o.Number y) = Ok (c.Truth (of_order r (order_of x y)))
 compared r (o.Truth a) (o.Truth b) = of_equality r (is_eq (bool_cmp a b))
 compared r (o.Str s) (o.Str t) = of_equality r (bytes_eq s t)
-compared r u v = of_sets r (members u) (members v)
+compared r u v = of_sets r (member_kind u == member_kind v) (members u) (members v)

@@ -9,3 +9,4 @@ pub mod Sizes
 pub mod Member
 pub mod Value
 pub mod Text
+pub mod Steps

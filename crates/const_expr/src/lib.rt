@@ -1,7 +1,10 @@
 //! The constants that expressions of DSDL definitions are worth.
 #![tactic(auto)]
 
+mod arithmetic;
 mod binary;
+mod bits;
+mod compare;
 mod constant;
 mod error;
 mod gathered;

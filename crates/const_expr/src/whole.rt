@@ -1,6 +1,6 @@
 //! Whole numbers as constants.
 ghost use Rattle.std.specs.Prelude.{◌≡◌, pos, IfOk};
-ghost use Rattle.const_expr.specs.Constants.{whole, natural, naturals};
+ghost use Rattle.const_expr.specs.Constants.{whole, whole_of, natural, naturals};
 
 use crate::constant::Const;
 use cy_bits::{List, NoMemory};
@@ -16,6 +16,13 @@ pub fn whole(n: i128) -> Ratio
         Ok(ratio) => ratio,
         Err(_) => unreachable!(),
     }
+}
+
+/// The whole number that a fraction is.
+pub fn whole_of(x: Ratio) -> Option<i128>
+    ensures { result ≡ whole_of x }
+{
+    if x.den() == 1 { Some(x.num()) } else { None }
 }
 
 /// A length or a count as a constant.
