@@ -87,7 +87,7 @@ unfolding const_order
 no_number ns x k = none_has ns x (λ n t e. other_kind (out-Const x) (whole (pos n)) k (ap (λ v. layer_order (out-Const x) v) (sym (number_layer (whole (pos n)))) ∙ e))
 
 -- a test and a fact that say the same
-decided : (b : Bool) (P : Type 0) (t : Bool) → (IsTrue b ↔ P) → (P → t ≡ true) → (t ≡ true → P) → b ≡ t
+pub decided : (b : Bool) (P : Type 0) (t : Bool) → (IsTrue b ↔ P) → (P → t ≡ true) → (t ≡ true → P) → b ≡ t
 decided true P t h from to = sym (from (h.0 refl))
 decided false P true h from to = h.1 (to refl)
 decided false P false h from to = refl

@@ -4,4 +4,5 @@ pub mod OrderLemmas
 pub mod SetLemmas
 pub mod Wholes
 pub mod CompareLemmas
+pub mod ResidueLemmas
 mod Rows

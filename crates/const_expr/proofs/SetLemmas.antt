@@ -3,6 +3,7 @@ use Rattle.std.proofs.Common.{◌≡◌, ◌≢◌, ◌⊎◌, inl, inr, ℕ, ze
 use Rattle.std.specs.List.{insert, list_any}
 use Rattle.std.specs.Ordering.{is_eq, ordering_reverse}
 use Rattle.std.specs.declared.cmp.Ordering.{Ordering}
+use Rattle.std.proofs.lemmas.List.{get_or_default}
 use Rattle.std.proofs.lemmas.List.Kept.{AllPairs-cons, AllPairs-filter}
 use Rattle.std.proofs.lemmas.List.Elements.{All-cons, All-nil, All-tail}
 use Rattle.const_expr.specs.declared.constant.Const.{Const}
@@ -19,12 +20,6 @@ IsBefore xs x i = (k : ℕ) (d : Const) → i ≤ k → k < length xs → const_
 
 reverse_at : (x y : Const) (r : Ordering) → const_order x y ≡ r → const_order y x ≡ ordering_reverse r
 reverse_at x y r e = const_order_total.antisymm y x ∙ ap ordering_reverse e
-
--- an element that is there doesn't depend on the default
-same_at : (xs : List Const) (i : ℕ) (d e : Const) → i < length xs → get_or xs i d ≡ get_or xs i e
-same_at [] i d e lt = absurd (omega arith)
-same_at (x ∷ xs) zero d e lt = refl
-same_at (x ∷ xs) (suc i) d e lt = same_at xs i d e (omega arith)
 
 no_member : (r : Ordering) (b : Bool) → r ≢ Equal → b ≡ false → (is_eq r || b) ≡ false
 no_member Less b n e = e
@@ -85,21 +80,21 @@ found (y ∷ ys) x (suc i) lt e = ap (λ b. is_eq (const_order x y) || b) (found
 -- where x stands behind a member it stands behind all before it too
 behind_equal : (xs : List Const) (x y : Const) (m : ℕ) → IsAscending xs → m < length xs → y ≡ get_or xs m y → const_order x y ≡ Equal → IsBehind xs x m
 behind_equal xs x y m asc lt is e k d h =
-    let at : y ≡ get_or xs m d = is ∙ same_at xs m y d lt in
+    let at : y ≡ get_or xs m d = is ∙ get_or_default xs m y d lt in
     const_order_total.congr x y (get_or xs k d) e
     ∙ ap (λ z. const_order z (get_or xs k d)) at
     ∙ reverse_at (get_or xs k d) (get_or xs m d) Less (asc k m d h lt)
 
 pub at_member : (xs : List Const) (x y : Const) (m : ℕ) → IsAscending xs → m < length xs → y ≡ get_or xs m y → const_order x y ≡ Equal → IsPlace xs x None
 at_member xs x y m asc lt is e =
-    let there : const_order x (get_or xs m x) ≡ Equal = ap (λ z. const_order x z) (sym (is ∙ same_at xs m y x lt)) ∙ e in
+    let there : const_order x (get_or xs m x) ≡ Equal = ap (λ z. const_order x z) (sym (is ∙ get_or_default xs m y x lt)) ∙ e in
     (stays xs x m lt (behind_equal xs x y m asc lt is e) there, found xs x m lt there)
 
 pub before_less : (xs : List Const) (x y : Const) (m : ℕ) → IsAscending xs → m < length xs → y ≡ get_or xs m y → const_order x y ≡ Less → IsBefore xs x m
 before_less xs x y m asc lt is e k d le h = later (side m k)
   where
     at : y ≡ get_or xs m d
-    at = is ∙ same_at xs m y d lt
+    at = is ∙ get_or_default xs m y d lt
 
     here : const_order x (get_or xs m d) ≡ Less
     here = ap (λ z. const_order x z) (sym at) ∙ e
@@ -112,7 +107,7 @@ pub behind_greater : (xs : List Const) (x y : Const) (m : ℕ) → IsAscending x
 behind_greater xs x y m asc lt is e k d h = earlier (side k m)
   where
     at : y ≡ get_or xs m d
-    at = is ∙ same_at xs m y d lt
+    at = is ∙ get_or_default xs m y d lt
 
     here : const_order x (get_or xs m d) ≡ Greater
     here = ap (λ z. const_order x z) (sym at) ∙ e

@@ -13,6 +13,7 @@ mod literal;
 mod member;
 mod operator;
 mod order;
+mod residues;
 mod scope;
 mod set;
 mod text;
