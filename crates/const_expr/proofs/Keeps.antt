@@ -1,7 +1,7 @@
 -- Which constants keep what every constant keeps.
-use Rattle.std.proofs.Common.{◌≡◌, ℕ, Bool, List, sym, subst}
+use Rattle.std.proofs.Common.{ℕ, Bool, List, sym, subst}
 use Rattle.cy_ratio.specs.Fraction.{Fraction}
-use Rattle.const_expr.specs.declared.constant.Const.{Const, out-Const}
+use Rattle.const_expr.specs.declared.constant.Const.{Const}
 use Rattle.const_expr.specs.declared.constant.Const.TheVariants as c
 use Rattle.const_expr.specs.Constants.{IsAscending, IsConst, IsConstLayer}
 use Rattle.const_expr.proofs.Layers.{number_layer, truth_layer, text_layer, set_layer, lengths_layer}

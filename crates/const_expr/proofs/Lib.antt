@@ -5,4 +5,5 @@ pub mod SetLemmas
 pub mod Wholes
 pub mod CompareLemmas
 pub mod ResidueLemmas
+pub mod LiteralLemmas
 mod Rows

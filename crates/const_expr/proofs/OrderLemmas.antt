@@ -1,12 +1,12 @@
 -- The order of the members of sets is total.
-use Rattle.std.proofs.Common.{◌≡◌, ℕ, pos, Bool, false, List, [], ◌∷◌, refl, sym, ap, ◌∙◌, subst, Less, Equal, Greater}
+use Rattle.std.proofs.Common.{◌≡◌, ℕ, pos, Bool, false, List, [], refl, sym, subst, Less, Equal, Greater}
 use Rattle.std.specs.declared.cmp.Ordering.{Ordering}
 use Rattle.std.specs.Ordering.{nat_cmp, bool_cmp, on, then_cmp, ordering_then}
 use Rattle.std.specs.Cmp.{IsTotalOrder, on_total, then_total, nat_cmp_total, bool_cmp_total}
 use Rattle.std.specs.Cmp.Lexicographic.{slice_cmp, nat_list_cmp_total}
 use Rattle.cy_ratio.specs.Fraction.{Fraction, order_of}
 use Rattle.cy_ratio.specs.Order.{order_total}
-use Rattle.const_expr.specs.declared.constant.Const.{Const, out-Const}
+use Rattle.const_expr.specs.declared.constant.Const.{out-Const}
 use Rattle.const_expr.specs.declared.constant.Const.TheOpen as o
 use Rattle.const_expr.specs.Constants.{Layer, whole, kind, layer_order, const_order}
 

@@ -1,13 +1,13 @@
 -- Whole numbers as fractions and as constants.
-use Rattle.std.proofs.Common.{◌≡◌, ℕ, zero, suc, ◌*◌, ◌<◌, ℤ, pos, negsuc, neg_ℤ, ◌*ℤ◌, int_div, FitsSigned, true, List, [], ◌∷◌, length, get_or, map, AllPairs, All, Ok, refl, sym, ap, ◌∙◌, subst, arith, rules, Less}
+use Rattle.std.proofs.Common.{◌≡◌, ℕ, zero, suc, ◌<◌, ℤ, pos, negsuc, neg_ℤ, ◌*ℤ◌, int_div, FitsSigned, true, List, [], ◌∷◌, AllPairs, All, Ok, refl, sym, ap, ◌∙◌, subst, arith, rules, Less}
 use Rattle.std.proofs.Math.Nat.{div-one, mul-one}
 use Rattle.std.proofs.lemmas.Grind.{common_steps}
 use Rattle.std.proofs.lemmas.List.Kept.{AllPairs-cons}
 use Rattle.std.specs.Int.{w128}
-use Rattle.std.specs.Ordering.{nat_cmp, int_cmp}
-use Rattle.cy_ratio.specs.Fraction.{Fraction, fraction_of, order_of, gcd, divisor_by, fits}
-use Rattle.const_expr.specs.declared.constant.Const.{Const, out-Const}
-use Rattle.const_expr.specs.Constants.{whole, natural, naturals, const_order, layer_order, IsAscending, IsConst}
+use Rattle.std.specs.Ordering.{int_cmp}
+use Rattle.cy_ratio.specs.Fraction.{fraction_of, gcd, divisor_by, fits}
+use Rattle.const_expr.specs.declared.constant.Const.{Const}
+use Rattle.const_expr.specs.Constants.{whole, natural, naturals, const_order, IsAscending, IsConst}
 use Rattle.const_expr.specs.declared.constant.Const.TheVariants as c
 use Rattle.const_expr.proofs.Keeps.{set_keeps}
 use Rattle.const_expr.proofs.Layers.{number_layer}

@@ -34,11 +34,15 @@ member_text (o.Truth b) = truth_text b
 member_text (o.Str s) = quoted s
 member_text _ = []
 
+-- members, each behind `, `
+abbrev pub members_behind : List Const → List ℕ
+members_behind [] = []
+members_behind (x ∷ xs) = (codes ", " ++ member_text (out-Const x)) ++ members_behind xs
+
 -- members with `, ` between each two
 abbrev pub members_text : List Const → List ℕ
 members_text [] = []
-members_text (x ∷ []) = member_text (out-Const x)
-members_text (x ∷ y ∷ ys) = member_text (out-Const x) ++ 44 ∷ 32 ∷ members_text (y ∷ ys)
+members_text (x ∷ xs) = member_text (out-Const x) ++ members_behind xs
 
 -- a constant that is listed
 abbrev pub layer_text : Layer → List ℕ

@@ -99,12 +99,7 @@ fn join(sign: Arithmetic, left: Text, right: &Text) -> Result<Const, Why>
 /// What an operator makes of two constants whose lengths are listed: numbers; a set and a number, member by
 /// member; strings in a row.
 #[tactic(auto, using(crate::proofs::Layers::layers, crate::proofs::Keeps::number_keeps))]
-pub fn arithmetic(
-    alloc: Global,
-    sign: Arithmetic,
-    left: Const,
-    right: &Const,
-) -> Result<Const, Why>
+pub fn arithmetic(alloc: Global, sign: Arithmetic, left: Const, right: &Const) -> Result<Const, Why>
     ensures value { Gives result (on_numbers sign (out-Const left) (out-Const right.now)) }
     ensures kept { IfOk result IsConst }
 {

@@ -35,7 +35,6 @@ pub fn has(set: &[Const], constant: &Const) -> bool
     place_in(set, constant).is_none()
 }
 
-
 /// Adds a constant to a set, unless it is a member.
 #[tactic(auto, using(crate::proofs::SetLemmas::one_ascends))]
 fn add(set: &mut Vec<Const>, constant: Const) -> Result<(), NoMemory>

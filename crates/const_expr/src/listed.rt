@@ -16,7 +16,7 @@ use std::alloc::Global;
 const MOST_LISTED: u64 = 4096;
 
 /// Lengths as a set of numbers; Large where they are too many.
-fn listed_lengths(alloc: Global, lengths: &LengthSet) -> Result<Const, Why>
+pub fn listed_lengths(alloc: Global, lengths: &LengthSet) -> Result<Const, Why>
     ensures value { (u : Const) → Gives result (listed_layer u (layer.Lengths lengths.now)) }
     ensures kept { IfOk result IsConst }
 {

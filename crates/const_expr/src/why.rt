@@ -1,7 +1,10 @@
 ghost use Rattle.std.specs.Prelude.{◌≡◌};
+ghost use Rattle.const_expr.specs.Refusals.{error_at};
 
+use crate::error::ExprError;
 use cy_bits::{NoMemory, Text};
 use cy_ratio::RatioError;
+use dsdl_parse::Span;
 use std::alloc::AllocError;
 
 /// Why an expression's own rule gives no constant, before its place is known.
@@ -19,6 +22,22 @@ pub enum Why {
     Large(u64),
     /// Want of memory.
     NoMemory,
+}
+
+impl Why {
+    /// The refusal with the place of the expression whose own rule refuses.
+    pub fn at(self, span: Span) -> ExprError
+        ensures { result ≡ error_at span self }
+    {
+        match self {
+            Why::Kind => ExprError::Kind { span },
+            Why::Range => ExprError::Range { span },
+            Why::Zero => ExprError::Zero { span },
+            Why::Unknown(name) => ExprError::Unknown { span, name },
+            Why::Large(count) => ExprError::Large { span, count },
+            Why::NoMemory => ExprError::NoMemory,
+        }
+    }
 }
 
 impl From<NoMemory> for Why {

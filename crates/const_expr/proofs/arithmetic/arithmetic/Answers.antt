@@ -15,7 +15,7 @@ returns-in-Set-right-clause-value c =
     let right : out-Const c.args.right.now ≡ o.Set c.in-Set-right.ys = ap out-Const c.in-Set-right.is ∙ set_layer c.in-Set-right.ys in
     subst (λ l. Gives r (on_numbers c.args.sign l (out-Const c.args.right.now))) (sym left)
     (subst (λ l. Gives r (on_numbers c.args.sign (o.Number c.in-Number.x) l)) (sym right)
-      (subst (λ ys. Gives r (on_members (λ y. with_operand c.args.sign (Left c.in-Number.x) y) ys)) c.as_slice.ensures c.on_members.ensures.value))
+    (subst (λ ys. Gives r (on_members (λ y. with_operand c.args.sign (Left c.in-Number.x) y) ys)) c.as_slice.ensures c.on_members.ensures.value))
 
 pub returns-in-Number-right-2-clause-value : goal.returns-in-Number-right-2-clause-value
 returns-in-Number-right-2-clause-value c =
@@ -25,4 +25,4 @@ returns-in-Number-right-2-clause-value c =
     let right : out-Const c.args.right.now ≡ o.Number y = ap out-Const c.in-Number-right-2.is ∙ number_layer y in
     subst (λ l. Gives r (on_numbers c.args.sign l (out-Const c.args.right.now))) (sym left)
     (subst (λ l. Gives r (on_numbers c.args.sign (o.Set c.in-Set.xs) l)) (sym right)
-      (subst (λ xs. Gives r (on_members (λ x. with_operand c.args.sign (Right y) x) xs)) c.as_slice-in-Number-right-2.ensures c.on_members-in-Number-right-2.ensures.value))
+    (subst (λ xs. Gives r (on_members (λ x. with_operand c.args.sign (Right y) x) xs)) c.as_slice-in-Number-right-2.ensures c.on_members-in-Number-right-2.ensures.value))

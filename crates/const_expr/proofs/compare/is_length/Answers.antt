@@ -12,7 +12,7 @@ returns-in-Some c =
 
 pub returns-in-None : goal.returns-in-None
 returns-in-None c = sym (none_has c.args.lengths.now c.args.x.now (λ n t e.
-      let upper : n ≤ c.max-greatest.result = c.max-greatest.ensures.greatest.1 n t in
-      let met : order_of c.in-Number.x (whole (pos n)) ≡ Equal =
-        sym (number_order c.in-Number.x (whole (pos n))) ∙ ap (λ y. const_order y (natural n)) (sym c.in-Number.is) ∙ e in
-      c.in-None.ensures n (omega arith) met))
+    let upper : n ≤ c.max-greatest.result = c.max-greatest.ensures.greatest.1 n t in
+    let met : order_of c.in-Number.x (whole (pos n)) ≡ Equal =
+    sym (number_order c.in-Number.x (whole (pos n))) ∙ ap (λ y. const_order y (natural n)) (sym c.in-Number.is) ∙ e in
+    c.in-None.ensures n (omega arith) met))

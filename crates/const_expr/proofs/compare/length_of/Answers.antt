@@ -11,7 +11,7 @@ returns-else-den-eq1 c n le e =
     let den : c.args.x.den ≡ 1 = ap (λ f. f.den) same in
     let num : c.args.x.num ≡ pos n = ap (λ f. f.num) same in
     elim c.else-den-eq1.branch [
-      else-den-eq1-via-then-den-eq1+then-num-ge0+else-num w ↦ omega (arith, ints)
+      | else-den-eq1-via-then-den-eq1+then-num-ge0+else-num w ↦ omega (arith, ints)
       | else-den-eq1-via-then-den-eq1+else-num-ge0 w ↦ omega (arith, ints)
       | else-den-eq1-via-else-den-eq1 w ↦ omega (arith, ints)
     ]

@@ -1,5 +1,5 @@
-use Rattle.std.proofs.Common.{◌≡◌, ◌⊎◌, inl, inr, ℕ, ◌+◌, ◌<◌, ◌≤◌, true, false, Contains, sym, ap, ◌∙◌, arith}
-use Rattle.const_expr.specs.Constants.{has, natural, naturals}
+use Rattle.std.proofs.Common.{◌≡◌, inl, inr, ◌≤◌, true, false, sym, ap, ◌∙◌, arith}
+use Rattle.const_expr.specs.Constants.{has, natural}
 use Rattle.const_expr.proofs.SetLemmas.{side}
 use Rattle.const_expr.proofs.CompareLemmas.{all_within, not_within}
 use Rattle.const_expr.proofs.compare.lengths_in_set.Goals as goal
@@ -27,11 +27,11 @@ loop-n-preserved c =
     record {
       bound = omega arith;
       passed = λ n t lt. elim (side n c.loop-n.from) [
-        inl before ↦ c.loop-n.invariant.passed n t before
+        | inl before ↦ c.loop-n.invariant.passed n t before
         | inr behind ↦
-          let least : c.in-Some.n ≤ n = c.in-Some.ensures.2 n t behind in
-          let same : c.in-Some.n ≡ n = omega arith in
-          ap (λ k. has c.args.ys.now (natural k)) (sym same) ∙ found
+            let least : c.in-Some.n ≤ n = c.in-Some.ensures.2 n t behind in
+            let same : c.in-Some.n ≡ n = omega arith in
+            ap (λ k. has c.args.ys.now (natural k)) (sym same) ∙ found
       ];
     }
 

@@ -15,8 +15,8 @@ loop-remainder-preserved c =
     let test = leaves ns c.args.divisor r c.residue.result c.residue.ensures in
     elim c.if-residue.branch [
       | then-residue+in_ok-push w ↦
-        let pushed : c.if-residue.set ≡ c.loop-remainder.set ++ natural r ∷ [] =
+          let pushed : c.if-residue.set ≡ c.loop-remainder.set ++ natural r ∷ [] =
           w.set-is ∙ w.in_ok-push.ensures.ok ∙ ap (λ x. c.loop-remainder.set ++ x ∷ []) (w.natural.ensures ∙ ap natural w.from.ensures) in
-        pushed ∙ next_in ns c.args.divisor r c.loop-remainder.set (sym w.if-residue.true ∙ test) c.loop-remainder.invariant
+          pushed ∙ next_in ns c.args.divisor r c.loop-remainder.set (sym w.if-residue.true ∙ test) c.loop-remainder.invariant
       | else-residue w ↦ w.set-is ∙ next_out ns c.args.divisor r c.loop-remainder.set (sym w.if-residue.false ∙ test) c.loop-remainder.invariant
     ]
