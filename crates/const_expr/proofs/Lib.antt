@@ -7,3 +7,6 @@ pub mod CompareLemmas
 pub mod ResidueLemmas
 pub mod LiteralLemmas
 mod Rows
+pub mod EvalWalk
+pub mod EvalSpine
+pub mod EvalNumbers

@@ -10,3 +10,4 @@ pub mod Member
 pub mod Value
 pub mod Text
 pub mod Steps
+pub mod Spine
