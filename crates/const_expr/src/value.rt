@@ -9,7 +9,7 @@ ghost use Rattle.const_expr.specs.Spine.{IsLeftOf, has_left, onto};
 use crate::binary::binary;
 use crate::constant::Const;
 use crate::error::ExprError;
-use crate::gathered::set_of;
+use crate::set::set_of;
 use crate::literal::literal;
 use crate::member::{member, named, referred};
 use crate::scope::Scope;

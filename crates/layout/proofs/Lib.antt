@@ -4,3 +4,4 @@ pub mod Types
 pub mod Fields
 pub mod Variants
 pub mod Samples
+pub mod OneMore

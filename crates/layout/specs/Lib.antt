@@ -1,3 +1,4 @@
 pub mod Bodies
 pub mod Layouts
 pub mod Sets
+pub mod Ends

@@ -90,7 +90,7 @@ pub fn union_rows(alloc: Global, body: &Body) -> Result<Composite, NoMemory>
 }
 
 /// Where a part begins behind one of these places: a part that has to, at a multiple of 8 bits.
-fn leads(places: &LengthSet, aligned: bool) -> Result<LengthSet, NoMemory>
+pub fn leads(places: &LengthSet, aligned: bool) -> Result<LengthSet, NoMemory>
     requires { IsShort (Leads aligned (Has places.now)) }
     ensures { IfOk result (λ s. Same (Has s) (Leads aligned (Has places.now))) }
 {

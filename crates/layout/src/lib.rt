@@ -2,6 +2,7 @@
 #![tactic(auto)]
 
 mod composite;
+mod ends;
 mod layout;
 mod lengths;
 mod of_schema;
@@ -10,6 +11,8 @@ mod row;
 mod tests;
 mod within;
 
+pub use ends::ends_after;
 pub use layout::Layout;
+pub use lengths::part_lengths;
 pub use of_schema::layout_of;
 pub use row::Row;
