@@ -10,3 +10,7 @@ mod Rows
 pub mod EvalWalk
 pub mod EvalSpine
 pub mod EvalNumbers
+pub mod MemberSizes
+pub mod MemberFinds
+pub mod MemberLists
+pub mod MemberNames

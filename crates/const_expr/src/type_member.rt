@@ -1,0 +1,118 @@
+//! What names behind a type mean.
+ghost use Rattle.std.specs.Prelude.{◌≡◌, ◌^◌, nat_lt, IfOk, All};
+ghost use Rattle.dsdl_types.specs.Schemas.{is_delimited, extent_of};
+ghost use Rattle.dsdl_types.specs.Greatest.{longest, as_part};
+ghost use Rattle.dsdl_types.specs.Views.{sch};
+ghost use Rattle.dsdl_types.specs.Finding.{same_id, definition_of};
+ghost use Rattle.dsdl_types.specs.Definitions.{IsType};
+ghost use Rattle.const_expr.specs.Refusals.{Gives};
+ghost use Rattle.const_expr.specs.Constants.{IsConst};
+ghost use Rattle.const_expr.specs.Member.{constants_of, lengths_of, of_message, of_definition, AreConstants, IsScope};
+
+use crate::constant::Const;
+use crate::member::{constant_named, unknown};
+use crate::scope::{NamedConst, Scope, TypeConsts};
+use crate::whole::natural;
+use crate::why::Why;
+use dsdl_names::TypeId;
+use dsdl_types::{Parts, Schema};
+use layout::part_lengths;
+use std::alloc::Global;
+
+/// The greatest bit length that is computed with.
+const LONGEST: u64 = 1 << 32;
+
+/// The extent of a composite in bits; 0 of another type.
+fn extent(schema: &Schema) -> u64
+    ensures { result ≡ extent_of (sch schema.now) }
+{
+    match schema {
+        Schema::Struct(body) | Schema::Union(body) => body.extent,
+        _ => 0,
+    }
+}
+
+/// Whether some length of a composite as a part of another is above 2^32 bits: that of a delimited one whose extent
+/// leaves no room for the delimiter header.
+fn is_long(schema: &Schema) -> bool
+    requires { IsType schema.now }
+    ensures { result ≡ nat_lt (2 ^ 32) (as_part (is_delimited (sch schema.now)) (extent_of (sch schema.now)) (longest (sch schema.now))) }
+{
+    match schema {
+        Schema::Struct(body) | Schema::Union(body) => { !body.sealed && body.extent > LONGEST - 32 }
+        _ => false,
+    }
+}
+
+/// The lengths of a composite as a part of another; Kind where one is above 2^32 bits.
+fn bit_length(alloc: Global, schema: &Schema) -> Result<Const, Why>
+    requires { IsType schema.now }
+    ensures value { Gives result (lengths_of (sch schema.now)) }
+    ensures kept { IfOk result IsConst }
+{
+    if is_long(schema) {
+        return Err(Why::Kind);
+    }
+    let lengths = part_lengths(alloc, schema)?;
+    // `count` says that the members ascend.
+    let _ = lengths.count();
+    Ok(Const::Lengths(lengths))
+}
+
+/// Whether an entry is of this type.
+fn has_id(entry: &TypeConsts, id: &TypeId) -> bool
+    ensures { result ≡ same_id entry.now.id id.now }
+{
+    entry.id == *id
+}
+
+/// The constants of a type; none where it has no entry.
+fn constants_of<'a>(members: &'a [TypeConsts], id: &TypeId) -> &'a [NamedConst]
+    requires { All (λ t. AreConstants t.constants) members.now }
+    ensures value { result.now ≡ constants_of members.now id.now }
+    ensures kept { AreConstants result.now }
+{
+    for entry in members {
+        if has_id(entry, id) {
+            return entry.constants.as_slice();
+        }
+    }
+    &[]
+}
+
+/// What a name behind a message means.
+fn message_member(
+    alloc: Global,
+    scope: &Scope,
+    id: &TypeId,
+    schema: &Schema,
+    name: &str,
+) -> Result<Const, Why>
+    requires scope { IsScope scope.now }
+    requires schema { IsType schema.now }
+    ensures value { Gives result (of_message scope.now id.now (sch schema.now) name.now) }
+    ensures kept { IfOk result IsConst }
+{
+    if name == "_bit_length_" {
+        return bit_length(alloc, schema);
+    }
+    if name == "_extent_" {
+        return Ok(natural(extent(schema)));
+    }
+    constant_named(alloc, constants_of(scope.members.as_slice(), id), name)
+}
+
+/// What a name behind a type means that the scope may have. A service has no members.
+pub fn type_member(alloc: Global, scope: &Scope, id: &TypeId, name: &str) -> Result<Const, Why>
+    requires { IsScope scope.now }
+    ensures value { Gives result (of_definition scope.now id.now (definition_of scope.now.namespace.definitions id.now) name.now) }
+    ensures kept { IfOk result IsConst }
+{
+    match scope.namespace.find(id) {
+        None => unknown(alloc, name),
+        Some(definition) => match &definition.parts {
+            Parts::Message(schema) => message_member(alloc, scope, id, schema, name),
+            Parts::Service { .. } => Err(Why::Kind),
+        },
+    }
+}
