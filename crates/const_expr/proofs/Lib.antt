@@ -9,7 +9,6 @@ pub mod LiteralLemmas
 mod Rows
 pub mod EvalWalk
 pub mod EvalSpine
-pub mod EvalNumbers
 pub mod MemberSizes
 pub mod MemberFinds
 pub mod MemberLists

@@ -12,7 +12,6 @@ use Rattle.const_expr.specs.Value.{value_of, all_values, with_value}
 use Rattle.const_expr.specs.declared.constant.Const.TheVariants as k
 use Rattle.const_expr.specs.Spine.{IsLeftOf, has_left, onto}
 use Rattle.const_expr.proofs.EvalWalk as walk
-use Rattle.const_expr.proofs.EvalNumbers.{written_const}
 use Rattle.const_expr.proofs.EvalSpine as spine
 use Rattle.const_expr.proofs.EvalSpine.{Waits}
 use Rattle.const_expr.proofs.value.+eval.Goals as goal
@@ -104,7 +103,7 @@ without_left-returns-clause-value t c n =
     let scope = c.args.scope.now in let x = c.args.expr.now in let s = (out-Expr x).span in
     elim c.match-expr.branch [
       | without_left-in-Number w ↦
-          walk.answered _ _ _ s _ c.placed.ensures w.answer-is w.literal-answer.ensures n
+          c.placed.ensures ∙ ap (at s) (w.answer-is ∙ w.literal-answer.ensures.value)
           ∙ ap (λ text. at s (literal text)) w.as_str.ensures ∙ sym (walk.number_value scope x w.in-Number.text w.in-Number.is)
       | without_left-in-Name w ↦
           walk.answered _ _ _ s _ c.placed.ensures w.answer-is w.named-answer.ensures.value n
@@ -129,7 +128,7 @@ without_left-returns-clause-kept t c =
     λ answer e k. subst (λ r. IfOk r IsConst) (sym (c.placed.ensures ∙ ap (at s) e)) (walk.placed_kept answer s k)
     in
     elim c.match-expr.branch [
-      | without_left-in-Number w ↦ of _ w.answer-is (written_const _ _ w.literal-answer.ensures)
+      | without_left-in-Number w ↦ of _ w.answer-is w.literal-answer.ensures.kept
       | without_left-in-Name w ↦ of _ w.answer-is w.named-answer.ensures.kept
       | without_left-in-Reference w ↦ of _ w.answer-is w.referred-answer.ensures.kept
       | without_left-in-Set+in_ok-eval_all-in-Set w ↦ of _ w.answer-is w.set_of-answer.ensures.kept
