@@ -12,6 +12,8 @@ mod listed;
 mod literal;
 mod member;
 mod operator;
+#[cfg(test)]
+mod operator_tests;
 mod order;
 mod referred;
 mod residues;
