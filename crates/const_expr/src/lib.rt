@@ -19,6 +19,8 @@ mod referred;
 mod residues;
 mod scope;
 mod set;
+#[cfg(test)]
+mod tests;
 mod text;
 mod type_member;
 mod unary;

@@ -37,12 +37,7 @@ fn placed(answer: Result<Const, Why>, span: Span) -> Result<Const, ExprError>
 {
     match answer {
         Ok(value) => Ok(value),
-        Err(Why::Kind) => Err(ExprError::Kind { span }),
-        Err(Why::Range) => Err(ExprError::Range { span }),
-        Err(Why::Zero) => Err(ExprError::Zero { span }),
-        Err(Why::Unknown(name)) => Err(ExprError::Unknown { span, name }),
-        Err(Why::Large(count)) => Err(ExprError::Large { span, count }),
-        Err(Why::NoMemory) => Err(ExprError::NoMemory),
+        Err(why) => Err(why.at(span)),
     }
 }
 
