@@ -160,7 +160,7 @@ fn the_program_writes_what_a_run_writes(rt: HostRuntime) -> Result<(), Fail> {
     );
     assert_eq!(rt; code, 0);
     assert_eq!(rt; out.written.as_slice(), ALL);
-    assert_eq!(rt; err.written.as_slice(), b"");
+    assert_eq!(rt; err.written.as_slice(), b"".as_slice());
     Ok(())
 }
 
