@@ -1,5 +1,5 @@
 -- Expressions that wait for the value of their left part, the outermost first
-use Rattle.std.proofs.Common.{◌≡◌, ◌≢◌, ℕ, ◌<◌, ◌≤◌, Bool, true, List, [], ◌∷◌, ◌++◌, map, length, drop, get_or, Result, Ok, Err, Bor, refl, sym, ap, ◌∙◌, subst, arith, le_refl, append_assoc, ◌+◌, zero, suc}
+use Rattle.std.proofs.Common.{◌≡◌, ℕ, ◌<◌, ◌≤◌, true, List, [], ◌∷◌, ◌++◌, map, length, drop, get_or, Result, Ok, Err, Bor, refl, sym, ap, ◌∙◌, subst, arith, append_assoc, ◌+◌, zero, suc}
 use Rattle.std.proofs.Math.Seq.{drop-cons}
 use Rattle.std.proofs.Math.Numerals.{add-one}
 use Rattle.dsdl_parse.specs.declared.expr.Expr.{Expr, out-Expr, size-Expr}

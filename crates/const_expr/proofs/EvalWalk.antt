@@ -1,12 +1,12 @@
 -- The value of an expression, layer by layer
-use Rattle.std.proofs.Common.{◌≡◌, ◌≢◌, IfOk, ℕ, ◌<◌, ◌≤◌, ◌+◌, Bool, true, false, List, [], ◌∷◌, ◌++◌, map, Result, Ok, Err, Bor, refl, sym, ap, ◌∙◌, subst, arith, All, rules}
+use Rattle.std.proofs.Common.{◌≡◌, ◌≢◌, IfOk, ℕ, ◌<◌, Bool, List, map, Result, Ok, Err, refl, sym, ap, ◌∙◌, subst, rules}
 use Rattle.dsdl_parse.specs.declared.expr.Span.{Span}
 use Rattle.dsdl_parse.specs.declared.expr.Reference.{Reference}
 use Rattle.dsdl_parse.specs.declared.expr.Expr.{Expr, out-Expr, size-Expr}
 use Rattle.dsdl_parse.specs.declared.expr.ExprNode.{ExprNode, out-ExprNode, roll-ExprNode, roll-out-ExprNode}
 use Rattle.dsdl_parse.specs.declared.expr.ExprNode.TheVariants as v
 use Rattle.dsdl_parse.specs.declared.expr.ExprNode.TheOpen as e
-use Rattle.dsdl_parse.specs.declared.expr.ExprNode.TheFolds.{fold-Expr, fold-ExprNode, fold_out-Expr, fold_out-ExprNode, map-ExprNode, the_lemmas}
+use Rattle.dsdl_parse.specs.declared.expr.ExprNode.TheFolds.{fold-ExprNode, fold_out-Expr, fold_out-ExprNode, map-ExprNode, the_lemmas}
 use Rattle.const_expr.specs.declared.constant.Const.{Const}
 use Rattle.const_expr.specs.declared.constant.Const.TheVariants as c
 use Rattle.const_expr.specs.declared.error.ExprError.{ExprError}
@@ -21,7 +21,7 @@ use Rattle.const_expr.specs.Binary.{binary}
 use Rattle.const_expr.specs.Unary.{unary, set_of}
 use Rattle.const_expr.specs.Member.{named, referred, member}
 use Rattle.const_expr.specs.Value.{Valued, with_value, all_values, at_node, at_place, value_of}
-use Rattle.const_expr.specs.Spine.{has_left, IsLeftIn, IsLeftOf, onto_node, onto}
+use Rattle.const_expr.specs.Spine.{IsLeftIn, IsLeftOf, onto_node, onto}
 
 pub value_at : Scope → e.ExprNode-F ExprNode Expr → Span → Valued
 value_at scope (e.Number text) s = at s (literal text)

@@ -1,5 +1,5 @@
 -- The first entry of a name or a type
-use Rattle.std.proofs.Common.{◌≡◌, ℕ, zero, suc, ◌+◌, ◌<◌, ◌≤◌, Bool, true, false, cond, List, [], ◌∷◌, length, drop, get_or, Result, Ok, Err, Option, Some, Bor, ◌++◌, refl, sym, ap, ◌∙◌, subst, arith}
+use Rattle.std.proofs.Common.{◌≡◌, ℕ, suc, ◌+◌, ◌<◌, ◌≤◌, true, false, cond, List, [], ◌∷◌, length, drop, get_or, Ok, Err, Option, Some, Bor, ◌++◌, refl, sym, ap, ◌∙◌, subst, arith}
 use Rattle.std.specs.Str.{bytes_eq}
 use Rattle.std.proofs.Math.Seq.{drop-cons}
 use Rattle.std.proofs.Math.Numerals.{add-one}
@@ -14,10 +14,8 @@ use Rattle.dsdl_types.specs.Definitions.{IsDefinition, IsType, AreTypes}
 use Rattle.dsdl_types.specs.declared.definition.Definition.{Definition}
 use Rattle.dsdl_types.specs.declared.definition.Parts.TheVariants as parts
 use Rattle.dsdl_types.specs.declared.schema.Schema.{Schema}
-use Rattle.const_expr.specs.declared.constant.Const.{Const}
 use Rattle.const_expr.specs.declared.scope.NamedConst.{NamedConst}
 use Rattle.const_expr.specs.declared.scope.TypeConsts.{TypeConsts}
-use Rattle.const_expr.specs.declared.why.Why.{Why}
 use Rattle.const_expr.specs.declared.why.Why.TheVariants as why
 use Rattle.const_expr.specs.Member.{named_in, constants_of}
 

@@ -1,5 +1,5 @@
 -- Ascending lists of lengths, and what their ends are
-use Rattle.std.proofs.Common.{◌≡◌, ◌↔◌, ℕ, zero, suc, ◌+◌, ◌-◌, ◌^◌, ◌<◌, ◌≤◌, Bool, true, false, cond, List, [], ◌∷◌, ◌++◌, length, map, get_or, nat_lt, pos, Result, Ok, Err, Option, Some, None, refl, sym, ap, ◌∙◌, subst, arith, rules, inl, inr}
+use Rattle.std.proofs.Common.{◌≡◌, ℕ, zero, suc, ◌+◌, ◌-◌, ◌^◌, ◌<◌, ◌≤◌, Bool, true, false, cond, List, [], ◌∷◌, ◌++◌, length, map, get_or, nat_lt, pos, Ok, Err, Some, refl, sym, ap, ◌∙◌, subst, arith, rules, inl, inr}
 use Rattle.std.specs.Prelude.{slice_get, AllPairs, codes}
 use Rattle.std.specs.Str.{bytes_eq}
 use Rattle.std.proofs.lemmas.Bool.{cases_lt}
@@ -16,7 +16,6 @@ use Rattle.layout.specs.Sets.{IsShortPart}
 use Rattle.layout.proofs.Sets.{size_most}
 use Rattle.const_expr.specs.declared.constant.Const.{Const}
 use Rattle.const_expr.specs.declared.constant.Const.TheVariants as c
-use Rattle.const_expr.specs.declared.why.Why.{Why}
 use Rattle.const_expr.specs.declared.why.Why.TheVariants as why
 use Rattle.const_expr.specs.Member.{lengths_of, of_set, a_number, if_number}
 use Rattle.const_expr.specs.Constants.{natural, naturals, whole, kind}

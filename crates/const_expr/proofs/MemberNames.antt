@@ -1,7 +1,7 @@
 -- Dotted names
-use Rattle.std.proofs.Common.{◌≡◌, ℕ, zero, suc, ◌+◌, ◌-◌, ◌<◌, ◌≤◌, ◌==◌, Bool, true, false, cond, List, [], ◌∷◌, ◌++◌, length, take, drop, get_or, Option, Some, None, refl, sym, ap, ◌∙◌, subst, append_assoc, arith, rules}
+use Rattle.std.proofs.Common.{◌≡◌, ℕ, ◌+◌, ◌<◌, ◌≤◌, ◌==◌, Bool, true, false, cond, List, [], ◌∷◌, ◌++◌, length, take, get_or, Option, Some, None, refl, sym, ap, ◌∙◌, append_assoc, arith}
 use Rattle.std.proofs.lemmas.List.{take_more}
-use Rattle.dsdl_names.specs.Parts.{dotted, cut_last, cut_before, parts_of, with_first, names_of}
+use Rattle.dsdl_names.specs.Parts.{dotted, cut_last, cut_before, with_first, names_of}
 use Rattle.dsdl_names.proofs.PartLemmas.{two_names}
 use Rattle.const_expr.specs.Member.{beside}
 

@@ -1,9 +1,8 @@
 -- The left parts of an expression: the left operand of a binary operator, and what stands in front of a point.
-use Rattle.std.specs.Prelude.{◌≡◌, ◌⊎◌, ℕ, List, Bool, true, false, Ok}
+use Rattle.std.specs.Prelude.{◌≡◌, Bool, true, false, Ok}
 use Rattle.dsdl_parse.specs.declared.expr.Span.{Span}
 use Rattle.dsdl_parse.specs.declared.expr.Expr.{Expr, out-Expr}
 use Rattle.dsdl_parse.specs.declared.expr.ExprNode.{ExprNode, out-ExprNode}
-use Rattle.dsdl_parse.specs.declared.expr.ExprNode.TheVariants as v
 use Rattle.dsdl_parse.specs.declared.expr.ExprNode.TheOpen as e
 use Rattle.const_expr.specs.declared.constant.Const.{Const}
 use Rattle.const_expr.specs.declared.scope.Scope.{Scope}

@@ -1,4 +1,4 @@
-use Rattle.std.proofs.Common.{◌≡◌, ◌≤◌, ◌++◌, ◌∷◌, List, ℕ, length, subst, sym, rules, append_assoc}
+use Rattle.std.proofs.Common.{◌≡◌, ◌≤◌, ◌++◌, ◌∷◌, length, subst, sym, rules, append_assoc}
 use Rattle.dsdl_names.specs.Parts.{names_of}
 use Rattle.dsdl_names.proofs.PartLemmas.{two_names}
 use Rattle.const_expr.proofs.referred.extended.Goals as goal

@@ -1,4 +1,4 @@
-use Rattle.std.proofs.Common.{◌≡◌, ℕ, None, drop, length, ◌≤◌, arith, ap, subst, ◌∙◌, sym}
+use Rattle.std.proofs.Common.{◌≡◌, None, drop, length, ◌≤◌, arith, ap, subst, ◌∙◌, sym}
 use Rattle.dsdl_names.specs.Parts.{cut_last, names_of}
 use Rattle.dsdl_names.proofs.PartLemmas.{cut_last-at}
 use Rattle.const_expr.specs.Member.{beside}

@@ -1,4 +1,4 @@
-use Rattle.std.proofs.Common.{◌≡◌, sym, ◌∙◌}
+use Rattle.std.proofs.Common.{sym, ◌∙◌}
 use Rattle.dsdl_types.specs.Views.{sch}
 use Rattle.const_expr.proofs.MemberLists.{lengths_are}
 use Rattle.const_expr.proofs.type_member.bit_length.Goals as goal

@@ -1,6 +1,6 @@
-use Rattle.std.proofs.Common.{◌≡◌, ◌++◌, [], ◌∷◌, Ok, Err, refl, ap, sym, ◌∙◌, subst, arith, rules, le_refl, List, Bor, map, ◌≤◌, IfOk, Result}
+use Rattle.std.proofs.Common.{◌≡◌, ◌++◌, [], ◌∷◌, Ok, Err, ap, sym, ◌∙◌, subst, rules, le_refl, map, ◌≤◌, IfOk, Result}
 use Rattle.std.proofs.lemmas.Result.{err_from_is_err_and}
-use Rattle.dsdl_parse.specs.declared.expr.Expr.{Expr, out-Expr, size-Expr}
+use Rattle.dsdl_parse.specs.declared.expr.Expr.{out-Expr, size-Expr}
 use Rattle.const_expr.specs.Constants.{IsConst}
 use Rattle.const_expr.specs.Refusals.{at}
 use Rattle.const_expr.specs.Literal.{literal}
@@ -10,7 +10,7 @@ use Rattle.const_expr.specs.declared.why.Why.{Why}
 use Rattle.const_expr.specs.Unary.{unary, set_of}
 use Rattle.const_expr.specs.Value.{value_of, all_values, with_value}
 use Rattle.const_expr.specs.declared.constant.Const.TheVariants as k
-use Rattle.const_expr.specs.Spine.{IsLeftOf, has_left, onto}
+use Rattle.const_expr.specs.Spine.{IsLeftOf, onto}
 use Rattle.const_expr.proofs.EvalWalk as walk
 use Rattle.const_expr.proofs.EvalSpine as spine
 use Rattle.const_expr.proofs.EvalSpine.{Waits}
