@@ -2,7 +2,7 @@
 use Rattle.std.proofs.Common.{◌≡◌, List, [], Some, sym}
 use Rattle.node_core.specs.declared.line.Line.{Line}
 use Rattle.node_core.specs.declared.numbers.Numbers.{Numbers}
-use Rattle.node_run.specs.Ran.{Reported, reported, numbers_of, of_report}
+use Rattle.node_run.specs.Ran.{reported, numbers_of, of_report}
 use Rattle.node_run.specs.declared.report.Report.{Report}
 
 -- a sink that kept its lines from nothing on, as a report

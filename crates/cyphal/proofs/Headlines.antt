@@ -1,5 +1,5 @@
 -- From what was run to the headline.
-use Rattle.std.proofs.Common.{◌≡◌, ◌∙◌, ◌⊎◌, inl, inr, ℕ, true, false, List, [], ◌∷◌, ◌++◌, Option, Some, None, refl, sym, ap, subst, append-nil, append_assoc}
+use Rattle.std.proofs.Common.{◌≡◌, ◌∙◌, ◌⊎◌, inl, inr, ℕ, true, List, [], ◌∷◌, ◌++◌, Option, Some, sym, ap, subst, append-nil, append_assoc}
 use Rattle.std.proofs.lemmas.Bool.{both_ways, true≢false}
 use Rattle.std.proofs.lemmas.List.{append_cancel_left}
 use mathlib.Core.List.{reverse_aux}
@@ -29,14 +29,14 @@ use Rattle.session_lines.proofs.Projection.{rxs_append}
 use Rattle.node_run.specs.Ran.{Reported, At, AtFirst, Ran, HasRun, names_of, newest_first, steps_of, end_part, whole_text}
 use Rattle.node_run.specs.declared.status.Status.{Status}
 use Rattle.node_run.specs.declared.status.Status.TheVariants as status
-use Rattle.node_run.proofs.Steps.{lines_front, records_steps, steps_newer, text_append}
+use Rattle.node_run.proofs.Steps.{lines_front, records_steps, text_append}
 use Rattle.cyphal.specs.Words.{Command}
 use Rattle.cyphal.specs.Cause.{Outside}
 use Rattle.cyphal.specs.Job.{Told, Outcome, is_settled, NotDone}
 use Rattle.cyphal.specs.Plans.{PlanAt}
 use Rattle.cyphal.specs.jobs.Run.{HasRunAt}
 use Rattle.cyphal.specs.Expected.{job_asked, job_for, WasDone}
-use Rattle.cyphal.specs.Headline.{heard_as, log_in, logged_in, lines_of, report_text, Asked, ExplainsIn, OnceIn, DueIn, Headline, HeadlineOf, HasPut, OncePut, DuePut}
+use Rattle.cyphal.specs.Headline.{heard_as, log_in, logged_in, lines_of, report_text, Asked, ExplainsIn, OnceIn, DueIn, HeadlineOf, HasPut, OncePut, DuePut}
 use Rattle.cyphal.proofs.Frames.{frames_are, are_records, in_order}
 
 -- the lines of the first steps are the first lines

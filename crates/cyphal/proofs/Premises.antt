@@ -1,5 +1,5 @@
 -- The premises of the headline are met by a plan and a log.
-use Rattle.std.proofs.Common.{◌≡◌, ℕ, zero, suc, le_refl, zero-le, ◌≤◌, ◌<◌, true, false, Some, None, List, [], ◌∷◌, ◌++◌, codes, refl, sym, ap, ◌∙◌, subst, inl, inr, arith}
+use Rattle.std.proofs.Common.{◌≡◌, ℕ, zero, suc, le_refl, zero-le, ◌≤◌, ◌<◌, true, false, Some, List, [], ◌∷◌, ◌++◌, codes, refl, sym, ap, ◌∙◌, subst, inl, inr, arith}
 use Rattle.std.proofs.lemmas.Bool.{and_parts, both_ways}
 use Rattle.std.specs.FinMap as map
 use Rattle.std.specs.Ordering.{nat_cmp}
@@ -16,17 +16,15 @@ use Rattle.frag.specs.Sent.{IsIdentOf, Pair, size_on, transfer_at, IsSentList, N
 use Rattle.frag.specs.Raw.{WireExplained}
 use Rattle.once.specs.Raw.{WireExplains}
 use Rattle.once.specs.Due.{Due, Names, SomeFromTo}
-use Rattle.once.specs.Report.{pair_at, IsDue}
+use Rattle.once.specs.Report.{pair_at}
 use Rattle.once.proofs.Selection.{follows_parts}
 use Rattle.node_plan.specs.declared.plan.Plan.{Plan}
 use Rattle.node_plan.specs.declared.plan.SubShape.TheVariants.{Raw}
 use Rattle.node_plan.specs.Plan.{Good, plan_of}
 use Rattle.session_lines.specs.Reported.{of_key, IsSession}
-use Rattle.cyphal.specs.Words.{Run, command_of}
 use Rattle.cyphal.specs.Job.{told_by}
-use Rattle.cyphal.specs.Plans.{PlanAt}
-use Rattle.cyphal.specs.Headline.{Asked, logged_in, heard_as, ExplainsIn}
-use Rattle.cyphal.specs.Premises.{IsDueAt, MeetsPremises, plan_text, log_text, files, first, second, sent, PremisesCanBeMet}
+use Rattle.cyphal.specs.Headline.{Asked, logged_in, heard_as}
+use Rattle.cyphal.specs.Premises.{IsDueAt, plan_text, log_text, files, first, second, sent, PremisesCanBeMet}
 
 abbrev plan : Plan
 plan = record {

@@ -1,4 +1,4 @@
-use Rattle.std.proofs.Common.{◌≡◌, ◌∙◌, ◌⊎◌, [], Some, sym, ap, subst, map, string_bytes}
+use Rattle.std.proofs.Common.{◌∙◌, ◌⊎◌, [], Some, sym, ap, subst, map, string_bytes}
 use Rattle.node_run.specs.Ran.{Reported}
 use Rattle.cyphal.specs.Cause.{outside}
 use Rattle.cyphal.specs.Job.{outcome, told_by, NotDone}
