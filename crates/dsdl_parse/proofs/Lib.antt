@@ -22,3 +22,4 @@ pub mod StatementReads
 pub mod LineReads
 pub mod FirstLines
 pub mod Parsed
+pub mod LeafWalk

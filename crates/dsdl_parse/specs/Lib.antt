@@ -2,6 +2,7 @@ pub mod Words
 pub mod Taking
 pub mod Trees
 pub mod Leaves
+pub mod LeavesOf
 pub mod Grammar
 pub mod LeafReading
 pub mod Reading

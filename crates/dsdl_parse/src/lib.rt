@@ -22,6 +22,7 @@ mod text;
 #[cfg(test)]
 mod text_tests;
 mod trees;
+mod walk;
 mod whole;
 mod words;
 
@@ -30,4 +31,5 @@ pub use laws::{one_parsing, one_tree};
 pub use read_error::ReadError;
 pub use statement::{Bound, BoundSign, Form, Prefix, Scalar, Statement};
 pub use syntax::{Ast, SyntaxError, parse};
+pub use walk::{leaves, names_it};
 pub use whole::parse_expression;
