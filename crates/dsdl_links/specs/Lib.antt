@@ -1,0 +1,5 @@
+pub mod Mentions
+pub mod Links
+pub mod Order
+pub mod Answers
+pub mod Laws

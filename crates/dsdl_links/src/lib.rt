@@ -1,0 +1,12 @@
+//! Which file of a namespace refers to which, and the order in which files are valued.
+#![tactic(auto)]
+
+mod error;
+mod links;
+mod order;
+mod source;
+
+pub use error::{CycleError, LinkError};
+pub use links::{Links, links_of};
+pub use order::order_of;
+pub use source::{Mention, Source, mentions_of};
