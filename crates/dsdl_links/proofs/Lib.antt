@@ -1,0 +1,5 @@
+pub mod Among
+pub mod Marking
+pub mod Reaching
+pub mod Readiness
+pub mod Stuck

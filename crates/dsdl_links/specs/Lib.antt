@@ -3,3 +3,4 @@ pub mod Links
 pub mod Order
 pub mod Answers
 pub mod Laws
+pub mod Marks

@@ -6,7 +6,6 @@ use Rattle.dsdl_names.specs.Parts.{dotted, cut_last}
 use Rattle.dsdl_parse.specs.declared.expr.Expr.{Expr}
 use Rattle.dsdl_parse.specs.declared.expr.Reference.{Reference}
 use Rattle.dsdl_parse.specs.declared.statement.Bound.{Bound}
-use Rattle.dsdl_parse.specs.declared.statement.Form.{Form}
 use Rattle.dsdl_parse.specs.declared.statement.Scalar.{Scalar}
 use Rattle.dsdl_parse.specs.declared.statement.Scalar.TheVariants as scalar
 use Rattle.dsdl_parse.specs.declared.statement.Statement.{Statement}

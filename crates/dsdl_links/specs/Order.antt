@@ -4,7 +4,7 @@ use Rattle.std.specs.List.{list_any, list_all}
 
 -- a number is one of these
 abbrev pub is_among : List ℕ → ℕ → Bool
-is_among files i = list_any (λ k. k == i) files
+is_among files i = list_any (λ k. i == k) files
 
 -- the files that a file refers to
 abbrev pub links_at : List (List ℕ) → ℕ → List ℕ

@@ -1,9 +1,11 @@
 //! Which file of a namespace refers to which, and the order in which files are valued.
 #![tactic(auto)]
 
+mod cycle;
 mod error;
 mod links;
 mod order;
+mod ready;
 mod source;
 
 pub use error::{CycleError, LinkError};

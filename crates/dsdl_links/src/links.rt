@@ -1,8 +1,8 @@
 //! The files that files refer to.
-ghost use Rattle.std.specs.Prelude.{◌≡◌, length, IfOk, IfErr};
+ghost use Rattle.std.specs.Prelude.{◌≡◌, ◌<◌, ℕ, true, length, IfOk, IfErr};
 ghost use Rattle.dsdl_links.specs.Answers.{IsLinkError};
 ghost use Rattle.dsdl_links.specs.Links.{AreLinks};
-ghost use Rattle.dsdl_links.specs.Order.{links_at};
+ghost use Rattle.dsdl_links.specs.Order.{is_among, links_at, AreWithin};
 
 use crate::error::LinkError;
 use crate::source::Source;
@@ -31,9 +31,19 @@ impl Model for Links {
 impl Links {
     /// The number of files.
     pub fn len(&self) -> usize
-        ensures { result ≡ length self.now }
+        ensures value { result ≡ length self.now }
+        ensures within { AreWithin self.now }
     {
         self.files.len()
+    }
+
+    /// The files that a file refers to.
+    pub fn of(&self, file: usize) -> &[usize]
+        requires { file < length self.now }
+        ensures value { result.now ≡ links_at self.now file }
+        ensures within { (j : ℕ) → is_among result.now j ≡ true → j < length self.now }
+    {
+        self.files.as_slice()[file].as_slice()
     }
 }
 

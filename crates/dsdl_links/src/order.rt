@@ -3,9 +3,11 @@ ghost use Rattle.std.specs.Prelude.{IfOk, IfErr};
 ghost use Rattle.dsdl_links.specs.Answers.{IsCycleError};
 ghost use Rattle.dsdl_links.specs.Order.{IsOrder};
 
+use crate::cycle::first_cycle;
 use crate::error::CycleError;
 use crate::links::Links;
-use cy_bits::List;
+use crate::ready::next_ready;
+use cy_bits::{List, NoMemory};
 use std::alloc::Global;
 
 /// The numbers of all files in the order in which they are valued: the next one is always the first in
@@ -16,7 +18,20 @@ pub fn order_of(alloc: Global, links: &Links) -> Result<List<usize>, CycleError>
     ensures order { IfOk result (IsOrder links.now) }
     ensures cycle { IfErr result (IsCycleError links.now) }
 {
-    let _ = alloc;
-    let _ = links;
-    Err(CycleError::NoMemory)
+    let mut valued = vec![in alloc; false; links.len()].map_err(NoMemory::from)?;
+    let mut known = vec![in alloc; 0; links.len()].map_err(NoMemory::from)?;
+    let mut order = List::empty(alloc);
+    'files: while order.len() < links.len() {
+        match next_ready(links, valued.as_slice(), known.as_mut_slice()) {
+            Some(file) => {
+                valued[file] = true;
+                order.push(file)?;
+            }
+            None => match first_cycle(alloc, links)? {
+                Some(file) => return Err(CycleError::Cycle { file }),
+                None => unreachable!(),
+            },
+        }
+    }
+    Ok(order)
 }
