@@ -3,3 +3,4 @@ pub mod Marking
 pub mod Reaching
 pub mod Readiness
 pub mod Stuck
+pub mod Placing

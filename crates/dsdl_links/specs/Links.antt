@@ -1,6 +1,6 @@
 -- Which file a reference means, and the first reference that means none.
 use Rattle.std.specs.Prelude.{◌≡◌, ◌==◌, ◌&&◌, ℕ, Bool, List, ◌∷◌, ◌++◌, length, Option, Some, None, is_none, All}
-use Rattle.std.specs.List.{AllZip, find, position}
+use Rattle.std.specs.List.{AllZip, find, position_from}
 use Rattle.std.specs.Str.{bytes_eq}
 use Rattle.dsdl_names.specs.declared.TypeId.{TypeId}
 use Rattle.dsdl_links.specs.declared.source.Mention.{Mention}
@@ -12,7 +12,7 @@ defines id file = bytes_eq file.id.name id.name && ((file.id.major == id.major) 
 
 -- the file that a type means: the first one in path order that defines it, by its number, counted from 0
 abbrev pub file_of : List Source → TypeId → Option ℕ
-file_of files id = position (defines id) files
+file_of files id = position_from (defines id) 0 files
 
 -- a mention means this file
 abbrev pub Means : List Source → Mention → ℕ → Type 0

@@ -2,12 +2,15 @@
 ghost use Rattle.std.specs.Prelude.{◌≡◌, ◌<◌, ℕ, true, length, IfOk, IfErr};
 ghost use Rattle.dsdl_links.specs.Answers.{IsLinkError};
 ghost use Rattle.dsdl_links.specs.Links.{AreLinks};
+ghost use Rattle.dsdl_links.specs.Places.{ArePlaces, LinksAt, IsMissingAt};
 ghost use Rattle.dsdl_links.specs.Order.{is_among, links_at, AreWithin};
 
 use crate::error::LinkError;
 use crate::source::Source;
-use cy_bits::List;
+use cy_bits::{List, NoMemory, TryCopy};
+use dsdl_names::{TypeId, order_of_types};
 use std::alloc::Global;
+use std::collections::BTreeMap;
 use std::marker::Model;
 
 /// For each file in path order the numbers of the files that it refers to, in the order of its text.
@@ -55,7 +58,53 @@ pub fn links_of(alloc: Global, files: &[Source]) -> Result<Links, LinkError>
     ensures linked { IfOk result (AreLinks files.now) }
     ensures unresolved { IfErr result (IsLinkError files.now) }
 {
-    let _ = alloc;
-    let _ = files;
-    Err(LinkError::NoMemory)
+    let places = places_of(alloc, files)?;
+    let mut links = List::empty(alloc);
+    for i in 0..files.len() {
+        links.push(links_in(alloc, files, &places, i)?)?;
+    }
+    Ok(Links { files: links })
+}
+
+/// The number of the first file of each type.
+fn places_of(alloc: Global, files: &[Source]) -> Result<BTreeMap<TypeId, usize>, NoMemory>
+    ensures { IfOk result (ArePlaces files.now) }
+{
+    order_of_types();
+    let mut places = BTreeMap::new(alloc);
+    let mut i = files.len();
+    while i > 0 {
+        i -= 1;
+        places.insert(files[i].id.copy(alloc)?, i)?;
+    }
+    Ok(places)
+}
+
+/// The files that a file refers to.
+fn links_in(
+    alloc: Global,
+    files: &[Source],
+    places: &BTreeMap<TypeId, usize>,
+    file: usize,
+) -> Result<List<usize>, LinkError>
+    requires file { file < length files.now }
+    requires places { ArePlaces files.now places.now }
+    ensures linked { IfOk result (λ links. LinksAt files.now file links) }
+    ensures missing { IfErr result (IsMissingAt files.now file) }
+{
+    order_of_types();
+    let mut links = List::empty(alloc);
+    for mention in files[file].mentions.as_slice() {
+        match places.get(&mention.id) {
+            Some(place) => links.push(*place)?,
+            None => {
+                return Err(LinkError::Unresolved {
+                    file,
+                    line: mention.line,
+                    id: mention.id.copy(alloc)?,
+                });
+            }
+        }
+    }
+    Ok(links)
 }
