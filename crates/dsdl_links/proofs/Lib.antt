@@ -4,3 +4,4 @@ pub mod Reaching
 pub mod Readiness
 pub mod Stuck
 pub mod Placing
+pub mod Naming

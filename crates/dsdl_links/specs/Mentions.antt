@@ -60,10 +60,14 @@ refers own s = filter_map (type_of own) (references_in s)
 abbrev pub on_line : ℕ → TypeId → Mention
 on_line n id = record { line = n; id = id }
 
+-- the types that references of a line mean
+abbrev pub noted : List ℕ → ℕ → List Reference → List Mention
+noted own n rs = map (on_line n) (filter_map (type_of own) rs)
+
 -- with their lines, of which the first has this number
 abbrev pub mentions_from : ℕ → List ℕ → List Statement → List Mention
 mentions_from n own [] = []
-mentions_from n own (s ∷ ss) = map (on_line n) (refers own s) ++ mentions_from (n + 1) own ss
+mentions_from n own (s ∷ ss) = noted own n (references_in s) ++ mentions_from (n + 1) own ss
 
 -- the types that the statements of a definition refer to, in the order of the text, with their lines, counted from 1
 abbrev pub mentions : List ℕ → List Statement → List Mention

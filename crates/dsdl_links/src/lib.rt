@@ -6,6 +6,7 @@ mod error;
 mod links;
 mod order;
 mod ready;
+mod reference;
 mod source;
 
 pub use error::{CycleError, LinkError};

@@ -1,10 +1,11 @@
 //! What a file defines, and what it refers to.
-ghost use Rattle.std.specs.Prelude.{◌≡◌, ◌<◌, ◌^◌, length, IfOk};
-ghost use Rattle.dsdl_links.specs.Mentions.{mentions};
+ghost use Rattle.std.specs.Prelude.{◌≡◌, ◌<◌, ◌^◌, ◌++◌, length, map, IfOk, OnOk};
+ghost use Rattle.dsdl_links.specs.Mentions.{mentions, noted};
 
+use crate::reference::{references_in, type_of};
 use cy_bits::{List, NoMemory};
 use dsdl_names::{FullName, TypeId};
-use dsdl_parse::Statement;
+use dsdl_parse::{Reference, Statement};
 use std::alloc::Global;
 
 /// A file of a namespace: the type that it defines, and the types that its text refers to.
@@ -36,8 +37,28 @@ pub fn mentions_of(
     requires { length lines.now < 2 ^ 32 }
     ensures { IfOk result (λ found. found ≡ mentions own.now lines.now) }
 {
-    let _ = alloc;
-    let _ = own;
-    let _ = lines;
-    Err(NoMemory)
+    let mut found = List::empty(alloc);
+    for i in 0..lines.len() {
+        let references = references_in(alloc, &lines[i])?;
+        note(alloc, own, i as u32 + 1, &references, &mut found)?;
+    }
+    Ok(found)
+}
+
+/// Adds the types that references of a line mean.
+fn note(
+    alloc: Global,
+    own: &FullName,
+    line: u32,
+    references: &[&Reference],
+    found: &mut List<Mention>,
+) -> Result<(), NoMemory>
+    ensures { OnOk result (found.new ≡ found.old ++ noted own.now line (map (λ r. r.now) references.now)) }
+{
+    for reference in references {
+        if let Some(id) = type_of(alloc, own, reference)? {
+            found.push(Mention { line, id })?;
+        }
+    }
+    Ok(())
 }
