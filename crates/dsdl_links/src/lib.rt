@@ -8,6 +8,8 @@ mod order;
 mod ready;
 mod reference;
 mod source;
+#[cfg(test)]
+mod tests;
 
 pub use error::{CycleError, LinkError};
 pub use links::{Links, links_of};
