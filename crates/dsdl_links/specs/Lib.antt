@@ -2,6 +2,5 @@ pub mod Mentions
 pub mod Links
 pub mod Order
 pub mod Answers
-pub mod Laws
 pub mod Marks
 pub mod Places
