@@ -1,0 +1,4 @@
+pub mod Steps
+pub mod Put
+pub mod Fair
+pub mod Ends

@@ -1,0 +1,3 @@
+pub mod Fetch
+pub mod Stands
+pub mod Laws

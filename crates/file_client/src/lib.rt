@@ -1,0 +1,13 @@
+//! A client that fetches a file from a file server, piece by piece, whatever of its replies is lost, repeated or late.
+#![tactic(auto)]
+
+pub mod event;
+pub mod fetch;
+pub mod laws;
+
+pub use event::{FetchEvent, FetchOut};
+pub use fetch::Fetch;
+pub use laws::fetch_laws;
+
+#[cfg(test)]
+mod tests;
