@@ -12,6 +12,7 @@ pub record Served (file : List ℕ) (limit : ℕ) (s : State) : Type 0 where
   pub front : s.file ≡ take (offset_of s) file
   -- the request that is out is at the offset of the bytes so far
   pub out : s.end ≡ None → get_or s.asked 0 0 ≡ offset_of s
+  pub asked : 0 < length s.asked
   pub whole : s.end ≡ Some Done → s.file ≡ file
   pub never_refused : (code : ℕ) → s.end ≡ Some (Refused code) → ⊥
   pub long_file : (n : ℕ) → s.end ≡ Some (TooLong n) → limit < length file
@@ -30,6 +31,7 @@ module _ (file : List ℕ) (limit : ℕ) where
   started = record {
     front = refl;
     out = λ _. refl;
+    asked = omega arith;
     whole = λ e. cc;
     never_refused = λ code e. cc;
     long_file = λ n e. cc;
@@ -40,6 +42,7 @@ module _ (file : List ℕ) (limit : ℕ) where
     state = record {
       front = front;
       out = λ _. refl;
+      asked = omega arith;
       whole = λ e. cc;
       never_refused = λ code e. cc;
       long_file = λ n e. cc;
@@ -48,11 +51,12 @@ module _ (file : List ℕ) (limit : ℕ) where
     long_file = λ n e. cc;
   }
 
-  finishes : (s : State) (out : FetchOut) → s.file ≡ take (offset_of s) file → (out ≡ Done → s.file ≡ file) → ((code : ℕ) → out ≡ Refused code → ⊥) → ((n : ℕ) → out ≡ TooLong n → limit < length file) → Serves file limit (finish s out)
-  finishes s out front whole never long = record {
+  finishes : (s : State) (out : FetchOut) → 0 < length s.asked → s.file ≡ take (offset_of s) file → (out ≡ Done → s.file ≡ file) → ((code : ℕ) → out ≡ Refused code → ⊥) → ((n : ℕ) → out ≡ TooLong n → limit < length file) → Serves file limit (finish s out)
+  finishes s out asked front whole never long = record {
     state = record {
       front = front;
       out = λ e. cc;
+      asked = asked;
       whole = λ e. whole (some_inj out Done e);
       never_refused = λ code e. never code (some_inj out (Refused code) e);
       long_file = λ n e. long n (some_inj out (TooLong n) e);
@@ -64,7 +68,7 @@ module _ (file : List ℕ) (limit : ℕ) where
   late_serves : (s : State) → s.end ≡ None → Served file limit s → Serves file limit (on_late s)
   late_serves s none sv =
       late_cases s (Serves file limit)
-      (λ _. finishes s (GaveUp (offset_of s)) sv.front (λ e. cc) (λ code e. cc) (λ n e. cc))
+      (λ _. finishes s (GaveUp (offset_of s)) sv.asked sv.front (λ e. cc) (λ code e. cc) (λ n e. cc))
       (λ _. asks (later s) sv.front none)
 
   piece_serves : (s : State) (bytes : List ℕ) → s.end ≡ None → Served file limit s → bytes ≡ take 256 (drop (offset_of s) file) → Serves file limit (on_piece limit s bytes)
@@ -75,11 +79,11 @@ module _ (file : List ℕ) (limit : ℕ) where
       let long = length-append s.file bytes in
       let grown : s.file ++ bytes ≡ take (n + 256) file = ap (λ f. f ++ bytes) sv.front ∙ (ap (λ x. take n file ++ x) b ∙ sym (take-add n 256 file)) in
       piece_cases limit s bytes (Serves file limit)
-      (λ above. finishes s (TooLong (n + length bytes)) sv.front (λ e. cc) (λ code e. cc) (λ m e. omega (arith, so_far, came, above)))
+      (λ above. finishes s (TooLong (n + length bytes)) sv.asked sv.front (λ e. cc) (λ code e. cc) (λ m e. omega (arith, so_far, came, above)))
       (λ _ short.
       let all : s.file ++ bytes ≡ file = grown ∙ take_all (n + 256) file (omega (arith, came, short)) in
       let same = ap length all in
-      finishes (ended_by s bytes) Done (all ∙ sym (take_all (length (s.file ++ bytes)) file (omega (arith, same)))) (λ _. all) (λ code e. cc) (λ m e. cc))
+      finishes (ended_by s bytes) Done sv.asked (all ∙ sym (take_all (length (s.file ++ bytes)) file (omega (arith, same)))) (λ _. all) (λ code e. cc) (λ m e. cc))
       (λ _ full. asks (grown_by s bytes) (grown ∙ ap (λ k. take k file) (omega (arith, came, full, long))) none)
 
   -- a fair reply to the request that is out has the bytes at its offset

@@ -1,5 +1,5 @@
 -- What is fetched, over every list of events, and over those in which a server answers from one file.
-use Rattle.std.specs.Prelude.{◌≡◌, ◌≢◌, ⊤, ℕ, ◌+◌, ◌-◌, ◌%◌, ◌<◌, ◌==◌, if◌then◌else◌, List, [], ◌∷◌, length, take, drop, slice_index, Option, Some, None}
+use Rattle.std.specs.Prelude.{◌≡◌, ◌≢◌, ⊤, ℕ, ◌+◌, ◌-◌, ◌%◌, ◌<◌, ◌≤◌, ◌==◌, if◌then◌else◌, List, [], ◌∷◌, length, take, drop, slice_index, Option, Some, None}
 use Rattle.file_client.specs.Fetch.{Event, reply, late, State, tid_of, offset_of, fetched, answer}
 use Rattle.file_client.specs.declared.event.FetchOut.{FetchOut}
 use Rattle.file_client.specs.declared.event.FetchOut.TheVariants.{Done, Refused, GaveUp, TooLong}
@@ -51,10 +51,18 @@ pub record PassesLimit (limit : ℕ) (past : List Event) (e : Event) (n : ℕ) :
   pub length_is : n ≡ offset_after limit past + length bytes
   pub above : limit < n
 
+-- a fair list that ends with Done
+pub record FairToDone (file : List ℕ) (limit : ℕ) : Type 0 where
+  pub past : List Event
+  pub fair : IsFair file limit past
+  pub done : end_after limit past ≡ Some Done
+
 pub record FetchLaws : Type 0 where
   -- of a fair list the bytes are a front of the file, and at Done the file
   pub front : (file : List ℕ) (limit : ℕ) (past : List Event) → IsFair file limit past → (fetched limit past).file ≡ take (offset_after limit past) file
   pub whole : (file : List ℕ) (limit : ℕ) (past : List Event) → IsFair file limit past → end_after limit past ≡ Some Done → (fetched limit past).file ≡ file
+  -- every file within the limit can be fetched: some fair list ends with Done
+  pub can_be_fetched : (file : List ℕ) (limit : ℕ) → length file ≤ limit → FairToDone file limit
   -- of a fair list nothing is refused, and only a file above the limit is too long
   pub never_refused : (file : List ℕ) (limit : ℕ) (e : Event) (past : List Event) (code : ℕ) → IsFair file limit (e ∷ past) → answer limit e past ≢ Refused code
   pub long_file : (file : List ℕ) (limit : ℕ) (e : Event) (past : List Event) (n : ℕ) → IsFair file limit (e ∷ past) → answer limit e past ≡ TooLong n → limit < length file
