@@ -2,9 +2,9 @@
 use Rattle.std.proofs.Common.{◌≡◌, ℕ, ◌+◌, ◌<◌, ◌≤◌, cond, eqb, List, [], ◌∷◌, ◌++◌, length, Option, Some, None, refl, sym, ap, ◌∙◌, subst, length-append, arith}
 use Rattle.std.proofs.lemmas.Bool.{eq-eqb, ne_eqb, cond-true, cond-false}
 use Rattle.file_client.specs.Fetch.{Event, reply, late, State, tid_of, offset_of, on_late, on_reply, on_event, step_after, fetched, answer}
-use Rattle.file_client.specs.Laws.{offset_after, end_after, one_if_late, lates_since, PassesLimit}
+use Rattle.file_client.specs.Laws.{offset_after, end_after, one_if_late, lates_since, PassesLimit, end_of}
 use Rattle.file_client.specs.declared.event.FetchOut.{FetchOut}
-use Rattle.file_client.specs.declared.event.FetchOut.TheVariants.{GaveUp, TooLong}
+use Rattle.file_client.specs.declared.event.FetchOut.TheVariants.{Ask, Wait, Done, Refused, GaveUp, TooLong}
 use Rattle.file_client.proofs.Steps.{late_cases, piece_cases, reply_cases, late_last, piece_long, reply_taken}
 
 -- before an end a step is that of the event
@@ -114,18 +114,35 @@ is_too_long limit e past n none p =
     ∙ (reply_taken limit s (tid_of s) 0 p.bytes refl refl ∙ piece_long limit s p.bytes (subst (λ k. limit < k) p.length_is p.above))))
     ∙ ap (λ k. TooLong k) (sym p.length_is)
 
-abbrev Ends : FetchOut → State × FetchOut → Type 0
-Ends out v = v.0.end ≡ Some out → v.1 ≡ out
+abbrev HasEnd : State × FetchOut → Type 0
+HasEnd v = v.0.end ≡ end_of v.1
 
-ends_after : (limit : ℕ) (o : Option FetchOut) (s : State) (e : Event) (out : FetchOut) → s.end ≡ o → Ends out (step_after limit o s e)
-ends_after limit None s (reply tid code bytes) out none =
-    reply_cases limit s tid code bytes (Ends out) (λ _ e. cc) (λ _ _ e. cc)
-    (λ _ _. piece_cases limit s bytes (Ends out) (λ _ e. cc) (λ _ _ e. cc) (λ _ _ e. cc))
-ends_after limit None s late out none = late_cases s (Ends out) (λ _ e. cc) (λ _ e. cc)
-ends_after limit (Some end) s e out is = λ q. cc
+end_after_step : (limit : ℕ) (o : Option FetchOut) (s : State) (e : Event) → s.end ≡ o → ((out : FetchOut) → s.end ≡ Some out → end_of out ≡ Some out) → HasEnd (step_after limit o s e)
+end_after_step limit None s (reply tid code bytes) none own =
+    reply_cases limit s tid code bytes HasEnd (λ _. none) (λ _ _. refl)
+    (λ _ _. piece_cases limit s bytes HasEnd (λ _. refl) (λ _ _. refl) (λ _ _. none))
+end_after_step limit None s late none own = late_cases s HasEnd (λ _. refl) (λ _. none)
+end_after_step limit (Some out) s e is own = is ∙ sym (own out is)
 
-pub ends : (limit : ℕ) (e : Event) (past : List Event) (out : FetchOut) → end_after limit (e ∷ past) ≡ Some out → answer limit e past ≡ out
-ends limit e past out = ends_after limit (end_after limit past) (fetched limit past) e out refl
+same_end : (a out : FetchOut) → Some a ≡ Some out → end_of a ≡ Some a → end_of out ≡ Some out
+same_end a out e own = let same : a ≡ out = cc in subst (λ x. end_of x ≡ Some x) same own
+
+-- an end is the end that it is as an answer
+own_end : (a out : FetchOut) → end_of a ≡ Some out → end_of out ≡ Some out
+own_end (Ask tid offset) out e = cc
+own_end Wait out e = cc
+own_end Done out e = same_end Done out e refl
+own_end (Refused code) out e = same_end (Refused code) out e refl
+own_end (GaveUp offset) out e = same_end (GaveUp offset) out e refl
+own_end (TooLong n) out e = same_end (TooLong n) out e refl
+
+is_end : (limit : ℕ) (past : List Event) (out : FetchOut) → end_after limit past ≡ Some out → end_of out ≡ Some out
+is_end limit [] out e = cc
+is_end limit (e ∷ past) out at =
+    own_end (answer limit e past) out (sym (end_after_step limit (end_after limit past) (fetched limit past) e refl (is_end limit past)) ∙ at)
+
+pub end_is : (limit : ℕ) (e : Event) (past : List Event) → end_after limit (e ∷ past) ≡ end_of (answer limit e past)
+end_is limit e past = end_after_step limit (end_after limit past) (fetched limit past) e refl (is_end limit past)
 
 pub stays : (limit : ℕ) (e : Event) (past : List Event) (out : FetchOut) → end_after limit past ≡ Some out → (answer limit e past ≡ out) × (fetched limit (e ∷ past) ≡ fetched limit past)
 stays limit e past out is =

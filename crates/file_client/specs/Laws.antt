@@ -2,7 +2,7 @@
 use Rattle.std.specs.Prelude.{◌≡◌, ◌≢◌, ⊤, ℕ, ◌+◌, ◌-◌, ◌%◌, ◌<◌, ◌≤◌, ◌==◌, if◌then◌else◌, List, [], ◌∷◌, length, take, drop, slice_index, Option, Some, None}
 use Rattle.file_client.specs.Fetch.{Event, reply, late, State, tid_of, offset_of, fetched, answer}
 use Rattle.file_client.specs.declared.event.FetchOut.{FetchOut}
-use Rattle.file_client.specs.declared.event.FetchOut.TheVariants.{Done, Refused, GaveUp, TooLong}
+use Rattle.file_client.specs.declared.event.FetchOut.TheVariants.{Ask, Wait, Done, Refused, GaveUp, TooLong}
 
 -- a fair reply has code 0 and the bytes of the file at the offset of a request made before, and that request's
 -- transfer-ID; `newer` requests, fewer than 32, were made after it
@@ -51,6 +51,15 @@ pub record PassesLimit (limit : ℕ) (past : List Event) (e : Event) (n : ℕ) :
   pub length_is : n ≡ offset_after limit past + length bytes
   pub above : limit < n
 
+-- the end that an answer is
+abbrev pub end_of : FetchOut → Option FetchOut
+end_of (Ask tid offset) = None
+end_of Wait = None
+end_of Done = Some Done
+end_of (Refused code) = Some (Refused code)
+end_of (GaveUp offset) = Some (GaveUp offset)
+end_of (TooLong n) = Some (TooLong n)
+
 -- a fair list that ends with Done
 pub record FairToDone (file : List ℕ) (limit : ℕ) : Type 0 where
   pub past : List Event
@@ -72,6 +81,6 @@ pub record FetchLaws : Type 0 where
   -- and a file is too long exactly where the bytes of a reply pass the limit
   pub was_too_long : (limit : ℕ) (e : Event) (past : List Event) (n : ℕ) → end_after limit past ≡ None → answer limit e past ≡ TooLong n → PassesLimit limit past e n
   pub is_too_long : (limit : ℕ) (e : Event) (past : List Event) (n : ℕ) → end_after limit past ≡ None → PassesLimit limit past e n → answer limit e past ≡ TooLong n
-  -- an end is the answer at which it comes; after it each event is answered by it, and nothing changes
-  pub ends : (limit : ℕ) (e : Event) (past : List Event) (out : FetchOut) → end_after limit (e ∷ past) ≡ Some out → answer limit e past ≡ out
+  -- the end is read off each answer; after an end each event is answered by it, and nothing changes
+  pub end_is : (limit : ℕ) (e : Event) (past : List Event) → end_after limit (e ∷ past) ≡ end_of (answer limit e past)
   pub stays : (limit : ℕ) (e : Event) (past : List Event) (out : FetchOut) → end_after limit past ≡ Some out → (answer limit e past ≡ out) × (fetched limit (e ∷ past) ≡ fetched limit past)

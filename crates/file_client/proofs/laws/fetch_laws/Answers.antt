@@ -1,5 +1,5 @@
 use Rattle.file_client.proofs.Fair.{served, serves}
-use Rattle.file_client.proofs.Ends.{gave_up, gives_up, was_too_long, is_too_long, ends, stays}
+use Rattle.file_client.proofs.Ends.{gave_up, gives_up, was_too_long, is_too_long, end_is, stays}
 use Rattle.file_client.proofs.Whole.{can_be_fetched}
 use Rattle.file_client.proofs.laws.fetch_laws.Goals as goal
 
@@ -14,6 +14,6 @@ returns c = record {
   gives_up = gives_up;
   was_too_long = was_too_long;
   is_too_long = is_too_long;
-  ends = ends;
+  end_is = end_is;
   stays = stays;
 }
