@@ -1,0 +1,4 @@
+pub mod Greatest
+pub mod Owned
+pub mod Kept
+pub mod Given

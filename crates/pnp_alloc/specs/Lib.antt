@@ -1,0 +1,4 @@
+pub mod Allocation
+pub mod Used
+pub mod Stands
+pub mod Laws

@@ -1,0 +1,12 @@
+//! Node-IDs for nodes without one: who gets which number, and who keeps it.
+#![tactic(auto)]
+
+pub mod allocator;
+pub mod event;
+pub mod laws;
+#[cfg(test)]
+mod tests;
+
+pub use allocator::Allocator;
+pub use event::{AllocEvent, AllocOut, Owner};
+pub use laws::alloc_laws;
