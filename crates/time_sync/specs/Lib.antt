@@ -1,0 +1,4 @@
+pub mod Pairs
+pub mod Times
+pub mod Stands
+pub mod Laws

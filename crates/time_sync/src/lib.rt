@@ -1,0 +1,12 @@
+//! The network's time: who tells it, and how far it is from the own moments.
+#![tactic(auto)]
+
+pub mod last;
+pub mod laws;
+pub mod sync;
+#[cfg(test)]
+mod tests;
+
+pub use last::Last;
+pub use laws::sync_laws;
+pub use sync::{Estimate, Sync};
