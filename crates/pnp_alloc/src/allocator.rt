@@ -40,8 +40,8 @@ impl Allocator {
         }
     }
 
-    /// Hears an event. A unique id that has a node-ID is given it again, any other the greatest free
-    /// one. A node that is seen has a node-ID, at most 127.
+    /// Hears an event. A unique id that has a node-ID is given it again, any other the greatest
+    /// free one. A node that is seen has a node-ID of at most 127.
     pub fn hear(&mut self, ev: AllocEvent) -> AllocOut
         requires { IsFit ev }
         ensures stands { (own : ℕ) (past : List Event)
@@ -116,7 +116,8 @@ impl Allocator {
     fn give(&mut self, uid: u64, node: u8)
         requires { greatest (is_open self.old.used) 125 ≡ Some node }
         ensures used { self.new.used ≡ slice_set self.old.used node true }
-        ensures owners { self.new.owners ≡ self.old.owners ++ (record { uid = uid; node = node }) ∷ [] }
+        ensures owners { self.new.owners
+            ≡ self.old.owners ++ (record { uid = uid; node = node }) ∷ [] }
     {
         self.used[node as usize] = true;
         self.top = node - 1;

@@ -20,7 +20,8 @@ impl Last {
     pub fn offset_after(&self, moment: u64, tid: u8, stamp: u64) -> Option<i64>
         requires tid { tid < 32 }
         requires stamp { stamp < 2 ^ 56 }
-        ensures { result ≡ offset_after self.now.moment self.now.tid moment tid stamp self.now.offset }
+        ensures { result
+            ≡ offset_after self.now.moment self.now.tid moment tid stamp self.now.offset }
     {
         if tid == (self.tid + 1) % 32 && moment <= self.moment + 2_000_000 && stamp != 0 {
             Some(stamp as i64 - self.moment as i64)
