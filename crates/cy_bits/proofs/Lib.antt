@@ -1,1 +1,4 @@
 pub mod BitFacts
+pub mod BitPlaces
+pub mod BitPuts
+pub mod Decimals

@@ -1,3 +1,4 @@
 pub mod Put
 pub mod formers
 pub mod Bits
+pub mod Numbers

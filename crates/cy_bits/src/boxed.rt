@@ -4,7 +4,8 @@ use crate::{NoMemory, TryCopy};
 use std::alloc::Global;
 use std::marker::Model;
 
-/// A value on the heap, which contracts see as the value alone. A type that holds itself holds it so.
+/// A value on the heap, which contracts see as the value alone. A type that holds itself holds it
+/// so.
 pub struct Boxed<T> {
     inner: Box<T>,
 }

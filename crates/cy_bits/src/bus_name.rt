@@ -33,7 +33,8 @@ impl BusName {
 
     /// The name, where it has at most 15 bytes.
     pub fn new(name: &str) -> Option<BusName>
-        ensures { MatchOption result (15 < length name.now) (λ n. (n ≡ name.now) × (length name.now ≤ 15)) }
+        ensures { MatchOption result (15 < length name.now)
+            (λ n. (n ≡ name.now) × (length name.now ≤ 15)) }
     {
         let mut text = ArrayString::new();
         match text.try_push_str(name) {

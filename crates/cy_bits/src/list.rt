@@ -1,4 +1,4 @@
-ghost use Rattle.std.specs.Prelude.{◌≡◌, ◌↔◌, IsTrue, ◌++◌, ◌∷◌, [], length, OnOk, OnErr, slice_get};
+ghost use Rattle.std.specs.Prelude.{◌≡◌, ◌↔◌, IsTrue, ◌++◌, ◌∷◌, [], length, OnOk, OnErr, slice_get, take};
 ghost use Rattle.std.specs.Option.{option_copied};
 
 use crate::{NoMemory, TryCopy};
@@ -89,6 +89,13 @@ impl<X: Drop> List<X> {
     {
         self.items.push(item)?;
         Ok(())
+    }
+
+    /// Drops all items but the first `len`. Takes no memory.
+    pub fn cut_back(&mut self, len: usize)
+        ensures { self.new ≡ take len self.old }
+    {
+        self.items.truncate(len);
     }
 }
 

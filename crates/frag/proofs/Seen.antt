@@ -13,7 +13,8 @@ use Rattle.tail_frame.specs.Frames.{FrameOf, frame_of, key_record, tail_of, tail
 use Rattle.tail_frame.specs.declared.logged.Record.{Record}
 use Rattle.tail_frame.specs.declared.tail.Tail.{Tail}
 use Rattle.frag.specs.Wire.{IsFrameSize, stream, last_frame, is_even, tail_at, body_at}
-use Rattle.frag.specs.Sent.{Pair, IsUpTo, transfer_at, size_on, IsSentList, IsFrame, IsSent}
+use Rattle.frag.specs.Sent.{IsUpTo, transfer_at, size_on, IsSentList, IsFrame, IsSent}
+use Rattle.frag.specs.declared.sent.Pair.{Pair}
 use Rattle.frag.specs.Raw.{EachRecord, IsWireSent, IsRecordOf, AreRecordsOf, FramesAreSeen, ExplainedByFields}
 use Rattle.frag.specs.declared.sent.Sent.{Sent}
 use Rattle.tail_frame.specs.Chains.{KeyRecord, AtEach}
@@ -157,7 +158,7 @@ place_of rec (Some ident) (Some t) f e =
     (λ _ h. absurd (no_frame f h))
     (λ _ h. (let same = some_inj whole f h in (ap (λ (g : FrameOf). g.bus) (sym same), ap (λ (g : FrameOf). g.moment) (sym same)))) e
 
-record_place : (rec : Record) (r : KeyRecord) → IsRecordOf rec r → (r.bus ≡ rec.bus) × (r.moment ≡ rec.moment)
+pub record_place : (rec : Record) (r : KeyRecord) → IsRecordOf rec r → (r.bus ≡ rec.bus) × (r.moment ≡ rec.moment)
 record_place rec r a =
     let place = place_of rec (ident_of rec.ident) (last_byte rec.bytes) a.frame a.is_frame in
     (ap (λ (q : KeyRecord). q.bus) a.taken_apart ∙ place.0, ap (λ (q : KeyRecord). q.moment) a.taken_apart ∙ place.1)

@@ -6,7 +6,8 @@ use Rattle.tail_frame.specs.Chains.{KeyRecord}
 use Rattle.tail_frame.specs.Frames.{FrameOf, frame_of, key_record}
 use Rattle.tail_frame.specs.declared.logged.Record.{Record}
 use Rattle.frag.specs.Wire.{IsFrameSize}
-use Rattle.frag.specs.Sent.{Pair, IsUpTo, transfer_at, size_on, IsSentList, IsWireFrame, IsFrame, Explained}
+use Rattle.frag.specs.Sent.{IsUpTo, transfer_at, size_on, pair_at, IsSentList, IsWireFrame, IsFrame, Explained, NoChance}
+use Rattle.frag.specs.declared.sent.Pair.{Pair}
 use Rattle.frag.specs.declared.sent.Sent.{Sent}
 use Rattle.frag.specs.declared.sent.Transfer.{Transfer}
 
@@ -30,6 +31,15 @@ pub record IsWireExplainedAt (timeout : ℕ) (sent : Sent) (origin : ℕ → Pai
 
 abbrev pub WireExplained : ℕ → Sent → (ℕ → Pair) → List Record → Type 0
 WireExplained timeout sent origin recs = EachRecord (IsWireExplainedAt timeout sent origin) recs
+
+-- a sent list of a key with a pair for each of these records explains them, by identifier and data, and the same
+-- records of the key have no chance match
+pub record WireExplainsOf (timeout : ℕ) (sent : Sent) (key : Key) (origin : List Pair) (recs : List Record) (records : List KeyRecord) : Type 0 where
+  pub sent_list : IsSentList sent
+  pub of_key : sent.key ≡ key
+  pub one_each : length origin ≡ length recs
+  pub explained : WireExplained timeout sent (pair_at origin) recs
+  pub no_chance : NoChance sent (pair_at origin) records
 
 -- a record of a log is a record of a key
 pub record IsRecordOf (rec : Record) (r : KeyRecord) : Type 0 where

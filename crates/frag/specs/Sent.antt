@@ -7,13 +7,9 @@ use Rattle.tail_frame.specs.Chains.{KeyRecord, AtEach, chain_bytes, closes_at, w
 use Rattle.tail_frame.specs.declared.logged.Record.{Record}
 use Rattle.transfer_crc.specs.Crc.{crc_of}
 use Rattle.frag.specs.Wire.{IsFrameSize, padded, last_frame, is_even, body_at, frame_at}
+use Rattle.frag.specs.declared.sent.Pair.{Pair}
 use Rattle.frag.specs.declared.sent.Sent.{Sent}
 use Rattle.frag.specs.declared.sent.Transfer.{Transfer}
-
--- frame i of the transfer j of a sent list
-pub record Pair : Type 0 where
-  pub j : ℕ
-  pub i : ℕ
 
 -- a pair isn't after another
 abbrev pub IsUpTo : Pair → Pair → Type 0
@@ -29,6 +25,14 @@ transfer_at sent j = get_or sent.transfers j nothing
 -- the frame size on a bus
 abbrev pub size_on : Sent → ℕ → ℕ
 size_on sent bus = get_or sent.sizes bus 8
+
+-- the number of the last frame of a transfer on a bus
+abbrev pub last_on_bus : Sent → ℕ → ℕ → ℕ
+last_on_bus sent j bus = last_frame (size_on sent bus) (transfer_at sent j).payload
+
+-- the pair of the record at a place
+abbrev pub pair_at : List Pair → ℕ → Pair
+pair_at origin n = get_or origin n (record { j = 0; i = 0 })
 
 -- a transfer's payload with the padding that it has on a bus
 abbrev pub data_on : Sent → ℕ → ℕ → List ℕ

@@ -7,5 +7,5 @@ pub mod sent;
 pub mod size;
 
 pub use frames::Frames;
-pub use sent::{Sent, Transfer};
+pub use sent::{Pair, Sent, Transfer};
 pub use size::count;

@@ -26,3 +26,12 @@ pub struct Sent {
     /// The transfers; their moments never fall.
     pub transfers: List<Transfer>,
 }
+
+/// Frame `i` of the transfer at the place `j` of a sent list, both counted from 0.
+#[derive(Clone, Copy, Debug, PartialEq, Eq)]
+pub struct Pair {
+    /// The transfer's place in the list.
+    pub j: u64,
+    /// The frame's number in the transfer.
+    pub i: u64,
+}

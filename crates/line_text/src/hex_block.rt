@@ -23,20 +23,23 @@ pub fn hex_of_eight(bytes: &[u8]) -> [u8; 16]
     digits_of(u8x8::from_slice(bytes)).to_array()
 }
 
-/// A block that begins with at most seven bytes.
+/// A block that begins with some bytes, at most eight. Behind the last of them it stands again, so that
+/// nothing depends on their number.
 #[inline(always)]
 pub fn padded(bytes: &[u8]) -> [u8; 8]
-    requires { length bytes.now < 8 }
+    requires some { 1 ≤ length bytes.now }
+    requires few { length bytes.now ≤ 8 }
     ensures { take (length bytes.now) result ≡ bytes.now }
 {
-    match bytes {
-        [] => [0; 8],
-        [a] => [*a, 0, 0, 0, 0, 0, 0, 0],
-        [a, b] => [*a, *b, 0, 0, 0, 0, 0, 0],
-        [a, b, c] => [*a, *b, *c, 0, 0, 0, 0, 0],
-        [a, b, c, d] => [*a, *b, *c, *d, 0, 0, 0, 0],
-        [a, b, c, d, e] => [*a, *b, *c, *d, *e, 0, 0, 0],
-        [a, b, c, d, e, f] => [*a, *b, *c, *d, *e, *f, 0, 0],
-        [a, b, c, d, e, f, g, ..] => [*a, *b, *c, *d, *e, *f, *g, 0],
-    }
+    let last = bytes.len() - 1;
+    [
+        bytes[0],
+        bytes[last.min(1)],
+        bytes[last.min(2)],
+        bytes[last.min(3)],
+        bytes[last.min(4)],
+        bytes[last.min(5)],
+        bytes[last.min(6)],
+        bytes[last.min(7)],
+    ]
 }

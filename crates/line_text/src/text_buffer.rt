@@ -186,9 +186,13 @@ impl TextBuffer {
         ensures text { text_of self.new ≡ text_of self.old ++ six_digits micros }
         ensures room { room_of self.new + 6 ≡ room_of self.old }
     {
-        self.put(&two_digits(micros / 10_000), 2);
-        self.put(&two_digits(micros / 100), 2);
-        self.put(&two_digits(micros), 2);
+        let first = two_digits(micros / 10_000);
+        let middle = two_digits(micros / 100);
+        let last = two_digits(micros);
+        let word = [
+            first[0], first[1], middle[0], middle[1], last[0], last[1], 0, 0,
+        ];
+        self.put(&word, 6);
     }
 
     /// Appends a moment in microseconds as seconds, a point, and six digits. There is room for 32 bytes.
@@ -210,6 +214,9 @@ impl TextBuffer {
         ensures text { text_of self.new ≡ text_of self.old ++ encode_upper bytes.now }
         ensures room { room_of self.new + 2 * length bytes.now ≡ room_of self.old }
     {
+        if bytes.is_empty() {
+            return;
+        }
         if bytes.len() < 8 {
             self.put_short_hex(bytes);
         } else {
@@ -233,9 +240,10 @@ impl TextBuffer {
         }
     }
 
-    /// Appends two hex digits for each of at most seven bytes.
+    /// Appends two hex digits for each of one to seven bytes.
     #[inline(always)]
     fn put_short_hex(&mut self, bytes: &[u8])
+        requires some { 1 ≤ length bytes.now }
         requires short { length bytes.now < 8 }
         requires room { 2 * length bytes.now + 16 ≤ room_of self.old }
         ensures text { text_of self.new ≡ text_of self.old ++ encode_upper bytes.now }
