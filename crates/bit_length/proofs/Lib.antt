@@ -1,3 +1,4 @@
+pub mod AscendingLemmas
 pub mod MemberLemmas
 pub mod RunLemmas
 pub mod SetLemmas
@@ -6,3 +7,5 @@ pub mod MergeLemmas
 pub mod SumLemmas
 pub mod RepeatLemmas
 pub mod WithinLemmas
+pub mod SearchLemmas
+pub mod ResidueLemmas

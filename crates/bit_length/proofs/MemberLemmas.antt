@@ -1,10 +1,8 @@
 -- The ascending list of the members of some runs holds just what the runs mean.
-use Rattle.std.proofs.Common.{◌≡◌, ℕ, zero, suc, ◌+◌, ◌*◌, ◌/◌, ◌%◌, ◌^◌, ◌<◌, ◌≤◌, ◌⊎◌, ◌↔◌, inl, inr, Bool, true, false, ◌==◌, ◌&&◌, ◌||◌, cond, List, [], ◌∷◌, ◌++◌, refl, sym, ap, ◌∙◌, subst, arith, Contains, All, AllPairs, get_or, nat_le, lit<}
+use Rattle.std.proofs.Common.{◌≡◌, ℕ, zero, suc, ◌+◌, ◌*◌, ◌/◌, ◌%◌, ◌^◌, ◌<◌, ◌≤◌, ◌⊎◌, ◌↔◌, inl, inr, Bool, true, false, ◌==◌, ◌&&◌, ◌||◌, cond, List, [], ◌∷◌, ◌++◌, refl, sym, ap, ◌∙◌, subst, arith, Contains, All, nat_le, lit<}
 use Rattle.std.specs.List.{list_any}
 use Rattle.std.proofs.lemmas.Bool.{cases_lt, eqb-true, leb-true, le-leb, false≢true}
 use Rattle.std.proofs.lemmas.Bool.Decides.{nat_tests}
-use Rattle.std.proofs.lemmas.List.{append-nil, get_or_default}
-use Rattle.std.proofs.lemmas.List.Quantifiers.{all_pairs_push}
 use Rattle.std.proofs.lemmas.List.Elements.{All-head, All-tail, All-push, Contains-append_left, Contains-append_right, Contains-append_cases}
 use Rattle.std.proofs.lemmas.Nat.{div-mul-add, mod-mul-add}
 use Rattle.std.proofs.Math.Nat.{mul-le-mul_left}
@@ -110,20 +108,6 @@ has-below (suc n) test k lt e = elim (cases_lt k n) [
       Contains-append_right (numbers_below n test) (cond (test n) (n ∷ []) []) k
       (subst (λ m. Contains (cond (test n) (n ∷ []) []) m) same (one_of (test n) n (ap test same ∙ e)))
 ]
-
--- the list ascends
-ascending_more : (b : Bool) (n : ℕ) (xs : List ℕ) → AllPairs (λ a c. a < c) xs → ((k : ℕ) → Contains xs k → k < n) → AllPairs (λ a c. a < c) (xs ++ cond b (n ∷ []) [])
-ascending_more true n xs up below = all_pairs_push (λ a c. a < c) xs n up (λ k d lt. below (get_or xs k d) (k, lt, get_or_default xs k (get_or xs k d) d lt))
-ascending_more false n xs up below = rw (append-nil xs) up
-
-below_ascends : (n : ℕ) (test : ℕ → Bool) → AllPairs (λ a c. a < c) (numbers_below n test)
-unfolding numbers_below
-below_ascends zero test = λ i j d lt short. absurd (omega arith)
-below_ascends (suc n) test = ascending_more (test n) n (numbers_below n test) (below_ascends n test) (λ k h. (below-has n test k h).0)
-
-pub members_ascend : (step : ℕ) (rs : List Run) → AllPairs (λ a c. a < c) (members_of step rs)
-unfolding members_of
-members_ascend step rs = below_ascends (2 ^ 32 + 1) (λ k. list_any (in_run step k) rs)
 
 -- the list holds just the members
 pub members_are : (step : ℕ) (rs : List Run) → 0 < step → All (IsRun step) rs → Same (Has (members_of step rs)) (InSome step rs)

@@ -1,8 +1,8 @@
 -- What a set's runs mean as a whole, and what a loop over them keeps.
-use Rattle.std.proofs.Common.{◌≡◌, ℕ, zero, suc, ◌+◌, ◌-◌, ◌*◌, ◌/◌, ◌%◌, ◌^◌, ◌<◌, ◌≤◌, ◌⊎◌, ◌↔◌, inl, inr, true, false, List, [], ◌∷◌, ◌++◌, length, take, get_or, refl, sym, ap, ◌∙◌, subst, arith, All, min, max, Option, Some, None, Result, Ok, Err, IfOk}
+use Rattle.std.proofs.Common.{◌≡◌, ℕ, zero, suc, ◌+◌, ◌-◌, ◌*◌, ◌/◌, ◌%◌, ◌^◌, ◌<◌, ◌≤◌, ◌⊎◌, ◌↔◌, inl, inr, true, false, List, [], ◌∷◌, ◌++◌, length, length-append, take, get_or, refl, sym, ap, ◌∙◌, subst, arith, All, min, max, Option, Some, None, Result, Ok, Err, IfOk}
 use Rattle.std.proofs.lemmas.Result.{IfOk-weaker}
 use Rattle.std.proofs.lemmas.Bool.{cases_lt, false≢true}
-use Rattle.std.proofs.lemmas.List.{take_more, take_all}
+use Rattle.std.proofs.lemmas.List.{take_more, take_all, get_or_append_left}
 use Rattle.std.proofs.lemmas.List.Elements.{All-append, All-get_or, All-tail, All-head, All-nil, All-cons}
 use Rattle.std.proofs.Math.Nat.{mul-le-mul_left}
 use Rattle.bit_length.specs.declared.run.Run.{Run}
@@ -10,7 +10,10 @@ use Rattle.bit_length.specs.Lengths.{Numbers, Has, Same, Only, Delimited, IsNext
 use Rattle.bit_length.specs.declared.LengthError.{LengthError}
 use Rattle.bit_length.specs.declared.LengthError.TheVariants as error
 use Rattle.bit_length.specs.Members.{lesser_of}
-use Rattle.bit_length.specs.Runs.{in_run, IsRun, InRun, InSome, members_of, AreRuns, AreRunsOf, IsMerged}
+use Rattle.bit_length.specs.Runs.{in_run, IsRun, IsBefore, InRun, InSome, members_of, AreRuns, AreRunsOf, IsMerged}
+use Rattle.bit_length.specs.Ascending.{Ascend}
+use Rattle.std.specs.List.{list_any}
+use Rattle.bit_length.proofs.AscendingLemmas.{below_ascends}
 use Rattle.bit_length.proofs.MemberLemmas.{members_are, InSome-push, InRun-from_test, test_from_InRun}
 
 -- the last run, and the first others
@@ -294,3 +297,30 @@ last_member s others last v set e n h =
 pub other_member : (s : ℕ) (others : List Run) (last : Run) (v : List ℕ) (i : ℕ) → AreRuns s (others ++ last ∷ []) → members_of s (others ++ last ∷ []) ≡ v → i < length others → (n : ℕ) → InRun s (get_or others i no_run) n → Has v n
 other_member s others last v i set e lt n h =
     (value_at s others last v (length others) set e (omega arith) n).0 (rw (take_all (length others) others (omega arith)) (inr (InSome-at s others i n lt h)))
+
+-- ---- the members of a set ascend
+
+pub members_ascend : (step : ℕ) (rs : List Run) → Ascend (members_of step rs)
+unfolding members_of
+members_ascend step rs = below_ascends (2 ^ 32 + 1) (λ k. list_any (in_run step k) rs)
+
+-- ---- the others by themselves
+
+pub others_set : (s : ℕ) (others : List Run) (last : Run) → AreRuns s (others ++ last ∷ []) → AreRuns s others
+others_set s others last set = record {
+  each = other_runs s others last set;
+  apart = λ i j d lt len.
+      let before = set.apart i j d lt (let l = length-append others (last ∷ []) in omega (arith, l)) in
+      subst (λ r. IsBefore r (get_or others j d)) (get_or_append_left others (last ∷ []) d i (omega arith)) (subst (λ r. IsBefore (get_or (others ++ last ∷ []) i d) r) (get_or_append_left others (last ∷ []) d j len) before);
+}
+
+-- the members of a set are those of its last run and of the others
+pub value_parts : (s : ℕ) (others : List Run) (last : Run) (v : List ℕ) → AreRuns s (others ++ last ∷ []) → members_of s (others ++ last ∷ []) ≡ v → Same (Has v) (InSome s (last ∷ others))
+value_parts s others last v set e =
+    subst (λ w. Same (Has w) (InSome s (last ∷ others))) e (value_is s others last set)
+
+pub first_member : (s : ℕ) (runs : List Run) → All (IsRun s) runs → 0 < length runs → (n : ℕ) × InSome s runs n
+first_member s [] each lt = absurd (omega arith)
+first_member s (r ∷ runs) each lt =
+    let run = All-head (IsRun s) r runs each in
+    (r.residue + s * r.first, inl (r.first, omega arith, run.1, refl))

@@ -1,34 +1,12 @@
 -- Whether the members of a run are of a set, and equal sets.
 use Rattle.std.proofs.Common.{◌≡◌, ℕ, zero, suc, ◌+◌, ◌-◌, ◌*◌, ◌/◌, ◌%◌, ◌^◌, ◌<◌, ◌≤◌, ◌⊎◌, ◌↔◌, inl, inr, Bool, true, false, cond, List, [], ◌∷◌, ◌++◌, refl, sym, ap, ◌∙◌, subst, arith, Some, None, add-one}
-use Rattle.std.specs.List.{list_any}
 use Rattle.std.proofs.lemmas.Bool.{cases_lt}
 use Rattle.std.proofs.lemmas.List.{append-nil}
 use Rattle.std.proofs.Math.Nat.{mul-le-mul_left}
 use Rattle.bit_length.specs.declared.run.Run.{Run}
 use Rattle.bit_length.specs.Lengths.{Numbers, Has, Same, IsWithin, IsNext}
-use Rattle.bit_length.specs.Runs.{in_run, IsRun, InRun, numbers_below, members_of, HasClass}
+use Rattle.bit_length.specs.Runs.{IsRun, InRun, numbers_below, HasClass}
 use Rattle.bit_length.proofs.MemberLemmas.{has-below, below-has}
-
--- ---- equal sets
-
-below_same : (n : ℕ) (p q : ℕ → Bool) → ((k : ℕ) → k < n → p k ≡ q k) → numbers_below n p ≡ numbers_below n q
-unfolding numbers_below
-below_same zero p q e = refl
-below_same (suc n) p q e =
-    rw (below_same n p q (λ k lt. e k (omega arith)), e n (omega arith)) refl
-
-same_test : (a b : Bool) → (a ≡ true → b ≡ true) → (b ≡ true → a ≡ true) → a ≡ b
-same_test true b f g = sym (f refl)
-same_test false true f g = g refl
-same_test false false f g = refl
-
-pub same_below : (n : ℕ) (p q : ℕ → Bool) → IsWithin (Has (numbers_below n p)) (Has (numbers_below n q)) → IsWithin (Has (numbers_below n q)) (Has (numbers_below n p)) → numbers_below n p ≡ numbers_below n q
-same_below n p q f g = below_same n p q (λ k lt. same_test (p k) (q k) (λ h. (below-has n q k (f k (has-below n p k lt h))).1) (λ h. (below-has n p k (g k (has-below n q k lt h))).1))
-
-pub same_sets : (s t : ℕ) (rs qs : List Run) (v w : List ℕ) → members_of s rs ≡ v → members_of t qs ≡ w → IsWithin (Has v) (Has w) → IsWithin (Has w) (Has v) → v ≡ w
-unfolding members_of
-same_sets s t rs qs v w e f x y =
-    sym e ∙ same_below (2 ^ 32 + 1) (λ k. list_any (in_run s k) rs) (λ k. list_any (in_run t k) qs) (subst (λ a. IsWithin (Has a) (Has (numbers_below (2 ^ 32 + 1) (λ k. list_any (in_run t k) qs)))) (sym e) (subst (λ b. IsWithin (Has v) (Has b)) (sym f) x)) (subst (λ a. IsWithin (Has (numbers_below (2 ^ 32 + 1) (λ k. list_any (in_run t k) qs))) (Has a)) (sym e) (subst (λ b. IsWithin (Has b) (Has v)) (sym f) y)) ∙ f
 
 -- ---- a list of the members
 

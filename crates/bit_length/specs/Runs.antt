@@ -1,12 +1,17 @@
 -- Runs of one common step, and the numbers that they mean.
-use Rattle.std.specs.Prelude.{◌≡◌, ℕ, zero, suc, ◌+◌, ◌*◌, ◌/◌, ◌%◌, ◌^◌, ◌<◌, ◌≤◌, ◌==◌, ◌⊎◌, nat_le, Bool, ◌&&◌, if◌then◌else◌, List, [], ◌∷◌, ◌++◌, All, AllPairs, Option, MatchOption}
+use Rattle.std.specs.Prelude.{◌≡◌, ℕ, zero, suc, ◌+◌, ◌*◌, ◌/◌, ◌%◌, ◌^◌, ◌<◌, ◌≤◌, ◌==◌, ◌⊎◌, nat_le, nat_lt, Bool, ◌||◌, ◌&&◌, if◌then◌else◌, List, [], ◌∷◌, ◌++◌, All, AllPairs, Option, MatchOption}
 use Rattle.std.specs.List.{list_any}
 use Rattle.bit_length.specs.declared.run.Run.{Run}
-use Rattle.bit_length.specs.Lengths.{Numbers, Same, Joins}
+use Rattle.bit_length.specs.Lengths.{Numbers, Same, Joins, IsWithin}
 
 -- whether a number is in a run
 abbrev pub in_run : ℕ → ℕ → Run → Bool
 in_run step n r = (n % step == r.residue) && (nat_le r.first (n / step) && nat_le (n / step) r.last)
+
+-- whether a run stands no later than one of a residue that begins at a quotient
+abbrev pub starts_by : ℕ → ℕ → Run → Bool
+starts_by residue quotient r =
+    nat_lt r.residue residue || ((r.residue == residue) && nat_le r.first quotient)
 
 -- a run that a set with this step may have
 abbrev pub IsRun : ℕ → Run → Type 0
@@ -80,3 +85,13 @@ HasClass S step r period from =
 abbrev pub IsReach : Numbers → ℕ → ℕ → Option ℕ → Type 0
 IsReach S n stride o =
     MatchOption o (S n → ⊥) (λ end. (n ≤ end) × (end ≤ 2 ^ 32) × ((k : ℕ) → n + stride * k ≤ end → S (n + stride * k)))
+
+-- one of some runs, with a number
+pub record IsRunOf (step : ℕ) (runs : List Run) (n : ℕ) (r : Run) : Type 0 where
+  pub run : IsRun step r
+  pub has : InRun step r n
+  pub within : IsWithin (InRun step r) (InSome step runs)
+
+-- if each run of a list can be one of a set, so can each of another list
+abbrev pub KeepsRuns : ℕ → List Run → List Run → Type 0
+KeepsRuns step old new = All (IsRun step) old → All (IsRun step) new

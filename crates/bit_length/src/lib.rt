@@ -6,9 +6,12 @@
 
 ghost use Rattle.std.specs.Prelude.{◌≡◌};
 
+mod coarse;
 mod merge;
 mod parts;
+mod residues;
 mod run;
+mod search;
 mod set;
 mod steps;
 mod sums;

@@ -1,7 +1,8 @@
-ghost use Rattle.std.specs.Prelude.{◌≡◌, ℕ, ◌+◌, ◌*◌, ◌%◌, ◌^◌, ◌<◌, ◌≤◌, IsTrue, ◌↔◌, if◌then◌else◌};
-ghost use Rattle.bit_length.specs.Runs.{in_run, IsRun, InRun};
+ghost use Rattle.std.specs.Prelude.{◌≡◌, ℕ, ◌+◌, ◌*◌, ◌%◌, ◌^◌, ◌<◌, ◌≤◌, IsTrue, ◌↔◌, if◌then◌else◌, IfSome};
+ghost use Rattle.bit_length.specs.Runs.{in_run, starts_by, IsRun, InRun};
 ghost use Rattle.bit_length.specs.Lengths.{Same, Only, Sums, Pads, IsNext, SomeLeaves, padded as padded_of};
 
+use crate::LONGEST;
 use crate::steps::common_divisor;
 
 /// The numbers that leave `residue` when they are divided by a step, and whose quotients are those
@@ -33,6 +34,24 @@ impl Run {
         }
     }
 
+    /// The run of the quotients from `first` to below `end`, if it has a member and none is above
+    /// `LONGEST`.
+    pub fn between(step: u64, residue: u64, first: u64, end: u64) -> Option<Run>
+        ensures { IfSome result (IsRun step) }
+    {
+        let last = end.checked_sub(1)?;
+        let greatest = step.checked_mul(last)?.checked_add(residue)?;
+        if first <= last && residue < step && greatest <= LONGEST {
+            Some(Run {
+                residue,
+                first,
+                last,
+            })
+        } else {
+            None
+        }
+    }
+
     /// How many members there are.
     pub fn count(&self) -> u64
         requires order { self.now.first ≤ self.now.last }
@@ -58,6 +77,13 @@ impl Run {
         ensures { result ≡ in_run step n self.now }
     {
         n % step == self.residue && self.first <= n / step && n / step <= self.last
+    }
+
+    /// Whether the run stands no later, in the order of runs, than one that begins at a quotient.
+    pub fn starts_by(&self, residue: u64, quotient: u64) -> bool
+        ensures { result ≡ starts_by residue quotient self.now }
+    {
+        self.residue < residue || (self.residue == residue && self.first <= quotient)
     }
 
     /// The greatest member, or the number itself where further members don't matter.

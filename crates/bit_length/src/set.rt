@@ -1,11 +1,16 @@
-ghost use Rattle.std.specs.Prelude.{◌≡◌, ◌≢◌, ℕ, ◌+◌, ◌*◌, ◌%◌, ◌/◌, ◌<◌, ◌≤◌, ◌^◌, ◌↔◌, IsTrue, IfOk, Err, length, All, AllPairs};
+ghost use Rattle.std.specs.Prelude.{◌≡◌, ◌≢◌, ℕ, ◌+◌, ◌*◌, ◌%◌, ◌/◌, ◌<◌, ◌≤◌, ◌^◌, ◌↔◌, IsTrue, IfOk, Err, length, All};
+ghost use Rattle.bit_length.specs.Ascending.{Ascend};
 ghost use Rattle.bit_length.specs.Lengths.{Has, Same, Only, Delimited, Sums, Joins, Repeats, UpTo, Pads, SomeLeaves, IsWithin, IsLongBeyond, IsGreatest, IsLeast, IsNext};
+ghost use Rattle.bit_length.specs.Residues.{residues_of};
 ghost use Rattle.bit_length.specs.Runs.{IsRun, InRun, InSome, AreRunsOf, HasClass, IsReach};
 ghost use Rattle.bit_length.specs.Members.{lesser_of};
 
+use crate::coarse::coarse_runs;
 use crate::merge::{Merged, merge_runs};
 use crate::parts::{parts_of, push_parts};
+use crate::residues::{residues, unmarked};
 use crate::run::Run;
+use crate::search::run_with;
 use crate::steps::{common_divisor, common_multiple};
 use crate::sums::{pads, sums};
 use crate::{LONGEST, LengthError};
@@ -117,7 +122,7 @@ impl LengthSet {
     /// The number of lengths.
     pub fn count(&self) -> u64
         ensures count { result ≡ length self.now }
-        ensures ascending { AllPairs (λ (a b : ℕ). a < b) self.now }
+        ensures ascending { Ascend self.now }
     {
         let mut count = self.last.count();
         for run in &self.others {
@@ -133,12 +138,7 @@ impl LengthSet {
         if self.last.has(self.step, n) {
             return true;
         }
-        for run in &self.others {
-            if run.has(self.step, n) {
-                return true;
-            }
-        }
-        false
+        run_with(self.others.as_slice(), self.step, n).is_some()
     }
 
     /// The least length that is no less than a number.
@@ -167,13 +167,20 @@ impl LengthSet {
         Ok(LengthSet { step, others, last })
     }
 
-    /// The set of the members of some runs of one step.
-    fn from_runs(alloc: Global, step: u64, runs: Vec<Run>) -> Result<LengthSet, NoMemory>
+    /// The set of the members of some runs of one step, of which another step may be a divisor.
+    fn from_runs(
+        alloc: Global,
+        step: u64,
+        runs: Vec<Run>,
+        finer: u64,
+    ) -> Result<LengthSet, NoMemory>
         requires some { (n : ℕ) × InSome step runs.items n }
         requires each { All (IsRun step) runs.items }
         ensures { IfOk result (λ s. Same (Has s) (InSome step runs.items)) }
     {
-        LengthSet::merged(alloc, step, runs)?.simplified()
+        LengthSet::merged(alloc, step, runs)?
+            .simplified()?
+            .coarsened(finer)
     }
 
     /// The members as runs of a step.
@@ -246,6 +253,44 @@ impl LengthSet {
         }
     }
 
+    /// The same set in fewer runs, if at a step that divides its own it has fewer.
+    fn coarsened(self, finer: u64) -> Result<LengthSet, NoMemory>
+        ensures { IfOk result (λ s. Same (Has s) (Has self)) }
+    {
+        match self.at_finer(finer)? {
+            Some(coarse) if coarse.others.len() < self.others.len() && coarse.equals(&self) => {
+                Ok(coarse)
+            }
+            _ => Ok(self),
+        }
+    }
+
+    /// Whether there are runs enough for each remainder of a class modulo a step that divides this
+    /// set's.
+    fn meets_all(&self, finer: u64) -> bool
+        requires { 0 < finer }
+    {
+        let all = self.step / finer;
+        self.step % finer == 0 && 1 < all && all <= self.others.len() as u64 + 1
+    }
+
+    /// A set that likely has the same members, at a step that divides this set's.
+    fn at_finer(&self, finer: u64) -> Result<Option<LengthSet>, NoMemory> {
+        if finer == 0 || !self.meets_all(finer) {
+            return Ok(None);
+        }
+        let mut runs = Vec::from_slice(self.alloc(), self.others.as_slice())?;
+        runs.push(self.last)?;
+        let coarse = coarse_runs(self.alloc(), runs.as_slice(), self.step, finer)?;
+        let Some(coarse) = coarse else {
+            return Ok(None);
+        };
+        if coarse.is_empty() {
+            return Ok(None);
+        }
+        Ok(Some(LengthSet::merged(self.alloc(), finer, coarse)?))
+    }
+
     /// A step that is a multiple of `to`, at which the runs are few.
     fn step_for(&self, to: u64) -> u64
         requires { 0 < to }
@@ -283,7 +328,7 @@ impl LengthSet {
     {
         let step = self.common_step(o);
         let runs = sums(self.alloc(), step, &self.runs_at(step)?, &o.runs_at(step)?)?;
-        LengthSet::from_runs(self.alloc(), step, runs)
+        LengthSet::from_runs(self.alloc(), step, runs, common_divisor(self.step, o.step))
     }
 
     /// The members of either.
@@ -293,7 +338,7 @@ impl LengthSet {
         let step = self.common_step(o);
         let mut runs = self.runs_at(step)?;
         runs.extend_from_slice(o.runs_at(step)?.as_slice())?;
-        LengthSet::from_runs(self.alloc(), step, runs)
+        LengthSet::from_runs(self.alloc(), step, runs, common_divisor(self.step, o.step))
     }
 
     /// All sums of `n` members.
@@ -321,7 +366,7 @@ impl LengthSet {
     {
         let step = self.step_for(to);
         let runs = pads(self.alloc(), step, to, &self.runs_at(step)?)?;
-        LengthSet::from_runs(self.alloc(), step, runs)
+        LengthSet::from_runs(self.alloc(), step, runs, to)
     }
 
     /// The set of all sums of a member each.
@@ -418,6 +463,18 @@ impl LengthSet {
         false
     }
 
+    /// What the members leave modulo `k`, ascending.
+    pub fn residues(&self, alloc: Global, k: u32) -> Result<List<u64>, NoMemory>
+        requires { 0 < k }
+        ensures { IfOk result (λ residues. residues ≡ residues_of self.now k) }
+    {
+        let k = k as u64;
+        let mut marks = unmarked(alloc, k)?;
+        let mut full = unmarked(alloc, common_divisor(self.step, k))?;
+        let others = self.others.as_slice();
+        residues(alloc, &mut marks, &mut full, others, &self.last, self.step)
+    }
+
     /// The members, ascending.
     pub fn members(&self, alloc: Global) -> Result<List<u64>, NoMemory>
         ensures { IfOk result (λ r. r ≡ self.now) }
@@ -437,13 +494,7 @@ impl LengthSet {
     pub fn equals(&self, o: &LengthSet) -> bool
         ensures { IsTrue result ↔ (self.now ≡ o.now) }
     {
-        // The check knows of two fields' values that the members ascend.
-        let _ = &self.step;
-        let _ = &o.step;
-        if !self.is_within(o) {
-            return false;
-        }
-        o.is_within(self)
+        self.count() == o.count() && self.is_within(o)
     }
 
     /// Whether each member is a member of the other set.
@@ -505,12 +556,10 @@ impl LengthSet {
         if self.last.has(self.step, n) {
             return Some(self.last.end(self.step, n, whole));
         }
-        for run in &self.others {
-            if run.has(self.step, n) {
-                return Some(run.end(self.step, n, whole));
-            }
+        match run_with(self.others.as_slice(), self.step, n) {
+            Some(run) => Some(run.end(self.step, n, whole)),
+            None => None,
         }
-        None
     }
 }
 

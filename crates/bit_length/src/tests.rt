@@ -133,6 +133,15 @@ fn array(alloc: Global, head: u64, width: u64, n: u32) -> Result<LengthSet, Leng
     LengthSet::of(alloc, head)?.sum(&LengthSet::of(alloc, width)?.up_to(n)?)
 }
 
+/// The lengths of arrays of up to `n` items of each width, one behind the other.
+fn arrays(alloc: Global, widths: &[u64], n: u32) -> Result<LengthSet, LengthError> {
+    let mut set = LengthSet::of(alloc, 0)?;
+    for width in widths {
+        set = set.sum(&array(alloc, 32, *width, n)?)?;
+    }
+    Ok(set)
+}
+
 /// A set's least and greatest members and their number.
 fn ends(set: Result<LengthSet, LengthError>) -> Result<(u64, u64, u64), LengthError> {
     let set = set?;
@@ -147,6 +156,8 @@ fn large_sets(rt: HostRuntime) {
     let big = LengthSet::delimited(alloc, 1 << 31).expect(&rt, "no memory is taken");
     let bools = array(alloc, 8, 1, 6).expect(&rt, "memory");
     let narrow = array(alloc, 32, 3, 1000).expect(&rt, "memory");
+    let wide = arrays(alloc, &[61, 59, 53], 262144);
+    let less_wide = arrays(alloc, &[23, 29, 31], 131072);
     let rows = [
         (ends(eight.copy()), Ok((8, 8, 1))),
         (ends(eight.up_to(3)), Ok((0, 24, 4))),
@@ -183,6 +194,8 @@ fn large_sets(rt: HostRuntime) {
             }),
         ),
         (ends(narrow.sum(&eight)), Ok((40, 3040, 1001))),
+        (ends(wide), Ok((96, 45351008, 45350043))),
+        (ends(less_wide), Ok((96, 10879072, 10878767))),
         (
             ends(LengthSet::of(alloc, (1 << 32) + 1)),
             Err(LengthError::Long {
@@ -197,7 +210,7 @@ fn large_sets(rt: HostRuntime) {
         ),
     ];
     for (got, want) in rows {
-        assert!(rt; got == want, "{want:?}");
+        assert!(rt; got == want, "{got:?}, not {want:?}");
     }
 }
 
@@ -211,4 +224,6 @@ fn questions(rt: HostRuntime) {
     assert!(rt; set.has(40) && !set.has(41) && !set.has(56));
     assert!(rt; set.next(33) == Some(40) && set.next(49).is_none());
     assert!(rt; set.residue(16, 8) && !set.residue(16, 1));
+    let residues = set.residues(alloc, 24).expect(&rt, "memory");
+    assert!(rt; residues.as_slice() == [8, 16].as_slice());
 }

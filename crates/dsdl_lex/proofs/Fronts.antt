@@ -292,3 +292,6 @@ module _ (line : List ℕ) (at : ℕ) (inside : at ≤ length line) (no_split : 
 
 pub token_front : (line : List ℕ) (at : ℕ) → at ≤ length line → (kind : TokenKind) (n : ℕ) → IsTold kind → IsToken line at kind n → front_kind Start (drop at line) n ≡ Some kind
 token_front line at inside kind n t h = is_front Start refl IsTold told tells (λ x. x) line at inside kind n t h
+
+pub front_token : (line : List ℕ) (at : ℕ) → at ≤ length line → (kind : TokenKind) (n : ℕ) → n ≤ length (drop at line) → front_kind Start (drop at line) n ≡ Some kind → IsToken line at kind n
+front_token line at inside kind n le e = is_token Start refl IsTold told tells (λ x. x) line at inside kind n le e

@@ -13,6 +13,7 @@ pub mod Clear
 pub mod Blanks
 pub mod SplitPlaces
 pub mod Reading
+pub mod Either
 pub mod Going
 pub mod Printable
 mod Rows

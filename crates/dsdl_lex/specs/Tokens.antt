@@ -1,5 +1,5 @@
 -- The longest token at each place of a line.
-use Rattle.std.specs.Prelude.{◌≡◌, ℕ, ◌+◌, ◌<◌, ◌≤◌, Bool, true, false, ◌||◌, ◌&&◌, ◌==◌, List, [], ◌∷◌, length, take, drop, slice_index}
+use Rattle.std.specs.Prelude.{◌≡◌, ℕ, ◌+◌, ◌<◌, ◌≤◌, Bool, true, false, ◌||◌, ◌&&◌, ◌==◌, ◌⊎◌, List, [], ◌∷◌, length, take, drop, slice_index}
 use Rattle.std.specs.List.{list_all}
 use Rattle.dsdl_lex.specs.declared.token.TokenKind.{TokenKind}
 use Rattle.dsdl_lex.specs.declared.token.TokenKind.TheVariants as k
@@ -72,8 +72,9 @@ pub record KindsDiffer : Type 0 where
   pub one_kind : (text : List ℕ) (j k : TokenKind) → IsKind j text → IsKind k text → j ≡ k
   pub not_empty : (kind : TokenKind) → IsKind kind [] → ⊥
 
--- a line has one list of tokens, or one first place at which none begins, and not both
+-- a line has either one list of tokens or one first place at which none begins
 pub record IsReadOneWay : Type 0 where
+  pub either : (line : List ℕ) → ((ts : List Token) × Lexes line 0 ts) ⊎ ((column : ℕ) × Stuck line 0 column)
   pub one_list : (line : List ℕ) (ts us : List Token) → Lexes line 0 ts → Lexes line 0 us → ts ≡ us
   pub one_place : (line : List ℕ) (m n : ℕ) → Stuck line 0 m → Stuck line 0 n → m ≡ n
   pub not_both : (line : List ℕ) (column : ℕ) (ts : List Token) → Stuck line 0 column → Lexes line 0 ts → ⊥

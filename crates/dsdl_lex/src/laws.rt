@@ -10,7 +10,7 @@ pub fn kinds()
     ensures { KindsDiffer }
 {}
 
-/// A line has one list of tokens, or one first place at which none begins, and not both.
+/// A line has either one list of tokens or one first place at which none begins.
 pub fn one_reading()
     ensures { IsReadOneWay }
 {}

@@ -22,4 +22,5 @@ pub mod StatementReads
 pub mod LineReads
 pub mod FirstLines
 pub mod Parsed
+pub mod Spelled
 pub mod LeafWalk

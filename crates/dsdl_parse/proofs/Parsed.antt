@@ -1,5 +1,5 @@
 -- A text is parsed in one way.
-use Rattle.std.proofs.Common.{◌≡◌, ℕ, suc, ◌+◌, ◌≤◌, List, [], ◌∷◌, ◌++◌, length, refl, sym, ap, ◌∙◌, subst, append_assoc, length-append, arith}
+use Rattle.std.proofs.Common.{◌≡◌, ℕ, suc, ◌+◌, ◌≤◌, List, [], ◌∷◌, ◌++◌, length, refl, sym, ap, ◌∙◌, subst, append_assoc, length-append, ◌⊎◌, inl, inr, arith}
 use Rattle.dsdl_lex.specs.Tokens.{IsReadOneWay}
 use Rattle.dsdl_parse.specs.declared.statement.Statement.{Statement}
 use Rattle.dsdl_parse.specs.Ast.{IsLine, AreStatements, none, more, IsAst, FirstBad, IsParsedOneWay}
@@ -7,7 +7,7 @@ use Rattle.dsdl_parse.specs.Lines.{AreLines, IsFirstLine}
 use Rattle.dsdl_parse.specs.Lines as lines
 use Rattle.dsdl_parse.proofs.Basics.{append_nil}
 use Rattle.dsdl_parse.proofs.FirstLines.{some_lines, one_split}
-use Rattle.dsdl_parse.proofs.LineReads.{one_line}
+use Rattle.dsdl_parse.proofs.LineReads.{one_line, line_or_none}
 
 -- ---- line by line
 pub one_more : {front : List (List ℕ)} {ss : List Statement} (line : List ℕ) (s : Statement) → AreStatements front ss → IsLine line s → AreStatements (front ++ line ∷ []) (ss ++ s ∷ [])
@@ -89,8 +89,30 @@ module _ (one_way : IsReadOneWay) where
   one_list : (text : List ℕ) (ss ts : List Statement) → IsAst text ss → IsAst text ts → ss ≡ ts
   one_list text ss ts (ls, d, good) (ms, e, fine) = one_by_one good (subst (λ l. AreStatements l ts) (sym (one_split d e)) fine)
 
+  -- lines are statements', or one of them is the first that is none
+  abbrev Bad_in : List (List ℕ) → Type 0
+  Bad_in ls = (before : List (List ℕ)) × (bad : List ℕ) × (after : List (List ℕ)) × (ls ≡ before ++ bad ∷ after) × ((ss : List Statement) × AreStatements before ss) × Bad bad
+
+  behind_line : {line : List ℕ} {ls : List (List ℕ)} (s : Statement) → IsLine line s → ((ss : List Statement) × AreStatements ls ss) ⊎ Bad_in ls → ((ss : List Statement) × AreStatements (line ∷ ls) ss) ⊎ Bad_in (line ∷ ls)
+  behind_line s is (inl (ss, d)) = inl (s ∷ ss, more is d)
+  behind_line {line} s is (inr (before, bad, after, e, (ss, d), h)) = inr (line ∷ before, bad, after, ap (λ l. line ∷ l) e, (s ∷ ss, more is d), h)
+
+  all_or_bad : (ls : List (List ℕ)) → ((ss : List Statement) × AreStatements ls ss) ⊎ Bad_in ls
+  all_or_bad [] = inl ([], none)
+  all_or_bad (line ∷ ls) = elim (line_or_none one_way line) [
+    | inl s ↦ behind_line s.0 s.1 (all_or_bad ls)
+    | inr h ↦ inr ([], line, ls, refl, ([], none), h)
+  ]
+
+  either : (text : List ℕ) → ((ss : List Statement) × IsAst text ss) ⊎ ((n : ℕ) × FirstBad text n)
+  either text = let (ls, d) = some_lines text in elim (all_or_bad ls) [
+    | inl s ↦ inl (s.0, (ls, d, s.1))
+    | inr b ↦ inr (length b.0 + 1, record { before = b.0; bad = b.1; after = b.2; are_lines = subst (AreLines text) b.3 d; place = refl; good = b.4; no_line = b.5 })
+  ]
+
   pub parsed : IsParsedOneWay
   parsed = record {
+    either = either;
     one_statement = λ line s t d e. one_line one_way line s t d e;
     one_list = one_list;
     one_place = λ text m n a b. a.place ∙ ap (λ n. n + 1) (same_place a.before b.before a.after b.after a.bad b.bad a.good b.good a.no_line b.no_line (one_split a.are_lines b.are_lines)) ∙ sym b.place;

@@ -14,3 +14,4 @@ pub mod StatementReading
 pub mod Lines
 pub mod Ast
 pub mod LineAnswers
+pub mod Spelling

@@ -27,7 +27,7 @@ mod whole;
 mod words;
 
 pub use expr::{Expr, ExprNode, Reference, Span};
-pub use laws::{one_parsing, one_tree};
+pub use laws::{one_parsing, one_tree, well_spelled};
 pub use read_error::ReadError;
 pub use statement::{Bound, BoundSign, Form, Prefix, Scalar, Statement};
 pub use syntax::{Ast, SyntaxError, parse};

@@ -16,6 +16,8 @@ pub mod Finding
 pub mod Comparing
 pub mod Greatest
 pub mod MetLengths
+pub mod ValuesOf
+pub mod StoredReadings
 pub mod Rows
 pub mod Reaching
 pub mod ReachBound

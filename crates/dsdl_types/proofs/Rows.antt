@@ -26,7 +26,7 @@ abbrev inner11 : Sch
 inner11 = Struct (Field (97 ∷ []) u8 (Field (98 ∷ []) u16 End)) (outline 64 false)
 
 abbrev outer : Sch → Sch
-outer s = Struct (Field (1 ∷ []) s (Field (2 ∷ []) u8 End)) (outline 128 false)
+outer s = Struct (Field (99 ∷ []) s (Field (100 ∷ []) u8 End)) (outline 128 false)
 
 abbrev n : ℕ → Val
 n k = Num (pos k)
@@ -48,7 +48,7 @@ older_bytes : is (own (outer inner11) 0 (bits (1 ∷ 0 ∷ 0 ∷ 0 ∷ 5 ∷ 9 �
 unfolding number bits_of
 older_bytes = refl
 
-too_long : own (outer inner10) 0 (bits (5 ∷ 0 ∷ 0 ∷ 0 ∷ 1 ∷ 2 ∷ 3 ∷ [])) ≡ Bad (Name (1 ∷ []) ∷ []) (BadDelimiter 5)
+too_long : own (outer inner10) 0 (bits (5 ∷ 0 ∷ 0 ∷ 0 ∷ 1 ∷ 2 ∷ 3 ∷ [])) ≡ Bad (Name (99 ∷ []) ∷ []) (BadDelimiter 5)
 unfolding number bits_of
 too_long = refl
 
@@ -71,15 +71,23 @@ written : bytes (own_bits (outer inner11) (Parts (More (Parts (More (n 5) (More 
 unfolding number bits_of
 written = refl
 
-fewer : difference (outer inner10) (outer inner11) ≡ Some (record { path = Named (1 ∷ []) ∷ []; cause = Count })
+fewer : difference (outer inner10) (outer inner11) ≡ Some (record { path = Named (99 ∷ []) ∷ []; cause = Count })
 fewer = refl
 
--- these are schemas by the rules, and a delimited one whose extent is too small is none
+-- these are schemas by the rules
 pub outer_is_schema : IsSchema (outer inner11)
 outer_is_schema = rules_kept (outer inner11) refl
 
 pub choice_is_schema : IsSchema choice
 choice_is_schema = rules_kept choice refl
 
+-- one with two fields of one name, or with a name that begins with a digit, is none
+two_alike : is_schema (Struct (Field (97 ∷ []) u8 (Field (97 ∷ []) u8 End)) (outline 16 true)) ≡ false
+two_alike = refl
+
+no_name : is_schema (Struct (Field (49 ∷ []) u8 End) (outline 8 true)) ≡ false
+no_name = refl
+
+-- nor is a delimited one whose extent is too small
 too_small : is_schema (Struct (Field (97 ∷ []) u16 End) (outline 8 false)) ≡ false
 too_small = refl

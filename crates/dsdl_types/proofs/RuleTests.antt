@@ -1,6 +1,10 @@
 -- The rules of a schema as a test, so that of a given schema `refl` shows them
-use Rattle.std.proofs.Common.{◌≡◌, ℕ, suc, ◌+◌, ◌-◌, ◌%◌, ◌≤◌, ◌==◌, Bool, true, false, ◌&&◌, arith}
-use Rattle.std.specs.Prelude.{nat_lt}
+use Rattle.std.proofs.Common.{◌≡◌, ◌≢◌, ℕ, suc, ◌+◌, ◌-◌, ◌%◌, ◌≤◌, ◌==◌, Bool, true, false, ◌&&◌, List, refl, sym, ◌∙◌, arith}
+use Rattle.std.specs.Prelude.{nat_lt, not}
+use Rattle.std.specs.Str.{bytes_eq}
+use Rattle.std.proofs.lemmas.Slice.Eq.{bytes_eq-Decides}
+use Rattle.dsdl_names.specs.Words.{is_name}
+use Rattle.dsdl_types.specs.Names.{IsNew, AreNamed, HasNames, HaveNames}
 use Rattle.std.proofs.lemmas.Bool.{ltb-true, and_parts, eqb-true}
 use Rattle.dsdl_types.specs.Schemas.{Prim, Sch, Flds, Outline, PBool, PUint, PInt, PFloat, Simple, Fixed, Var, Struct, Union, End, Pad, Field, prefix, variants}
 use Rattle.dsdl_types.specs.Greatest.{up, longest_fields, longest_variant}
@@ -46,8 +50,31 @@ abbrev mutual
   are_formed (Pad n fs) = is_from_to 1 64 n && are_formed fs
   are_formed (Field name s fs) = is_formed s && are_formed fs
 
+abbrev pub is_new : List ℕ → Flds → Bool
+is_new name End = true
+is_new name (Pad n fs) = is_new name fs
+is_new name (Field other s fs) = not (bytes_eq name other) && is_new name fs
+
+abbrev pub are_named : Flds → Bool
+are_named End = true
+are_named (Pad n fs) = are_named fs
+are_named (Field name s fs) = is_name name && (is_new name fs && are_named fs)
+
+abbrev mutual
+  pub has_names : Sch → Bool
+  has_names (Simple t) = true
+  has_names (Fixed s n) = has_names s
+  has_names (Var s cap) = has_names s
+  has_names (Struct fs o) = are_named fs && have_names fs
+  has_names (Union fs o) = are_named fs && have_names fs
+
+  pub have_names : Flds → Bool
+  have_names End = true
+  have_names (Pad n fs) = have_names fs
+  have_names (Field name s fs) = has_names s && have_names fs
+
 abbrev pub is_schema : Sch → Bool
-is_schema s = is_formed s && (nat_lt (nesting s) 33 && nat_lt (nodes s) 1048577)
+is_schema s = is_formed s && (nat_lt (nesting s) 33 && (nat_lt (nodes s) 1048577 && has_names s))
 
 from_to : (a b n : ℕ) → is_from_to a b n ≡ true → (a ≤ n) × (n ≤ b)
 from_to a b n h =
@@ -111,8 +138,41 @@ mutual
       (r.0, r.1, fields_kept fs p.1)
   fields_kept (Field name s fs) h = let p = and_parts _ _ h in (formed_kept s p.0, fields_kept fs p.1)
 
+other_name : (a b : List ℕ) (d : Bool) → bytes_eq a b ≡ d → not d ≡ true → a ≢ b
+other_name a b true e h same = absurd (let f : false ≡ true = h in cc)
+other_name a b false e h same = absurd (let f : false ≡ true = sym e ∙ (bytes_eq-Decides a b).1 same in cc)
+
+new_kept : (name : List ℕ) (fs : Flds) → is_new name fs ≡ true → IsNew name fs
+new_kept name End h = tt
+new_kept name (Pad n fs) h = new_kept name fs h
+new_kept name (Field other s fs) h =
+    let p = and_parts (not (bytes_eq name other)) (is_new name fs) h in
+    (other_name name other (bytes_eq name other) refl p.0, new_kept name fs p.1)
+
+named_kept : (fs : Flds) → are_named fs ≡ true → AreNamed fs
+named_kept End h = tt
+named_kept (Pad n fs) h = named_kept fs h
+named_kept (Field name s fs) h =
+    let p = and_parts (is_name name) (is_new name fs && are_named fs) h in
+    let q = and_parts (is_new name fs) (are_named fs) p.1 in
+    (p.0, new_kept name fs q.0, named_kept fs q.1)
+
+mutual
+  names_kept : (s : Sch) → has_names s ≡ true → HasNames s
+  names_kept (Simple t) h = tt
+  names_kept (Fixed s n) h = names_kept s h
+  names_kept (Var s cap) h = names_kept s h
+  names_kept (Struct fs o) h = let p = and_parts (are_named fs) (have_names fs) h in (named_kept fs p.0, all_names_kept fs p.1)
+  names_kept (Union fs o) h = let p = and_parts (are_named fs) (have_names fs) h in (named_kept fs p.0, all_names_kept fs p.1)
+
+  all_names_kept : (fs : Flds) → have_names fs ≡ true → HaveNames fs
+  all_names_kept End h = tt
+  all_names_kept (Pad n fs) h = all_names_kept fs h
+  all_names_kept (Field name s fs) h = let p = and_parts (has_names s) (have_names fs) h in (names_kept s p.0, all_names_kept fs p.1)
+
 pub rules_kept : (s : Sch) → is_schema s ≡ true → IsSchema s
 rules_kept s h =
-    let p = and_parts (is_formed s) (nat_lt (nesting s) 33 && nat_lt (nodes s) 1048577) h in
-    let q = and_parts (nat_lt (nesting s) 33) (nat_lt (nodes s) 1048577) p.1 in
-    (formed_kept s p.0, omega (arith, ltb-true (nesting s) 33 q.0), omega (arith, ltb-true (nodes s) 1048577 q.1))
+    let p = and_parts (is_formed s) (nat_lt (nesting s) 33 && (nat_lt (nodes s) 1048577 && has_names s)) h in
+    let q = and_parts (nat_lt (nesting s) 33) (nat_lt (nodes s) 1048577 && has_names s) p.1 in
+    let r = and_parts (nat_lt (nodes s) 1048577) (has_names s) q.1 in
+    (formed_kept s p.0, omega (arith, ltb-true (nesting s) 33 q.0), omega (arith, ltb-true (nodes s) 1048577 r.0), names_kept s r.1)

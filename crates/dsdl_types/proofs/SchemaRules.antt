@@ -65,7 +65,7 @@ mutual
   fields_sound (Field name s fs) (k, h) m = (formed_sound s k (omega (arith, nodes_some s)), fields_sound fs h (omega arith))
 
 pub schema_sound : (s : Sch) → IsSchema s → IsSound s
-schema_sound s (formed, nested, few) = formed_sound s formed few
+schema_sound s (formed, nested, few, names) = formed_sound s formed few
 
 whole_extent : (sealed : Bool) (n extent : ℕ) → IsExtent sealed (up n) extent → extent % 8 ≡ 0
 whole_extent true n extent h = omega (arith, up_whole n)

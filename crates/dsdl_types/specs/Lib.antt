@@ -9,6 +9,7 @@ pub mod Lengths
 pub mod Greatest
 pub mod Reach
 pub mod Sound
+pub mod Names
 pub mod Rules
 pub mod OneWay
 pub mod Newer
@@ -16,5 +17,8 @@ pub mod Difference
 pub mod DelimiterCounts
 pub mod Laws
 pub mod Views
+pub mod ValueOf
+pub mod Paths
+pub mod Stored
 pub mod Finding
 pub mod Definitions

@@ -1,13 +1,17 @@
 -- The rules of a schema can be kept in one way alone, so that a struct may keep them in a ghost field.
-use Rattle.std.specs.Prelude.{ℕ, Bool, true, false}
+use Rattle.std.specs.Prelude.{ℕ, Bool, true, false, List}
 use Rattle.std.specs.Coded.{×_prop, Unit-prop, le_prop}
 use Rattle.std.proofs.Math.Nat.{ℕ_set}
 use Rattle.std.proofs.Math.Bool.{Bool-set}
 use Rattle.dsdl_types.specs.Schemas.{Prim, Sch, Flds, PBool, PUint, PInt, PFloat, Simple, Fixed, Var, Struct, Union, End, Pad, Field}
+use Rattle.dsdl_types.specs.Names.{IsNew, AreNamed, HasNames, HaveNames}
 use Rattle.dsdl_types.specs.Rules.{IsPrim, IsExtent, IsItem, NoPadding, IsFormed, AreFormed, IsSchema}
 
 none_prop : IsProp ⊥
 none_prop a b = absurd a
+
+not_prop : {A : Type 0} → IsProp (A → ⊥)
+not_prop h k = λ i x. none_prop (h x) (k x) i
 
 prim_prop : (t : Prim) → IsProp (IsPrim t)
 prim_prop PBool = Unit-prop
@@ -45,5 +49,28 @@ mutual
   fields_prop (Pad n fs) h k = λ i. (le_prop h.0 k.0 i, le_prop h.1 k.1 i, fields_prop fs h.2 k.2 i)
   fields_prop (Field name s fs) h k = λ i. (formed_prop s h.0 k.0 i, fields_prop fs h.1 k.1 i)
 
+new_prop : (name : List ℕ) (fs : Flds) → IsProp (IsNew name fs)
+new_prop name End h k = Unit-prop h k
+new_prop name (Pad n fs) h k = new_prop name fs h k
+new_prop name (Field other s fs) h k = λ i. (not_prop h.0 k.0 i, new_prop name fs h.1 k.1 i)
+
+named_prop : (fs : Flds) → IsProp (AreNamed fs)
+named_prop End h k = Unit-prop h k
+named_prop (Pad n fs) h k = named_prop fs h k
+named_prop (Field name s fs) h k = λ i. (Bool-set _ _ h.0 k.0 i, new_prop name fs h.1 k.1 i, named_prop fs h.2 k.2 i)
+
+mutual
+  names_prop : (s : Sch) → IsProp (HasNames s)
+  names_prop (Simple t) h k = Unit-prop h k
+  names_prop (Fixed s n) h k = names_prop s h k
+  names_prop (Var s n) h k = names_prop s h k
+  names_prop (Struct fs o) h k = λ i. (named_prop fs h.0 k.0 i, all_names_prop fs h.1 k.1 i)
+  names_prop (Union fs o) h k = λ i. (named_prop fs h.0 k.0 i, all_names_prop fs h.1 k.1 i)
+
+  all_names_prop : (fs : Flds) → IsProp (HaveNames fs)
+  all_names_prop End h k = Unit-prop h k
+  all_names_prop (Pad n fs) h k = all_names_prop fs h k
+  all_names_prop (Field name s fs) h k = λ i. (names_prop s h.0 k.0 i, all_names_prop fs h.1 k.1 i)
+
 pub schema_prop : (s : Sch) → IsProp (IsSchema s)
-schema_prop s h k = λ i. (formed_prop s h.0 k.0 i, le_prop h.1 k.1 i, le_prop h.2 k.2 i)
+schema_prop s h k = λ i. (formed_prop s h.0 k.0 i, le_prop h.1 k.1 i, le_prop h.2 k.2 i, names_prop s h.3 k.3 i)

@@ -2,6 +2,7 @@
 use Rattle.std.specs.Prelude.{◌≡◌, ℕ, suc, ◌+◌, ◌*◌, ◌-◌, ◌^◌, ◌%◌, ◌≤◌, ◌==◌, ◌||◌, max, Bool, true, false}
 use Rattle.dsdl_types.specs.Schemas.{Prim, Sch, Flds, Outline, PBool, PUint, PInt, PFloat, Simple, Fixed, Var, Struct, Union, End, Pad, Field, prefix, variants}
 use Rattle.dsdl_types.specs.Greatest.{up, longest_fields, longest_variant}
+use Rattle.dsdl_types.specs.Names.{HasNames}
 
 abbrev pub is_float_width : ℕ → Bool
 is_float_width w = (w == 16) || ((w == 32) || (w == 64))
@@ -78,7 +79,7 @@ abbrev mutual
   nodes_of (Pad n fs) = nodes_of fs
   nodes_of (Field name s fs) = nodes s + nodes_of fs
 
--- A schema is formed by the rules. As limits, its types nest at most 32 deep, and a value has at most 2^20
--- nodes.
+-- A schema is formed by the rules, and its fields and variants have names. As limits, its types nest at most
+-- 32 deep, and a value has at most 2^20 nodes.
 abbrev pub IsSchema : Sch → Type 0
-IsSchema s = IsFormed s × (nesting s ≤ 32) × (nodes s ≤ 2 ^ 20)
+IsSchema s = IsFormed s × (nesting s ≤ 32) × (nodes s ≤ 2 ^ 20) × HasNames s

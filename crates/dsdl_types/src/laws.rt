@@ -8,7 +8,11 @@ ghost use Rattle.dsdl_types.specs.Fits.{Fits};
 ghost use Rattle.dsdl_types.specs.Encoding.{own_bits};
 ghost use Rattle.dsdl_types.specs.Rules.{IsSchema};
 ghost use Rattle.dsdl_types.specs.Sound.{IsSound};
-ghost use Rattle.dsdl_types.specs.Laws.{ReadsOnce, RoundTrip, WithinExtent, ZeroReads, Evolution, ZerosLaw, CutLaw, PaddedLaw, KeepsReadings};
+ghost use Rattle.dsdl_types.specs.Stored.{IsStored};
+ghost use Rattle.dsdl_types.specs.ValueOf.{value_of};
+ghost use Rattle.dsdl_types.specs.Views.{val};
+ghost use Rattle.dsdl_types.specs.declared.value.Value.{Value};
+ghost use Rattle.dsdl_types.specs.Laws.{Reads, ReadsOnce, RoundTrip, WithinExtent, ZeroReads, Evolution, ZerosLaw, CutLaw, PaddedLaw, KeepsReadings};
 ghost use Rattle.dsdl_types.specs.Lengths.{Length};
 ghost use Rattle.dsdl_types.specs.Greatest.{longest};
 ghost use Rattle.dsdl_types.specs.Reach.{Reaches, reach};
@@ -99,3 +103,16 @@ pub fn shape_laws<S: Shape>(shape: &S)
 {
     let _schema = shape.schema();
 }
+
+/// A value of the code and the value that it stands for determine each other.
+pub fn same_values()
+    ensures stands { (v : Val) → val (value_of v) ≡ v }
+    ensures same { (x : Value) → value_of (val x) ≡ x }
+{}
+
+/// What bytes read as is a value whose numbers are in the ranges in which a struct stores them, and each such
+/// value is one of the schema.
+pub fn readings_stored()
+    ensures stored { (s : Sch) → IsSound s → (b : List ℕ) (v : Val) → Reads s b v → IsStored s v }
+    ensures fits { (s : Sch) (v : Val) → IsStored s v → Fits s v }
+{}

@@ -4,6 +4,7 @@
 mod definition;
 pub mod laws;
 mod namespace;
+mod path;
 mod read_why;
 mod schema;
 mod shape;
@@ -14,6 +15,7 @@ mod zero;
 
 pub use definition::{Definition, Parts};
 pub use namespace::{Namespace, Print};
+pub use path::{Step, path_text};
 pub use read_why::ReadWhy;
 pub use schema::{Body, Cast, Field, Schema};
 pub use shape::Shape;

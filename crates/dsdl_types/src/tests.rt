@@ -1,30 +1,32 @@
-ghost use Rattle.std.specs.Prelude.{◌≡◌, [], true, IfOk};
+ghost use Rattle.std.specs.Prelude.{◌≡◌, true, IfOk};
 ghost use Rattle.dsdl_types.specs.Schemas.{is_composite};
 ghost use Rattle.dsdl_types.specs.Rules.{IsSchema};
 ghost use Rattle.dsdl_types.specs.Views.{sch, kind_of, named};
 ghost use Rattle.dsdl_types.specs.OneWay.{schema_prop};
 
 use crate::laws::shape_laws;
-use crate::{Body, Cast, Definition, Field, Namespace, Parts, Schema, Shape, Value, zero_of};
+use crate::{
+    Body, Cast, Definition, Field, Namespace, Parts, Schema, Shape, Step, Value, path_text, zero_of,
+};
 use cy_bits::{Boxed, List, NoMemory, Text, TryCopy};
 use dsdl_names::parse_type_id;
 use std::alloc::Global;
 
-/// A field without a name.
-fn field(alloc: Global, schema: Schema) -> Result<Field, NoMemory>
-    ensures { IfOk result (λ f. named f ≡ ([], kind_of schema)) }
+/// A field.
+fn field(alloc: Global, name: &str, schema: Schema) -> Result<Field, NoMemory>
+    ensures { IfOk result (λ f. named f ≡ (name.now, kind_of schema)) }
 {
     Ok(Field {
-        name: Text::from_str(alloc, "")?,
+        name: Text::from_str(alloc, name)?,
         schema,
     })
 }
 
-/// The body of two fields.
+/// The body of two fields, the first without a name.
 fn body(alloc: Global, first: Schema, second: Schema) -> Result<Body, NoMemory> {
     let mut fields = List::empty(alloc);
-    fields.push(field(alloc, first)?)?;
-    fields.push(field(alloc, second)?)?;
+    fields.push(field(alloc, "", first)?)?;
+    fields.push(field(alloc, "b", second)?)?;
     Ok(Body {
         fields,
         extent: 64,
@@ -128,6 +130,19 @@ fn found(alloc: Global, names: &[&str]) -> Result<Vec<Option<Option<u16>>>, NoMe
     Ok(ports)
 }
 
+/// The text of the path through these names and places: a name, or a place behind `#`.
+fn path_of(alloc: Global, steps: &[(&str, u32)]) -> Result<Text, NoMemory> {
+    let mut path = Vec::new(alloc);
+    for (name, place) in steps {
+        path.push(if *name == "#" {
+            Step::Index(*place)
+        } else {
+            Step::Name(Text::from_str(alloc, name)?)
+        })?;
+    }
+    path_text(alloc, path.as_slice())
+}
+
 /// A shape of the test's own.
 #[derive(Drop)]
 struct Own {
@@ -151,7 +166,7 @@ impl Shape for Own {
 /// A sealed structure of one truth value.
 fn sealed(alloc: Global) -> Result<Own, NoMemory> {
     let mut fields = List::empty(alloc);
-    fields.push(field(alloc, Schema::Bool)?)?;
+    fields.push(field(alloc, "value", Schema::Bool)?)?;
     let body = Body {
         fields,
         extent: 8,
@@ -189,4 +204,18 @@ fn finds(rt: HostRuntime) {
     let ports = found(rt.alloc(), &names).expect(&rt, "memory");
     let want = [Some(Some(1)), Some(Some(2)), None, None];
     assert!(rt; ports.as_slice() == want.as_slice(), "found");
+}
+
+#[test]
+fn paths(rt: HostRuntime) {
+    let whole: [(&str, u32); 0] = [];
+    let rows: [(&[(&str, u32)], &str); 3] = [
+        (&whole, "."),
+        (&[("#", 10)], "[10]"),
+        (&[("a", 0), ("b", 0), ("#", 2), ("c", 0)], "a.b[2].c"),
+    ];
+    for (steps, want) in rows {
+        let path = path_of(rt.alloc(), steps).expect(&rt, "memory");
+        assert!(rt; path.as_str() == want, "at {want}");
+    }
 }

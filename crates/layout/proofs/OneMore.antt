@@ -4,7 +4,7 @@ use Rattle.bit_length.specs.Lengths.{Numbers, Same, Only, Sums}
 use Rattle.dsdl_types.specs.Schemas.{Sch, Flds, End, Pad, is_aligned, is_delimited, extent_of}
 use Rattle.dsdl_types.specs.Schemas as D
 use Rattle.dsdl_types.specs.Greatest.{from_lead, longest, longest_fields, as_part}
-use Rattle.dsdl_types.specs.Lengths.{EndsAt, Size}
+use Rattle.dsdl_types.specs.Lengths.{Size}
 use Rattle.dsdl_types.specs.Rules.{IsFormed, AreFormed}
 use Rattle.dsdl_types.specs.Views.{Kind, Padding, is_padding, type_of, with_field}
 use Rattle.layout.specs.Sets.{Leads, IsShort, IsShortPart}

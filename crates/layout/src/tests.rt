@@ -1,4 +1,4 @@
-ghost use Rattle.std.specs.Prelude.{◌≡◌, ◌∷◌, [], ℕ, List as ListOf, true, false, IfOk};
+ghost use Rattle.std.specs.Prelude.{◌≡◌, ◌∷◌, [], codes, true, false, IfOk};
 ghost use Rattle.dsdl_types.specs.Schemas.{PUint, Simple, Var, Struct, End};
 ghost use Rattle.dsdl_types.specs.Schemas as schemas;
 ghost use Rattle.dsdl_types.specs.Views.{Typed, kind_of, named, flds, in_order};
@@ -72,7 +72,7 @@ fn structure(fields: List<Field>, extent: u64, sealed: bool) -> Schema
 /// `uint8 a` with an extent of 64 bits.
 fn inner(alloc: Global) -> Result<Schema, NoMemory>
     ensures { IfOk result
-        (λ s. (name : ListOf ℕ) × (kind_of s ≡ Typed (Struct (schemas.Field name (Simple (PUint 8 true)) End) (record { extent = 64; sealed = false })))) }
+        (λ s. kind_of s ≡ Typed (Struct (schemas.Field (codes "a") (Simple (PUint 8 true)) End) (record { extent = 64; sealed = false }))) }
 {
     let fields = one(alloc, field(alloc, "a", uint(8))?)?;
     Ok(structure(fields, 64, false))

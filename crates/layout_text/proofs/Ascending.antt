@@ -1,31 +1,13 @@
 -- Walking through ascending numbers.
-use Rattle.std.proofs.Common.{◌≡◌, ℕ, zero, suc, ◌+◌, ◌<◌, ◌≤◌, ◌==◌, inl, inr, nat_lt, cond, true, false, List, [], ◌∷◌, ◌++◌, Some, None, refl, sym, ap, ◌∙◌, subst, arith, decimal, append_assoc}
+use Rattle.std.proofs.Common.{◌≡◌, ℕ, ◌+◌, ◌<◌, ◌≤◌, ◌==◌, inl, inr, nat_lt, cond, true, false, List, [], ◌∷◌, ◌++◌, Some, None, refl, sym, ap, ◌∙◌, subst, arith, decimal, append_assoc}
 use Rattle.std.proofs.lemmas.Bool.{cases_lt, lt-ltb, le-ltb}
 use Rattle.std.proofs.lemmas.Bool.Decides.{nat_tests}
 use Rattle.std.proofs.lemmas.List.{append-nil}
 use Rattle.bit_length.specs.Lengths.{Has, IsNext, IsLeast, IsGreatest}
+use Rattle.bit_length.proofs.AscendingLemmas.{ascend_head, ascend_tail, has_head, has_later, has_behind, at_least}
 use Rattle.layout_text.proofs.Grown.{regroup}
-use Rattle.layout_text.specs.Sets.{Ascend, first, last, listed, member_text}
-
-pub ascend_head : (x : ℕ) (xs : List ℕ) → Ascend (x ∷ xs) → (n : ℕ) → Has xs n → x < n
-ascend_head x xs up n (k, lt, e) = subst (λ t. x < t) e (up 0 (suc k) n (omega arith) (omega arith))
-
-pub ascend_tail : (x : ℕ) (xs : List ℕ) → Ascend (x ∷ xs) → Ascend xs
-ascend_tail x xs up = λ i j d lt short. up (suc i) (suc j) d (omega arith) (omega arith)
-
-pub has_head : (x : ℕ) (xs : List ℕ) → Has (x ∷ xs) x
-has_head x xs = (0, omega arith, refl)
-
-pub has_later : (x : ℕ) (xs : List ℕ) (n : ℕ) → Has xs n → Has (x ∷ xs) n
-has_later x xs n (k, lt, e) = (suc k, omega arith, e)
-
-pub has_behind : (x : ℕ) (xs : List ℕ) (n : ℕ) → Has (x ∷ xs) n → x < n → Has xs n
-has_behind x xs n (zero, lt, e) l = absurd (omega arith)
-has_behind x xs n (suc k, lt, e) l = (k, omega arith, e)
-
-pub at_least : (x : ℕ) (xs : List ℕ) (n : ℕ) → Ascend (x ∷ xs) → Has (x ∷ xs) n → x ≤ n
-at_least x xs n up (zero, lt, e) = omega arith
-at_least x xs n up (suc k, lt, e) = let l = ascend_head x xs up n (k, omega arith, e) in omega arith
+use Rattle.bit_length.specs.Ascending.{Ascend}
+use Rattle.layout_text.specs.Sets.{first, last, listed, member_text}
 
 -- the numbers that are no less than one
 abbrev pub from_on : ℕ → List ℕ → List ℕ

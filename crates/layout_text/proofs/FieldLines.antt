@@ -6,7 +6,8 @@ use Rattle.layout.specs.declared.row.Row.{Row}
 use Rattle.layout.specs.Layouts.{IsRow, AreRows}
 use Rattle.layout_text.specs.Appends.{Appends}
 use Rattle.layout_text.specs.Fields.{AreFieldLines, IsFieldLine, field_line, is_union}
-use Rattle.layout_text.specs.Sets.{Ascend, set_text}
+use Rattle.bit_length.specs.Ascending.{Ascend}
+use Rattle.layout_text.specs.Sets.{set_text}
 use Rattle.layout_text.proofs.Grown.{regroup}
 use Rattle.layout_text.proofs.Rows.{row_at, rows_length}
 

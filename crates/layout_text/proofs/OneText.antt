@@ -1,7 +1,7 @@
 -- A namespace has one text.
-use Rattle.std.proofs.Common.{◌≡◌, ℕ, suc, List, [], ◌∷◌, ◌++◌, take, drop, Option, refl, sym, ap, ◌∙◌, subst, arith}
+use Rattle.std.proofs.Common.{◌≡◌, ℕ, suc, List, [], ◌∷◌, ◌++◌, take, drop, Option, sym, ap, ◌∙◌, subst}
 use Rattle.std.specs.List.{flat_map}
-use Rattle.bit_length.specs.Lengths.{Numbers, Has}
+use Rattle.bit_length.specs.Lengths.{Numbers}
 use Rattle.dsdl_names.specs.declared.TypeId.{TypeId}
 use Rattle.dsdl_types.specs.Schemas.{Sch}
 use Rattle.dsdl_types.specs.Definitions.{typed_count}
@@ -15,27 +15,13 @@ use Rattle.layout_text.specs.Definitions.{IsTypeText, ArePartsText, AreDefinitio
 use Rattle.layout_text.specs.Fields.{AreFieldLines, IsFieldLine, field_line, is_union}
 use Rattle.layout_text.specs.Heads.{IsTypeLine, named_words, outline_words}
 use Rattle.layout_text.specs.Namespaces.{IsByName, IsNamespaceText, print_line}
-use Rattle.layout_text.specs.Sets.{Ascend, IsSetText, set_text}
+use Rattle.layout_text.specs.Sets.{IsSetText, set_text}
 use Rattle.layout_text.specs.Words.{line_of, spaced}
 use Rattle.layout_text.specs.declared.head.Role.{Role}
 use Rattle.layout_text.specs.declared.head.Role.TheVariants.{Message, Request, Response}
-use Rattle.layout_text.proofs.Ascending.{ascend_head, ascend_tail, at_least, has_head, has_later, has_behind}
+use Rattle.bit_length.proofs.AscendingLemmas.{one_list}
 use Rattle.layout_text.proofs.ByName.{before, before_ranks}
 use Rattle.layout_text.proofs.OneOrder.{one_order}
-
-within : (x y : ℕ) (xs ys : List ℕ) → Ascend (x ∷ xs) → x ≡ y → (n : ℕ) → (Has (x ∷ xs) n → Has (y ∷ ys) n) → Has xs n → Has ys n
-within x y xs ys up e n f h = let l = ascend_head x xs up n h in has_behind y ys n (f (has_later x xs n h)) (omega arith)
-
-one_list : (xs ys : List ℕ) → Ascend xs → Ascend ys → ((n : ℕ) → Has xs n → Has ys n) → ((n : ℕ) → Has ys n → Has xs n) → xs ≡ ys
-one_list [] [] up down f g = refl
-one_list [] (y ∷ ys) up down f g = let w = g y (has_head y ys) in absurd (let l = w.1 in omega arith)
-one_list (x ∷ xs) [] up down f g = let w = f x (has_head x xs) in absurd (let l = w.1 in omega arith)
-one_list (x ∷ xs) (y ∷ ys) up down f g =
-    let a = at_least x xs y up (g y (has_head y ys)) in
-    let b = at_least y ys x down (f x (has_head x xs)) in
-    let e : x ≡ y = omega arith in
-    let t : xs ≡ ys = one_list xs ys (ascend_tail x xs up) (ascend_tail y ys down) (λ n. within x y xs ys up e n (f n)) (λ n. within y x ys xs down (sym e) n (g n)) in
-    cc
 
 one_set : (S : Numbers) (a b : List ℕ) → IsSetText S a → IsSetText S b → a ≡ b
 one_set S a b x y = x.is ∙ ap set_text (one_list x.members y.members x.ascending y.ascending (λ n h. (y.same n).1 ((x.same n).0 h)) (λ n h. (x.same n).1 ((y.same n).0 h))) ∙ sym y.is

@@ -16,7 +16,8 @@ use Rattle.layout_text.specs.Appends.{Appends}
 use Rattle.layout_text.specs.Definitions.{IsTypeText, ArePartsText, IsDefinitionText, AreDefinitionTexts}
 use Rattle.layout_text.specs.Fields.{AreFieldLines}
 use Rattle.layout_text.specs.Heads.{named_words, outline_words}
-use Rattle.layout_text.specs.Sets.{Ascend, set_text}
+use Rattle.bit_length.specs.Ascending.{Ascend}
+use Rattle.layout_text.specs.Sets.{set_text}
 use Rattle.layout_text.specs.Words.{line_of, spaced}
 use Rattle.layout_text.specs.declared.head.Role.{Role}
 use Rattle.layout_text.specs.declared.head.Role.TheVariants.{Request, Response}

@@ -1,10 +1,7 @@
 -- The text of a set of numbers.
-use Rattle.std.specs.Prelude.{◌≡◌, ℕ, ◌<◌, nat_lt, Bool, if◌then◌else◌, List, [], ◌∷◌, ◌++◌, length, AllPairs, codes, decimal}
+use Rattle.std.specs.Prelude.{◌≡◌, ℕ, nat_lt, Bool, if◌then◌else◌, List, [], ◌∷◌, ◌++◌, length, codes, decimal}
+use Rattle.bit_length.specs.Ascending.{Ascend}
 use Rattle.bit_length.specs.Lengths.{Numbers, Has, Same}
-
--- each number is below all later ones
-abbrev pub Ascend : List ℕ → Type 0
-Ascend ns = AllPairs (λ a b. a < b) ns
 
 -- numbers with a comma and a space between each two
 abbrev pub listed : List ℕ → List ℕ

@@ -4,7 +4,8 @@ ghost use Rattle.dsdl_types.specs.Views.{sch};
 ghost use Rattle.layout.specs.Layouts.{AreRows, fields_of};
 ghost use Rattle.layout_text.specs.Appends.{Appends};
 ghost use Rattle.layout_text.specs.Fields.{AreFieldLines, field_line, is_union, name_words};
-ghost use Rattle.layout_text.specs.Sets.{Ascend, set_text};
+ghost use Rattle.bit_length.specs.Ascending.{Ascend};
+ghost use Rattle.layout_text.specs.Sets.{set_text};
 ghost use Rattle.layout_text.specs.Words.{spaced};
 
 use crate::set::push_set;

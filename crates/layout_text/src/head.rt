@@ -3,7 +3,8 @@ ghost use Rattle.std.specs.Prelude.{◌≡◌, [], ◌∷◌, ◌++◌, OnOk};
 ghost use Rattle.dsdl_types.specs.Schemas.{extent_of, is_delimited};
 ghost use Rattle.dsdl_types.specs.Views.{sch};
 ghost use Rattle.layout_text.specs.Heads.{half_text, kind_text, named_words, outline_words, port_text, sealing_text, type_name};
-ghost use Rattle.layout_text.specs.Sets.{Ascend, set_text};
+ghost use Rattle.bit_length.specs.Ascending.{Ascend};
+ghost use Rattle.layout_text.specs.Sets.{set_text};
 ghost use Rattle.layout_text.specs.Words.{line_of, spaced};
 
 use crate::set::push_set;

@@ -1,6 +1,7 @@
 //! The text of a set of lengths.
 ghost use Rattle.std.specs.Prelude.{◌≡◌, ◌++◌, OnOk, length};
-ghost use Rattle.layout_text.specs.Sets.{Ascend, ends_text, listed, member_text, members_text, range_text, set_text};
+ghost use Rattle.bit_length.specs.Ascending.{Ascend};
+ghost use Rattle.layout_text.specs.Sets.{ends_text, listed, member_text, members_text, range_text, set_text};
 
 use crate::words::{push_bytes, push_number};
 use bit_length::LengthSet;

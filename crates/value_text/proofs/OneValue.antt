@@ -3,10 +3,11 @@ use Rattle.std.proofs.Common.{◌≡◌, ◌≢◌, ℕ, zero, suc, ◌*◌, ◌
 use Rattle.std.proofs.lemmas.Bool.Decides.{nat_tests}
 use Rattle.std.proofs.lemmas.List.{append-nil, append_cancel_left}
 use Rattle.dsdl_types.specs.Fits.{Fits, FitFields, FitsVariant, FitsSimple, AllOf, IsNumber}
-use Rattle.dsdl_types.specs.Rules.{IsFormed, AreFormed, IsPrim, is_float_width}
+use Rattle.dsdl_names.specs.Words.{is_name}
+use Rattle.dsdl_types.specs.Names.{HasNames, HaveNames, AreNamed, IsNew}
+use Rattle.dsdl_types.specs.Rules.{IsFormed, AreFormed, IsPrim, is_float_width, IsSchema}
 use Rattle.dsdl_types.specs.Schemas.{Prim, Sch, Flds, PBool, PUint, PInt, PFloat, Simple, Fixed, Var, Struct, Union, End, Pad, Field, width}
 use Rattle.dsdl_types.specs.Values.{Val, Vals, Truth, Num, Raw, Items, Parts, Tagged, Empty, More, items_of, parts_of, tag_of, inner_of, first, others}
-use Rattle.value_text.specs.Names.{HasNoColon, HasNames, HaveNames, AreApart, IsNew}
 use Rattle.value_text.specs.Texts.{simple_text, value_text, field_texts, variant_text, texts, in_a_row, byte_text, is_uint8, is_byte, are_bytes, array_text}
 use Rattle.value_text.specs.Words.{separated, following, lead, entry, hex_digits, in_braces, in_brackets}
 use Rattle.value_text.proofs.Numerals.{signed_begins, signed_clear, one_number, one_raw, hex_digits_clear}
@@ -205,11 +206,11 @@ same_name : (name t u r q : List ℕ) → entry name t ++ r ≡ entry name u ++ 
 same_name name t u r q e =
     ap behind (ap behind (append_cancel_left name (58 ∷ 32 ∷ (t ++ r)) (58 ∷ 32 ∷ (u ++ q)) (sym (named name t r) ∙ e ∙ named name u q)))
 
-one_name : (a b t u r q : List ℕ) → HasNoColon a → HasNoColon b → entry a t ++ r ≡ entry b u ++ q → a ≡ b
+one_name : (a b t u r q : List ℕ) → is_name a ≡ true → is_name b ≡ true → entry a t ++ r ≡ entry b u ++ q → a ≡ b
 one_name a b t u r q f g e =
     (token_split colon a b (58 ∷ 32 ∷ (t ++ r)) (58 ∷ 32 ∷ (u ++ q)) (clear_name a f) (clear_name b g) refl refl (sym (named a t r) ∙ e ∙ named b u q)).0
 
-other_name : (name : List ℕ) (fs : Flds) (k : ℕ) (w : Val) (t r q : List ℕ) → HasNoColon name → IsNew name fs → AreApart fs → FitsVariant fs k w → entry name t ++ r ≡ variant_text fs k w ++ q → ⊥
+other_name : (name : List ℕ) (fs : Flds) (k : ℕ) (w : Val) (t r q : List ℕ) → is_name name ≡ true → IsNew name fs → AreNamed fs → FitsVariant fs k w → entry name t ++ r ≡ variant_text fs k w ++ q → ⊥
 other_name name End k w t r q f new apart h e = h
 other_name name (Pad n fs) k w t r q f new apart h e = other_name name fs k w t r q f new apart h e
 other_name name (Field other s fs) zero w t r q f new apart h e = new.0 (one_name name other t (value_text s w) r q f apart.0 e)
@@ -230,7 +231,7 @@ mutual
   one (Struct fs o) p n v w f g r q hr hq e =
       let a = are_parts (λ vs. FitFields fs vs) v f in
       let b = are_parts (λ vs. FitFields fs vs) w g in
-      let t = one_fields fs p.1 n true (parts_of v) (parts_of w) a.1 b.1 r q (ap behind (sym (braced (separated (field_texts fs (parts_of v))) r) ∙ e ∙ braced (separated (field_texts fs (parts_of w))) q)) in
+      let t = one_fields fs p.1 n.1 true (parts_of v) (parts_of w) a.1 b.1 r q (ap behind (sym (braced (separated (field_texts fs (parts_of v))) r) ∙ e ∙ braced (separated (field_texts fs (parts_of w))) q)) in
       (a.0 ∙ ap Parts t.0 ∙ sym b.0, t.1)
   one (Union fs o) p n v w f g r q hr hq e =
       let a = is_tagged (λ t x. FitsVariant fs t x) v f in
@@ -254,7 +255,7 @@ mutual
       let t = one_fields fs p.1 n.1 false (others vs) (others ws) x.2 y.2 r q d.1 in
       (x.0 ∙ ap (λ v. More v (others vs)) d.0 ∙ ap (λ us. More (first ws) us) t.0 ∙ sym y.0, t.1)
 
-  one_variant : (fs : Flds) → AreFormed fs → HaveNames fs → AreApart fs → (k l : ℕ) (v w : Val) → FitsVariant fs k v → FitsVariant fs l w → (r q : List ℕ) →
+  one_variant : (fs : Flds) → AreFormed fs → HaveNames fs → AreNamed fs → (k l : ℕ) (v w : Val) → FitsVariant fs k v → FitsVariant fs l w → (r q : List ℕ) →
       variant_text fs k v ++ 125 ∷ r ≡ variant_text fs l w ++ 125 ∷ q → (k ≡ l) × (v ≡ w) × (r ≡ q)
   one_variant End p n a k l v w f g r q e = absurd f
   one_variant (Pad m fs) p n a k l v w f g r q e = one_variant fs p.2 n a k l v w f g r q e
@@ -267,6 +268,6 @@ mutual
       let d = one_variant fs p.1 n.1 a.2 k l v w f g r q e in
       (ap suc d.0, d.1, d.2)
 
-pub one_value : (s : Sch) → IsFormed s → HasNames s → (v w : Val) → Fits s v → Fits s w → value_text s v ≡ value_text s w → v ≡ w
-one_value s p n v w f g e =
-    (one s p n v w f g [] [] tt tt (append-nil (value_text s v) ∙ e ∙ sym (append-nil (value_text s w)))).0
+pub one_value : (s : Sch) → IsSchema s → (v w : Val) → Fits s v → Fits s w → value_text s v ≡ value_text s w → v ≡ w
+one_value s rules v w f g e =
+    (one s rules.0 rules.3 v w f g [] [] tt tt (append-nil (value_text s v) ∙ e ∙ sym (append-nil (value_text s w)))).0

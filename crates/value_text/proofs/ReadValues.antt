@@ -18,7 +18,6 @@ use Rattle.dsdl_types.proofs.SchemaRules.{schema_sound}
 use Rattle.dsdl_types.proofs.ZeroReads.{zero_law}
 use Rattle.value_text.specs.Ends.{Halts, stop, top}
 use Rattle.value_text.specs.Loose.{IsReadable, Counts, HasItems, GivesValue, GivesArray, GivesBytes, GivesItems, HasNoUnion}
-use Rattle.value_text.specs.Names.{HasNames}
 use Rattle.value_text.specs.Texts.{value_text, texts, is_uint8, is_byte, are_bytes}
 use Rattle.value_text.specs.Words.{separated}
 use Rattle.value_text.proofs.Left.{fixed_is, var_is}
@@ -125,8 +124,8 @@ union_zero s fs o before after v e sound none z =
 
 -- ---- the line
 
-pub readable : (s : Sch) → IsSchema s → HasNames s → IsReadable s
-readable s r n = (r.0, schema_sound s r, n)
+pub readable : (s : Sch) → IsSchema s → IsReadable s
+readable s r = (r.0, schema_sound s r, r.3)
 
 -- A line is the text of no value where it isn't the text of the value that is read of it.
 pub refused : (s : Sch) (line text after : List ℕ) (value : Val) → GivesValue s line after value → text ≡ value_text s value → (text ≡ line → ⊥) → (v : Val) → Fits s v → value_text s v ≡ line → ⊥

@@ -1,14 +1,15 @@
 -- The variants of a union, of which the one with the name in the line is read.
-use Rattle.std.proofs.Common.{◌≡◌, ◌∙◌, ℕ, zero, suc, ◌+◌, ◌<◌, ◌≤◌, ◌^◌, false, List, ◌∷◌, ◌++◌, length, get_or, drop, refl, sym, ap, subst, arith}
+use Rattle.std.proofs.Common.{◌≡◌, ◌∙◌, ℕ, zero, suc, ◌+◌, ◌<◌, ◌≤◌, ◌^◌, true, false, List, ◌∷◌, ◌++◌, length, get_or, drop, refl, sym, ap, subst, arith}
 use Rattle.std.proofs.lemmas.Bool.{false≢true}
+use Rattle.dsdl_names.specs.Words.{is_name}
 use Rattle.dsdl_types.specs.Fits.{Fits, FitsVariant, IsTagged}
+use Rattle.dsdl_types.specs.Names.{IsNew, AreNamed}
 use Rattle.dsdl_types.specs.Schemas.{Flds, End, Pad, Field as F, variants}
 use Rattle.dsdl_types.specs.Values.{Val, Tagged, tag_of, inner_of}
 use Rattle.dsdl_types.specs.Views.{Kind, Typed, Padding, is_padding, type_of, with_field, named, flds, body_of}
 use Rattle.dsdl_types.specs.declared.schema.Body.{Body, out-Body}
 use Rattle.dsdl_types.specs.declared.schema.Field.{Field}
 use Rattle.value_text.specs.Loose.{AreReadable, GivesEntry, GivesVariant, HasNoVariant}
-use Rattle.value_text.specs.Names.{HasNoColon, IsNew, AreApart}
 use Rattle.value_text.specs.Texts.{value_text, variant_text}
 use Rattle.value_text.proofs.Left.{flds_next, flds_end, fields_are}
 use Rattle.value_text.proofs.OneValue.{named as name_first}
@@ -24,13 +25,13 @@ VariantLeft fs tag gs now =
 
 pub record VariantsTried (fs : Flds) (tag : ℕ) (gs : Flds) (now : List ℕ) : Type 0 where
   pub rules : AreReadable gs
-  pub apart : AreApart gs
+  pub apart : AreNamed gs
   pub tags : tag + variants gs ≤ 2 ^ 20
   pub made : (j : ℕ) (w : Val) → FitsVariant gs j w → FitsVariant fs (tag + j) w
   pub left : VariantLeft fs tag gs now
 
 -- no variant of these has the name
-no_other : (name : List ℕ) (fs : Flds) (k : ℕ) (w : Val) (x q : List ℕ) → HasNoColon name → IsNew name fs → AreApart fs → FitsVariant fs k w → name ++ 58 ∷ x ≡ variant_text fs k w ++ q → ⊥
+no_other : (name : List ℕ) (fs : Flds) (k : ℕ) (w : Val) (x q : List ℕ) → is_name name ≡ true → IsNew name fs → AreNamed fs → FitsVariant fs k w → name ++ 58 ∷ x ≡ variant_text fs k w ++ q → ⊥
 no_other name End k w x q f new apart h e = h
 no_other name (Pad n fs) k w x q f new apart h e = no_other name fs k w x q f new apart h e
 no_other name (F other s fs) zero w x q f new apart h e =
@@ -39,7 +40,7 @@ no_other name (F other s fs) (suc k) w x q f new apart h e = no_other name fs k 
 
 -- ---- the variant with the name
 
-variant_read : (fs : Flds) (tag : ℕ) (name : List ℕ) (k : Kind) (gs : Flds) (now after x : List ℕ) (v w : Val) → is_padding k ≡ false → AreApart (with_field name k gs) → now ≡ name ++ 58 ∷ x → GivesEntry name (type_of k) now after v →
+variant_read : (fs : Flds) (tag : ℕ) (name : List ℕ) (k : Kind) (gs : Flds) (now after x : List ℕ) (v w : Val) → is_padding k ≡ false → AreNamed (with_field name k gs) → now ≡ name ++ 58 ∷ x → GivesEntry name (type_of k) now after v →
     IsTagged (λ t y. FitsVariant fs t y) w → (rest : List ℕ) → (j : ℕ) → tag_of w ≡ tag + j → FitsVariant (with_field name k gs) j (inner_of w) → now ≡ variant_text (with_field name k gs) j (inner_of w) ++ 125 ∷ rest →
     (Tagged tag v ≡ w) × (after ≡ 125 ∷ rest)
 variant_read fs tag name (Padding n) gs now after x v w p apart at gives t rest j a f e = absurd (false≢true (sym p))

@@ -1,9 +1,10 @@
 -- A text up to the first byte of some kind.
-use Rattle.std.proofs.Common.{◌≡◌, ◌≢◌, ℕ, ◌≤◌, ◌==◌, Bool, true, false, List, [], ◌∷◌, ◌++◌, refl, sym, ap, ◌∙◌, arith}
-use Rattle.std.proofs.lemmas.Bool.{false≢true}
+use Rattle.std.proofs.Common.{◌≡◌, ℕ, ◌≤◌, ◌==◌, Bool, true, false, List, [], ◌∷◌, ◌++◌, refl, sym, ap, ◌∙◌, arith}
+use Rattle.std.specs.List.{list_all}
+use Rattle.std.proofs.lemmas.Bool.{false≢true, eqb-true, and_parts}
+use Rattle.dsdl_names.specs.Words.{is_name, is_name_byte, is_first}
 use Rattle.std.proofs.lemmas.Bool.Decides.{nat_tests}
 pub use Rattle.value_text.specs.Ends.{Clear, Halts, stop, top}
-use Rattle.value_text.specs.Names.{HasNoColon}
 
 abbrev pub behind : List ℕ → List ℕ
 behind [] = []
@@ -57,9 +58,20 @@ colon c = c == 58
 pub not_stop : (c : ℕ) → 45 ≤ c → c ≤ 92 → stop c ≡ false
 not_stop c f g = grind (arith, nat_tests)
 
-pub not_colon : (c : ℕ) → c ≢ 58 → colon c ≡ false
-not_colon c f = grind (arith, nat_tests, f)
+-- a byte of a kind that a colon isn't of
+not_colon : (p : ℕ → Bool) → p 58 ≡ false → (c : ℕ) (b : Bool) → colon c ≡ b → p c ≡ true → b ≡ false
+not_colon p f c true e h = absurd (false≢true (sym f ∙ ap p (sym (eqb-true c 58 e)) ∙ h))
+not_colon p f c false e h = refl
 
-pub clear_name : (name : List ℕ) → HasNoColon name → Clear colon name
+clear_bytes : (s : List ℕ) → list_all is_name_byte s ≡ true → Clear colon s
+clear_bytes [] h = tt
+clear_bytes (c ∷ s) h =
+    let p = and_parts (is_name_byte c) (list_all is_name_byte s) h in
+    (not_colon is_name_byte refl c (colon c) refl p.0, clear_bytes s p.1)
+
+-- no byte of a name is a colon
+pub clear_name : (name : List ℕ) → is_name name ≡ true → Clear colon name
 clear_name [] h = tt
-clear_name (c ∷ name) h = (not_colon c h.0, clear_name name h.1)
+clear_name (c ∷ name) h =
+    let p = and_parts (is_first c) (list_all is_name_byte name) h in
+    (not_colon is_first refl c (colon c) refl p.0, clear_bytes name p.1)

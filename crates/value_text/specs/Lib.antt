@@ -1,5 +1,4 @@
 pub mod Words
 pub mod Texts
-pub mod Names
 pub mod Ends
 pub mod Loose

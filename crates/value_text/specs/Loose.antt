@@ -1,12 +1,12 @@
 -- What is read of a line, where a text of a value may stand.
 use Rattle.std.specs.Prelude.{◌≡◌, ℕ, ◌≤◌, Bool, true, false, List, ◌∷◌, ◌++◌}
 use Rattle.dsdl_types.specs.Fits.{Fits, FitFields, FitsVariant, AllOf, IsTagged}
+use Rattle.dsdl_types.specs.Names.{HasNames, HaveNames}
 use Rattle.dsdl_types.specs.Rules.{IsFormed, AreFormed}
 use Rattle.dsdl_types.specs.Schemas.{Sch, Flds}
 use Rattle.dsdl_types.specs.Sound.{IsSound, AreSound}
 use Rattle.dsdl_types.specs.Values.{Val, Vals, count, tag_of, inner_of}
 use Rattle.value_text.specs.Ends.{Reads}
-use Rattle.value_text.specs.Names.{HasNames, HaveNames}
 use Rattle.value_text.specs.Texts.{value_text, array_text, field_texts, variant_text, is_uint8, texts, in_a_row, byte_text, are_bytes}
 use Rattle.value_text.specs.Words.{entry, in_braces, separated}
 

@@ -1,13 +1,13 @@
 //! A value from its text.
 ghost use Rattle.std.specs.Prelude.{◌≡◌, ℕ, ◌^◌, ◌<◌, ◌≤◌, ◌++◌, ◌∷◌, ◌==◌, ◌&&◌, not, true, Err, IfOk, List as ListOf, MatchOption, drop, pos};
 ghost use Rattle.dsdl_types.specs.Fits.{Fits};
+ghost use Rattle.dsdl_types.specs.Names.{AreNamed};
 ghost use Rattle.dsdl_types.specs.Rules.{IsSchema};
 ghost use Rattle.dsdl_types.specs.Schemas.{variants};
 ghost use Rattle.dsdl_types.specs.Values.{Num, Val};
 ghost use Rattle.dsdl_types.specs.Views.{body_of, named, sch, type_of, val, vals};
 ghost use Rattle.value_text.specs.Ends.{has_end, top};
 ghost use Rattle.value_text.specs.Loose.{AreReadable, GivesArray, GivesBytes, GivesEntry, GivesFields, GivesItems, GivesStruct, GivesUnion, GivesValue, GivesVariant, HasNoUnion, HasNoVariant, IsReadable};
-ghost use Rattle.value_text.specs.Names.{AreApart, HasNames};
 ghost use Rattle.value_text.specs.Texts.{is_byte, is_uint8, value_text};
 ghost use Rattle.value_text.specs.Words.{hex_digits};
 ghost use Rattle.value_text.specs.declared.read.TextError.TheVariants.{Text as NoText};
@@ -39,8 +39,7 @@ pub fn read_value(
     line: &[u8],
     number: u64,
 ) -> Result<Value, TextError>
-    requires rules { IsSchema (sch schema.now) }
-    requires names { HasNames (sch schema.now) }
+    requires { IsSchema (sch schema.now) }
     ensures read { IfOk result (λ v. Fits (sch schema.now) (val v) × (value_text (sch schema.now) (val v) ≡ line.now)) }
     ensures refused { (n : ℕ) → result ≡ Err (NoText n) → (n ≡ number) × ((v : Val) → Fits (sch schema.now) v → value_text (sch schema.now) v ≡ line.now → ⊥) }
 {
@@ -247,7 +246,7 @@ fn union_at(
     at: &mut usize,
 ) -> Result<Option<Value>, NoMemory>
     requires rules { AreReadable (body_of body.now).0 }
-    requires apart { AreApart (body_of body.now).0 }
+    requires apart { AreNamed (body_of body.now).0 }
     requires tags { variants (body_of body.now).0 ≤ 2 ^ 20 }
     ensures { IfOk result (λ o. MatchOption o (HasNoUnion (body_of body.now).0 (drop at.old line.now)) (λ v. GivesUnion (body_of body.now).0 (drop at.old line.now) (drop at.new line.now) (val v))) }
 {
@@ -266,7 +265,7 @@ fn variant_at(
     at: &mut usize,
 ) -> Result<Option<Value>, NoMemory>
     requires rules { AreReadable (body_of body.now).0 }
-    requires apart { AreApart (body_of body.now).0 }
+    requires apart { AreNamed (body_of body.now).0 }
     requires tags { variants (body_of body.now).0 ≤ 2 ^ 20 }
     ensures { IfOk result (λ o. MatchOption o (HasNoVariant (body_of body.now).0 (drop at.old line.now)) (λ v. GivesVariant (body_of body.now).0 (drop at.old line.now) (drop at.new line.now) (val v))) }
 {

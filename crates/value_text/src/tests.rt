@@ -3,7 +3,6 @@ ghost use Rattle.dsdl_types.specs.Rules.{IsSchema};
 ghost use Rattle.dsdl_types.specs.Schemas.{PBool, PFloat, PUint, Simple, Struct, Union, Var};
 ghost use Rattle.dsdl_types.specs.Values.{Items, Num, Parts, Raw, Tagged, Truth};
 ghost use Rattle.dsdl_types.specs.Views.{Padding, Typed, flds, in_order, in_row, body_of, kind_of, named, sch, val, vals};
-ghost use Rattle.value_text.specs.Names.{HasNames};
 
 use crate::{TextError, print_value, read_value};
 use cy_bits::{Boxed, List, NoMemory, Text};
@@ -145,7 +144,7 @@ fn prints(rt: HostRuntime) {
 
 /// `float16 f`, `uint8[<=2] x`.
 fn part(alloc: Global) -> Result<Schema, NoMemory>
-    ensures { IfOk result (λ s. IsSchema (sch s) × HasNames (sch s)) }
+    ensures { IfOk result (λ s. IsSchema (sch s)) }
 {
     let float = Schema::Float {
         bits: 16,
@@ -158,7 +157,7 @@ fn part(alloc: Global) -> Result<Schema, NoMemory>
 
 /// `@union`, `uint8 a`, `uint16[<=2] b`.
 fn choice(alloc: Global) -> Result<Schema, NoMemory>
-    ensures { IfOk result (λ s. IsSchema (sch s) × HasNames (sch s)) }
+    ensures { IfOk result (λ s. IsSchema (sch s)) }
 {
     let first = field(alloc, "a", uint(8))?;
     let fields = body(alloc, first, field(alloc, "b", array(alloc, 16)?)?)?;
@@ -167,8 +166,7 @@ fn choice(alloc: Global) -> Result<Schema, NoMemory>
 
 /// Whether a line gives a value with that text, and not the error with its number.
 fn reads(alloc: Global, schema: &Schema, line: &str) -> Result<bool, NoMemory>
-    requires rules { IsSchema (sch schema.now) }
-    requires names { HasNames (sch schema.now) }
+    requires { IsSchema (sch schema.now) }
 {
     match read_value(alloc, schema, line.as_bytes(), 7) {
         Ok(value) => Ok(print_value(alloc, schema, &value)?.as_str() == line),

@@ -1,4 +1,5 @@
-use Rattle.std.proofs.Common.{rules, ◌≡◌, [], true, refl, sym, ap, ◌∙◌, subst}
+use Rattle.std.proofs.Common.{rules, ◌≡◌, true, refl, sym, ap, ◌∙◌, subst}
+use Rattle.std.specs.Prelude.{codes}
 use Rattle.dsdl_types.specs.Schemas.{Sch, Flds, PBool, Simple, Struct, Field, End, is_composite}
 use Rattle.dsdl_types.specs.Rules.{IsSchema}
 use Rattle.dsdl_types.specs.Views.{sch, flds, type_of}
@@ -12,7 +13,7 @@ abbrev truth : Flds → Sch
 truth fs = Struct fs (record { extent = 8; sealed = true })
 
 abbrev one : Flds
-one = Field [] (Simple PBool) End
+one = Field (codes "value") (Simple PBool) End
 
 pub invariant_of-result : goal.invariant_of-result
 invariant_of-result c =

@@ -1,5 +1,5 @@
 use Rattle.std.proofs.Common.{List, ℕ, Result, Ok, Err, IfOk}
-use Rattle.bit_length.specs.Lengths.{Has, Same}
+use Rattle.bit_length.specs.Lengths.{Has}
 use Rattle.dsdl_types.specs.Views.{named}
 use Rattle.layout.proofs.OneMore as one
 use Rattle.layout.proofs.ends.ends_after.Goals as goal

@@ -3,4 +3,4 @@ use Rattle.layout.proofs.tests.alone.Goals as goal
 
 pub layout_of-requires-clause-rules : goal.layout_of-requires-clause-rules
 layout_of-requires-clause-rules c =
-    let e = c.in_ok-inner.ensures in inner_keeps c.in_ok-inner.field-0 e.0 e.1
+    inner_keeps c.in_ok-inner.field-0 c.in_ok-inner.ensures

@@ -4,5 +4,5 @@ use Rattle.layout.proofs.tests.padded.Goals as goal
 
 pub layout_of-requires-clause-rules : goal.layout_of-requires-clause-rules
 layout_of-requires-clause-rules c =
-    let fields = two_fields c.in_ok-fields.fields c.in_ok-padding.padding c.in_ok-field.field-0 _ _ _ _ _ _ c.in_ok-fields.ensures c.in_ok-padding.ensures c.in_ok-field.ensures (kind_void 5) c.in_ok-inner.ensures.1 in
-    padded_keeps _ _ _ c.in_ok-inner.ensures.0 c.structure.ensures fields
+    let fields = two_fields c.in_ok-fields.fields c.in_ok-padding.padding c.in_ok-field.field-0 _ _ _ _ _ _ c.in_ok-fields.ensures c.in_ok-padding.ensures c.in_ok-field.ensures (kind_void 5) c.in_ok-inner.ensures in
+    padded_keeps _ _ c.structure.ensures fields

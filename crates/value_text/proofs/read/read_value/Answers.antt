@@ -6,7 +6,7 @@ use Rattle.value_text.proofs.ReadValues.{readable, refused}
 use Rattle.value_text.proofs.read.read_value.Goals as goal
 
 pub value_at-requires : goal.value_at-requires
-value_at-requires c = readable (sch c.args.schema.now) c.requires.rules c.requires.names
+value_at-requires c = readable (sch c.args.schema.now) c.requires
 
 pub returns-else-eq-clause-refused : goal.returns-else-eq-clause-refused
 returns-else-eq-clause-refused c n e =

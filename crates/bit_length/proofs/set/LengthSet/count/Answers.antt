@@ -2,9 +2,8 @@ use Rattle.std.proofs.Common.{◌<◌, AllPairs, ◌+◌, ◌++◌, ◌∷◌, [
 use Rattle.bit_length.specs.Members.{runs_of}
 use Rattle.bit_length.specs.Runs.{AreRuns, members_of}
 use Rattle.bit_length.proofs.CountLemmas.{counted_first, counted_more, counted_short, counted_all}
-use Rattle.bit_length.proofs.MemberLemmas.{members_ascend}
 use Rattle.bit_length.proofs.RunLemmas.{last_bound}
-use Rattle.bit_length.proofs.SetLemmas.{front, other_run, last_run, no_run}
+use Rattle.bit_length.proofs.SetLemmas.{members_ascend, front, other_run, last_run, no_run}
 use Rattle.bit_length.proofs.set.LengthSet.count.Goals as goal
 
 pub loop-run-init : goal.loop-run-init

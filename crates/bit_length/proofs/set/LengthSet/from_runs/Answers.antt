@@ -1,8 +1,11 @@
 use Rattle.bit_length.specs.Lengths.{Has}
 use Rattle.bit_length.specs.Runs.{InSome}
-use Rattle.bit_length.proofs.SetLemmas.{done}
+use Rattle.bit_length.proofs.SetLemmas.{done, same_join}
 use Rattle.bit_length.proofs.set.LengthSet.from_runs.Goals as goal
 
 pub returns : goal.returns
 returns c =
-    done c.simplified.result (Has c.in_ok-merged.field-0) (InSome c.args.step c.args.runs.items) c.in_ok-merged.ensures c.simplified.ensures
+    let runs = InSome c.args.step c.args.runs.items in
+    let merged = Has c.in_ok-merged.field-0 in
+    let simplified = Has c.in_ok-simplified.field-0 in
+    done c.coarsened.result simplified runs (same_join simplified merged runs c.in_ok-simplified.ensures c.in_ok-merged.ensures) c.coarsened.ensures

@@ -1,35 +1,34 @@
-use Rattle.std.proofs.Common.{rules, get_or, inl, inr, sym, ◌∙◌}
-use Rattle.bit_length.proofs.SetLemmas.{front_more, value_at, other_run, no_run, last_run, found_last, found_other, not_found}
+use Rattle.std.proofs.Common.{ℕ, ◌≡◌, inl, inr, Bool, IsTrue, List, sym, ◌∙◌, subst, Option, Some, None, MatchOption, rules}
+use Rattle.std.specs.Option.{is_some}
+use Rattle.std.proofs.lemmas.Bool.{false≢true}
+use Rattle.bit_length.specs.declared.run.Run.{Run}
+use Rattle.bit_length.specs.Runs.{AreRuns, InSome, IsRunOf}
+use Rattle.bit_length.proofs.SetLemmas.{found_last, not_found, last_run, others_set, value_parts}
 use Rattle.bit_length.proofs.set.LengthSet.has.Goals as goal
+
+told : (s : ℕ) (runs : List Run) (n : ℕ) (o : Option Run) (b : Bool) → b ≡ is_some o → MatchOption o (InSome s runs n → ⊥) (IsRunOf s runs n) → (IsTrue b → InSome s runs n) × (InSome s runs n → IsTrue b)
+told s runs n (Some r) b e found = (λ _. found.within n found.has, λ _. e)
+told s runs n None b e none = (λ h. absurd (false≢true (sym e ∙ h)), λ h. absurd (none h))
 
 pub returns-then-has : goal.returns-then-has
 returns-then-has c =
     (λ _. found_last c.self.inside.step c.self.inside.others.items c.self.inside.last c.args.self.now c.args.n c.self.invariant c.self.view_is (sym c.has.ensures ∙ c.if-has.true), λ _. search rules)
 
-pub loop-run-init : goal.loop-run-init
-loop-run-init c = λ h. elim h [
-  | inl k ↦ not_found c.self.inside.step c.self.inside.last c.args.n (last_run c.self.inside.step c.self.inside.others.items c.self.inside.last c.self.invariant) (sym c.has.ensures ∙ c.if-has.false) k
-  | inr k ↦ absurd k
-]
-
-pub returns-then-has-2 : goal.returns-then-has-2
-returns-then-has-2 c =
-    let lt = rw c.deref-run-items.ensures.value at c.loop-run-test.true in
-    (λ _. found_other c.self.inside.step c.self.inside.others.items c.self.inside.last c.args.self.now c.args.n c.loop-run.run-index c.self.invariant c.self.view_is lt (rw c.deref-run-items.ensures.value at (sym c.has-in-loop-run.ensures ∙ c.if-has-2.true)), λ _. search rules)
-
-pub loop-run-preserved : goal.loop-run-preserved
-loop-run-preserved c =
-    let s = c.self.inside.step in
-    let others = c.self.inside.others.items in
-    let last = c.self.inside.last in
-    let i = c.loop-run.run-index in
-    let lt = rw c.deref-run-items.ensures.value at c.loop-run-test.true in
-    λ h. elim ((front_more s others last i no_run lt c.args.n).0 h) [
-      | inl k ↦ c.loop-run.invariant k
-      | inr k ↦ not_found s (get_or others i no_run) c.args.n (other_run s others last i c.self.invariant lt) (rw c.deref-run-items.ensures.value at (sym c.has-in-loop-run.ensures ∙ c.if-has-2.false)) k
-    ]
+pub run_with-requires-clause-runs : goal.run_with-requires-clause-runs
+run_with-requires-clause-runs c =
+    subst (AreRuns c.self.inside.step) (sym c.as_slice.ensures.value) (others_set c.self.inside.step c.self.inside.others.items c.self.inside.last c.self.invariant)
 
 pub returns : goal.returns
 returns c =
-    let done = rw c.deref-run-items.ensures.value at c.loop-run-test.false in
-    (λ e. absurd (search rules), λ h. absurd (c.loop-run.invariant ((value_at c.self.inside.step c.self.inside.others.items c.self.inside.last c.args.self.now c.loop-run.run-index c.self.invariant c.self.view_is done c.args.n).1 h)))
+    let s = c.self.inside.step in
+    let others = c.self.inside.others.items in
+    let last = c.self.inside.last in
+    let whole = value_parts s others last c.args.self.now c.self.invariant c.self.view_is c.args.n in
+    let found = rw c.as_slice.ensures.value at c.run_with.ensures in
+    let told' = told s others c.args.n c.run_with.result c.is_some.result c.is_some.ensures found in (
+      λ e. whole.1 (inr (told'.0 e)),
+      λ h. elim (whole.0 h) [
+        | inl k ↦ absurd (not_found s last c.args.n (last_run s others last c.self.invariant) (sym c.has.ensures ∙ c.if-has.false) k)
+        | inr k ↦ told'.1 k
+      ],
+    )
