@@ -1,14 +1,13 @@
 -- Ascending lists of lengths, and what their ends are
-use Rattle.std.proofs.Common.{◌≡◌, ℕ, zero, suc, ◌+◌, ◌-◌, ◌^◌, ◌<◌, ◌≤◌, Bool, true, false, cond, List, [], ◌∷◌, ◌++◌, length, map, get_or, nat_lt, pos, Ok, Err, Some, refl, sym, ap, ◌∙◌, subst, arith, rules, inl, inr}
-use Rattle.std.specs.Prelude.{slice_get, AllPairs, codes}
+use Rattle.std.proofs.Common.{◌≡◌, ℕ, suc, ◌+◌, ◌-◌, ◌^◌, ◌≤◌, true, false, cond, List, [], ◌∷◌, length, map, nat_lt, pos, Ok, Err, Some, refl, sym, ap, ◌∙◌, arith, inl, inr}
+use Rattle.std.specs.Prelude.{slice_get, codes}
 use Rattle.std.specs.Str.{bytes_eq}
 use Rattle.std.proofs.lemmas.Bool.{cases_lt}
-use Rattle.std.proofs.lemmas.List.{append-nil, length-map}
+use Rattle.std.proofs.lemmas.List.{length-map}
 use borrow.Author.Tests.{ltb-false}
-use Rattle.std.proofs.lemmas.List.Quantifiers.{all_pairs_push}
+use Rattle.bit_length.specs.Ascending.{Ascend}
+use Rattle.bit_length.proofs.AscendingLemmas.{ascend_head, ascend_tail, has_head, has_later, has_behind, at_least, one_below}
 use Rattle.bit_length.specs.Lengths.{Has, Same, IsLeast, IsGreatest}
-use Rattle.bit_length.specs.Runs.{numbers_below}
-use Rattle.bit_length.proofs.MemberLemmas.{below-has, has-below}
 use Rattle.dsdl_types.specs.Schemas.{Sch, is_delimited, extent_of}
 use Rattle.dsdl_types.specs.Greatest.{as_part, longest}
 use Rattle.dsdl_types.specs.Lengths.{Size}
@@ -22,60 +21,6 @@ use Rattle.const_expr.specs.Constants.{natural, naturals, whole, kind}
 use Rattle.const_expr.proofs.Layers.{number_layer}
 use Rattle.const_expr.specs.Sizes.{is_size, sizes}
 use Rattle.const_expr.proofs.MemberSizes.{size_tells, told, tells}
-
-abbrev pub Ascend : List ℕ → Type 0
-Ascend ns = AllPairs (λ a b. a < b) ns
-
-ascend_head : (x : ℕ) (xs : List ℕ) → Ascend (x ∷ xs) → (n : ℕ) → Has xs n → x < n
-ascend_head x xs up n (k, lt, e) = subst (λ t. x < t) e (up 0 (suc k) n (omega arith) (omega arith))
-
-ascend_tail : (x : ℕ) (xs : List ℕ) → Ascend (x ∷ xs) → Ascend xs
-ascend_tail x xs up = λ i j d lt short. up (suc i) (suc j) d (omega arith) (omega arith)
-
-has_head : (x : ℕ) (xs : List ℕ) → Has (x ∷ xs) x
-has_head x xs = (0, omega arith, refl)
-
-has_later : (x : ℕ) (xs : List ℕ) (n : ℕ) → Has xs n → Has (x ∷ xs) n
-has_later x xs n (k, lt, e) = (suc k, omega arith, e)
-
-has_behind : (x : ℕ) (xs : List ℕ) (n : ℕ) → Has (x ∷ xs) n → x < n → Has xs n
-has_behind x xs n (zero, lt, e) l = absurd (omega arith)
-has_behind x xs n (suc k, lt, e) l = (k, omega arith, e)
-
-at_least : (x : ℕ) (xs : List ℕ) (n : ℕ) → Ascend (x ∷ xs) → Has (x ∷ xs) n → x ≤ n
-at_least x xs n up (zero, lt, e) = omega arith
-at_least x xs n up (suc k, lt, e) = let l = ascend_head x xs up n (k, omega arith, e) in omega arith
-
-within : (x y : ℕ) (xs ys : List ℕ) → Ascend (x ∷ xs) → x ≡ y → (n : ℕ) → (Has (x ∷ xs) n → Has (y ∷ ys) n) → Has xs n → Has ys n
-within x y xs ys up e n f h = let l = ascend_head x xs up n h in has_behind y ys n (f (has_later x xs n h)) (omega arith)
-
--- an ascending list is known by its members
-one_list : (xs ys : List ℕ) → Ascend xs → Ascend ys → ((n : ℕ) → Has xs n → Has ys n) → ((n : ℕ) → Has ys n → Has xs n) → xs ≡ ys
-one_list [] [] up down f g = refl
-one_list [] (y ∷ ys) up down f g = let w = g y (has_head y ys) in absurd (let l = w.1 in omega arith)
-one_list (x ∷ xs) [] up down f g = let w = f x (has_head x xs) in absurd (let l = w.1 in omega arith)
-one_list (x ∷ xs) (y ∷ ys) up down f g =
-    let a = at_least x xs y up (g y (has_head y ys)) in
-    let b = at_least y ys x down (f x (has_head x xs)) in
-    let e : x ≡ y = omega arith in
-    let t : xs ≡ ys = one_list xs ys (ascend_tail x xs up) (ascend_tail y ys down) (λ n. within x y xs ys up e n (f n)) (λ n. within y x ys xs down (sym e) n (g n)) in
-    cc
-
-ascend_none : Ascend []
-ascend_none i j d lt short = absurd (omega arith)
-
-ascend_more : (b : Bool) (n : ℕ) (xs : List ℕ) → Ascend xs → ((k : ℕ) → Has xs k → k < n) → Ascend (xs ++ cond b (n ∷ []) [])
-ascend_more true n xs up below = all_pairs_push (λ a b. a < b) xs n up (λ k d lt. below (get_or xs k d) (k, lt, search rules))
-ascend_more false n xs up below = subst Ascend (sym (append-nil xs)) up
-
-below_ascends : (n : ℕ) (test : ℕ → Bool) → Ascend (numbers_below n test)
-unfolding numbers_below
-below_ascends zero test = ascend_none
-below_ascends (suc n) test = ascend_more (test n) n (numbers_below n test) (below_ascends n test) (λ k h. (below-has n test k h).0)
-
--- an ascending list whose members are the numbers below n that pass a test
-one_below : (n : ℕ) (test : ℕ → Bool) (ns : List ℕ) → Ascend ns → ((k : ℕ) → Has ns k → (k < n) × (test k ≡ true)) → ((k : ℕ) → k < n → test k ≡ true → Has ns k) → ns ≡ numbers_below n test
-one_below n test ns up f g = one_list ns (numbers_below n test) up (below_ascends n test) (λ k h. let (lt, t) = f k h in has-below n test k lt t) (λ k h. let (lt, t) = below-has n test k h in g k lt t)
 
 -- the lengths of a type as a part of another, where none is above 2^32 bits
 pub are_sizes : (s : Sch) (ns : List ℕ) → IsShortPart s → Ascend ns → Same (Has ns) (Size s) → ns ≡ sizes s

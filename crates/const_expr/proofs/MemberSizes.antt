@@ -10,7 +10,7 @@ use Rattle.const_expr.specs.Sizes.{some_to, is_part, in_row, is_length, ends_at,
 pub Tells : Bool → Type 0 → Type 0
 Tells b P = ((b ≡ true) → P) × (P → b ≡ true)
 
-equal_tells : (m n : ℕ) → Tells (m == n) (m ≡ n)
+pub equal_tells : (m n : ℕ) → Tells (m == n) (m ≡ n)
 unfolding Tells
 equal_tells m n = (λ h. grind arith, λ e. grind arith)
 
@@ -18,7 +18,7 @@ most_tells : (m n : ℕ) → Tells (nat_le m n) (m ≤ n)
 unfolding Tells
 most_tells m n = (λ h. grind arith, λ e. grind arith)
 
-both_tell : (a b : Bool) (P Q : Type 0) → Tells a P → Tells b Q → Tells (a && b) (P × Q)
+pub both_tell : (a b : Bool) (P Q : Type 0) → Tells a P → Tells b Q → Tells (a && b) (P × Q)
 unfolding Tells
 both_tell true b P Q f g = (λ h. (f.0 refl, g.0 h), λ (p, q). g.1 q)
 both_tell false b P Q f g = (λ h. cc, λ (p, q). f.1 p)
@@ -33,7 +33,7 @@ along : (b : Bool) (P Q : Type 0) → Tells b P → (P → Q) → (Q → P) → 
 unfolding Tells
 along b P Q f there back = (λ h. there (f.0 h), λ q. f.1 (back q))
 
-some_tells : (n : ℕ) (test : ℕ → Bool) (P : ℕ → Type 0) → ((k : ℕ) → Tells (test k) (P k)) → Tells (some_to n test) ((k : ℕ) × (k ≤ n) × P k)
+pub some_tells : (n : ℕ) (test : ℕ → Bool) (P : ℕ → Type 0) → ((k : ℕ) → Tells (test k) (P k)) → Tells (some_to n test) ((k : ℕ) × (k ≤ n) × P k)
 some_tells zero test P f = along (test zero) (P zero) ((k : ℕ) × (k ≤ zero) × P k) (f zero) (λ p. (zero, omega arith, p)) (λ (k, le, p). let e : k ≡ zero = omega arith in subst P e p)
 some_tells (suc n) test P f =
     along (test (suc n) || some_to n test) (P (suc n) ⊎ ((k : ℕ) × (k ≤ n) × P k)) ((k : ℕ) × (k ≤ suc n) × P k)
@@ -104,7 +104,7 @@ mutual
       (λ m. both_tell (is_variant fs m) (n == up (tag + m)) (VariantLength fs m) (n ≡ up (tag + m)) (variant_tells fs m) (equal_tells n (up (tag + m)))))
       (λ (m, le, (h, e)). (m, h, e)) (λ (m, h, e). (m, omega arith, (h, e)))
 
-  ends_tell : (fs : Flds) (p n : ℕ) → Tells (ends_at fs p n) (EndsAt fs p n)
+  pub ends_tell : (fs : Flds) (p n : ℕ) → Tells (ends_at fs p n) (EndsAt fs p n)
   ends_tell End p n = equal_tells n p
   ends_tell (Pad k fs) p n = ends_tell fs (p + k) n
   ends_tell (Field name s fs) p n =
@@ -117,7 +117,7 @@ mutual
       (part_tells (is_delimited s) (extent_of s) (λ l. is_length s l) (λ l. Length s l) (λ l. length_tells s l) m) (ends_tell fs (from + m) n)))
       (λ (m, le, (x, h)). (m, x, h)) (λ (m, x, h). let l = ends_from fs (from + m) n h in (m, omega arith, (x, h)))
 
-  variant_tells : (fs : Flds) (n : ℕ) → Tells (is_variant fs n) (VariantLength fs n)
+  pub variant_tells : (fs : Flds) (n : ℕ) → Tells (is_variant fs n) (VariantLength fs n)
   variant_tells End n = none
   variant_tells (Pad k fs) n = variant_tells fs n
   variant_tells (Field name s fs) n =

@@ -1,8 +1,7 @@
 -- What a binary operator makes of two constants.
-use Rattle.std.specs.Prelude.{ℕ, ◌==◌, ◌%◌, ◌&&◌, ◌||◌, ◌++◌, nat_lt, ℤ, pos, negsuc, Bool, not, List, [], ◌∷◌, length, filter, Option, Some, None, Result, Ok, Err, if◌then◌else◌}
-use Rattle.std.specs.List.{list_any}
+use Rattle.std.specs.Prelude.{ℕ, ◌&&◌, ◌||◌, ◌++◌, nat_lt, ℤ, pos, negsuc, Bool, not, List, [], ◌∷◌, length, filter, Option, Some, None, Result, Ok, Err, if◌then◌else◌}
 use Rattle.std.specs.Int.{w128, int_bit_and, int_bit_or, int_bit_xor}
-use Rattle.bit_length.specs.Runs.{numbers_below}
+use Rattle.bit_length.specs.Residues.{residues_of}
 use Rattle.cy_ratio.specs.Fraction.{Fraction, sum_of, difference_of, product_of, quotient_of, remainder_of, power_of}
 use Rattle.cy_ratio.specs.declared.RatioError.{RatioError}
 use Rattle.const_expr.specs.declared.constant.Const.{Const, out-Const}
@@ -137,7 +136,7 @@ on_listed op u v = and_then (listed u) (λ x. and_then (listed v) (λ y. by_kind
 
 -- the remainders of lengths modulo k, ascending
 abbrev pub residues : List ℕ → ℕ → List Const
-residues ns k = naturals (numbers_below k (λ r. list_any (λ n. n % k == r) ns))
+residues ns k = naturals (residues_of ns k)
 
 -- a whole number from 1 to 65,536
 abbrev pub divisor_in : ℤ → Option ℕ

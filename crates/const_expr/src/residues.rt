@@ -5,7 +5,7 @@ ghost use Rattle.const_expr.specs.Binary.{divisor_in, residues, small_divisor};
 ghost use Rattle.const_expr.specs.Constants.{IsAscending};
 
 use crate::constant::Const;
-use crate::whole::{natural, whole_of};
+use crate::whole::{naturals, whole_of};
 use bit_length::LengthSet;
 use cy_bits::{List, NoMemory};
 use std::alloc::Global;
@@ -18,13 +18,8 @@ pub fn residues(alloc: Global, lengths: &LengthSet, divisor: u32) -> Result<List
     requires { 0 < divisor }
     ensures { IfOk result (λ set. set ≡ residues lengths.now divisor) }
 {
-    let mut set = List::empty(alloc);
-    for remainder in 0..divisor {
-        if lengths.residue(divisor, remainder) {
-            set.push(natural(u64::from(remainder)))?;
-        }
-    }
-    Ok(set)
+    let residues = lengths.residues(alloc, divisor)?;
+    naturals(alloc, residues.as_slice())
 }
 
 /// The divisor that a constant is, where it is a whole number from 1 to 65,536.

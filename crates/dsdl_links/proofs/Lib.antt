@@ -5,3 +5,5 @@ pub mod Readiness
 pub mod Stuck
 pub mod Placing
 pub mod Naming
+pub mod OneMeaning
+pub mod OneOrder

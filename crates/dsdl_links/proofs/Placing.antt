@@ -87,7 +87,7 @@ pub first_missing : (files : List Source) (ms : List Mention) (i : ℕ) (m : Men
 first_missing files ms i m links h lt is e = ap (find (is_missing files)) (at_split ms i m lt is) ∙ find_first files (take i ms) (drop (i + 1) ms) m links h e
 
 -- ---- the links of all files
-all_found : (files fs : List Source) (links : List (List ℕ)) → AllZip (AreLinksOf files) fs links → All (λ f. missing_in files f ≡ None) fs
+pub all_found : (files fs : List Source) (links : List (List ℕ)) → AllZip (AreLinksOf files) fs links → All (λ f. missing_in files f ≡ None) fs
 all_found files [] links h = λ k d lt. absurd (omega arith)
 all_found files (f ∷ fs) [] h = absurd h
 all_found files (f ∷ fs) (l ∷ links) h = Rattle.std.proofs.lemmas.List.Elements.All-cons (λ f. missing_in files f ≡ None) f fs (no_missing files f.mentions l h.0) (all_found files fs links h.1)

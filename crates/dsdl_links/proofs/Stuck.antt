@@ -24,7 +24,7 @@ neither : (a b : Bool) → (a || b) ≡ false → (a ≡ false) × (b ≡ false)
 neither true b h = absurd (false≢true (sym h))
 neither false b h = (refl, h)
 
-apart : (path : List ℕ) (i : ℕ) → is_among path i ≡ false → AllByRecursion (λ y. eqb i y ≡ false) path
+pub apart : (path : List ℕ) (i : ℕ) → is_among path i ≡ false → AllByRecursion (λ y. eqb i y ≡ false) path
 apart [] i h = tt
 apart (x ∷ path) i h = let p = neither (i == x) (is_among path i) h in (p.0, apart path i p.1)
 

@@ -4,3 +4,4 @@ pub mod Order
 pub mod Answers
 pub mod Marks
 pub mod Places
+pub mod Laws

@@ -1,5 +1,5 @@
 -- Which file a reference means, and the first reference that means none.
-use Rattle.std.specs.Prelude.{◌≡◌, ◌==◌, ◌&&◌, ℕ, Bool, List, ◌∷◌, ◌++◌, length, Option, Some, None, is_none, All}
+use Rattle.std.specs.Prelude.{◌≡◌, ◌==◌, ◌&&◌, ℕ, Bool, List, ◌∷◌, ◌++◌, length, map, Option, Some, None, is_none, unwrap_or, All}
 use Rattle.std.specs.List.{AllZip, find, position_from}
 use Rattle.std.specs.Str.{bytes_eq}
 use Rattle.dsdl_names.specs.declared.TypeId.{TypeId}
@@ -13,6 +13,10 @@ defines id file = bytes_eq file.id.name id.name && ((file.id.major == id.major) 
 -- the file that a type means: the first one in path order that defines it, by its number, counted from 0
 abbrev pub file_of : List Source → TypeId → Option ℕ
 file_of files id = position_from (defines id) 0 files
+
+-- for each file the number of the first one in path order that defines the same type
+abbrev pub first_numbers : List Source → List ℕ
+first_numbers files = map (λ f. unwrap_or (file_of files f.id) 0) files
 
 -- a mention means this file
 abbrev pub Means : List Source → Mention → ℕ → Type 0

@@ -3,6 +3,7 @@
 
 mod cycle;
 mod error;
+mod laws;
 mod links;
 mod order;
 mod ready;
@@ -12,6 +13,8 @@ mod source;
 mod tests;
 
 pub use error::{CycleError, LinkError};
-pub use links::{Links, links_of};
+pub use laws::{one_meaning, one_order};
+pub use links::{Links, first_numbers, links_of};
 pub use order::order_of;
+pub use reference::type_of;
 pub use source::{Mention, Source, mentions_of};

@@ -1,7 +1,7 @@
 //! The files that files refer to.
 ghost use Rattle.std.specs.Prelude.{◌≡◌, ◌<◌, ℕ, true, length, IfOk, IfErr};
 ghost use Rattle.dsdl_links.specs.Answers.{IsLinkError};
-ghost use Rattle.dsdl_links.specs.Links.{AreLinks};
+ghost use Rattle.dsdl_links.specs.Links.{AreLinks, first_numbers};
 ghost use Rattle.dsdl_links.specs.Places.{ArePlaces, LinksAt, IsMissingAt};
 ghost use Rattle.dsdl_links.specs.Order.{is_among, links_at, AreWithin};
 
@@ -64,6 +64,20 @@ pub fn links_of(alloc: Global, files: &[Source]) -> Result<Links, LinkError>
         links.push(links_in(alloc, files, &places, i)?)?;
     }
     Ok(Links { files: links })
+}
+
+/// For each file the number of the first one in path order that defines the same type, counted from 0: the
+/// one that references to this type mean. The files are in path order.
+pub fn first_numbers(alloc: Global, files: &[Source]) -> Result<List<usize>, NoMemory>
+    ensures { IfOk result (λ firsts. firsts ≡ first_numbers files.now) }
+{
+    order_of_types();
+    let places = places_of(alloc, files)?;
+    let mut firsts = List::empty(alloc);
+    for file in files {
+        firsts.push(places.get(&file.id).copied().unwrap_or(0))?;
+    }
+    Ok(firsts)
 }
 
 /// The number of the first file of each type.

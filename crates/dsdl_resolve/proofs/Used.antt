@@ -10,7 +10,7 @@ use Rattle.std.specs.Ordering.{is_eq, nat_cmp}
 use Rattle.std.specs.Cmp.Lexicographic.{slice_cmp}
 use Rattle.std.specs.List.{list_any}
 use Rattle.std.specs.Str.{bytes_eq}
-use Rattle.dsdl_resolve.specs.Section.{is_used}
+use Rattle.dsdl_resolve.specs.Rules.{is_used}
 
 swapped : (a b : List ℕ) → bytes_eq a b ≡ bytes_eq b a
 swapped a b = same_from_decides {P = a ≡ b} (bytes_eq a b) (bytes_eq b a) (bytes_eq-Decides a b) ((λ h. sym ((bytes_eq-Decides b a).0 h)), (λ e. (bytes_eq-Decides b a).1 (sym e)))

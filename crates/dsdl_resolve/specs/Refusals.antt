@@ -2,16 +2,9 @@
 use Rattle.std.specs.Prelude.{ℕ, List}
 use Rattle.dsdl_resolve.specs.declared.error.DsdlError.{DsdlError}
 use Rattle.dsdl_resolve.specs.declared.error.DsdlError.TheVariants as error
-use Rattle.dsdl_resolve.specs.declared.error.DsdlWhy.{DsdlWhy}
-use Rattle.dsdl_resolve.specs.declared.section.SectionError.{SectionError}
-use Rattle.dsdl_resolve.specs.declared.section.SectionError.TheVariants as section
+use Rattle.dsdl_resolve.specs.declared.why.DsdlWhy.{DsdlWhy}
 
 -- P holds of the path, the line and the cause; of want of memory nothing is said
 abbrev pub IsRefusal : (List ℕ → ℕ → DsdlWhy → Type 0) → DsdlError → Type 0
 IsRefusal P (error.At file line why) = P file line why
 IsRefusal P error.NoMemory = Unit {0}
-
--- the same of a section, in which no path is named
-abbrev pub IsSectionRefusal : (ℕ → DsdlWhy → Type 0) → SectionError → Type 0
-IsSectionRefusal P (section.At line why) = P line why
-IsSectionRefusal P section.NoMemory = Unit {0}

@@ -1,7 +1,7 @@
 //! The names of attributes, among which one is found without a look at each.
 ghost use Rattle.std.specs.Prelude.{◌≡◌, ◌||◌, ℕ, List, [], OnOk};
 ghost use Rattle.std.specs.Str.{bytes_eq};
-ghost use Rattle.dsdl_resolve.specs.Section.{is_used};
+ghost use Rattle.dsdl_resolve.specs.Rules.{is_used};
 
 use cy_bits::NoMemory;
 use std::alloc::Global;
@@ -41,7 +41,8 @@ impl Attributes {
 
     /// Adds a name.
     pub fn insert(&mut self, alloc: Global, name: &str) -> Result<(), NoMemory>
-        ensures { OnOk result ((other : List ℕ) → is_used self.new other ≡ (is_used self.old other || bytes_eq name.now other)) }
+        ensures { OnOk result ((other : List ℕ) →
+            is_used self.new other ≡ (is_used self.old other || bytes_eq name.now other)) }
     {
         let name = String::from_str(alloc, name)?;
         self.names.insert(name)?;

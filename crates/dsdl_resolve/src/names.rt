@@ -14,7 +14,8 @@ use std::alloc::Global;
 
 /// What the paths of the files say, or the first that is no name.
 pub fn names_of(alloc: Global, files: &[DsdlFile]) -> Result<List<FileName>, DsdlError>
-    ensures named { IfOk result (λ names. AllZip (λ file name. file_name_of file.path ≡ Ok name) files.now names) }
+    ensures named { IfOk result (λ names. AllZip
+        (λ file name. file_name_of file.path ≡ Ok name) files.now names) }
     ensures refused { IfErr result (IsRefusal (IsFirst NameRefuses files.now)) }
 {
     let mut names = List::empty(alloc);
@@ -29,7 +30,8 @@ pub fn names_of(alloc: Global, files: &[DsdlFile]) -> Result<List<FileName>, Dsd
 
 /// The refusal of a file whose path is no name.
 fn refused(alloc: Global, file: &DsdlFile, error: NameError) -> DsdlError
-    ensures { IsRefusal (λ path line why. (error ≢ NameError.NoMemory) × (path ≡ file.now.path) × (line ≡ 0) × (why ≡ DsdlWhy.Name error)) result }
+    ensures { IsRefusal (λ path line why. (error ≢ NameError.NoMemory) × (path ≡ file.now.path) ×
+        (line ≡ 0) × (why ≡ DsdlWhy.Name error)) result }
 {
     match error {
         NameError::NoMemory => DsdlError::NoMemory,

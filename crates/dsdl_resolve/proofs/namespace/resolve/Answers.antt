@@ -1,5 +1,8 @@
+use Rattle.std.proofs.Common.{◌≡◌, None, sym, ap, ◌∙◌, length, subst, arith}
 use Rattle.std.proofs.lemmas.Result.{err_from_is_err_and}
-use Rattle.dsdl_resolve.proofs.Clear.{name_refusal, syntax_refusal, valuing_refusal}
+use Rattle.dsdl_clash.specs.Clashes.{first_clash, versions_clash, ports_clash}
+use Rattle.dsdl_resolve.proofs.Clear.{name_refusal}
+use Rattle.dsdl_resolve.proofs.Resolving.{definition_count, version_refusal, port_refusal}
 use Rattle.dsdl_resolve.proofs.namespace.resolve.Goals as goal
 
 pub returns-in_err-names-clause-refused : goal.returns-in_err-names-clause-refused
@@ -7,15 +10,27 @@ returns-in_err-names-clause-refused c =
     let p = err_from_is_err_and c.from_residual-in_err-names.result c.from_residual-in_err-names.ensures.1 in
     rw (p.1, p.2) (name_refusal c.args.files.now c.in_ok-check_sizes.ensures.within c.in_err-names.field-0.0 c.in_err-names.ensures.refused)
 
-pub returns-in_err-asts-clause-refused : goal.returns-in_err-asts-clause-refused
-returns-in_err-asts-clause-refused c =
-    let p = err_from_is_err_and c.from_residual-in_err-asts.result c.from_residual-in_err-asts.ensures.1 in
-    rw (p.1, p.2)
-    (syntax_refusal c.args.files.now c.in_ok-check_sizes.ensures.within c.in_ok-names.names c.in_ok-names.ensures.named c.in_err-asts.field-0.0 c.in_err-asts.ensures.refused)
+pub check_versions-requires : goal.check_versions-requires
+check_versions-requires c =
+    let v = c.in_ok-namespace.ensures.valued in
+    omega (arith, ap length (c.as_slice-3.ensures ∙ v.types), definition_count c.args.files.now v.done)
 
-pub returns-in_err-definitions-clause-refused : goal.returns-in_err-definitions-clause-refused
-returns-in_err-definitions-clause-refused c =
-    let p = err_from_is_err_and c.from_residual-in_err-definitions.result c.from_residual-in_err-definitions.ensures.1 in
+pub returns-in_err-check_versions-clause-refused : goal.returns-in_err-check_versions-clause-refused
+returns-in_err-check_versions-clause-refused c =
+    let v = c.in_ok-namespace.ensures.valued in
+    let p = err_from_is_err_and c.from_residual-in_err-check_versions.result c.from_residual-in_err-check_versions.ensures.1 in
     rw (p.1, p.2)
-    (valuing_refusal c.args.files.now c.in_ok-check_sizes.ensures.within c.in_ok-names.names c.in_ok-names.ensures.named c.one_parsing.ensures c.in_ok-asts.asts
-    c.in_ok-asts.ensures.read c.in_err-definitions.field-0.0 c.in_err-definitions.ensures.refused)
+    (version_refusal c.args.files.now v.done v.valued_all c.as_slice-3.result.now (c.as_slice-3.ensures ∙ v.types) c.in_err-check_versions.field-0.0 c.in_err-check_versions.ensures.refused)
+
+pub check_ports-requires : goal.check_ports-requires
+check_ports-requires c =
+    let v = c.in_ok-namespace.ensures.valued in
+    omega (arith, ap length (c.as_slice-4.ensures ∙ v.types), definition_count c.args.files.now v.done)
+
+pub returns-in_err-check_ports-clause-refused : goal.returns-in_err-check_ports-clause-refused
+returns-in_err-check_ports-clause-refused c =
+    let v = c.in_ok-namespace.ensures.valued in
+    let p = err_from_is_err_and c.from_residual-in_err-check_ports.result c.from_residual-in_err-check_ports.ensures.1 in
+    rw (p.1, p.2)
+    (port_refusal c.args.files.now v.done v.valued_all c.as_slice-4.result.now (c.as_slice-4.ensures ∙ v.types) (ap (first_clash versions_clash) (c.as_slice-4.ensures ∙ sym c.as_slice-3.ensures) ∙ c.in_ok-check_versions.ensures.none)
+    c.in_err-check_ports.field-0.0 c.in_err-check_ports.ensures.refused)

@@ -1,5 +1,5 @@
 use Rattle.std.proofs.Common.{sym, ap, ◌∙◌}
-use Rattle.dsdl_resolve.specs.Section.{is_used}
+use Rattle.dsdl_resolve.specs.Rules.{is_used}
 use Rattle.dsdl_resolve.proofs.Used.{used_text}
 use Rattle.dsdl_resolve.proofs.attributes.Attributes.contains.Goals as goal
 

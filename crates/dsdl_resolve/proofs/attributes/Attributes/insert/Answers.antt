@@ -1,7 +1,7 @@
 use Rattle.std.proofs.Common.{true, sym, ap, ◌∙◌, ◌||◌, string_bytes}
 use Rattle.std.specs.Str.{bytes_eq}
 use Rattle.std.proofs.lemmas.Map.Text.{btree_set_updates_text}
-use Rattle.dsdl_resolve.specs.Section.{is_used}
+use Rattle.dsdl_resolve.specs.Rules.{is_used}
 use Rattle.dsdl_resolve.proofs.Used.{used_text, cond_or}
 use Rattle.dsdl_resolve.proofs.attributes.Attributes.insert.Goals as goal
 

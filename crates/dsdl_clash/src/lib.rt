@@ -1,0 +1,10 @@
+//! Which definitions of a namespace clash, by their versions or by their ports.
+#![tactic(auto)]
+
+mod clash;
+mod numbers;
+mod outline;
+#[cfg(test)]
+mod tests;
+
+pub use clash::{first_port_clash, first_version_clash};

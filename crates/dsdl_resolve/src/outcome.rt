@@ -1,0 +1,44 @@
+use crate::why::DsdlWhy;
+use const_expr::NamedConst;
+use cy_bits::{List, NoMemory};
+use dsdl_types::{Definition, Print};
+
+/// What a file defines and prints.
+#[derive(Drop)]
+pub struct Outcome {
+    /// The type that it defines.
+    pub definition: Definition,
+    /// The constants of a message, in order; of a service none.
+    pub constants: List<NamedConst>,
+    /// What its `@print` wrote, in order.
+    pub prints: List<Print>,
+}
+
+/// Why a file is refused, and where.
+#[derive(Drop)]
+pub struct Refused {
+    /// The line, counted from 1; 0 at the end of a file without lines.
+    pub line: u32,
+    /// The cause.
+    pub why: DsdlWhy,
+}
+
+/// What comes in place of an outcome.
+#[derive(Drop)]
+pub enum FileError {
+    /// The file is refused.
+    Refused(Refused),
+    /// Want of memory.
+    NoMemory,
+}
+
+impl From<NoMemory> for FileError {
+    ghost use Rattle.std.specs.Prelude.{◌≡◌};
+    ghost use Rattle.dsdl_resolve.specs.declared.outcome.FileError.TheVariants as error;
+
+    ghost from_gives = { λ _ e. e ≡ error.NoMemory };
+
+    fn from(_: NoMemory) -> FileError {
+        FileError::NoMemory
+    }
+}
