@@ -1,0 +1,12 @@
+pub mod Schemata
+pub mod Near
+pub mod Readings
+pub mod Windows
+pub mod Writings
+pub mod Casts
+pub mod PutAnswers
+pub mod Buffers
+pub mod Paths
+pub mod WhatFits
+pub mod RoundTrips
+pub mod Samples

@@ -1,0 +1,24 @@
+//! Values as bytes and back: the serialized form of data types (Cyphal Specification, section 3.7).
+#![tactic(auto)]
+
+mod clear;
+mod error;
+mod fitting;
+pub mod laws;
+mod misfit;
+mod numbers;
+mod parts;
+mod path;
+mod put;
+mod reader;
+mod serialized;
+mod simple;
+mod stop;
+#[cfg(test)]
+mod tests;
+mod value;
+mod window;
+mod writer;
+
+pub use error::{ReadError, WriteError};
+pub use serialized::{read, read_as, write, write_as};

@@ -1,0 +1,3 @@
+mod reads;
+mod samples;
+mod writes;

@@ -1,0 +1,26 @@
+//! The standard data types of a node: each as a struct, its schema, and its value, which determine
+//! each other.
+#![tactic(auto)]
+
+pub mod allocation;
+pub mod array;
+pub mod file;
+mod float_bits;
+mod held;
+pub mod laws;
+pub mod node;
+pub mod register;
+pub mod register_value;
+pub mod registers;
+mod schemas;
+mod shape;
+mod standard;
+mod std_name;
+#[cfg(test)]
+mod tests;
+pub mod time;
+mod whole;
+
+pub use shape::{StdType, std_type};
+pub use standard::Standard;
+pub use std_name::StdName;

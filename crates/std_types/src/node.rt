@@ -1,0 +1,269 @@
+//! The standard types of a node.
+use crate::Standard;
+use crate::held::{
+    bytes, bytes_value, number, number_value, numbers, numbers_value, part, structure, unique_id,
+};
+use cy_bits::{Bytes, List, NoMemory};
+use dsdl_types::Value;
+use std::alloc::Global;
+
+/// `uavcan.node.Health.1.0`: 0 nominal, 1 advisory, 2 caution, 3 warning.
+#[derive(Clone, Copy, PartialEq, Eq, Debug)]
+pub struct Health {
+    /// The health.
+    pub value: u8,
+}
+
+/// `uavcan.node.Mode.1.0`: 0 operational, 1 initialization, 2 maintenance, 3 software update.
+#[derive(Clone, Copy, PartialEq, Eq, Debug)]
+pub struct Mode {
+    /// The mode.
+    pub value: u8,
+}
+
+/// `uavcan.node.Version.1.0`.
+#[derive(Clone, Copy, PartialEq, Eq, Debug)]
+pub struct Version {
+    /// The major number.
+    pub major: u8,
+    /// The minor number.
+    pub minor: u8,
+}
+
+/// `uavcan.node.Heartbeat.1.0`, with the port 7509: that a node is online, and how it is.
+#[derive(Clone, Copy, PartialEq, Eq, Debug)]
+pub struct Heartbeat {
+    /// How long the node has run, in seconds.
+    pub uptime: u32,
+    /// Its health.
+    pub health: Health,
+    /// Its mode.
+    pub mode: Mode,
+    /// A number of the vendor's.
+    pub vendor_specific_status_code: u8,
+}
+
+/// The request of `uavcan.node.GetInfo.1.0`, with the port 430.
+#[derive(Clone, Copy, PartialEq, Eq, Debug)]
+pub struct NodeInfoRequest {}
+
+/// The reply of `uavcan.node.GetInfo.1.0`: what a node is.
+#[derive(Drop)]
+pub struct NodeInfo {
+    /// The version of the protocol.
+    pub protocol_version: Version,
+    /// The version of the hardware.
+    pub hardware_version: Version,
+    /// The version of the software.
+    pub software_version: Version,
+    /// The revision of the software's source.
+    pub software_vcs_revision_id: u64,
+    /// The bytes that tell this node from all others.
+    pub unique_id: [u8; 16],
+    /// The name of the node, of at most 50 bytes.
+    pub name: Bytes,
+    /// The CRC of the software, where there is one: at most 1.
+    pub software_image_crc: List<u64>,
+    /// A certificate, of at most 222 bytes.
+    pub certificate_of_authenticity: Bytes,
+}
+
+impl Standard for Health {
+    ghost use Rattle.std_types.specs.Node.{health_value, health_of, FitsHealth};
+    ghost use Rattle.std_types.specs.NodeLaws.{health_back, health_forth};
+    ghost use Rattle.std_types.specs.Schemas.{health};
+
+    ghost schema = { health };
+
+    ghost fits = { FitsHealth };
+
+    ghost value = { health_value };
+
+    ghost made_of = { health_of };
+
+    ghost back = { health_back };
+
+    ghost forth = { health_forth };
+
+    fn to_value(&self, alloc: Global) -> Result<Value, NoMemory> {
+        Ok(structure(vec![in alloc; number_value(self.value)]?))
+    }
+
+    fn of_value(_alloc: Global, from: &Value) -> Result<Health, NoMemory> {
+        Ok(Health {
+            value: number(part(from, 0)),
+        })
+    }
+}
+
+impl Standard for Mode {
+    ghost use Rattle.std_types.specs.Node.{mode_value, mode_of, FitsMode};
+    ghost use Rattle.std_types.specs.NodeLaws.{mode_back, mode_forth};
+    ghost use Rattle.std_types.specs.Schemas.{mode};
+
+    ghost schema = { mode };
+
+    ghost fits = { FitsMode };
+
+    ghost value = { mode_value };
+
+    ghost made_of = { mode_of };
+
+    ghost back = { mode_back };
+
+    ghost forth = { mode_forth };
+
+    fn to_value(&self, alloc: Global) -> Result<Value, NoMemory> {
+        Ok(structure(vec![in alloc; number_value(self.value)]?))
+    }
+
+    fn of_value(_alloc: Global, from: &Value) -> Result<Mode, NoMemory> {
+        Ok(Mode {
+            value: number(part(from, 0)),
+        })
+    }
+}
+
+impl Standard for Version {
+    ghost use Rattle.std_types.specs.Node.{version_value, version_of, FitsVersion};
+    ghost use Rattle.std_types.specs.NodeLaws.{version_back, version_forth};
+    ghost use Rattle.std_types.specs.Schemas.{version};
+
+    ghost schema = { version };
+
+    ghost fits = { FitsVersion };
+
+    ghost value = { version_value };
+
+    ghost made_of = { version_of };
+
+    ghost back = { version_back };
+
+    ghost forth = { version_forth };
+
+    fn to_value(&self, alloc: Global) -> Result<Value, NoMemory> {
+        Ok(structure(vec![in alloc; number_value(self.major), number_value(self.minor)]?))
+    }
+
+    fn of_value(_alloc: Global, from: &Value) -> Result<Version, NoMemory> {
+        Ok(Version {
+            major: number(part(from, 0)),
+            minor: number(part(from, 1)),
+        })
+    }
+}
+
+impl Standard for Heartbeat {
+    ghost use Rattle.std_types.specs.Node.{heartbeat_value, heartbeat_of, FitsHeartbeat};
+    ghost use Rattle.std_types.specs.NodeLaws.{heartbeat_back, heartbeat_forth};
+    ghost use Rattle.std_types.specs.Schemas.{heartbeat};
+
+    ghost schema = { heartbeat };
+
+    ghost fits = { FitsHeartbeat };
+
+    ghost value = { heartbeat_value };
+
+    ghost made_of = { heartbeat_of };
+
+    ghost back = { heartbeat_back };
+
+    ghost forth = { heartbeat_forth };
+
+    fn to_value(&self, alloc: Global) -> Result<Value, NoMemory> {
+        let health = self.health.to_value(alloc)?;
+        let mode = self.mode.to_value(alloc)?;
+        Ok(structure(vec![in alloc;
+            number_value(self.uptime),
+            health,
+            mode,
+            number_value(self.vendor_specific_status_code),
+        ]?))
+    }
+
+    fn of_value(alloc: Global, from: &Value) -> Result<Heartbeat, NoMemory> {
+        Ok(Heartbeat {
+            uptime: number(part(from, 0)),
+            health: Health::of_value(alloc, part(from, 1))?,
+            mode: Mode::of_value(alloc, part(from, 2))?,
+            vendor_specific_status_code: number(part(from, 3)),
+        })
+    }
+}
+
+impl Standard for NodeInfoRequest {
+    ghost use Rattle.std_types.specs.Node.{node_info_request_value, node_info_request_of, FitsNodeInfoRequest};
+    ghost use Rattle.std_types.specs.NodeLaws.{node_info_request_back, node_info_request_forth};
+    ghost use Rattle.std_types.specs.Schemas.{node_info_request};
+
+    ghost schema = { node_info_request };
+
+    ghost fits = { FitsNodeInfoRequest };
+
+    ghost value = { node_info_request_value };
+
+    ghost made_of = { node_info_request_of };
+
+    ghost back = { node_info_request_back };
+
+    ghost forth = { node_info_request_forth };
+
+    fn to_value(&self, alloc: Global) -> Result<Value, NoMemory> {
+        Ok(structure(vec![in alloc;]?))
+    }
+
+    fn of_value(_alloc: Global, _from: &Value) -> Result<NodeInfoRequest, NoMemory> {
+        Ok(NodeInfoRequest {})
+    }
+}
+
+impl Standard for NodeInfo {
+    ghost use Rattle.std_types.specs.Node.{node_info_value, node_info_of, FitsNodeInfo};
+    ghost use Rattle.std_types.specs.NodeLaws.{node_info_back, node_info_forth};
+    ghost use Rattle.std_types.specs.Schemas.{node_info};
+
+    ghost schema = { node_info };
+
+    ghost fits = { FitsNodeInfo };
+
+    ghost value = { node_info_value };
+
+    ghost made_of = { node_info_of };
+
+    ghost back = { node_info_back };
+
+    ghost forth = { node_info_forth };
+
+    fn to_value(&self, alloc: Global) -> Result<Value, NoMemory> {
+        let protocol_version = self.protocol_version.to_value(alloc)?;
+        let hardware_version = self.hardware_version.to_value(alloc)?;
+        let software_version = self.software_version.to_value(alloc)?;
+        let unique_id = numbers_value(alloc, &self.unique_id)?;
+        let name = bytes_value(alloc, &self.name)?;
+        let software_image_crc = numbers_value(alloc, self.software_image_crc.as_slice())?;
+        let certificate_of_authenticity = bytes_value(alloc, &self.certificate_of_authenticity)?;
+        Ok(structure(vec![in alloc;
+            protocol_version,
+            hardware_version,
+            software_version,
+            number_value(self.software_vcs_revision_id),
+            unique_id,
+            name,
+            software_image_crc,
+            certificate_of_authenticity,
+        ]?))
+    }
+
+    fn of_value(alloc: Global, from: &Value) -> Result<NodeInfo, NoMemory> {
+        Ok(NodeInfo {
+            protocol_version: Version::of_value(alloc, part(from, 0))?,
+            hardware_version: Version::of_value(alloc, part(from, 1))?,
+            software_version: Version::of_value(alloc, part(from, 2))?,
+            software_vcs_revision_id: number(part(from, 3)),
+            unique_id: unique_id(alloc, part(from, 4))?,
+            name: bytes(alloc, part(from, 5))?,
+            software_image_crc: numbers(alloc, part(from, 6))?,
+            certificate_of_authenticity: bytes(alloc, part(from, 7))?,
+        })
+    }
+}

@@ -1,0 +1,24 @@
+use crate::register_value::RegisterValue;
+use cy_bits::Text;
+
+/// A register of a node: a named value that others read, and write where it is mutable.
+#[derive(Drop)]
+pub struct Register {
+    /// Its name.
+    pub name: Text,
+    /// Whether others can write it.
+    pub mutable: bool,
+    /// Its value.
+    pub value: RegisterValue,
+    /// What its numbers are kept within, where there are limits.
+    pub limits: Option<Limits>,
+}
+
+/// What the numbers of a register of integers are kept within.
+#[derive(Clone, Copy, PartialEq, Eq, Debug)]
+pub struct Limits {
+    /// The least number.
+    pub low: i128,
+    /// The greatest number.
+    pub high: i128,
+}

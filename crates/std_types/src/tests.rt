@@ -1,0 +1,38 @@
+use crate::laws::through_value;
+use crate::node::{Health, Heartbeat, Mode};
+use crate::{StdName, std_type};
+use dsdl_types::Shape;
+
+#[test]
+fn extents(rt: HostRuntime) {
+    for (name, bytes) in [
+        (StdName::Heartbeat, 12),
+        (StdName::NodeInfoRequest, 0),
+        (StdName::NodeInfo, 448),
+        (StdName::AccessRequest, 515),
+        (StdName::AccessReply, 267),
+        (StdName::ListRequest, 2),
+        (StdName::ListReply, 256),
+        (StdName::InfoRequest, 300),
+        (StdName::InfoReply, 48),
+        (StdName::FileListRequest, 300),
+        (StdName::FileListReply, 300),
+        (StdName::ReadRequest, 300),
+        (StdName::ReadReply, 300),
+    ] {
+        let standard = std_type(rt.alloc(), name).expect(&rt, "memory");
+        assert!(rt; standard.extent_bytes() == bytes, "at {name:?}");
+    }
+}
+
+#[test]
+fn both_ways(rt: HostRuntime) {
+    let heartbeat = Heartbeat {
+        uptime: 5,
+        health: Health { value: 1 },
+        mode: Mode { value: 2 },
+        vendor_specific_status_code: 9,
+    };
+    let made = through_value(rt.alloc(), &heartbeat).expect(&rt, "memory");
+    assert!(rt; made == heartbeat, "heartbeat");
+}
