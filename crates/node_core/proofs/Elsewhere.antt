@@ -7,7 +7,8 @@ use Rattle.rx_table.specs.Ports.{Port}
 use Rattle.rx_table.specs.Table.{port_on}
 use Rattle.rx_table.specs.Views.{states_of, subscriptions}
 use Rattle.rx_table.proofs.Told.{stands-none}
-use Rattle.node_core.specs.Heard.{ports_of, frame_for, with_frame, frames, IsElsewhere}
+use Rattle.rx_table.specs.Heard.{frame_for, with_frame, frames}
+use Rattle.node_core.specs.Heard.{ports_of, IsElsewhere}
 use Rattle.node_core.specs.Shapes.{port_schema}
 use Rattle.node_core.specs.Stands.{StandsAt, Stands, Takes, Gives, TellsBadCrc}
 use Rattle.node_core.specs.Steps.{on_port, of_frame, bad_on_port, bad_of_frame}

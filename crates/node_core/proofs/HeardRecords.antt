@@ -10,7 +10,8 @@ use Rattle.rx_table.specs.Keys.{KeyedFrame}
 use Rattle.rx_table.specs.Table.{port_on}
 use Rattle.rx_table.specs.declared.fed.Met.{Met}
 use Rattle.node_core.specs.Came.{frame_with, answer_in, came_lines}
-use Rattle.node_core.specs.Heard.{ports_of, is_for, if_for, frame_for, frames}
+use Rattle.rx_table.specs.Heard.{is_for, if_for, frame_for, frames}
+use Rattle.node_core.specs.Heard.{ports_of}
 use Rattle.node_core.specs.Stands.{StandsAt, Stands}
 use Rattle.node_core.specs.Steps.{on_port, of_frame, got}
 use Rattle.node_core.specs.Told.{answer_lines}

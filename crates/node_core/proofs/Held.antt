@@ -7,7 +7,8 @@ use Rattle.rx_table.specs.Admitted.{has, is_on, sources, admitted}
 use Rattle.rx_table.specs.Keys.{KeyedFrame}
 use Rattle.rx_table.specs.Ports.{Port, held}
 use Rattle.rx_table.specs.Table.{keyed, log_with}
-use Rattle.node_core.specs.Heard.{ports_of, frame_for, with_frame, frames}
+use Rattle.rx_table.specs.Heard.{frame_for, with_frame, frames}
+use Rattle.node_core.specs.Heard.{ports_of}
 use Rattle.node_core.specs.Held.{HeldRises}
 
 more_behind : (n : ℕ) (xs ys : List ℕ) → length (take n xs) ≤ length (take n (xs ++ ys))

@@ -8,7 +8,7 @@ use Rattle.rx_table.specs.Ports.{Port, PortState, Answer}
 use Rattle.rx_table.specs.Table.{StandsFor, logged, port_on, Told}
 use Rattle.node_plan.specs.declared.plan.Plan.{Plan}
 use Rattle.node_core.specs.declared.node.Node.{Node}
-use Rattle.node_core.specs.Heard.{frame_for, with_frame, frames}
+use Rattle.rx_table.specs.Heard.{frame_for, with_frame, frames}
 use Rattle.node_core.specs.Stands.{StandsAt, Stands}
 use Rattle.node_core.specs.Steps.{on_port, bad_on_port}
 use Rattle.node_core.specs.Told.{answer_lines, answer_is_bad}

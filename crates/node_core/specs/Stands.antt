@@ -7,7 +7,8 @@ use Rattle.rx_table.specs.Ports.{ports_of as ports_in}
 use Rattle.rx_table.specs.Table.{states, StandsFor, logged, port_on}
 use Rattle.node_core.specs.declared.node.Node.{Node}
 use Rattle.node_plan.specs.Bound.{bound_of}
-use Rattle.node_core.specs.Heard.{ports_of, frames}
+use Rattle.rx_table.specs.Heard.{frames}
+use Rattle.node_core.specs.Heard.{ports_of}
 use Rattle.node_core.specs.Shapes.{shape_extent}
 use Rattle.node_core.specs.Steps.{got, is_bad_at, on_port, bad_on_port, held_at}
 use Rattle.node_core.specs.declared.line.Line.{Line}

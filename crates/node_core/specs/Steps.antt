@@ -13,7 +13,8 @@ use Rattle.rx_table.specs.Steps.{delivery_at, is_bad}
 use Rattle.rx_table.specs.Table.{keyed, port_on}
 use Rattle.node_plan.specs.Bound.{bound_of}
 use Rattle.node_plan.specs.declared.plan.Plan.{Plan}
-use Rattle.node_core.specs.Heard.{ports_of, frame_for, frames}
+use Rattle.rx_table.specs.Heard.{frame_for, frames}
+use Rattle.node_core.specs.Heard.{ports_of}
 use Rattle.node_core.specs.declared.line.Line.{Line}
 use Rattle.node_core.specs.declared.line.Line.TheVariants.{Rx, NoSession}
 use Rattle.node_core.specs.declared.line.Reading.TheVariants.{Raw}

@@ -1,6 +1,7 @@
 ghost use Rattle.std.specs.Prelude.{◌≡◌, IfSome, option_map};
 ghost use Rattle.tail_frame.specs.Frames.{seen};
-ghost use Rattle.node_core.specs.Heard.{is_for, frame_for, subject_in};
+ghost use Rattle.rx_table.specs.Heard.{is_for, frame_for};
+ghost use Rattle.node_core.specs.Heard.{subject_in};
 
 use can_id::Ident;
 use tail_frame::{Frame, Record, frame_of};

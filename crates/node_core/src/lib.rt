@@ -13,6 +13,7 @@ pub mod line_writer;
 pub mod node;
 pub mod numbers;
 pub mod port_shape;
+mod port_word;
 mod ports;
 mod raw_shape;
 mod second;

@@ -8,6 +8,7 @@ use crate::bus_words::BusWords;
 use crate::line::Refused;
 use crate::line_ref::{LineRef, RxRef};
 use crate::numbers::Numbers;
+use crate::port_word::PortWord;
 use crate::second::Second;
 use crate::words::{
     LINE, put_key, put_label, put_payload, put_reading, put_received, put_transfer, reserve_for,
@@ -23,6 +24,8 @@ pub struct LineWriter {
     second: Second,
     /// The names of the buses.
     names: BusWords,
+    /// The port of the last line on one.
+    port: PortWord,
 }
 
 #[tactic(auto, unfolding(crate::specs::Writer::writes_for))]
@@ -36,6 +39,7 @@ impl LineWriter {
         LineWriter {
             second: Second::of(0),
             names: BusWords::new(buses),
+            port: PortWord::of(0),
         }
     }
 
@@ -77,7 +81,7 @@ impl LineWriter {
     {
         reserve_for(text, rx.payload)?;
         self.second.put(text, rx.moment);
-        put_key(&self.names, text, rx.bus, &rx.key);
+        put_key(&self.names, &mut self.port, text, rx.bus, &rx.key);
         put_transfer(text, rx);
         put_payload(text, rx.payload);
         put_reading(text, rx.reading);
@@ -95,7 +99,7 @@ impl LineWriter {
         text.reserve(LINE)?;
         text.put_slice(b"nosession ");
         text.put_moment(refused.moment);
-        put_key(&self.names, text, refused.bus, &refused.key);
+        put_key(&self.names, &mut self.port, text, refused.bus, &refused.key);
         text.put_number(refused.line);
         text.put_slice(b"\n");
         Ok(())

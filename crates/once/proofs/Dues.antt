@@ -1,17 +1,21 @@
 -- What is due is delivered
-use Rattle.std.proofs.Common.{◌≡◌, ℕ, ◌+◌, ◌-◌, ◌*◌, ◌/◌, ◌<◌, ◌≤◌, ◌⊎◌, Bool, true, false, not, ◌&&◌, ◌||◌, eqb, List, [], ◌∷◌, ◌++◌, length, take, drop, Option, Some, None, refl, sym, ap, ◌∙◌, subst, inl, inr, le_trans, le_refl, take_all, take-add, add-one, arith}
+use Rattle.std.proofs.Common.{◌≡◌, ℕ, ◌+◌, ◌-◌, ◌*◌, ◌/◌, ◌<◌, ◌≤◌, ◌⊎◌, true, false, ◌&&◌, ◌||◌, eqb, List, [], ◌∷◌, ◌++◌, length, take, Option, Some, None, refl, sym, ap, ◌∙◌, subst, inl, inr, le_trans, le_refl, arith}
 use Rattle.std.proofs.lemmas.Bool.{eqb-true, eqb-false, eq-eqb, ne_eqb, and_parts, and_from, and_left, and_right, or_left, or_right, cond-true, cond-false, cond_both, cases_Bool, cases_lt}
-use Rattle.tail_frame.specs.Chains.{KeyRecord, AtEach, differs, follows, tip, chain_bytes, closes_at, without_crc}
+use Rattle.tail_frame.specs.Chains.{KeyRecord, AtEach, follows, tip, chain_bytes, closes_at, without_crc}
 use Rattle.redundancy.specs.Force.{force, heard, late, is_bus}
 use Rattle.rx_table.specs.Received.{Delivery, Run, Got, is_fresh, begins, alone, completed, not_begun, after, received}
 use Rattle.frag.specs.Wire.{IsFrameSize, padded, stream, last_frame, is_even}
-use Rattle.frag.specs.Sent.{Pair, transfer_at, size_on, IsSentList, IsFrame, IsUpTo, IsExplainedAt, Explained}
+use Rattle.frag.specs.Sent.{transfer_at, size_on, IsSentList, IsFrame, IsUpTo, IsExplainedAt, Explained}
+use Rattle.frag.specs.declared.sent.Pair.{Pair}
 use Rattle.frag.specs.declared.sent.Sent.{Sent}
 use Rattle.frag.specs.declared.sent.Transfer.{Transfer}
 use Rattle.transfer_crc.specs.Crc.{crc_of}
-use Rattle.frag.proofs.Sizes.{stream_many, one_frame}
+use Rattle.frag.proofs.Follows.{follows_from, not_off_bus, not_alike}
+use Rattle.frag.proofs.Rows.{several, first_bytes, more_bytes, all_bytes, next_toggle, same_toggle}
+use Rattle.frag.proofs.Sizes.{stream_many}
 use Rattle.transfer_crc.proofs.Own.{crc_of-own}
-use Rattle.once.specs.Due.{Any, last_on_bus, FromTo, SomeFromTo, DueIsDelivered}
+use Rattle.frag.specs.Sent.{last_on_bus}
+use Rattle.once.specs.Due.{Any, FromTo, SomeFromTo, DueIsDelivered}
 use Rattle.redundancy.proofs.Forces.{force_heard}
 
 -- lists of records from a place down to p
@@ -74,30 +78,8 @@ not_closing crc timeout r past run ds n =
     cond-false (closes_at run.first run.since r && eqb (crc (chain_bytes run.first (r ∷ run.since))) 0) (record { first = run.first; last = r; place = length past; content = without_crc (chain_bytes run.first (r ∷ run.since)) } ∷ ds) ds
     (and_left (closes_at run.first run.since r) (eqb (crc (chain_bytes run.first (r ∷ run.since))) 0) n)
 
-pub differs_same : (a : Bool) → differs a a ≡ false
-differs_same true = refl
-differs_same false = refl
-
-pub differs_other : (a : Bool) → differs a (not a) ≡ true
-differs_other true = refl
-differs_other false = refl
-
-div_up : (n d : ℕ) → 0 < d → n ≤ ((n - 1) / d + 1) * d
-div_up n d p = omega arith
-
 div_small : (n d : ℕ) → n < d → n / d ≡ 0
 div_small n d l = grind arith
-
-room : (m : ℕ) → IsFrameSize m → 0 < m - 1
-room m size = elim size [ inl e ↦ omega arith | inr e ↦ omega arith ]
-
--- a transfer of several frames is longer than one
-several : (x : Transfer) (m : ℕ) → IsFrameSize m → 0 < last_frame m x.payload → m - 1 < length x.payload
-several x m size more =
-    elim (cases_lt (m - 1) (length x.payload)) [
-      | inl l ↦ l
-      | inr g ↦ (let none = one_frame m x.payload size g in absurd (omega arith))
-    ]
 
 -- between two pairs of one transfer, and not the last
 inside : (o lo hi : Pair) (at end : ℕ) {j top : ℕ} → lo.j ≡ j → hi.j ≡ j → hi.i ≡ top → IsUpTo o hi → IsUpTo lo o → (o.j ≡ j → o.i ≡ top → at ≡ end) → at < end → (o.j ≡ j) × (o.i < top)
@@ -155,12 +137,6 @@ module _ (timeout : ℕ) (sent : Sent) (origin : ℕ → Pair) (j : ℕ) (p : Ke
       subst (λ c. IsFrame x (size_on sent c) (origin (length before)).i r) b
       (subst (λ k. IsFrame (transfer_at sent k) (size_on sent r.bus) (origin (length before)).i r) ej e.is_sent.frame)
 
-  first_bytes : (r : KeyRecord) → IsFrame x m 0 r → r.body ≡ take ((0 + 1) * (m - 1)) the_stream
-  first_bytes r f =
-      let zero_at : 0 * (m - 1) ≡ 0 = omega arith in
-      let one_of : m - 1 ≡ (0 + 1) * (m - 1) = omega arith in
-      f.body ∙ (ap (λ n. take (m - 1) (drop n the_stream)) zero_at ∙ ap (λ n. take n the_stream) one_of)
-
   -- a start frame of the transfer begins it
   begin_at : (r : KeyRecord) (before : List KeyRecord) → IsFrame x m 0 r → 0 < top → r.bus ≡ p.bus → begins timeout r before (the_received before).delivered ≡ true → (the_received before).delivered ≡ (the_received older).delivered → (seg : List KeyRecord) → seg ++ p ∷ older ≡ r ∷ before → SomeFromTo (Named 0) seg p older → ((n : ℕ) → SomeFromTo (Named n) seg p older → n ≤ 0) → Going seg
   begin_at r before f l b y same seg e reached most = record {
@@ -174,7 +150,7 @@ module _ (timeout : ℕ) (sent : Sent) (origin : ℕ → Pair) (j : ℕ) (p : Ke
     tid = f.tid;
     toggle = f.toggle;
     open_end = f.end ∙ ne_eqb 0 top (omega arith);
-    bytes = first_bytes r f;
+    bytes = first_bytes x m r f;
     reached = reached;
     most = most;
   }
@@ -199,12 +175,6 @@ module _ (timeout : ℕ) (sent : Sent) (origin : ℕ → Pair) (j : ℕ) (p : Ke
         most = λ i s. elim s [ inl z ↦ most i z | inr z ↦ ih.most i z ];
       }
 
-  more_bytes : (a b : List ℕ) (k i n : ℕ) → i ≡ k + 1 → a ≡ take ((k + 1) * n) the_stream → b ≡ take n (drop (i * n) the_stream) → a ++ b ≡ take ((i + 1) * n) the_stream
-  more_bytes a b k i n e u v =
-      let at : (k + 1) * n ≡ i * n = ap (λ t. t * n) (sym e) in
-      let up : i * n + n ≡ (i + 1) * n = omega arith in
-      ap (λ t. t ++ b) (u ∙ ap (λ t. take t the_stream) at) ∙ (ap (λ t. take (i * n) the_stream ++ t) v ∙ (sym (take-add (i * n) n the_stream) ∙ ap (λ t. take t the_stream) up))
-
   -- r is taken
   extend : (r : KeyRecord) (seg : List KeyRecord) (ih : Going seg) (i : ℕ) → begins timeout r (seg ++ p ∷ older) (the_received older).delivered ≡ false → follows ih.run.first (tip ih.run.first ih.run.since) r ≡ true → r.end ≡ false → IsFrame x m i r → i ≡ ih.k + 1 → Named i r (seg ++ p ∷ older) → Going (r ∷ seg)
   extend r seg ih i b y e f next named =
@@ -220,7 +190,7 @@ module _ (timeout : ℕ) (sent : Sent) (origin : ℕ → Pair) (j : ℕ) (p : Ke
         tid = ih.tid;
         toggle = ap (λ (t : KeyRecord). t.toggle) (cond-true (follows a l r) r l y) ∙ f.toggle;
         open_end = ap (λ (t : KeyRecord). t.end) (cond-true (follows a l r) r l y) ∙ e;
-        bytes = cond-true (follows a l r) (chain_bytes a ih.run.since ++ r.body) (chain_bytes a ih.run.since) y ∙ more_bytes (chain_bytes a ih.run.since) r.body ih.k i (m - 1) next ih.bytes f.body;
+        bytes = cond-true (follows a l r) (chain_bytes a ih.run.since ++ r.body) (chain_bytes a ih.run.since) y ∙ more_bytes the_stream (chain_bytes a ih.run.since) r.body ih.k i (m - 1) next ih.bytes f.body;
         reached = inl named;
         most = λ n s. elim s [ inl z ↦ (let e : (origin (length (seg ++ p ∷ older))).i ≡ n = z.2 in let e' : (origin (length (seg ++ p ∷ older))).i ≡ i = named.2 in omega arith) | inr z ↦ (let le = ih.most n z in omega arith) ];
       }
@@ -228,14 +198,8 @@ module _ (timeout : ℕ) (sent : Sent) (origin : ℕ → Pair) (j : ℕ) (p : Ke
   -- the frame after the last one taken follows
   next_follows : (r : KeyRecord) (seg : List KeyRecord) (ih : Going seg) (i : ℕ) → IsFrame x m i r → i ≡ ih.k + 1 → r.bus ≡ p.bus → follows ih.run.first (tip ih.run.first ih.run.since) r ≡ true
   next_follows r seg ih i f next rb =
-      let a = ih.run.first in
-      let l = tip a ih.run.since in
-      let other : r.toggle ≡ not l.toggle = f.toggle ∙ (ap is_even (next ∙ add-one ih.k) ∙ ap not (sym ih.toggle)) in
-      and_from (not l.end) (not r.start && ((eqb r.bus a.bus) && ((eqb r.tid a.tid) && differs l.toggle r.toggle))) (ap not ih.open_end)
-      (and_from (not r.start) ((eqb r.bus a.bus) && ((eqb r.tid a.tid) && differs l.toggle r.toggle)) (ap not (f.start ∙ ne_eqb i 0 (λ z. absurd (omega arith))))
-      (and_from (eqb r.bus a.bus) ((eqb r.tid a.tid) && differs l.toggle r.toggle) (eq-eqb r.bus a.bus (rb ∙ sym ih.bus))
-      (and_from (eqb r.tid a.tid) (differs l.toggle r.toggle) (eq-eqb r.tid a.tid (f.tid ∙ sym ih.tid))
-      (subst (λ t. differs l.toggle t ≡ true) (sym other) (differs_other l.toggle)))))
+      follows_from ih.run.first (tip ih.run.first ih.run.since) r ih.open_end (f.start ∙ ne_eqb i 0 (λ z. absurd (omega arith))) (rb ∙ sym ih.bus) (f.tid ∙ sym ih.tid)
+      (next_toggle (tip ih.run.first ih.run.since) r ih.k i ih.toggle f.toggle next)
 
   next_not_begins : (r : KeyRecord) (before : List KeyRecord) (ds : List Delivery) (k i : ℕ) → IsFrame x m i r → i ≡ k + 1 → begins timeout r before ds ≡ false
   next_not_begins r before ds k i f next = and_left r.start (heard timeout r before && (late timeout r before || is_fresh r.tid ds)) (f.start ∙ ne_eqb i 0 (λ z. absurd (omega arith)))
@@ -249,9 +213,7 @@ module _ (timeout : ℕ) (sent : Sent) (origin : ℕ → Pair) (j : ℕ) (p : Ke
       let deaf : heard timeout r before ≡ false = ap (λ o. is_bus o r.bus) f ∙ ne_eqb p.bus r.bus (λ e. rb (sym e)) in
       stay r seg ih
       (and_right r.start (heard timeout r before && (late timeout r before || is_fresh r.tid ds)) (and_left (heard timeout r before) (late timeout r before || is_fresh r.tid ds) deaf))
-      (and_right (not l.end) (not r.start && ((eqb r.bus a.bus) && ((eqb r.tid a.tid) && differs l.toggle r.toggle)))
-      (and_right (not r.start) ((eqb r.bus a.bus) && ((eqb r.tid a.tid) && differs l.toggle r.toggle))
-      (and_left (eqb r.bus a.bus) ((eqb r.tid a.tid) && differs l.toggle r.toggle) (ne_eqb r.bus a.bus (λ e. rb (e ∙ ih.bus))))))
+      (not_off_bus a l r (λ e. rb (e ∙ ih.bus)))
       (λ n z. absurd (rb z.0))
 
   -- a repeat of the last frame that was taken
@@ -262,7 +224,6 @@ module _ (timeout : ℕ) (sent : Sent) (origin : ℕ → Pair) (j : ℕ) (p : Ke
       let a = ih.run.first in
       let l = tip a ih.run.since in
       let same : (the_received before).delivered ≡ ds = ap (λ (g : Got). g.delivered) ih.state in
-      let alike : l.toggle ≡ r.toggle = ih.toggle ∙ (ap is_even (sym at) ∙ sym f.toggle) in
       elim (cases_Bool (begins timeout r before ds)) [
         | inl y ↦
             let s = (and_parts r.start (heard timeout r before && (late timeout r before || is_fresh r.tid ds)) y).0 in
@@ -271,10 +232,7 @@ module _ (timeout : ℕ) (sent : Sent) (origin : ℕ → Pair) (j : ℕ) (p : Ke
             (λ n z. elim z [ inl u ↦ (let e : i ≡ n = sym named.2 ∙ u.2 in omega arith) | inr u ↦ (let le = ih.most n u in omega arith) ])
         | inr n ↦
             stay r seg ih n
-            (and_right (not l.end) (not r.start && ((eqb r.bus a.bus) && ((eqb r.tid a.tid) && differs l.toggle r.toggle)))
-            (and_right (not r.start) ((eqb r.bus a.bus) && ((eqb r.tid a.tid) && differs l.toggle r.toggle))
-            (and_right (eqb r.bus a.bus) ((eqb r.tid a.tid) && differs l.toggle r.toggle)
-            (and_right (eqb r.tid a.tid) (differs l.toggle r.toggle) (subst (λ t. differs t r.toggle ≡ false) (sym alike) (differs_same r.toggle))))))
+            (not_alike a l r (same_toggle l r ih.k ih.toggle (f.toggle ∙ ap is_even at)))
             (λ q z. let e : i ≡ q = sym named.2 ∙ z.2 in omega arith)
       ]
 
@@ -352,8 +310,8 @@ module _ (timeout : ℕ) (sent : Sent) (origin : ℕ → Pair) (j : ℕ) (p : Ke
       let y = next_follows q seg ih top f next qb in
       let bytes : chain_bytes a (q ∷ ih.run.since) ≡ the_stream =
       cond-true (follows a l q) (chain_bytes a ih.run.since ++ q.body) (chain_bytes a ih.run.since) y
-      ∙ (more_bytes (chain_bytes a ih.run.since) q.body ih.k top (m - 1) next ih.bytes f.body
-      ∙ take_all ((top + 1) * (m - 1)) the_stream (div_up (length the_stream) (m - 1) (room m size))) in
+      ∙ (more_bytes the_stream (chain_bytes a ih.run.since) q.body ih.k top (m - 1) next ih.bytes f.body
+      ∙ all_bytes x m size) in
       let zero_of : crc_of (chain_bytes a (q ∷ ih.run.since)) ≡ 0 = ap crc_of (bytes ∙ stream_many m x.payload (several x m size (omega arith))) ∙ crc_of-own (padded m x.payload) in
       let closed = and_from (closes_at a ih.run.since q) (eqb (crc_of (chain_bytes a (q ∷ ih.run.since))) 0) (and_from (follows a l q) q.end y (f.end ∙ eq-eqb top top refl)) (eq-eqb (crc_of (chain_bytes a (q ∷ ih.run.since))) 0 zero_of) in
       let d : Delivery = record { first = a; last = q; place = length before; content = without_crc (chain_bytes a (q ∷ ih.run.since)) } in

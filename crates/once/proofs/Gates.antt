@@ -4,7 +4,8 @@ use Rattle.std.proofs.lemmas.Bool.{and_right, cond-true, cond_both, cases_Bool, 
 use Rattle.tail_frame.specs.Chains.{KeyRecord, AtEach}
 use Rattle.redundancy.specs.Force.{force, heard, last_heard, late}
 use Rattle.rx_table.specs.Received.{Delivery}
-use Rattle.frag.specs.Sent.{Pair, transfer_at, IsUpTo, IsSentList, IsExplainedAt}
+use Rattle.frag.specs.Sent.{transfer_at, IsUpTo, IsSentList, IsExplainedAt}
+use Rattle.frag.specs.declared.sent.Pair.{Pair}
 use Rattle.frag.specs.declared.sent.Sent.{Sent}
 use Rattle.once.specs.Selected.{IsOfSent}
 use Rattle.redundancy.proofs.Forces.{force_heard, some_inj, force_kept, late_far}

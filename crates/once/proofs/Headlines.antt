@@ -6,7 +6,8 @@ use Rattle.rx_table.specs.Received.{Delivery, received}
 use Rattle.transfer_crc.specs.Crc.{crc_of}
 use Rattle.rx_table.specs.Keys.{history}
 use Rattle.once.specs.Due.{Any}
-use Rattle.once.specs.Report.{EachNumber, Rise, Rx, rx_of, pair_at, pair_on, EachRx, AnyRx, IsSentRx, OnceInPart, DueInReport}
+use Rattle.once.specs.Report.{EachNumber, Rise, Rx, rx_of, pair_on, EachRx, AnyRx, IsSentRx, OnceInPart, DueInReport}
+use Rattle.frag.specs.Sent.{pair_at}
 use Rattle.once.proofs.Dues.{due_theorem}
 use Rattle.once.proofs.Reports.{once_in_report}
 

@@ -11,12 +11,14 @@ use Rattle.once.specs.Raw.{WireExample}
 use Rattle.tail_frame.specs.Chains.{KeyRecord, follows, tip, chain_bytes, closes_at, without_crc}
 use Rattle.rx_table.specs.Keys.{SessionKey, KeyedFrame, IsLog}
 use Rattle.frag.specs.Wire.{IsFrameSize, fitting, last_size, padding}
-use Rattle.frag.specs.Sent.{IsIdentOf, Pair, size_on, transfer_at, IsSentList, Explained, NoChanceAt, NoChance}
+use Rattle.frag.specs.Sent.{IsIdentOf, size_on, transfer_at, IsSentList, Explained, NoChanceAt, NoChance}
+use Rattle.frag.specs.declared.sent.Pair.{Pair}
 use Rattle.frag.specs.declared.sent.Sent.{Sent}
 use Rattle.frag.specs.declared.sent.Transfer.{Transfer}
 use Rattle.once.specs.Due.{Due, Names, SomeFromTo}
-use Rattle.once.specs.Report.{pair_at, Example}
-use Rattle.once.proofs.Selection.{follows_parts}
+use Rattle.once.specs.Report.{Example}
+use Rattle.frag.specs.Sent.{pair_at}
+use Rattle.frag.proofs.Follows.{follows_parts}
 
 abbrev key : SessionKey
 key = record { kind = Message; port = 100; source = 1 }

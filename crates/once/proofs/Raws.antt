@@ -5,8 +5,9 @@ use Rattle.tail_frame.specs.declared.logged.Record.{Record}
 use Rattle.rx_table.specs.Keys.{SessionKey, KeyedFrame, bears_on, history}
 use Rattle.frag.specs.Raw.{IsRecordOf, AreRecordsOf}
 use Rattle.frag.proofs.Seen.{same_length, explained_by_fields}
-use Rattle.once.specs.Report.{pair_at}
-use Rattle.once.specs.Raw.{onto, is_of, frames_of, records_of, WireExplainsFields}
+use Rattle.frag.specs.Sent.{pair_at}
+use Rattle.rx_table.specs.Heard.{onto, is_of, frames_of, records_of}
+use Rattle.once.specs.Raw.{WireExplainsFields}
 
 module _ (keyed : Record → Option KeyedFrame) (are : (rec : Record) (f : KeyedFrame) → keyed rec ≡ Some f → IsRecordOf rec f.rec) (key : SessionKey) where
   more : (rec : Record) (recs : List Record) (log : List KeyedFrame) (o : Option KeyedFrame) → keyed rec ≡ o → AreRecordsOf recs (history key log) → AreRecordsOf (cond (is_of key o) (rec ∷ recs) recs) (history key (onto o log))

@@ -5,12 +5,14 @@ use mathlib.Core.List.{reverse_aux}
 use Rattle.std.proofs.lemmas.Bool.{eq-eqb, ne_eqb, cond-true, cond-false, cond_both}
 use Rattle.tail_frame.specs.Chains.{KeyRecord, AtEach, chain_bytes, closes_at, without_crc}
 use Rattle.rx_table.specs.Received.{Delivery, Run, Got, begins, alone, not_begun, received}
-use Rattle.frag.specs.Sent.{Pair, transfer_at, data_on, InTime}
+use Rattle.frag.specs.Sent.{transfer_at, data_on, InTime}
+use Rattle.frag.specs.declared.sent.Pair.{Pair}
 use Rattle.frag.specs.declared.sent.Sent.{Sent}
 use Rattle.transfer_crc.specs.Crc.{crc_of}
 use Rattle.once.specs.Selected.{Each, Selected}
 use Rattle.rx_table.specs.Keys.{SessionKey, KeyedFrame, bears_on, history, EachFrame, IsLog}
-use Rattle.once.specs.Report.{Rx, rx_of, pair_at, pair_on, EachNumber, Rise, IsSentRx, EachRx, OnceInReport}
+use Rattle.once.specs.Report.{Rx, rx_of, pair_on, EachNumber, Rise, IsSentRx, EachRx, OnceInReport}
+use Rattle.frag.specs.Sent.{pair_at}
 use Rattle.once.proofs.Gates.{at_each_map}
 use Rattle.once.proofs.Selection.{once_theorem}
 

@@ -1,15 +1,17 @@
 -- The deliveries are selected
-use Rattle.std.proofs.Common.{◌≡◌, ℕ, ◌+◌, ◌-◌, ◌*◌, ◌/◌, ◌<◌, ◌≤◌, ◌⊎◌, true, false, not, ◌&&◌, ◌||◌, eqb, List, [], ◌∷◌, ◌++◌, length, take, drop, Option, Some, None, refl, sym, ap, ◌∙◌, subst, inl, inr, take_all, arith}
+use Rattle.std.proofs.Common.{◌≡◌, ℕ, ◌+◌, ◌-◌, ◌*◌, ◌/◌, ◌<◌, ◌≤◌, ◌⊎◌, true, false, ◌&&◌, ◌||◌, eqb, List, [], ◌∷◌, ◌++◌, length, take, drop, Option, Some, None, refl, sym, ap, ◌∙◌, subst, inl, inr, take_all, arith}
 use Rattle.std.specs.Prelude.{⊤}
 use Rattle.std.proofs.lemmas.Bool.{eqb-true, eqb-false, and_parts, and_right, and_cases, or_cases, or_parts, and_left, cond-true, cond-false, cond_both, both_ways, not-true, not-false, cases_Bool, cases_lt, true≢false}
-use Rattle.tail_frame.specs.Chains.{KeyRecord, AtEach, differs, follows, tip, chain_bytes, closes_at, without_crc}
+use Rattle.tail_frame.specs.Chains.{KeyRecord, AtEach, follows, tip, chain_bytes, closes_at, without_crc}
 use Rattle.redundancy.specs.Force.{force, heard, late, is_long_after, last_heard}
 use Rattle.rx_table.specs.Received.{Delivery, Run, Got, is_fresh, begins, alone, not_begun, received}
 use Rattle.frag.specs.Wire.{IsFrameSize, padded, stream, last_frame}
-use Rattle.frag.specs.Sent.{Pair, transfer_at, size_on, data_on, IsSentList, IsFrame, InTime, IsExplainedAt, Explained, IsClear, NoChanceAt, NoChance}
+use Rattle.frag.specs.Sent.{transfer_at, size_on, data_on, IsSentList, IsFrame, InTime, IsExplainedAt, Explained, IsClear, NoChanceAt, NoChance}
+use Rattle.frag.specs.declared.sent.Pair.{Pair}
 use Rattle.frag.specs.declared.sent.Sent.{Sent}
 use Rattle.frag.specs.declared.sent.Transfer.{Transfer}
 use Rattle.transfer_crc.specs.Crc.{crc_of}
+use Rattle.frag.proofs.Follows.{follows_parts}
 use Rattle.frag.proofs.Sizes.{single_fits, length_padded, stream_single, more_frames}
 use Rattle.once.specs.Selected.{Each, IsOfSent, Selected, Once}
 use Rattle.redundancy.proofs.Forces.{heard_force, force_heard, force_kept}
@@ -38,15 +40,6 @@ alone_content x m i r size f s e =
   where
     room : (m : ℕ) → IsFrameSize m → 0 < m - 1
     room m size = elim size [ inl e ↦ omega arith | inr e ↦ omega arith ]
-
--- what follows gives
-pub follows_parts : (a l r : KeyRecord) → follows a l r ≡ true → record { open_end : l.end ≡ false; not_start : r.start ≡ false; bus : r.bus ≡ a.bus; tid : r.tid ≡ a.tid; toggle : differs l.toggle r.toggle ≡ true }
-follows_parts a l r h =
-    let p = and_parts (not l.end) (not r.start && ((eqb r.bus a.bus) && ((eqb r.tid a.tid) && differs l.toggle r.toggle))) h in
-    let q = and_parts (not r.start) ((eqb r.bus a.bus) && ((eqb r.tid a.tid) && differs l.toggle r.toggle)) p.1 in
-    let s = and_parts (eqb r.bus a.bus) ((eqb r.tid a.tid) && differs l.toggle r.toggle) q.1 in
-    let t = and_parts (eqb r.tid a.tid) (differs l.toggle r.toggle) s.1 in
-    record { open_end = not-true l.end p.0; not_start = not-true r.start q.0; bus = eqb-true r.bus a.bus s.0; tid = eqb-true r.tid a.tid t.0; toggle = t.1 }
 
 -- P of the last delivery
 abbrev HeadOf : (Delivery → Type 0) → List Delivery → Type 0

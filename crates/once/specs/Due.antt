@@ -4,8 +4,9 @@ use Rattle.tail_frame.specs.Chains.{KeyRecord}
 use Rattle.transfer_crc.specs.Crc.{crc_of}
 use Rattle.redundancy.specs.Force.{force, late}
 use Rattle.rx_table.specs.Received.{Delivery, received, is_fresh}
-use Rattle.frag.specs.Wire.{last_frame}
-use Rattle.frag.specs.Sent.{Pair, transfer_at, size_on, IsSentList, Explained}
+use Rattle.frag.specs.Sent.{IsSentList, Explained}
+use Rattle.frag.specs.declared.sent.Pair.{Pair}
+use Rattle.frag.specs.Sent.{last_on_bus}
 use Rattle.frag.specs.declared.sent.Sent.{Sent}
 
 -- P of one of these deliveries
@@ -22,10 +23,6 @@ FromTo P (r ∷ seg) p older = P r (seg ++ p ∷ older) × FromTo P seg p older
 abbrev pub SomeFromTo : (KeyRecord → List KeyRecord → Type 0) → List KeyRecord → KeyRecord → List KeyRecord → Type 0
 SomeFromTo P [] p older = P p older
 SomeFromTo P (r ∷ seg) p older = P r (seg ++ p ∷ older) ⊎ SomeFromTo P seg p older
-
--- the number of the last frame of transfer j on a bus
-abbrev pub last_on_bus : Sent → ℕ → ℕ → ℕ
-last_on_bus sent j bus = last_frame (size_on sent bus) (transfer_at sent j).payload
 
 -- the record with these before it is on that bus, and is frame i of transfer j
 abbrev pub Names : (ℕ → Pair) → ℕ → ℕ → ℕ → KeyRecord → List KeyRecord → Type 0

@@ -1,43 +1,19 @@
 -- Explained logs in the words of the records as they were received: by identifier and data.
-use Rattle.std.specs.Prelude.{◌≡◌, ◌≢◌, option_map, ℕ, Bool, false, if◌then◌else◌, List, [], ◌∷◌, length, Option, Some, None}
+use Rattle.std.specs.Prelude.{◌≡◌, ◌≢◌, option_map, ℕ, List, [], Option, Some}
 use Rattle.tail_frame.specs.Frames.{frame_of, key_record}
 use Rattle.tail_frame.specs.declared.logged.Record.{Record}
-use Rattle.rx_table.specs.Keys.{SessionKey, KeyedFrame, bears_on, history}
-use Rattle.frag.specs.Sent.{Pair, IsSentList, NoChance}
-use Rattle.frag.specs.Raw.{WireExplained, IsRecordOf}
+use Rattle.rx_table.specs.Keys.{SessionKey, KeyedFrame, history}
+use Rattle.rx_table.specs.Heard.{frames_of, records_of}
+use Rattle.frag.specs.declared.sent.Pair.{Pair}
+use Rattle.frag.specs.Raw.{WireExplainsOf, IsRecordOf}
 use Rattle.frag.specs.declared.sent.Sent.{Sent}
-use Rattle.once.specs.Report.{pair_at, Explains}
-
--- a frame put before others, if there is one
-abbrev pub onto : Option KeyedFrame → List KeyedFrame → List KeyedFrame
-onto None log = log
-onto (Some f) log = f ∷ log
-
--- whether that frame is of a key
-abbrev pub is_of : SessionKey → Option KeyedFrame → Bool
-is_of key None = false
-is_of key (Some f) = bears_on key f
+use Rattle.once.specs.Report.{Explains}
 
 -- `keyed` says which frame of which key a record is, if it is one
 module _ (keyed : Record → Option KeyedFrame) where
-  -- the frames that records are, the newest first
-  abbrev pub frames_of : List Record → List KeyedFrame
-  frames_of [] = []
-  frames_of (rec ∷ past) = onto (keyed rec) (frames_of past)
-
-  -- the records that are frames of a key
-  abbrev pub records_of : SessionKey → List Record → List Record
-  records_of key [] = []
-  records_of key (rec ∷ past) = if is_of key (keyed rec) then rec ∷ records_of key past else records_of key past
-
-  -- a sent list of a key with a pair for each of the key's records explains these, by identifier and data, and there is
-  -- no chance match
-  pub record WireExplains (timeout : ℕ) (sent : Sent) (key : SessionKey) (origin : List Pair) (past : List Record) : Type 0 where
-    pub sent_list : IsSentList sent
-    pub of_key : sent.key ≡ record { kind = key.kind; port = key.port; source = Some key.source }
-    pub one_each : length origin ≡ length (records_of key past)
-    pub explained : WireExplained timeout sent (pair_at origin) (records_of key past)
-    pub no_chance : NoChance sent (pair_at origin) (history key (frames_of past))
+  -- a sent list of a key explains the records that are frames of it, and there is no chance match
+  abbrev pub WireExplains : ℕ → Sent → SessionKey → List Pair → List Record → Type 0
+  WireExplains timeout sent key origin past = WireExplainsOf timeout sent (record { kind = key.kind; port = key.port; source = Some key.source }) origin (records_of keyed key past) (history key (frames_of keyed past))
 
 -- what explains a key's records by identifier and data explains them by their fields
 abbrev pub WireExplainsFields : Type 0

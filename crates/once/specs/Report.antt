@@ -1,10 +1,12 @@
 -- The same in the words of a report: its lines on a key in order, and lines of the log in place of places.
-use Rattle.std.specs.Prelude.{◌≡◌, ℕ, ◌==◌, ◌<◌, ◌⊎◌, if◌then◌else◌, List, [], ◌∷◌, ◌++◌, length, get_or, take, map, reverse, Some, ⊤}
+use Rattle.std.specs.Prelude.{◌≡◌, ℕ, ◌==◌, ◌<◌, ◌⊎◌, if◌then◌else◌, List, [], ◌∷◌, ◌++◌, length, take, map, reverse, Some, ⊤}
 use Rattle.tail_frame.specs.Chains.{KeyRecord}
 use Rattle.transfer_crc.specs.Crc.{crc_of}
 use Rattle.rx_table.specs.Received.{Delivery, received}
 use Rattle.rx_table.specs.Keys.{SessionKey, KeyedFrame, history, IsLog}
-use Rattle.frag.specs.Sent.{Pair, transfer_at, data_on, IsSentList, Explained, NoChance}
+use Rattle.frag.specs.Sent.{transfer_at, data_on, IsSentList, Explained, NoChance}
+use Rattle.frag.specs.declared.sent.Pair.{Pair}
+use Rattle.frag.specs.Sent.{pair_at}
 use Rattle.frag.specs.declared.sent.Sent.{Sent}
 use Rattle.once.specs.Due.{Due}
 
@@ -33,10 +35,6 @@ rx_of extent d = record {
 -- what is reported of a key, in order; the records have the newest first
 abbrev pub reported : ℕ → ℕ → List KeyRecord → List Rx
 reported timeout extent records = map (rx_of extent) (reverse (received crc_of timeout records).delivered)
-
--- the pair of the record at a place
-abbrev pub pair_at : List Pair → ℕ → Pair
-pair_at origin n = get_or origin n (record { j = 0; i = 0 })
 
 -- the pair of the record on a line
 abbrev pub pair_on : List Pair → List KeyRecord → ℕ → Pair

@@ -3,7 +3,8 @@ use Rattle.std.specs.Prelude.{◌≡◌, ℕ, ◌<◌, List, [], ◌∷◌, ⊤}
 use Rattle.tail_frame.specs.Chains.{KeyRecord}
 use Rattle.transfer_crc.specs.Crc.{crc_of}
 use Rattle.rx_table.specs.Received.{Delivery, received}
-use Rattle.frag.specs.Sent.{Pair, transfer_at, data_on, IsSentList, InTime, Explained, NoChance}
+use Rattle.frag.specs.Sent.{transfer_at, data_on, IsSentList, InTime, Explained, NoChance}
+use Rattle.frag.specs.declared.sent.Pair.{Pair}
 use Rattle.frag.specs.declared.sent.Sent.{Sent}
 
 -- P of each delivery

@@ -23,7 +23,8 @@ use Rattle.rx_table.specs.Steps.{add, delivery_at}
 use Rattle.node_plan.specs.declared.plan.Plan.{Plan}
 use Rattle.node_core.specs.declared.line.Line.{Line}
 use Rattle.rx_table.specs.Table.{keyed, log_with, port_on}
-use Rattle.node_core.specs.Heard.{ports_of, frame_for, with_frame, frames}
+use Rattle.rx_table.specs.Heard.{frame_for, with_frame, frames}
+use Rattle.node_core.specs.Heard.{ports_of}
 use Rattle.node_core.specs.Steps.{of_delivery, refused_line, of_session, of_source, on_port, of_frame, got, Step, Heard, records, lines}
 use Rattle.once.specs.Report.{Rx as RxOf, rx_of, reported}
 use Rattle.session_lines.specs.Reported.{is_key, of_line, rxs, of_key, has_session, Reported}

@@ -11,7 +11,8 @@ use Rattle.node_plan.specs.declared.plan.Plan.{Plan}
 use Rattle.node_core.specs.declared.line.Line.{Line}
 use Rattle.node_core.specs.declared.line.Line.TheVariants.{Rx, NoSession}
 use Rattle.node_core.specs.declared.line.Rx.{Rx as RxLine}
-use Rattle.node_core.specs.Heard.{ports_of, frames}
+use Rattle.rx_table.specs.Heard.{frames}
+use Rattle.node_core.specs.Heard.{ports_of}
 use Rattle.node_core.specs.Steps.{Step, records, lines}
 
 abbrev pub is_source : Option ℕ → ℕ → Bool

@@ -1,7 +1,7 @@
 use Rattle.std.proofs.Common.{◌≤◌, ◌∙◌, ap, sym, subst}
 use Rattle.rx_table.specs.Ports.{bound}
 use Rattle.rx_table.specs.Table.{states, StandsFor}
-use Rattle.node_core.specs.Heard.{frames}
+use Rattle.rx_table.specs.Heard.{frames}
 use Rattle.node_core.specs.Shapes.{shape_extent}
 use Rattle.node_core.proofs.Tables.{bound_of_ports}
 use Rattle.node_core.proofs.node.Node.held.Goals as goal

@@ -1,0 +1,10 @@
+pub mod Texts
+pub mod Counts
+pub mod Bytes
+pub mod Heard
+pub mod Follows
+pub mod Explained
+pub mod ReadBack
+pub mod Pairs
+pub mod Payloads
+pub mod Pushed

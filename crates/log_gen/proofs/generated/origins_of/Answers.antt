@@ -1,0 +1,7 @@
+use Rattle.log_gen.specs.Rules.{origin_by}
+use Rattle.log_gen.proofs.Pushed.{pushed}
+use Rattle.log_gen.proofs.generated.origins_of.Goals as goal
+
+pub loop-source-preserved : goal.loop-source-preserved
+loop-source-preserved c =
+    pushed (origin_by c.args.number) c.loop-source.source c.loop-source.origins c.push.new.self c.in_ok-origin_by.field-0 c.in_ok-push.ensures.ok c.loop-source.invariant c.in_ok-origin_by.ensures
