@@ -7,8 +7,8 @@ use Rattle.clap.specs.Walk.{Text, first_of}
 use Rattle.clap.specs.declared.parser.matches.ArgMatches.{ArgMatches}
 use Rattle.clap.proofs.WalkLemmas.{first_value-rows, both}
 use Rattle.clap.proofs.OnLiterals.{clap_on_literals}
-use Rattle.cyphal.specs.ClapShape.{root_shape, types_shape, plan_shape}
-use Rattle.cyphal.specs.Words.{is_argument, are_types, root_given, plan_given, types_given}
+use Rattle.cyphal.specs.ClapShape.{one_shape, types_shape, plan_shape}
+use Rattle.cyphal.specs.Words.{is_argument, are_types, one_given, plan_given, types_given}
 
 -- the value of an argument that a parse of the words gives, which is the one that they have
 pub record Parsed (app : App) (id : Text) (given : List Text → Option Text) (words : List Text) : Type 0 where
@@ -25,24 +25,24 @@ accepted : {A : Type 0} (b : Bool) (x : A) → is_some (if b then Some x else No
 accepted true x h = refl
 accepted false x h = absurd cc
 
--- a root alone
+-- one argument
 
-simple_root : is_simple root_shape ≡ true
-simple_root = refl
+simple_one : is_simple one_shape ≡ true
+simple_one = refl
 
-value_of_root : (w : Text) (x : ℕ) (xs : Text) → (x == 45) ≡ false → first_of (codes "ROOT") (matches_of root_shape (w ∷ (x ∷ xs) ∷ [])) ≡ Some (x ∷ xs)
+value_of_one : (w : Text) (x : ℕ) (xs : Text) → (x == 45) ≡ false → first_of (codes "ARGUMENT") (matches_of one_shape (w ∷ (x ∷ xs) ∷ [])) ≡ Some (x ∷ xs)
 unfolding clap_on_literals
-value_of_root w x xs h = simp h refl
+value_of_one w x xs h = simp h refl
 
-root_there : (w root : Text) → is_argument root ≡ true → Parsed root_shape (codes "ROOT") root_given (w ∷ root ∷ [])
-root_there w [] h = absurd cc
-root_there w (x ∷ xs) h = let e = unhyphened (x == 45) h in record { value = x ∷ xs; is = value_of_root w x xs e; asked = simp e refl }
+one_there : (w argument : Text) → is_argument argument ≡ true → Parsed one_shape (codes "ARGUMENT") one_given (w ∷ argument ∷ [])
+one_there w [] h = absurd cc
+one_there w (x ∷ xs) h = let e = unhyphened (x == 45) h in record { value = x ∷ xs; is = value_of_one w x xs e; asked = simp e refl }
 
-parsed_root : (words : List Text) → is_some (root_given words) ≡ true → Parsed root_shape (codes "ROOT") root_given words
-parsed_root [] h = absurd cc
-parsed_root (w ∷ []) h = absurd cc
-parsed_root (w ∷ root ∷ []) h = root_there w root (accepted (is_argument root) root h)
-parsed_root (w ∷ root ∷ more ∷ rest) h = absurd cc
+parsed_one : (words : List Text) → is_some (one_given words) ≡ true → Parsed one_shape (codes "ARGUMENT") one_given words
+parsed_one [] h = absurd cc
+parsed_one (w ∷ []) h = absurd cc
+parsed_one (w ∷ argument ∷ []) h = one_there w argument (accepted (is_argument argument) argument h)
+parsed_one (w ∷ argument ∷ more ∷ rest) h = absurd cc
 
 -- a root and a plan
 
@@ -142,8 +142,8 @@ matched app a id given m words simple e p hm =
       asked = p.asked;
     }
 
-pub has_root : (a : App) (m : ArgMatches) (words : List Text) → a ≡ root_shape → is_some (root_given words) ≡ true → HasMatchesOf a words m → Has (codes "ROOT") root_given m words
-has_root a m words e h hm = matched root_shape a (codes "ROOT") root_given m words simple_root e (parsed_root words h) hm
+pub has_one : (a : App) (m : ArgMatches) (words : List Text) → a ≡ one_shape → is_some (one_given words) ≡ true → HasMatchesOf a words m → Has (codes "ARGUMENT") one_given m words
+has_one a m words e h hm = matched one_shape a (codes "ARGUMENT") one_given m words simple_one e (parsed_one words h) hm
 
 pub has_plan : (a : App) (m : ArgMatches) (words : List Text) → a ≡ plan_shape → is_some (plan_given words) ≡ true → HasMatchesOf a words m → Has (codes "PLAN") plan_given m words
 has_plan a m words e h hm = matched plan_shape a (codes "PLAN") plan_given m words simple_plan e (parsed_plan words h) hm

@@ -13,10 +13,10 @@ use Rattle.tail_frame.specs.declared.logged.Record.{Record}
 use Rattle.rx_table.specs.Keys.{KeyedFrame, EachFrame, IsLog}
 use Rattle.rx_table.specs.Table.{keyed, with_source, log_with}
 use Rattle.frag.specs.Raw.{IsRecordOf}
-use Rattle.once.specs.Raw.{onto, frames_of}
+use Rattle.rx_table.specs.Heard.{onto, frames_of}
 use Rattle.frame_log.specs.Order.{IsAhead}
-use Rattle.node_core.specs.Heard.{is_for, if_for, frame_for, with_frame, frames}
-use Rattle.cyphal.specs.Headline.{heard_as}
+use Rattle.rx_table.specs.Heard.{is_for, if_for, frame_for, with_frame, frames}
+use Rattle.rx_table.specs.Heard.{heard_as}
 
 same_onto : (o : Option KeyedFrame) (log : List KeyedFrame) → onto o log ≡ log_with o log
 same_onto None log = refl

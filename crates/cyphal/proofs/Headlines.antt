@@ -6,7 +6,7 @@ use mathlib.Core.List.{reverse_aux}
 use Rattle.tail_frame.specs.declared.logged.Record.{Record}
 use Rattle.rx_table.specs.Keys.{SessionKey, KeyedFrame, history}
 use Rattle.rx_table.specs.Ports.{Port}
-use Rattle.frag.specs.Sent.{Pair}
+use Rattle.frag.specs.declared.sent.Pair.{Pair}
 use Rattle.frag.specs.declared.sent.Sent.{Sent}
 use Rattle.once.specs.Raw.{WireExplainsFields}
 use Rattle.once.specs.Report.{AnyRx, Explains, SelectedRx, OnceInPart, DueInReport}
@@ -20,7 +20,7 @@ use Rattle.frame_log.specs.Order.{IsAhead}
 use Rattle.log_loop.proofs.Logs.{newest_onto}
 use Rattle.log_loop.proofs.Written.{begins_none}
 use Rattle.node_core.specs.declared.line.Line.{Line}
-use Rattle.node_core.specs.Heard.{frames}
+use Rattle.rx_table.specs.Heard.{frames}
 use Rattle.node_core.specs.LineSinks.{put_behind}
 use Rattle.node_core.specs.Steps.{Step, lines, lines_at, steps}
 use Rattle.node_core.specs.Text.{text}
@@ -36,7 +36,8 @@ use Rattle.cyphal.specs.Job.{Told, Outcome, is_settled, NotDone}
 use Rattle.cyphal.specs.Plans.{PlanAt}
 use Rattle.cyphal.specs.jobs.Run.{HasRunAt}
 use Rattle.cyphal.specs.Expected.{job_asked, job_for, WasDone}
-use Rattle.cyphal.specs.Headline.{heard_as, log_in, logged_in, lines_of, report_text, Asked, ExplainsIn, OnceIn, DueIn, HeadlineOf, HasPut, OncePut, DuePut}
+use Rattle.rx_table.specs.Heard.{heard_as}
+use Rattle.cyphal.specs.Headline.{log_in, logged_in, lines_of, report_text, Asked, ExplainsIn, OnceIn, DueIn, HeadlineOf, HasPut, OncePut, DuePut}
 use Rattle.cyphal.proofs.Frames.{frames_are, are_records, in_order}
 
 -- the lines of the first steps are the first lines

@@ -8,8 +8,8 @@ use Rattle.dsdl_files.specs.declared.error.FolderError.TheVariants as folder_err
 use Rattle.dsdl_types.specs.declared.namespace.Namespace.{Namespace}
 use Rattle.dsdl_resolve.specs.Laws.{HaveOneAnswer}
 use Rattle.dsdl_resolve.specs.Passes.{Compiled, FirstRefusal}
-use Rattle.dsdl_resolve.specs.declared.error.DsdlWhy.{DsdlWhy}
-use Rattle.dsdl_resolve.specs.declared.error.DsdlWhy.TheVariants as why
+use Rattle.dsdl_resolve.specs.declared.why.DsdlWhy.{DsdlWhy}
+use Rattle.dsdl_resolve.specs.declared.why.DsdlWhy.TheVariants as why
 use Rattle.node_run.specs.Loaded.{is_none, AreFiles, IsNotLoaded}
 use Rattle.node_run.specs.declared.status.Status.{Status}
 use Rattle.node_run.specs.declared.status.Status.TheVariants as status
@@ -62,7 +62,7 @@ module _ (law : HaveOneAnswer) where
   same_files found a b e f = let same : Ok a ≡ Ok b = sym e ∙ f in cc
 
   apart : (found : Result (List DsdlFile) FolderError) (a b : List DsdlFile) (names : Namespace) (path : List ℕ) (line : ℕ) (cause : DsdlWhy) → found ≡ Ok a → found ≡ Ok b → Compiled a names → FirstRefusal b path line cause → ⊥
-  apart found a b names path line cause e f c r = law.not_both a names path line cause c (rw (sym (same_files found a b e f)) at r)
+  apart found a b names path line cause e f c r = law.not_both a (names, c) (path, line, cause, rw (sym (same_files found a b e f)) at r)
 
   same_names : (found : Result (List DsdlFile) FolderError) (a b : List DsdlFile) (n m : Namespace) → found ≡ Ok a → found ≡ Ok b → Compiled a n → Compiled b m → n ≡ m
   same_names found a b n m e f c d = law.one_namespace a n m c (rw (sym (same_files found a b e f)) at d)

@@ -1,13 +1,14 @@
 -- What is asked for has one status, where all that decides it is told.
 use Rattle.std.proofs.Common.{◌∙◌, Option, Some, None, sym}
 use Rattle.dsdl_resolve.specs.Laws.{HaveOneAnswer}
-use Rattle.cyphal.specs.Words.{Command, Compile, Compat, Run, Bound}
+use Rattle.cyphal.specs.Words.{Command, Compile, Compat, Run, Bound, Gen}
 use Rattle.cyphal.specs.Expected.{job_of, job_asked}
 use Rattle.cyphal.proofs.statuses.Single.{IsSingle}
 use Rattle.cyphal.proofs.statuses.Compile as compile
 use Rattle.cyphal.proofs.statuses.Compat as compat
 use Rattle.cyphal.proofs.statuses.Run as run
 use Rattle.cyphal.proofs.statuses.Bound as bound
+use Rattle.cyphal.proofs.statuses.Gen as gen
 
 module _ (law : HaveOneAnswer) where
   single : (command : Command) → IsSingle (job_of command)
@@ -15,6 +16,7 @@ module _ (law : HaveOneAnswer) where
   single (Compat root new old) = compat.single law root new old
   single (Run path) = run.single path
   single (Bound path) = bound.single path
+  single (Gen number) = gen.single number
 
   pub one_status : (command : Option Command) → IsSingle (job_asked command)
   one_status None told s t h a b = a ∙ sym b

@@ -12,18 +12,20 @@ use Rattle.tail_frame.specs.Chains.{KeyRecord, follows, tip, chain_bytes, closes
 use Rattle.rx_table.specs.Keys.{SessionKey}
 use Rattle.rx_table.specs.Ports.{Port}
 use Rattle.frag.specs.Wire.{IsFrameSize, fitting, last_size, padding}
-use Rattle.frag.specs.Sent.{IsIdentOf, Pair, size_on, transfer_at, IsSentList, NoChanceAt, NoChance}
+use Rattle.frag.specs.Sent.{IsIdentOf, size_on, transfer_at, IsSentList, NoChanceAt, NoChance}
+use Rattle.frag.specs.declared.sent.Pair.{Pair}
 use Rattle.frag.specs.Raw.{WireExplained}
 use Rattle.once.specs.Raw.{WireExplains}
 use Rattle.once.specs.Due.{Due, Names, SomeFromTo}
-use Rattle.once.specs.Report.{pair_at}
-use Rattle.once.proofs.Selection.{follows_parts}
+use Rattle.frag.specs.Sent.{pair_at}
+use Rattle.frag.proofs.Follows.{follows_parts}
 use Rattle.node_plan.specs.declared.plan.Plan.{Plan}
 use Rattle.node_plan.specs.declared.plan.SubShape.TheVariants.{Raw}
 use Rattle.node_plan.specs.Plan.{Good, plan_of}
 use Rattle.session_lines.specs.Reported.{of_key, IsSession}
 use Rattle.cyphal.specs.Job.{told_by}
-use Rattle.cyphal.specs.Headline.{Asked, logged_in, heard_as}
+use Rattle.rx_table.specs.Heard.{heard_as}
+use Rattle.cyphal.specs.Headline.{Asked, logged_in}
 use Rattle.cyphal.specs.Premises.{IsDueAt, plan_text, log_text, files, first, second, sent, PremisesCanBeMet}
 
 abbrev plan : Plan

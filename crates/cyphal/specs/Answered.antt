@@ -24,9 +24,10 @@ pub record IsAnswered {L : Type 0} (words : List (List ℕ)) (told : Told) (came
   pub cause : HasCauseOver (job_for words).takes_input came.status old new
   pub ran : WasDone words told came old new
   pub held : came.reported.numbers.held ≤ came.reported.numbers.bound
-  pub complete : (job_for words).is_told told ≡ true → (job_for words).expects told status.Ok
+  pub complete : (due : Status)
+      → (job_for words).is_told told ≡ true → (job_for words).expects told due
       → ¬ Rose old.tree new.tree → ¬ Rose old.input new.input → ¬ Rose old.out new.out
-      → (came.status ≡ status.Ok) ⊎ (came.status ≡ status.NoMemory)
+      → (came.status ≡ due) ⊎ (came.status ≡ status.NoMemory)
   pub headline : HeadlineOf words told came
   pub taken : came.status ≡ status.ReadFault → NotDone told came old new ⊎ TakenOf words told came
   pub streamed : StreamedOf words told came

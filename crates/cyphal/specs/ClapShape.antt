@@ -8,7 +8,11 @@ use Rattle.clap.specs.declared.builder.action.ArgAction.TheVariants.{Set}
 abbrev pub given : Text → Rule
 given id = record (new_rule id) { required = true; action = Some Set }
 
--- a root alone
+-- one argument: a root or a number
+abbrev pub one_shape : App
+one_shape = with_rule (new_app (codes "cyphal")) (given (codes "ARGUMENT"))
+
+-- a root, with others behind it
 abbrev pub root_shape : App
 root_shape = with_rule (new_app (codes "cyphal")) (given (codes "ROOT"))
 

@@ -4,8 +4,11 @@ use Rattle.compat_check.specs.declared.verdict.CompatWhy.{CompatWhy}
 use Rattle.compat_check.specs.declared.verdict.CompatWhy.TheVariants as compat_why
 use Rattle.dsdl_names.specs.declared.NameError.{NameError}
 use Rattle.dsdl_names.specs.declared.NameError.TheVariants as name_error
-use Rattle.dsdl_resolve.specs.declared.error.DsdlWhy.{DsdlWhy}
-use Rattle.dsdl_resolve.specs.declared.error.DsdlWhy.TheVariants as dsdl_why
+use Rattle.dsdl_resolve.specs.declared.why.DsdlWhy.{DsdlWhy}
+use Rattle.dsdl_names.specs.declared.TypeId.{TypeId}
+use Rattle.dsdl_resolve.specs.declared.why.DsdlWhy.TheVariants as dsdl_why
+use Rattle.dsdl_resolve.specs.declared.why.ExprWhy.{ExprWhy}
+use Rattle.dsdl_resolve.specs.declared.why.ExprWhy.TheVariants as expr_why
 use Rattle.node_plan.specs.declared.plan.PlanWhy.{PlanWhy}
 use Rattle.node_plan.specs.declared.plan.PlanWhy.TheVariants as plan_why
 use Rattle.frame_log.specs.declared.error.LogWhy.{LogWhy}
@@ -41,10 +44,28 @@ name_error_text name_error.BadPort = codes "BadPort"
 name_error_text name_error.TooLong = codes "TooLong"
 name_error_text name_error.NoMemory = codes "NoMemory"
 
+abbrev pub expr_why_text : ExprWhy → List ℕ
+expr_why_text expr_why.Kind = codes "Kind"
+expr_why_text expr_why.Range = codes "Range"
+expr_why_text expr_why.Zero = codes "Zero"
+expr_why_text expr_why.Unknown = codes "Unknown"
+expr_why_text expr_why.Large = codes "Large"
+
+-- a type by its dotted name and its version
+abbrev pub type_text : TypeId → List ℕ
+type_text id =
+    id.name ++ (codes "." ++ (decimal id.major ++ (codes "." ++ decimal id.minor)))
+
 abbrev pub dsdl_why_text : DsdlWhy → List ℕ
 dsdl_why_text (dsdl_why.Name error) = codes "Name " ++ name_error_text error
 dsdl_why_text dsdl_why.Syntax = codes "Syntax"
+dsdl_why_text (dsdl_why.Unresolved id) = codes "Unresolved " ++ type_text id
+dsdl_why_text dsdl_why.Cycle = codes "Cycle"
 dsdl_why_text (dsdl_why.Rule n) = codes "Rule " ++ decimal n
+dsdl_why_text (dsdl_why.Expr why) = codes "Expr " ++ expr_why_text why
+dsdl_why_text dsdl_why.Assert = codes "Assert"
+dsdl_why_text dsdl_why.VersionClash = codes "VersionClash"
+dsdl_why_text dsdl_why.PortClash = codes "PortClash"
 dsdl_why_text (dsdl_why.Long n) = codes "Long " ++ decimal n
 dsdl_why_text dsdl_why.TooBig = codes "TooBig"
 

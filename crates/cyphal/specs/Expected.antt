@@ -1,13 +1,14 @@
 -- What the words ask for.
 use Rattle.std.specs.Prelude.{◌≡◌, ◌⊎◌, ℕ, true, false, List, Option, Some, None}
 use Rattle.node_run.specs.declared.status.Status.TheVariants as status
-use Rattle.cyphal.specs.Words.{Command, Compile, Compat, Run, Bound, command_of}
+use Rattle.cyphal.specs.Words.{Command, Compile, Compat, Run, Bound, Gen, command_of}
 use Rattle.cyphal.specs.Cause.{Outside}
 use Rattle.cyphal.specs.Job.{Told, Outcome, Job, NotDone}
 use Rattle.cyphal.specs.jobs.Compile.{compile_job}
 use Rattle.cyphal.specs.jobs.Compat.{compat_job}
 use Rattle.cyphal.specs.jobs.Run.{run_job}
 use Rattle.cyphal.specs.jobs.Bound.{bound_job}
+use Rattle.cyphal.specs.jobs.Gen.{gen_job}
 
 -- the commands
 abbrev pub job_of : Command → Job
@@ -15,6 +16,7 @@ job_of (Compile root) = compile_job root
 job_of (Compat root new old) = compat_job root new old
 job_of (Run path) = run_job path
 job_of (Bound path) = bound_job path
+job_of (Gen number) = gen_job number
 
 -- words that are no command ask for their refusal alone
 abbrev pub no_job : Job

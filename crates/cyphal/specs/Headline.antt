@@ -1,12 +1,11 @@
 -- The headline: of each session only sent transfers are reported, in order and at most once, and each transfer that
 -- is due is; and what is written is the text of this report.
-use Rattle.std.specs.Prelude.{◌≡◌, ◌++◌, ℕ, true, List, Option, Some, option_and_then}
+use Rattle.std.specs.Prelude.{◌≡◌, ◌++◌, ℕ, true, List, Option, Some}
 use Rattle.tail_frame.specs.Chains.{KeyRecord}
 use Rattle.tail_frame.specs.declared.logged.Record.{Record}
-use Rattle.rx_table.specs.Keys.{SessionKey, KeyedFrame}
+use Rattle.rx_table.specs.Keys.{SessionKey}
 use Rattle.rx_table.specs.Ports.{Port}
-use Rattle.rx_table.specs.Table.{keyed}
-use Rattle.frag.specs.Sent.{Pair}
+use Rattle.frag.specs.declared.sent.Pair.{Pair}
 use Rattle.frag.specs.declared.sent.Sent.{Sent}
 use Rattle.once.specs.Raw.{WireExplains}
 use Rattle.once.specs.Report.{AnyRx, SelectedRx, IsDue}
@@ -15,7 +14,7 @@ use Rattle.cy_outside.specs.Written.{behind, Begins}
 use Rattle.frame_log.specs.Log.{Log, log_of}
 use Rattle.node_plan.specs.declared.plan.Plan.{Plan}
 use Rattle.node_core.specs.declared.line.Line.{Line}
-use Rattle.node_core.specs.Heard.{frame_for}
+use Rattle.rx_table.specs.Heard.{heard_as}
 use Rattle.node_core.specs.Steps.{lines}
 use Rattle.node_core.specs.Text.{text}
 use Rattle.session_lines.specs.Reported.{rxs, of_key, IsSession}
@@ -41,11 +40,6 @@ logged_in plan bytes = newest_first (log_of (names_of plan) bytes)
 -- the records of a session among them
 abbrev pub of_session_in : Plan → List ℕ → SessionKey → List KeyRecord
 of_session_in plan bytes key = of_key plan key (logged_in plan bytes)
-
--- the frame of a session that a record is, to the node: discarded frames, anonymous ones, the node's own and those of
--- services for other nodes are none
-abbrev pub heard_as : ℕ → Record → Option KeyedFrame
-heard_as node rec = option_and_then keyed (frame_for node rec)
 
 -- each record of a session is, by identifier and data, the frame of the sent list that its pair in `origin` names,
 -- received less than the timeout after it was sent; on each bus these pairs never fall; and there is no chance match

@@ -5,7 +5,7 @@ use Rattle.can_id.specs.declared.key.Kind.TheVariants.{Message}
 use Rattle.tail_frame.specs.Chains.{KeyRecord}
 use Rattle.rx_table.specs.Keys.{SessionKey}
 use Rattle.rx_table.specs.Ports.{Port}
-use Rattle.frag.specs.Sent.{Pair}
+use Rattle.frag.specs.declared.sent.Pair.{Pair}
 use Rattle.frag.specs.declared.sent.Sent.{Sent}
 use Rattle.frag.specs.declared.sent.Transfer.{Transfer}
 use Rattle.once.specs.Report.{IsDue}

@@ -1,16 +1,18 @@
 -- Which words are a command.
-use Rattle.std.specs.Prelude.{ℕ, Bool, false, ◌==◌, ◌&&◌, not, List, [], ◌∷◌, codes, Option, Some, None, if◌then◌else◌}
+use Rattle.std.specs.Prelude.{ℕ, Bool, false, ◌==◌, ◌&&◌, not, List, [], ◌∷◌, codes, Option, Some, None, option_map, if◌then◌else◌}
 use Rattle.std.specs.Str.{bytes_eq}
+use Rattle.dsdl_names.specs.Words.{number_to}
 use Rattle.cyphal.specs.declared.words.Accepted.{Accepted}
 use Rattle.cyphal.specs.declared.words.Accepted.TheVariants as accepted
 
 -- what the words ask for: the layouts of the types below this root, whether one of them is newer than another, a run of
--- the plan at this path, or its memory bound
+-- the plan at this path, its memory bound, or the run of the log that is made of this number
 pub data Command : Type 0 where
   Compile : List ℕ → Command
   Compat : List ℕ → List ℕ → List ℕ → Command
   Run : List ℕ → Command
   Bound : List ℕ → Command
+  Gen : ℕ → Command
 
 -- the command of accepted words
 abbrev pub asked_by : Accepted → Command
@@ -18,6 +20,7 @@ asked_by (accepted.Compile root) = Compile root.now
 asked_by (accepted.Compat root new old) = Compat root.now new.now old.now
 asked_by (accepted.Run plan) = Run plan.now
 asked_by (accepted.Bound plan) = Bound plan.now
+asked_by (accepted.Gen number) = Gen number
 
 -- an argument isn't empty and begins with no hyphen
 abbrev pub is_argument : List ℕ → Bool
@@ -32,10 +35,10 @@ are_arguments root plan = (is_argument root && is_argument plan) && bytes_eq roo
 abbrev pub are_types : List ℕ → List ℕ → List ℕ → Bool
 are_types root new old = is_argument root && (is_argument new && is_argument old)
 
--- the root of words that have it alone
-abbrev pub root_given : List (List ℕ) → Option (List ℕ)
-root_given (word ∷ root ∷ []) = if is_argument root then Some root else None
-root_given other = None
+-- the argument of words that have one alone
+abbrev pub one_given : List (List ℕ) → Option (List ℕ)
+one_given (word ∷ argument ∷ []) = if is_argument argument then Some argument else None
+one_given other = None
 
 -- the path of words that have a root and a plan
 abbrev pub plan_given : List (List ℕ) → Option (List ℕ)
@@ -49,9 +52,15 @@ types_given (word ∷ root ∷ new ∷ old ∷ []) =
     if are_types root new old then Some (root, new, old) else None
 types_given other = None
 
--- the command that a word names, of a root
-abbrev pub named_of_root : List ℕ → List ℕ → Option Command
-named_of_root word root = if bytes_eq word (codes "compile") then Some (Compile root) else None
+-- a number is decimal, without leading zeros, and below 2^32
+abbrev pub number_given : List ℕ → Option ℕ
+number_given word = number_to 4294967295 word
+
+-- the command that a word names, of one argument
+abbrev pub named_of_one : List ℕ → List ℕ → Option Command
+named_of_one word argument =
+    if bytes_eq word (codes "compile") then Some (Compile argument)
+    else (if bytes_eq word (codes "gen") then option_map Gen (number_given argument) else None)
 
 -- the command that a word names, of a plan
 abbrev pub named_of_plan : List ℕ → List ℕ → Option Command
@@ -64,12 +73,13 @@ abbrev pub named_of_types : List ℕ → List ℕ → List ℕ → List ℕ → 
 named_of_types word root new old =
     if bytes_eq word (codes "compat") then Some (Compat root new old) else None
 
--- what the words ask for, where they are accepted: `compile ROOT`, `compat ROOT NEW OLD`, `run ROOT PLAN` or
--- `bound ROOT PLAN`
+-- what the words ask for, where they are accepted: `compile ROOT`, `compat ROOT NEW OLD`, `run ROOT PLAN`,
+-- `bound ROOT PLAN` or `gen NUMBER`
 abbrev pub command_of : List (List ℕ) → Option Command
 command_of [] = None
 command_of (word ∷ []) = None
-command_of (word ∷ root ∷ []) = if is_argument root then named_of_root word root else None
+command_of (word ∷ argument ∷ []) =
+    if is_argument argument then named_of_one word argument else None
 command_of (word ∷ root ∷ plan ∷ []) =
     if are_arguments root plan then named_of_plan word plan else None
 command_of (word ∷ root ∷ new ∷ old ∷ []) =

@@ -2,3 +2,4 @@ pub mod Compile
 pub mod Compat
 pub mod Run
 pub mod Bound
+pub mod Gen

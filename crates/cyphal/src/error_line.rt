@@ -1,14 +1,13 @@
 //! The line that is written of a status. It takes no memory.
-ghost use Rattle.std.specs.Prelude.{◌≡◌, ◌++◌, OnOk, OnErr};
+ghost use Rattle.std.specs.Prelude.{◌≡◌, OnOk, OnErr};
 ghost use Rattle.std.specs.List.{flat_map};
 ghost use Rattle.cy_outside.specs.Outside.{Rose};
 ghost use Rattle.cy_outside.specs.Written.{behind, Begins};
-ghost use Rattle.cyphal.specs.ErrorLine.{name_error_text, dsdl_why_text, plan_why_text, log_why_text, compat_why_text, in_file, numbered, not_newer, missing, error_line};
+ghost use Rattle.cyphal.specs.ErrorLine.{plan_why_text, log_why_text, compat_why_text, numbered, not_newer, missing, error_line};
 
+use crate::dsdl_line::put_refused_file;
 use compat_check::CompatWhy;
 use cy_outside::{Failed, Sink, put_all};
-use dsdl_names::NameError;
-use dsdl_resolve::DsdlWhy;
 use frame_log::LogWhy;
 use itoa::Buffer;
 use node_plan::PlanWhy;
@@ -25,7 +24,7 @@ pub fn put_error<E: Sink>(err: &mut E, status: &Status) -> Result<(), Failed>
     match status {
         Status::Ok => put_all(err, b""),
         Status::Usage => put_all(err, b"cyphal: usage\n"),
-        Status::Dsdl { file, line, why } => put_refused_file(err, file.as_str(), *line, *why),
+        Status::Dsdl { file, line, why } => put_refused_file(err, file.as_str(), *line, why),
         Status::Plan { line, why } => {
             put_numbered(
                 err,
@@ -85,64 +84,6 @@ fn put_not_newer<E: Sink>(err: &mut E, path: &str, why: &[u8]) -> Result<(), Fai
     put_parts(err, &parts)
 }
 
-/// Writes the line of a DSDL file that is refused.
-fn put_refused_file<E: Sink>(err: &mut E, file: &str, line: u32, why: DsdlWhy) -> Result<(), Failed>
-    ensures written { let text = in_file file.now line (dsdl_why_text why) in
-        OnOk result (E.written err.new ≡ behind (E.written err.old) text) }
-    ensures begins { let text = in_file file.now line (dsdl_why_text why) in
-        OnErr result (Begins text (E.written err.old) (E.written err.new)) }
-    ensures fault { OnErr result (Rose (E.faults err.old) (E.faults err.new)) }
-{
-    match why {
-        DsdlWhy::Name(error) => put_in_file(err, file, line, b"Name ", name_error_text(error)),
-        DsdlWhy::Syntax => put_in_file(err, file, line, b"Syntax", b""),
-        DsdlWhy::Rule(rule) => put_in_file(
-            err,
-            file,
-            line,
-            b"Rule ",
-            Buffer::new().format(rule).as_bytes(),
-        ),
-        DsdlWhy::Long(bits) => put_in_file(
-            err,
-            file,
-            line,
-            b"Long ",
-            Buffer::new().format(bits).as_bytes(),
-        ),
-        DsdlWhy::TooBig => put_in_file(err, file, line, b"TooBig", b""),
-    }
-}
-
-/// Writes the line of a line of a DSDL file: a word says why, and what stands behind it.
-fn put_in_file<E: Sink>(
-    err: &mut E,
-    file: &str,
-    line: u32,
-    word: &'static [u8],
-    detail: &[u8],
-) -> Result<(), Failed>
-    ensures written { let text = in_file file.now line (word.now ++ detail.now) in
-        OnOk result (E.written err.new ≡ behind (E.written err.old) text) }
-    ensures begins { let text = in_file file.now line (word.now ++ detail.now) in
-        OnErr result (Begins text (E.written err.old) (E.written err.new)) }
-    ensures fault { OnErr result (Rose (E.faults err.old) (E.faults err.new)) }
-{
-    let mut buffer = Buffer::new();
-    let digits = buffer.format(line).as_bytes();
-    let parts = [
-        b"cyphal: ".as_slice(),
-        file.as_bytes(),
-        b":".as_slice(),
-        digits,
-        b": ".as_slice(),
-        word,
-        detail,
-        b"\n".as_slice(),
-    ];
-    put_parts(err, &parts)
-}
-
 /// Writes the line of an input's line that is refused.
 fn put_numbered<E: Sink>(err: &mut E, head: &[u8], n: u64, why: &[u8]) -> Result<(), Failed>
     ensures written { OnOk result
@@ -158,7 +99,7 @@ fn put_numbered<E: Sink>(err: &mut E, head: &[u8], n: u64, why: &[u8]) -> Result
 }
 
 /// Writes parts, one behind another.
-fn put_parts<E: Sink>(err: &mut E, parts: &[&[u8]]) -> Result<(), Failed>
+pub fn put_parts<E: Sink>(err: &mut E, parts: &[&[u8]]) -> Result<(), Failed>
     ensures written { OnOk result
         (E.written err.new ≡ behind (E.written err.old) (flat_map (λ part. part.now) parts.now)) }
     ensures begins { OnErr result
@@ -171,20 +112,6 @@ fn put_parts<E: Sink>(err: &mut E, parts: &[&[u8]]) -> Result<(), Failed>
         };
     }
     Ok(())
-}
-
-/// The word of why a path is no name of a type.
-fn name_error_text(error: NameError) -> &'static [u8]
-    ensures { result.now ≡ name_error_text error }
-{
-    match error {
-        NameError::BadName => b"BadName",
-        NameError::Reserved => b"Reserved",
-        NameError::BadVersion => b"BadVersion",
-        NameError::BadPort => b"BadPort",
-        NameError::TooLong => b"TooLong",
-        NameError::NoMemory => b"NoMemory",
-    }
 }
 
 /// The word of why a line of a plan is refused.

@@ -22,6 +22,10 @@ cyphal run none PLAN
 cyphal bound none PLAN
     writes how many bytes the plan's sessions hold at most
 
+cyphal gen NUMBER
+    makes a log of 20,000 transfers on three buses from the number, below 2^32,
+    runs it, and writes how much was received
+
 cyphal --help, cyphal --version
     write this, or the version
 

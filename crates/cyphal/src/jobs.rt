@@ -2,4 +2,5 @@
 pub mod bound;
 pub mod compat;
 pub mod compile;
+pub mod generated;
 pub mod run;

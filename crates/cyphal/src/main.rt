@@ -4,10 +4,12 @@
 ghost use Rattle.std.specs.Prelude.{◌≡◌};
 ghost use Rattle.cyphal.specs.ErrorLine.{code_of};
 
+mod dsdl_line;
 mod error_line;
 mod help;
 mod jobs;
 mod law;
+mod number;
 mod plan_file;
 mod program;
 mod run_words;

@@ -1,9 +1,11 @@
+ghost use Rattle.std.specs.Prelude.{Some};
+
 use crate::code_of;
 use crate::help::HELP;
 use crate::program::program;
 use crate::top::top;
 use cy_bits::List;
-use cy_outside::{File, MemSink, MemSource, MemTree};
+use cy_outside::{Failed, File, MemSink, MemSource, MemTree, Source};
 use std::alloc::AllocError;
 use std::test::Fail;
 
@@ -420,5 +422,108 @@ fn answers_go_to_the_output_and_errors_elsewhere(rt: HostRuntime) -> Result<(), 
         assert_eq!(rt; out.written.as_slice(), row.written);
         assert_eq!(rt; err.written.as_slice(), row.line);
     }
+    Ok(())
+}
+
+/// A number as it is written, and what its run comes to.
+#[derive(Clone, Copy)]
+struct NumberRow {
+    number: &'static str,
+    code: u8,
+    written: &'static [u8],
+}
+
+#[test]
+fn a_large_log_is_run_by_its_number(rt: HostRuntime) -> Result<(), Fail> {
+    let rows = [
+        NumberRow {
+            number: "2",
+            code: 0,
+            written: b"gen 2 transfers 20000 delivered 14404 badcrc 0 nosession 0 held 256 bound 256\n",
+        },
+        NumberRow {
+            number: "-1",
+            code: 1,
+            written: b"",
+        },
+        NumberRow {
+            number: "4294967296",
+            code: 1,
+            written: b"",
+        },
+        NumberRow {
+            number: "02",
+            code: 1,
+            written: b"",
+        },
+    ];
+    for row in &rows {
+        let alloc = rt.alloc();
+        let words = vec![in alloc;
+            String::from_str(alloc, "gen")?,
+            String::from_str(alloc, row.number)?,
+        ]?;
+        let mut tree = MemTree::new(List::empty(alloc), &[0]).ok_or(AllocError)?;
+        let mut input = MemSource::new(LOG, &[0]);
+        let mut out = MemSink::new(alloc, &[]);
+        let mut err = MemSink::new(alloc, &[]);
+        let code = program(
+            alloc,
+            words.as_slice(),
+            &mut tree,
+            &mut input,
+            &mut out,
+            &mut err,
+        );
+        assert_eq!(rt; code, row.code);
+        assert_eq!(rt; out.written.as_slice(), row.written);
+        assert_eq!(rt; input.source.left, LOG);
+    }
+    Ok(())
+}
+
+/// Bytes that come one a read.
+#[derive(Drop)]
+struct OneByte<'a> {
+    left: &'a [u8],
+}
+
+impl<'a> Source for OneByte<'a> {
+    ghost left = { λ s. Some s.left.now };
+
+    ghost faults = { λ _. 0 };
+
+    fn read(&mut self, buf: &mut [u8]) -> Result<usize, Failed> {
+        let n = buf.len().min(self.left.len()).min(1);
+        let (first, others) = self.left.split_at(n);
+        buf[..n].copy_from_slice(first);
+        self.left = others;
+        Ok(n)
+    }
+}
+
+#[test]
+fn a_log_in_single_bytes_gives_the_same_report(rt: HostRuntime) -> Result<(), Fail> {
+    let alloc = rt.alloc();
+    let words = vec![in alloc;
+        String::from_str(alloc, "run")?,
+        String::from_str(alloc, "none")?,
+        String::from_str(alloc, "plan")?,
+    ]?;
+    let files = List::new(vec![in alloc; File::new(alloc, "plan", PLAN)?]?);
+    let mut tree = MemTree::new(files, &[]).ok_or(AllocError)?;
+    let mut input = OneByte { left: LOG };
+    let mut out = MemSink::new(alloc, &[]);
+    let mut err = MemSink::new(alloc, &[]);
+    let code = program(
+        alloc,
+        words.as_slice(),
+        &mut tree,
+        &mut input,
+        &mut out,
+        &mut err,
+    );
+    assert_eq!(rt; code, 0);
+    assert_eq!(rt; out.written.as_slice(), ALL);
     Ok(())
 }

@@ -4,7 +4,6 @@ ghost use Rattle.cy_outside.specs.Outside.{Rose};
 ghost use Rattle.cy_outside.specs.Written.{behind, Begins};
 ghost use Rattle.node_run.specs.Ran.{numbers_of, of_report};
 ghost use Rattle.node_run.specs.declared.status.Status.{Status as TheStatus};
-ghost use Rattle.node_run.specs.declared.status.Status.TheVariants.{Ok as OkStatus};
 ghost use Rattle.cyphal.specs.Words.{command_of};
 ghost use Rattle.cyphal.specs.ErrorLine.{error_line};
 ghost use Rattle.cyphal.specs.Job.{outcome, told_by, is_fault, NotDone};
@@ -61,11 +60,11 @@ pub fn top<T: Tree, L: Source, O: Sink, E: Sink>(
     ensures held { result.report.held ≤ result.report.bound }
     ensures complete { let job = job_for (map string_bytes words.now) in
         let told = told_by (T.files tree.old) (L.left input.old) (O.written out.old) in
-        job.is_told told ≡ true → job.expects told OkStatus
+        (due : TheStatus) → job.is_told told ≡ true → job.expects told due
         → ¬ Rose (T.faults tree.old) (T.faults tree.new)
         → ¬ Rose (L.faults input.old) (L.faults input.new)
         → ¬ Rose (O.faults out.old) (O.faults out.new)
-        → (result.status ≡ Status.Ok) ⊎ (result.status ≡ Status.NoMemory) }
+        → (result.status ≡ due) ⊎ (result.status ≡ Status.NoMemory) }
     // The report says nothing of files that were served.
     ensures failed { result.report.failed ≡ [] }
     // The headline, where the words, the files and the input are told: of what is written, and of the report.

@@ -2,9 +2,10 @@
 ghost use Rattle.std.specs.Prelude.{◌≡◌, ℕ, List, IfOk, OnErr, Some, is_some, map, option_map, string_bytes, true, false};
 ghost use Rattle.clap.specs.Words.{app_of};
 ghost use Rattle.clap.specs.Walk.{rule_of};
-ghost use Rattle.cyphal.specs.ClapShape.{given, root_shape, types_shape, plan_shape};
-ghost use Rattle.cyphal.specs.Words.{asked_by, is_argument, are_types, are_arguments, root_given, plan_given, types_given, named_of_root, named_of_types, named_of_plan, command_of};
+ghost use Rattle.cyphal.specs.ClapShape.{given, one_shape, types_shape, plan_shape};
+ghost use Rattle.cyphal.specs.Words.{Gen, asked_by, is_argument, are_types, are_arguments, one_given, plan_given, types_given, named_of_one, named_of_types, named_of_plan, command_of};
 
+use crate::number::number_of;
 use clap::{Arg, ArgAction, Command};
 use cy_bits::NoMemory;
 use std::alloc::Global;
@@ -30,10 +31,14 @@ pub enum Accepted<'a> {
     Bound {
         plan: &'a str,
     },
+    /// Runs the log that is made of a number.
+    Gen {
+        number: u32,
+    },
 }
 
-/// The command that the words are, so `compile ROOT`, `compat ROOT NEW OLD`, `run none PLAN` or `bound none PLAN`; none
-/// where they aren't accepted. It wants memory where they are.
+/// The command that the words are, so `compile ROOT`, `compat ROOT NEW OLD`, `run none PLAN`, `bound none PLAN` or
+/// `gen NUMBER`; none where they aren't accepted. It wants memory where they are.
 pub fn command_of<'a>(alloc: Global, words: &'a [String]) -> Result<Option<Accepted<'a>>, NoMemory>
     ensures is { let asked = command_of (map string_bytes words.entry.now) in
         IfOk result (λ given. option_map asked_by given ≡ asked) }
@@ -41,13 +46,13 @@ pub fn command_of<'a>(alloc: Global, words: &'a [String]) -> Result<Option<Accep
         OnErr result (is_some asked ≡ true) }
 {
     match words {
-        [word, root] => {
-            if is_argument(root.as_str()) {
-                match of_root(word.as_str(), root.as_str()) {
+        [word, argument] => {
+            if is_argument(argument.as_str()) {
+                match of_one(word.as_str(), argument.as_str()) {
                     None => Ok(None),
                     Some(_) => {
-                        let root = root_word(alloc, words)?;
-                        Ok(of_root(word.as_str(), root))
+                        let argument = one_word(alloc, words)?;
+                        Ok(of_one(word.as_str(), argument))
                     }
                 }
             } else {
@@ -84,14 +89,26 @@ pub fn command_of<'a>(alloc: Global, words: &'a [String]) -> Result<Option<Accep
     }
 }
 
-/// The command of a root alone that a word names.
-fn of_root<'a>(word: &str, root: &'a str) -> Option<Accepted<'a>>
-    ensures { option_map asked_by result ≡ named_of_root word.now root.entry.now }
+/// The command of one argument that a word names.
+fn of_one<'a>(word: &str, argument: &'a str) -> Option<Accepted<'a>>
+    ensures { option_map asked_by result ≡ named_of_one word.now argument.entry.now }
 {
     if word == "compile" {
-        Some(Accepted::Compile { root })
+        Some(Accepted::Compile { root: argument })
+    } else if word == "gen" {
+        of_number(number_of(argument.as_bytes()))
     } else {
         None
+    }
+}
+
+/// The run of the log of a number, if there is one.
+fn of_number<'a>(number: Option<u32>) -> Option<Accepted<'a>>
+    ensures { option_map asked_by result ≡ option_map Gen number }
+{
+    match number {
+        Some(number) => Some(Accepted::Gen { number }),
+        None => None,
     }
 }
 
@@ -152,10 +169,10 @@ fn given<'a>(alloc: Global, id: &'a str) -> Arg<'a>
     Arg::new(alloc, id).required(true).action(ArgAction::Set)
 }
 
-fn root_shape<'a>(alloc: Global) -> Result<Command<'a>, NoMemory>
-    ensures { IfOk result (λ c. app_of c ≡ root_shape) }
+fn one_shape<'a>(alloc: Global) -> Result<Command<'a>, NoMemory>
+    ensures { IfOk result (λ c. app_of c ≡ one_shape) }
 {
-    let command = Command::new(alloc, "cyphal").arg(given(alloc, "ROOT"))?;
+    let command = Command::new(alloc, "cyphal").arg(given(alloc, "ARGUMENT"))?;
     Ok(command)
 }
 
@@ -178,14 +195,14 @@ fn plan_shape<'a>(alloc: Global) -> Result<Command<'a>, NoMemory>
     Ok(command)
 }
 
-/// The root of accepted words that have it alone. It refuses nothing, and wants memory.
-fn root_word<'a>(alloc: Global, words: &'a [String]) -> Result<&'a str, NoMemory>
-    requires { is_some (root_given (map string_bytes words.now)) ≡ true }
-    ensures { IfOk result (λ root. root_given (map string_bytes words.entry.now) ≡ Some root.now) }
+/// The argument of accepted words that have one alone. It refuses nothing, and wants memory.
+fn one_word<'a>(alloc: Global, words: &'a [String]) -> Result<&'a str, NoMemory>
+    requires { is_some (one_given (map string_bytes words.now)) ≡ true }
+    ensures { IfOk result (λ word. one_given (map string_bytes words.entry.now) ≡ Some word.now) }
 {
-    let command = root_shape(alloc)?;
+    let command = one_shape(alloc)?;
     match command.try_get_matches_from(words) {
-        Ok(matches) => Ok(matches.get_str("ROOT").unwrap()),
+        Ok(matches) => Ok(matches.get_str("ARGUMENT").unwrap()),
         Err(_) => Err(NoMemory),
     }
 }

@@ -9,6 +9,7 @@ ghost use Rattle.cyphal.specs.Expected.{job_of, job_for, WasDone};
 use crate::jobs::bound::bound_plan;
 use crate::jobs::compat::compat_types;
 use crate::jobs::compile::compile_root;
+use crate::jobs::generated::generated;
 use crate::jobs::run::run_plan;
 use crate::words::{Accepted, command_of};
 use cy_outside::{Sink, Source, Tree};
@@ -85,5 +86,6 @@ fn carry_out<T: Tree, L: Source, O: Sink, K: LineSink>(
         Accepted::Compat { root, new, old } => compat_types(alloc, root, new, old, tree, out),
         Accepted::Run { plan } => run_plan(alloc, plan, tree, input, out, lines, numbers),
         Accepted::Bound { plan } => bound_plan(alloc, plan, tree, out),
+        Accepted::Gen { number } => generated(alloc, number, out),
     }
 }

@@ -4,3 +4,4 @@ pub mod Runs
 pub mod Streams
 pub mod Roots
 pub mod Endings
+pub mod Summaries

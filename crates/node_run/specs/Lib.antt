@@ -1,4 +1,5 @@
 pub mod BoundText
+pub mod Generated
 pub mod Hears
 pub mod Compared
 pub mod Layouts

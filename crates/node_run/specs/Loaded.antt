@@ -11,8 +11,8 @@ use Rattle.dsdl_types.specs.declared.namespace.Namespace.{Namespace}
 use Rattle.dsdl_resolve.specs.Passes.{Compiled, FirstRefusal}
 use Rattle.dsdl_resolve.specs.declared.error.DsdlError.{DsdlError}
 use Rattle.dsdl_resolve.specs.declared.error.DsdlError.TheVariants as dsdl
-use Rattle.dsdl_resolve.specs.declared.error.DsdlWhy.{DsdlWhy}
-use Rattle.dsdl_resolve.specs.declared.error.DsdlWhy.TheVariants as why
+use Rattle.dsdl_resolve.specs.declared.why.DsdlWhy.{DsdlWhy}
+use Rattle.dsdl_resolve.specs.declared.why.DsdlWhy.TheVariants as why
 use Rattle.node_run.specs.declared.status.Status.{Status}
 use Rattle.node_run.specs.declared.status.Status.TheVariants as status
 

@@ -8,6 +8,7 @@ pub mod types;
 
 pub use frame_log::LogWhy;
 pub use log::bound_text::bound;
+pub use log::generated::run_gen;
 pub use log::run::{run_log, run_over};
 pub use report::Report;
 pub use status::Status;

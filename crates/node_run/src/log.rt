@@ -1,6 +1,8 @@
 //! A plan and a log: the run of the node, and the bound on its memory.
 
 pub mod bound_text;
+pub mod generated;
+mod labelled;
 pub mod run;
 pub mod running;
 pub mod tally;

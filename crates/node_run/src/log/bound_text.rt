@@ -1,13 +1,13 @@
 //! The memory bound of a plan, port by port.
-ghost use Rattle.std.specs.Prelude.{◌≡◌, ◌++◌, OnOk, IfOk, decimal};
+ghost use Rattle.std.specs.Prelude.{◌≡◌, ◌++◌, OnOk, IfOk};
 ghost use Rattle.cy_outside.specs.Outside.{Rose};
 ghost use Rattle.node_plan.specs.IsPlan.{IsPlan};
 ghost use Rattle.node_run.specs.BoundText.{port_line, bound_line, bound_text, HasBound};
 
+use crate::log::labelled::push_labelled;
 use crate::status::Status;
 use cy_bits::NoMemory;
 use cy_outside::{Sink, put_all};
-use itoa::Buffer;
 use node_plan::{Plan, Sub, SubShape, bound as bound_of};
 use std::alloc::Global;
 
@@ -61,15 +61,5 @@ fn push_bound(text: &mut Vec<u8>, bound: u64) -> Result<(), NoMemory>
 {
     push_labelled(text, b"bound ", bound)?;
     text.push(b'\n')?;
-    Ok(())
-}
-
-/// Appends a label and a number.
-fn push_labelled(text: &mut Vec<u8>, label: &[u8], number: u64) -> Result<(), NoMemory>
-    ensures { OnOk result (text.new.items ≡ text.old.items ++ (label.now ++ decimal number)) }
-{
-    let mut buffer = Buffer::new();
-    text.extend_from_slice(label)?;
-    text.extend_from_slice(buffer.format(number).as_bytes())?;
     Ok(())
 }

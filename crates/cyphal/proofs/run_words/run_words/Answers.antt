@@ -2,7 +2,6 @@ use Rattle.std.proofs.Common.{map, string_bytes}
 use Rattle.cyphal.proofs.Headlines.{headline_of, once_of, due_of}
 use Rattle.cyphal.proofs.Ended.{completed}
 use Rattle.cyphal.proofs.OneStatus.{one_status}
-use Rattle.node_run.specs.declared.status.Status.TheVariants as status
 use Rattle.cyphal.proofs.Streaming.{taken_of, streamed_of}
 use Rattle.cyphal.proofs.Parts.{begins_either}
 use Rattle.cyphal.specs.Words.{command_of}
@@ -16,11 +15,11 @@ returns-clause-exact g c stat told asked settled =
     one_status c.one_answer.ensures command outside c.work-status.result stat told (c.work-status.ensures.answer settled) asked
 
 pub returns-clause-complete : goal.returns-clause-complete
-returns-clause-complete g c told ok x y z =
+returns-clause-complete g c due told asked x y z =
     let command = command_of (map string_bytes c.args.words.now) in
     let outside = told_by (g.T.Tree.files c.args.tree.now) (g.L.Source.left c.args.input.now) (g.O.Sink.written c.args.out.now) in
     let cause = c.work-status.ensures.cause in
-    completed c.work-status.result _ _ _ _ (λ h. one_status c.one_answer.ensures command outside c.work-status.result status.Ok told (c.work-status.ensures.answer h) ok) cause.read cause.write x y z
+    completed due c.work-status.result _ _ _ _ (λ h. one_status c.one_answer.ensures command outside c.work-status.result due told (c.work-status.ensures.answer h) asked) cause.read cause.write x y z
 
 pub returns-clause-line : goal.returns-clause-line
 returns-clause-line g c = begins_either c.put_error.result _ _ _ c.put_error.ensures.written c.put_error.ensures.begins
