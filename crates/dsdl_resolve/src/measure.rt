@@ -151,8 +151,12 @@ impl Measure {
         requires nesting { self.nesting ≤ 32 }
         requires items { items ≤ 2 ^ 20 }
         requires front { front ≤ 64 }
-        ensures { result ≡ record { longest = front + items * self.longest; aligned = self.aligned;
-            nodes = 1 + items * self.nodes; nesting = 1 + self.nesting } }
+        ensures { result ≡ record {
+          longest = front + items * self.longest;
+          aligned = self.aligned;
+          nodes = 1 + items * self.nodes;
+          nesting = 1 + self.nesting;
+        } }
     {
         Measure {
             longest: front + u64::from(items) * self.longest,

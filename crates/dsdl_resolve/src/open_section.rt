@@ -240,9 +240,11 @@ impl OpenSection {
     ) -> Result<(), NoMemory>
         ensures says { OnOk result (with_addition (said_of self.old constants.old)
             (name_of (option_copied name.entry)) judged.addition
-            ≡ record (said_of self.new constants.new) { union =
-            (with_addition (said_of self.old constants.old)
-            (name_of (option_copied name.entry)) judged.addition).union }) }
+            ≡ record (said_of self.new constants.new) {
+              union =
+                  (with_addition (said_of self.old constants.old)
+                  (name_of (option_copied name.entry)) judged.addition).union;
+            }) }
         ensures totals { OnOk result (self.new.before.totals ≡ judged.totals) }
         ensures names { OnOk result ((other : ListOf ℕ) → is_used self.new.before.names other
             ≡ (is_used self.old.before.names other || on_name

@@ -104,8 +104,14 @@ impl Standing {
 
     /// Behind `---`.
     fn next_section(self) -> Standing
-        ensures { result ≡ record self { split = true; union = false; sealing = false;
-            extent = false; entry = false; fields = 0 } }
+        ensures { result ≡ record self {
+          split = true;
+          union = false;
+          sealing = false;
+          extent = false;
+          entry = false;
+          fields = 0;
+        } }
     {
         Standing {
             split: true,
