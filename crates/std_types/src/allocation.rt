@@ -10,7 +10,7 @@ use dsdl_types::Value;
 use std::alloc::Global;
 
 /// `uavcan.node.ID.1.0`.
-#[derive(Clone, Copy, PartialEq, Eq, Debug)]
+#[derive(Clone, Copy)]
 pub struct NodeId {
     /// The node-ID.
     pub value: u16,

@@ -9,7 +9,7 @@ use dsdl_types::Value;
 use std::alloc::Global;
 
 /// `uavcan.primitive.Empty.1.0`.
-#[derive(Clone, Copy, PartialEq, Eq, Debug)]
+#[derive(Clone, Copy)]
 pub struct Empty {}
 
 /// `uavcan.primitive.String.1.0`.

@@ -16,7 +16,7 @@ pub struct Path {
 
 /// `uavcan.file.Error.1.0`: 0 Ok, 2 not found, 5 I/O, 13 denied, 21 directory, 22 invalid, 27 too
 /// large, 28 no space, 38 not supported, 65535 unknown.
-#[derive(Clone, Copy, PartialEq, Eq, Debug)]
+#[derive(Clone, Copy)]
 pub struct FileError {
     /// The code.
     pub value: u16,
@@ -30,7 +30,7 @@ pub struct InfoRequest {
 }
 
 /// The reply of `uavcan.file.GetInfo`.
-#[derive(Clone, Copy, PartialEq, Eq, Debug)]
+#[derive(Clone, Copy)]
 pub struct InfoReply {
     /// How the call ended.
     pub error: FileError,

@@ -8,21 +8,21 @@ use dsdl_types::Value;
 use std::alloc::Global;
 
 /// `uavcan.node.Health.1.0`: 0 nominal, 1 advisory, 2 caution, 3 warning.
-#[derive(Clone, Copy, PartialEq, Eq, Debug)]
+#[derive(Clone, Copy)]
 pub struct Health {
     /// The health.
     pub value: u8,
 }
 
 /// `uavcan.node.Mode.1.0`: 0 operational, 1 initialization, 2 maintenance, 3 software update.
-#[derive(Clone, Copy, PartialEq, Eq, Debug)]
+#[derive(Clone, Copy)]
 pub struct Mode {
     /// The mode.
     pub value: u8,
 }
 
 /// `uavcan.node.Version.1.0`.
-#[derive(Clone, Copy, PartialEq, Eq, Debug)]
+#[derive(Clone, Copy)]
 pub struct Version {
     /// The major number.
     pub major: u8,
@@ -31,7 +31,7 @@ pub struct Version {
 }
 
 /// `uavcan.node.Heartbeat.1.0`, with the port 7509: that a node is online, and how it is.
-#[derive(Clone, Copy, PartialEq, Eq, Debug)]
+#[derive(Clone, Copy)]
 pub struct Heartbeat {
     /// How long the node has run, in seconds.
     pub uptime: u32,
@@ -44,7 +44,7 @@ pub struct Heartbeat {
 }
 
 /// The request of `uavcan.node.GetInfo.1.0`, with the port 430.
-#[derive(Clone, Copy, PartialEq, Eq, Debug)]
+#[derive(Clone, Copy)]
 pub struct NodeInfoRequest {}
 
 /// The reply of `uavcan.node.GetInfo.1.0`: what a node is.

@@ -39,7 +39,7 @@ pub struct AccessReply {
 }
 
 /// The request of `uavcan.register.List.1.0`, with the port 385.
-#[derive(Clone, Copy, PartialEq, Eq, Debug)]
+#[derive(Clone, Copy)]
 pub struct ListRequest {
     /// The number of a register.
     pub index: u16,

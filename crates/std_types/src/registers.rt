@@ -15,7 +15,7 @@ pub struct Register {
 }
 
 /// What the numbers of a register of integers are kept within.
-#[derive(Clone, Copy, PartialEq, Eq, Debug)]
+#[derive(Clone, Copy)]
 pub struct Limits {
     /// The least number.
     pub low: i128,

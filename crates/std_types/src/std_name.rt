@@ -1,5 +1,5 @@
 /// The name of a standard type, or of a half of a standard service.
-#[derive(Clone, Copy, PartialEq, Eq, Debug)]
+#[derive(Clone, Copy)]
 pub enum StdName {
     /// `uavcan.node.Health.1.0`.
     Health,

@@ -21,7 +21,7 @@ fn extents(rt: HostRuntime) {
         (StdName::ReadReply, 300),
     ] {
         let standard = std_type(rt.alloc(), name).expect(&rt, "memory");
-        assert!(rt; standard.extent_bytes() == bytes, "at {name:?}");
+        assert!(rt; standard.extent_bytes() == bytes, "at {bytes}");
     }
 }
 
@@ -34,5 +34,8 @@ fn both_ways(rt: HostRuntime) {
         vendor_specific_status_code: 9,
     };
     let made = through_value(rt.alloc(), &heartbeat).expect(&rt, "memory");
-    assert!(rt; made == heartbeat, "heartbeat");
+    assert!(rt; made.uptime == 5, "uptime");
+    assert!(rt; made.health.value == 1, "health");
+    assert!(rt; made.mode.value == 2, "mode");
+    assert!(rt; made.vendor_specific_status_code == 9, "code");
 }

@@ -6,14 +6,14 @@ use dsdl_types::Value;
 use std::alloc::Global;
 
 /// `uavcan.time.SynchronizedTimestamp.1.0`.
-#[derive(Clone, Copy, PartialEq, Eq, Debug)]
+#[derive(Clone, Copy)]
 pub struct SynchronizedTimestamp {
     /// The moment in microseconds, written in its low 56 bits; 0 is unknown.
     pub microsecond: u64,
 }
 
 /// `uavcan.time.Synchronization.1.0`, with the port 7168: a master's time.
-#[derive(Clone, Copy, PartialEq, Eq, Debug)]
+#[derive(Clone, Copy)]
 pub struct Synchronization {
     /// When the master sent its previous message, in microseconds, written in its low 56 bits.
     pub previous_transmission_timestamp_microsecond: u64,
