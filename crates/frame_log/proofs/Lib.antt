@@ -9,3 +9,4 @@ pub mod LaneLemmas
 pub mod PairLemmas
 pub mod CleanLemmas
 pub mod ReadsLemmas
+mod HexPairs

@@ -4,31 +4,15 @@ ghost use Rattle.frame_log.specs.Line.{pairs_of, is_length, bytes_of, is_at_most
 ghost use Rattle.frame_log.specs.Reads.{IsHex};
 ghost use Rattle.frame_log.specs.Found.{bytes_if};
 
-use crate::digits::{after, front, hex_digit, hexadecimal};
+use crate::digits::{after, front, hexadecimal};
 use crate::sixteen::{digits_before, paired, values};
-use cy_bits::ShortList;
 use std::simd::prelude::*;
-
-/// The bytes of a frame.
-pub type Data = ShortList<u8, 64>;
-
-/// Puts the first `n` bytes of a block.
-#[inline(always)]
-pub fn put(block: u8x8, n: usize, bytes: &mut Data)
-    requires few { n ≤ 8 }
-    requires room { length bytes.old + n ≤ 64 }
-    ensures { bytes.new ≡ bytes.old ++ take n block }
-{
-    let block = block.to_array();
-    for b in &block[..n] {
-        bytes.push(*b);
-    }
-}
+use tail_frame::FrameData;
 
 /// Puts the bytes of pairs of hex digits, sixteen digits at a time, as far as it gets: the number of
 /// bytes.
 #[inline(always)]
-pub fn blocks(s: &[u8], bytes: &mut Data) -> usize
+pub fn blocks(s: &[u8], bytes: &mut FrameData) -> usize
     requires short { length s.now ≤ 128 }
     requires empty { bytes.old ≡ [] }
     ensures value { IsHex s.now (2 * result) bytes.new }
@@ -41,33 +25,27 @@ pub fn blocks(s: &[u8], bytes: &mut Data) -> usize
         if digits_before(v) < 16 {
             break;
         }
-        put(paired(v), 8, bytes);
+        bytes.put(&paired(v).to_array(), 8);
         n = 8 * i + 8;
     }
     n
 }
 
 /// Puts the bytes of pairs of hex digits.
-#[inline(always)]
-fn pairs(s: &[u8], bytes: &mut Data) -> bool
+fn pairs(s: &[u8], bytes: &mut FrameData) -> bool
     requires short { length s.now ≤ 128 }
     requires empty { bytes.old ≡ [] }
     ensures { pairs_of s.now ≡ bytes_if result bytes.new }
 {
     let n = s.len() / 2;
-    if s.len() != 2 * n {
-        return false;
-    }
-    let first = blocks(s, bytes);
-    for i in first..n {
-        let high = hex_digit(s[2 * i]);
-        let low = hex_digit(s[2 * i + 1]);
-        if high > 15 || low > 15 {
-            return false;
+    let mut read = [0; 64];
+    match hex::decode_to_slice(s, &mut read[..n]) {
+        Ok(()) => {
+            bytes.extend(&read[..n]);
+            true
         }
-        bytes.push(high * 16 + low);
+        Err(_) => false,
     }
-    true
 }
 
 /// Whether a frame, of CAN FD or not, can have `n` bytes of data.
@@ -84,7 +62,7 @@ pub fn is_length(fd: bool, n: usize) -> bool
 
 /// HEX of a valid length: puts its bytes.
 #[inline(always)]
-fn bytes(fd: bool, s: &[u8], bytes: &mut Data) -> bool
+fn bytes(fd: bool, s: &[u8], bytes: &mut FrameData) -> bool
     requires { bytes.old ≡ [] }
     ensures { bytes_of fd s.now ≡ bytes_if result bytes.new }
 {
@@ -110,7 +88,7 @@ fn is_at_most_digit(s: &[u8]) -> bool
 
 /// `F` and HEX.
 #[inline(always)]
-fn fd_bytes(s: &[u8], data: &mut Data) -> bool
+fn fd_bytes(s: &[u8], data: &mut FrameData) -> bool
     requires { «data».old ≡ [] }
     ensures { fd_bytes_of s.now ≡ bytes_if result «data».new }
 {
@@ -125,7 +103,7 @@ fn fd_bytes(s: &[u8], data: &mut Data) -> bool
 
 /// DATA, to the end of the line: whether it has bytes.
 #[inline(always)]
-pub fn data(s: &[u8], found: &mut Data) -> Option<bool>
+pub fn data(s: &[u8], found: &mut FrameData) -> Option<bool>
     requires { found.old ≡ [] }
     ensures { option_map (λ has. bytes_if has found.new) result ≡ data_of s.now }
 {

@@ -16,5 +16,5 @@ mod sixteen;
 mod tests;
 
 pub use error::{LogError, LogWhy};
-pub use laws::ordered;
+pub use laws::{hex_pairs, ordered};
 pub use reader::LogReader;

@@ -3,10 +3,11 @@ ghost use Rattle.std.specs.Prelude.{◌≡◌, ◌≤◌, ◌<◌, ◌+◌, ◌*
 ghost use Rattle.frame_log.specs.Line.{seconds_of, micros_of, bus_of, ident_of, bus_at, frame_of, behind_bus, form_of, without_return, said_of, cut, front, after, decimal_from, hex_from};
 ghost use Rattle.frame_log.specs.Found.{bytes_if, said_by};
 
-use crate::data::{Data, data, unflagged};
+use crate::data::{data, unflagged};
 use crate::digits::{after, cut, decimal, front, hexadecimal};
 use crate::sixteen::eight_digits;
 use cy_bits::BusName;
+use tail_frame::FrameData;
 
 /// What was found in a line. The bytes of a frame stand apart.
 #[derive(Clone, Copy, Debug, PartialEq, Eq)]
@@ -144,7 +145,7 @@ fn behind_bus(
     moment: u64,
     name: &[u8],
     s: &[u8],
-    bytes: &mut Data,
+    bytes: &mut FrameData,
 ) -> Option<Found>
     requires few { length buses.now ≤ 3 }
     requires empty { bytes.old ≡ [] }
@@ -165,7 +166,7 @@ fn behind_bus(
 
 /// `(SECONDS.MICROS) BUS IDENT#DATA`.
 #[inline(always)]
-fn form(buses: &[BusName], text: &[u8], bytes: &mut Data) -> Option<Found>
+fn form(buses: &[BusName], text: &[u8], bytes: &mut FrameData) -> Option<Found>
     requires few { length buses.now ≤ 3 }
     requires empty { bytes.old ≡ [] }
     ensures { option_map (λ f. said_by f bytes.new) result ≡ form_of buses.now text.now }
@@ -192,7 +193,7 @@ fn without_return(line: &[u8]) -> &[u8]
 
 /// What a line says to a node with these buses. The bytes of a frame are put into `bytes`.
 #[inline(always)]
-pub fn read_line(buses: &[BusName], line: &[u8], bytes: &mut Data) -> Found
+pub fn read_line(buses: &[BusName], line: &[u8], bytes: &mut FrameData) -> Found
     requires few { length buses.now ≤ 3 }
     requires empty { bytes.old ≡ [] }
     ensures { said_by result bytes.new ≡ said_of buses.now line.now }

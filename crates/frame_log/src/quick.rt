@@ -6,12 +6,13 @@ ghost use Rattle.frame_log.specs.Reads.{Reads, IsData, IsHex};
 ghost use Rattle.frame_log.specs.Steps.{IsLine};
 
 use crate::buses::Buses;
-use crate::data::{Data, blocks, is_length, put};
+use crate::data::{blocks, is_length};
 use crate::digits::hex_digit;
 use crate::front::Front;
 use crate::line::micros;
 use crate::sixteen::{digits_before, eight_digits, paired, values};
 use std::simd::prelude::*;
+use tail_frame::FrameData;
 
 /// What a line of the common form says. Its bytes stand apart.
 #[derive(Clone, Copy, Drop)]
@@ -48,7 +49,7 @@ fn ident_at(s: &[u8]) -> Option<u32>
 
 /// Puts the bytes of the hex digits behind the first `2 * n`, at most sixteen: the number of all bytes.
 #[inline(always)]
-fn last_block(s: &[u8], n: usize, bytes: &mut Data) -> Option<usize>
+fn last_block(s: &[u8], n: usize, bytes: &mut FrameData) -> Option<usize>
     requires wide { 2 * n + 16 ≤ length s.now }
     requires front { IsHex s.now (2 * n) bytes.old }
     requires count { n ≡ length bytes.old }
@@ -62,13 +63,13 @@ fn last_block(s: &[u8], n: usize, bytes: &mut Data) -> Option<usize>
     if k != 2 * more || more > 8 || n + more > 64 {
         return None;
     }
-    put(paired(v), more, bytes);
+    bytes.put(&paired(v).to_array(), more);
     Some(n + more)
 }
 
 /// HEX and a newline, in front of other bytes: the number of digits.
 #[inline(always)]
-fn classic_at(s: &[u8], bytes: &mut Data) -> Option<usize>
+fn classic_at(s: &[u8], bytes: &mut FrameData) -> Option<usize>
     requires wide { 160 ≤ length s.now }
     requires empty { bytes.old ≡ [] }
     ensures data { IfSome result (λ n. IsData s.now n bytes.new) }
@@ -83,7 +84,7 @@ fn classic_at(s: &[u8], bytes: &mut Data) -> Option<usize>
 
 /// `#F`, HEX and a newline, in front of other bytes: the number of bytes without the newline.
 #[inline(always)]
-fn fd_at(s: &[u8], bytes: &mut Data) -> Option<usize>
+fn fd_at(s: &[u8], bytes: &mut FrameData) -> Option<usize>
     requires wide { 160 ≤ length s.now }
     requires empty { bytes.old ≡ [] }
     ensures data { IfSome result (λ n. IsData s.now n bytes.new) }
@@ -103,7 +104,7 @@ fn fd_at(s: &[u8], bytes: &mut Data) -> Option<usize>
 
 /// DATA and a newline, in front of other bytes: the number of bytes without the newline.
 #[inline(always)]
-fn data_at(s: &[u8], bytes: &mut Data) -> Option<usize>
+fn data_at(s: &[u8], bytes: &mut FrameData) -> Option<usize>
     requires wide { 160 ≤ length s.now }
     requires empty { bytes.old ≡ [] }
     ensures data { IfSome result (λ n. IsData s.now n bytes.new) }
@@ -118,7 +119,7 @@ fn data_at(s: &[u8], bytes: &mut Data) -> Option<usize>
 
 /// What the line says that begins here, if it has the common form. None says nothing of the line.
 #[inline(always)]
-pub fn quick(front: &Front, buses: &Buses, window: &[u8], bytes: &mut Data) -> Option<Seen>
+pub fn quick(front: &Front, buses: &Buses, window: &[u8], bytes: &mut FrameData) -> Option<Seen>
     requires wide { length window.now ≡ 256 }
     requires empty { bytes.old ≡ [] }
     ensures line { IfSome result (λ q. IsLine window.now q.len) }

@@ -19,7 +19,7 @@ use cy_outside::{Sink, Source};
 use frame_log::{LogError, LogReader, LogWhy, ordered};
 use line_text::TextBuffer;
 use std::alloc::Global;
-use tail_frame::Record;
+use tail_frame::{FrameData, Record};
 
 /// Lets a listener hear the log of an input, and writes what it says on each record, and at the log's end its last
 /// words. It has heard nothing, and hears from moment 0 and line 0 on.
@@ -87,7 +87,7 @@ fn hear_all<M: Listener, L: Source, O: Sink>(
         moment: 0,
         bus: 0,
         ident: 0,
-        bytes: ShortList::new(),
+        bytes: FrameData::new(),
     };
     'records: loop {
         match next(reader, input, out, &mut gathered, &mut rec) {

@@ -10,7 +10,7 @@ use node_plan::{BusPlan, read_plan};
 use std::alloc::Global;
 use std::process::Abort;
 use std::str::from_utf8;
-use tail_frame::Record;
+use tail_frame::{FrameData, Record};
 
 /// The buses `can0` and `can1`.
 fn two_buses() -> ShortList<BusPlan, 3> {
@@ -171,9 +171,9 @@ fn run(
 
 /// The record of a frame of a log.
 fn record(rt: &impl Abort, line: u64, (moment, bus, ident, data): Logged<'_>) -> Record {
-    let mut bytes = ShortList::new();
+    let mut bytes = FrameData::new();
     for byte in data.iter().take(64) {
-        assert!(rt; bytes.len() < 64);
+        assert!(rt; bytes.as_slice().len() < 64);
         bytes.push(*byte);
     }
     Record {

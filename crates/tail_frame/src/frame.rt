@@ -88,13 +88,13 @@ fn is_anonymous(ident: Ident) -> bool
 #[cfg(test)]
 mod tests {
     use super::*;
-    use cy_bits::ShortList;
+    use crate::frame_data::FrameData;
 
     // A record of a frame with this identifier and this data.
     fn record_of(ident: u32, content: &[u8]) -> Record
         requires { length content.now ≤ 8 }
     {
-        let mut bytes = ShortList::new();
+        let mut bytes = FrameData::new();
         for byte in content {
             bytes.push(*byte);
         }

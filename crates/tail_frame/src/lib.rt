@@ -2,9 +2,11 @@
 #![tactic(auto)]
 
 pub mod frame;
+pub mod frame_data;
 pub mod logged;
 pub mod tail;
 
 pub use frame::{Frame, frame_of};
+pub use frame_data::FrameData;
 pub use logged::Record;
 pub use tail::Tail;

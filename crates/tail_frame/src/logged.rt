@@ -1,4 +1,4 @@
-use cy_bits::ShortList;
+use crate::frame_data::FrameData;
 
 /// One line of a log: a CAN frame that was received.
 #[derive(Drop)]
@@ -12,5 +12,5 @@ pub struct Record {
     /// The CAN identifier.
     pub ident: u32,
     /// The data.
-    pub bytes: ShortList<u8, 64>,
+    pub bytes: FrameData,
 }

@@ -8,11 +8,10 @@ ghost use Rattle.frame_log.specs.Reader.{buses_of, place_of, held_of, bytes_left
 ghost use Rattle.frame_log.specs.Used.{Uses, IsBefore, IsBeforeHeld};
 ghost use Rattle.frame_log.specs.declared.error.LogError.TheVariants as error;
 
-use crate::data::Data;
 use crate::error::LogError;
 use crate::reader::LogReader;
 use cy_outside::Source;
-use tail_frame::Record;
+use tail_frame::{FrameData, Record};
 
 /// A record that says nothing yet.
 fn blank() -> Record {
@@ -21,7 +20,7 @@ fn blank() -> Record {
         moment: 0,
         bus: 0,
         ident: 0,
-        bytes: Data::new(),
+        bytes: FrameData::new(),
     }
 }
 

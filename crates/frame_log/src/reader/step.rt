@@ -10,7 +10,6 @@ ghost use Rattle.frame_log.specs.UsedSteps.{IsUsed, IsBeforeStep};
 ghost use Rattle.frame_log.specs.declared.error.LogError.TheVariants as error;
 ghost use Rattle.frame_log.specs.declared.reader.step.Step.TheVariants as step;
 
-use crate::data::Data;
 use crate::error::LogError;
 use crate::front::Front;
 use crate::line::{Found, read_line};
@@ -87,7 +86,7 @@ impl LogReader {
         ensures same { (self.new.buses ≡ self.old.buses) × (self.new.held ≡ self.old.held) × (self.new.room ≡ self.old.room) × (self.new.is_ended ≡ self.old.is_ended) × (self.new.done ≡ self.old.done) }
     {
         let i = self.line_end()?;
-        written.bytes = Data::new();
+        written.bytes.clear();
         let line = &self.held.as_slice()[..i];
         let found = read_line(self.buses.as_slice(), line, &mut written.bytes);
         if let Some(front) = Front::of(line) {
@@ -103,7 +102,7 @@ impl LogReader {
         ensures place { place_of self.new ≡ place_of self.old }
         ensures same { (self.new.buses ≡ self.old.buses) × (self.new.held ≡ self.old.held) × (self.new.room ≡ self.old.room) × (self.new.is_ended ≡ self.old.is_ended) × (self.new.done ≡ self.old.done) }
     {
-        written.bytes = Data::new();
+        written.bytes.clear();
         if let Some(seen) = quick(
             &self.front,
             &self.buses,
@@ -181,7 +180,7 @@ impl LogReader {
         if n == 0 {
             return Step::NoLine;
         }
-        written.bytes = Data::new();
+        written.bytes.clear();
         let found = read_line(
             self.buses.as_slice(),
             self.held.as_slice(),

@@ -1,11 +1,11 @@
 //! The common form of a line against the whole parser.
 use crate::buses::Buses;
-use crate::data::Data;
 use crate::front::Front;
 use crate::line::{Found, read_line};
 use crate::quick::quick;
 use crate::tests::buses;
 use std::test::Fail;
+use tail_frame::FrameData;
 
 /// What a byte of a line is changed to.
 const OTHERS: [u8; 22] = *b"09:/@AFGafg`#. ()RT\n\r\xff";
@@ -36,12 +36,12 @@ fn taken(front: &Front, buses: &Buses, line: &[u8]) -> Verdict {
     let mut window = [b'0'; 256];
     window[..line.len()].copy_from_slice(line);
     window[line.len()] = b'\n';
-    let mut bytes = Data::new();
+    let mut bytes = FrameData::new();
     let Some(seen) = quick(front, buses, &window, &mut bytes) else {
         return Verdict::Left;
     };
     let line = first_line(line);
-    let mut whole = Data::new();
+    let mut whole = FrameData::new();
     let found = read_line(buses.as_slice(), line, &mut whole);
     let said = Found::Frame {
         moment: seen.moment,

@@ -22,9 +22,9 @@ loop-i-preserved c =
     let before : IsHex s i old = subst (λ n. IsHex s n old) (omega (arith, at)) c.loop-i.invariant.value in
     let v : c.values-v.result ≡ map hex_digit (take 16 (drop i s)) = c.values-v.ensures in
     let h : 16 ≤ prefix_len is_digit (map hex_digit (take 16 (drop i s))) = omega (arith, c.if-digits_before-lt16.false, c.digits_before.ensures, ap (prefix_len is_digit) v) in
-    let n : c.put.new.bytes ≡ old ++ take 8 (bytes_of_pairs (map hex_digit (take 16 (drop i s)))) =
+    let n : c.put.new.self ≡ old ++ take 8 (bytes_of_pairs (map hex_digit (take 16 (drop i s)))) =
     c.put.ensures ∙ ap (λ (b : List ℕ). old ++ take 8 b) (c.paired.ensures ∙ ap bytes_of_pairs v) in
-    let f = front-more s old c.put.new.bytes i (2 * (8 * c.loop-i.i + 8)) 16 8 before (omega arith) refl (omega arith) h n in record {
+    let f = front-more s old c.put.new.self i (2 * (8 * c.loop-i.i + 8)) 16 8 before (omega arith) refl (omega arith) h n in record {
       value = f.front;
       count = omega (arith, f.count, c.loop-i.invariant.count, at);
       at = omega arith;

@@ -13,6 +13,6 @@ returns-clause-value c =
     let k = c.digits_before-k.result in
     let v : c.values-v.result ≡ map hex_digit (take 16 (drop i s)) = c.values-v.ensures in
     let h : k ≤ prefix_len is_digit (map hex_digit (take 16 (drop i s))) = omega (arith, c.digits_before-k.ensures, ap (prefix_len is_digit) v) in
-    let n : c.put.new.bytes ≡ old ++ take (k / 2) (bytes_of_pairs (map hex_digit (take 16 (drop i s)))) =
+    let n : c.put.new.self ≡ old ++ take (k / 2) (bytes_of_pairs (map hex_digit (take 16 (drop i s)))) =
     c.put.ensures ∙ ap (λ (b : List ℕ). old ++ take (k / 2) b) (c.paired.ensures ∙ ap bytes_of_pairs v) in
-    (front-more s old c.put.new.bytes i (2 * (c.args.n + k / 2)) k (k / 2) c.requires.front (omega (arith, c.if-k-more.false)) (omega (arith, c.if-k-more.false)) (omega (arith, c.if-k-more.false, c.if-more-gt8.false)) h n).front
+    (front-more s old c.put.new.self i (2 * (c.args.n + k / 2)) k (k / 2) c.requires.front (omega (arith, c.if-k-more.false)) (omega (arith, c.if-k-more.false)) (omega (arith, c.if-k-more.false, c.if-more-gt8.false)) h n).front
