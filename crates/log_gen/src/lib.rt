@@ -21,6 +21,3 @@ pub use plan::PLAN;
 pub use row::Row;
 pub use sent::sent_by;
 pub use way::{Way, way_of};
-
-#[cfg(test)]
-mod tests;

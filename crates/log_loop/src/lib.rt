@@ -11,6 +11,3 @@ mod over_log;
 pub use ended::Ended;
 pub use listener::Listener;
 pub use over_log::listen;
-
-#[cfg(test)]
-mod tests;

@@ -29,6 +29,3 @@ pub use node::{Node, Stepped};
 pub use numbers::Numbers;
 pub use port_shape::PortShape;
 pub use raw_shape::RawShape;
-
-#[cfg(test)]
-mod tests;

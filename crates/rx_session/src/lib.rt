@@ -3,8 +3,6 @@
 
 pub mod outcome;
 pub mod session;
-#[cfg(test)]
-mod tests;
 
 pub use outcome::{Delivery, Front, Outcome, Step};
 pub use session::{Part, Session};

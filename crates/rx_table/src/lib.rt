@@ -6,8 +6,6 @@ pub mod laws;
 pub mod port;
 pub mod subjects;
 pub mod table;
-#[cfg(test)]
-mod tests;
 
 pub use fed::{Fed, Met, PortMet, SubscribeError};
 pub use port::Port;

@@ -9,4 +9,3 @@ pub mod Buffers
 pub mod Paths
 pub mod WhatFits
 pub mod RoundTrips
-pub mod Samples

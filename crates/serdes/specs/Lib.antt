@@ -7,4 +7,3 @@ pub mod Puts
 pub mod Found
 pub mod Numbers
 pub mod Laws
-pub mod Samples

@@ -14,8 +14,6 @@ mod reader;
 mod serialized;
 mod simple;
 mod stop;
-#[cfg(test)]
-mod tests;
 mod value;
 mod window;
 mod writer;

@@ -16,8 +16,6 @@ mod schemas;
 mod shape;
 mod standard;
 mod std_name;
-#[cfg(test)]
-mod tests;
 pub mod time;
 mod whole;
 

@@ -9,6 +9,3 @@ pub mod queue;
 pub use frame::{Full, OutFrame};
 pub use laws::is_least;
 pub use queue::TxQueue;
-
-#[cfg(test)]
-mod tests;

@@ -1,0 +1,276 @@
+use can_id::{Key, Kind};
+use cy_bits::{BusName, List, NoMemory, ShortList};
+use dsdl_types::{Schema, Shape};
+use line_text::TextBuffer;
+use node_core::{
+    KeptLines, LineRef, LineSink, LineWriter, NoLines, Node, Numbers, PortShape, RawShape, Reading,
+    Refused, RxRef,
+};
+use node_plan::{BusPlan, read_plan};
+use std::alloc::Global;
+use std::process::Abort;
+use std::str::from_utf8;
+use tail_frame::{FrameData, Record};
+
+/// The buses `can0` and `can1`.
+fn two_buses() -> ShortList<BusPlan, 3> {
+    let bus = |name: &str| BusPlan {
+        name: BusName::new(name).unwrap_or_default(),
+        mtu: 8,
+        rate: 4096,
+    };
+    let mut buses = ShortList::new();
+    buses.push(bus("can0"));
+    buses.push(bus("can1"));
+    buses
+}
+
+/// A transfer on a subject, with frames on these lines of the log.
+fn received<'a>(
+    (moment, bus): (u64, u8),
+    (port, source): (u16, Option<u8>),
+    tid: u8,
+    (first, last): (u64, u64),
+    payload: &'a [u8],
+) -> LineRef<'a> {
+    let kind = Kind::Message;
+    LineRef::Rx(RxRef {
+        moment,
+        bus,
+        key: Key { kind, port, source },
+        priority: 4,
+        tid,
+        reading: Reading::Raw,
+        first,
+        last,
+        payload,
+    })
+}
+
+#[test]
+fn lines_have_their_text(rt: HostRuntime) -> Result<(), NoMemory> {
+    let alloc = rt.alloc();
+    let refused = LineRef::NoSession(Refused {
+        moment: 1_000_002,
+        bus: 0,
+        key: Key {
+            kind: Kind::Response,
+            port: 100,
+            source: Some(3),
+        },
+        line: 3,
+    });
+    let heartbeat = [1, 0, 0, 0, 0, 0, 0, 0xAB, 0xCD];
+    let rows = [
+        (
+            received((0, 0), (7509, Some(42)), 0, (1, 1), &heartbeat[..7]),
+            "rx 0.000000 can0 msg 7509 42 4 0 1 1 01000000000000 raw\n",
+        ),
+        (
+            received((999_999, 1), (8191, Some(127)), 9, (3, 12), &heartbeat),
+            "rx 0.999999 can1 msg 8191 127 4 9 3 12 01000000000000ABCD raw\n",
+        ),
+        (
+            received((1_000_000, 0), (100, None), 7, (1, 1), &[0xAA]),
+            "rx 1.000000 can0 msg 100 - 4 7 1 1 AA raw\n",
+        ),
+        (refused, "nosession 1.000002 can0 res 100 3 3\n"),
+        (
+            received((99_999_999_999, 1), (0, Some(0)), 31, (1, 1), &[]),
+            "rx 99999.999999 can1 msg 0 0 4 31 1 1 - raw\n",
+        ),
+        (
+            received((1_999_999, 1), (0, Some(0)), 31, (1, 1), &[]),
+            "rx 1.999999 can1 msg 0 0 4 31 1 1 - raw\n",
+        ),
+    ];
+    let buses = two_buses();
+    let mut writer = LineWriter::new(&buses);
+    for (line, want) in &rows {
+        let mut text = TextBuffer::new(alloc);
+        writer.push(&mut text, line)?;
+        assert!(rt; text.as_slice() == want.as_bytes(), "{want}");
+        let _copy = line.copy(alloc)?;
+    }
+    Ok(())
+}
+
+#[test]
+fn last_line_has_its_text(rt: HostRuntime) -> Result<(), NoMemory> {
+    let numbers = Numbers {
+        records: 3,
+        delivered: 2,
+        badcrc: 0,
+        nosession: 1,
+        sent: 0,
+        held: 8,
+        bound: 8,
+    };
+    let want = "end records 3 delivered 2 badcrc 0 nosession 1 sent 0 held 8 bound 8\n";
+    let mut text = TextBuffer::new(rt.alloc());
+    LineWriter::push_end(&mut text, &numbers)?;
+    assert!(rt; text.as_slice() == want.as_bytes());
+    Ok(())
+}
+
+#[test]
+fn raw_bytes_are_a_data_type(rt: HostRuntime) -> Result<(), NoMemory> {
+    for (extent, fields) in [(0u16, 0), (1, 1), (64, 1)] {
+        let shape = PortShape::Raw(RawShape::new(rt.alloc(), extent as u32)?);
+        assert_eq!(rt; shape.extent_bytes(), extent as usize);
+        let Schema::Struct(body) = shape.schema() else {
+            panic!(rt; "no structure");
+        };
+        assert_eq!(rt; body.fields.len(), fields);
+    }
+    Ok(())
+}
+
+/// A frame of a log: its moment, its bus, its identifier and its data.
+type Logged<'a> = (u64, u8, u32, &'a [u8]);
+
+/// The text of the lines that a node gives on a log, then their number, whether a CRC was bad, and the bytes
+/// held.
+fn run(
+    rt: &impl Abort,
+    alloc: Global,
+    extent: &str,
+    log: &[Logged<'_>],
+) -> Result<String, NoMemory> {
+    let plan = format!(in alloc;
+        "plan 1\nnode 10\nbus can0\nbus can1\nsilent\nsub 100 2 raw {extent}\n"
+    )?;
+    let Ok(plan) = read_plan(alloc, plan.as_bytes()) else {
+        panic!(rt; "no plan");
+    };
+    let mut writer = LineWriter::new(&plan.buses);
+    let mut node = Node::open(alloc, plan)?;
+    let mut kept = KeptLines::new(alloc, List::empty(alloc));
+    let mut text = TextBuffer::new(alloc);
+    let mut line = 0;
+    let mut badcrc = false;
+    for (moment, bus, ident, data) in log {
+        assert!(rt; line < 100);
+        line += 1;
+        let rec = record(rt, line, (*moment, *bus, *ident, data));
+        assert!(rt; node.latest <= rec.moment);
+        let came = node.step(&rec)?;
+        badcrc |= came.badcrc;
+        if let Some(line) = node.told(&rec, came) {
+            kept.put(&line)?;
+            NoLines.put(&line)?;
+            writer.push(&mut text, &line)?;
+        }
+    }
+    let Ok(lines) = String::from_str(alloc, from_utf8(text.as_slice()).unwrap_or("no text")) else {
+        return Err(NoMemory);
+    };
+    let count = kept.into_list().len();
+    Ok(format!(in alloc; "{lines}lines {count} badcrc {badcrc} held {}", node.held())?)
+}
+
+/// The record of a frame of a log.
+fn record(rt: &impl Abort, line: u64, (moment, bus, ident, data): Logged<'_>) -> Record {
+    let mut bytes = FrameData::new();
+    for byte in data.iter().take(64) {
+        assert!(rt; bytes.as_slice().len() < 64);
+        bytes.push(*byte);
+    }
+    Record {
+        line,
+        moment,
+        bus,
+        ident,
+        bytes,
+    }
+}
+
+#[test]
+fn a_frame_gives_its_line(rt: HostRuntime) -> Result<(), NoMemory> {
+    let alloc = rt.alloc();
+    let Ok(plan) = read_plan(
+        alloc,
+        b"plan 1\nnode 10\nbus can0\nsilent\nsub 7509 2 raw 7\n",
+    ) else {
+        panic!(&rt; "no plan");
+    };
+    let mut node = Node::open(alloc, plan)?;
+    let mut lines = List::empty(alloc);
+    let rec = record(&rt, 1, (5, 0, 0x107D_552A, &[1, 0, 0, 0, 0, 0, 0, 0xE0]));
+    assert!(&rt; node.latest <= rec.moment);
+    let stepped = node.frame(&rec, &mut lines)?;
+    assert!(rt; !stepped.badcrc && lines.len() == 1);
+    Ok(())
+}
+
+#[test]
+fn records_give_their_lines(rt: HostRuntime) -> Result<(), NoMemory> {
+    let rows: [(&str, &[Logged], &str); 8] = [
+        (
+            "64",
+            &[
+                (1_000_000, 0, 0x1060_6401, &[0, 1, 2, 3, 4, 5, 6, 0xA0]),
+                (1_000_100, 0, 0x1060_6401, &[7, 0x17, 0x8D, 0x40]),
+            ],
+            "rx 1.000000 can0 msg 100 1 4 0 1 2 0001020304050607 raw\nlines 1 badcrc false held 64",
+        ),
+        (
+            "64",
+            &[
+                (1_000_000, 0, 0x1060_6401, &[0, 1, 2, 3, 4, 5, 6, 0xA5]),
+                (1_000_100, 0, 0x1060_6401, &[7, 0x17, 0x8E, 0x45]),
+            ],
+            "lines 0 badcrc true held 64",
+        ),
+        (
+            "64",
+            &[
+                (0, 0, 0x1060_6401, &[1, 0xE0]),
+                (2_000_000, 1, 0x1060_6401, &[2, 0xE1]),
+                (2_000_001, 1, 0x1060_6401, &[3, 0xE2]),
+                (2_000_002, 0, 0x1060_6401, &[4, 0xE3]),
+            ],
+            "rx 0.000000 can0 msg 100 1 4 0 1 1 01 raw\nrx 2.000001 can1 msg 100 1 4 2 3 3 03 raw\nlines 2 badcrc false held 64",
+        ),
+        (
+            "4",
+            &[
+                (1_000_000, 0, 0x1060_6401, &[1, 0xE0]),
+                (1_000_001, 0, 0x1060_6402, &[2, 0xE0]),
+                (1_000_002, 0, 0x1060_6403, &[3, 0xE0]),
+            ],
+            "rx 1.000000 can0 msg 100 1 4 0 1 1 01 raw\nrx 1.000001 can0 msg 100 2 4 0 2 2 02 raw\nnosession 1.000002 can0 msg 100 3 3\nlines 3 badcrc false held 8",
+        ),
+        (
+            "4",
+            &[(1_000_000, 0, 0x1060_6401, &[1, 2, 3, 4, 5, 6, 0xE0])],
+            "rx 1.000000 can0 msg 100 1 4 0 1 1 01020304 raw\nlines 1 badcrc false held 4",
+        ),
+        (
+            "64",
+            &[(1_000_000, 0, 0x1160_6405, &[0xAA, 0xE7])],
+            "rx 1.000000 can0 msg 100 - 4 7 1 1 AA raw\nlines 1 badcrc false held 0",
+        ),
+        (
+            "64",
+            &[
+                (0, 0, 0x1060_640A, &[1, 0xE0]),
+                (0, 0, 0x1060_6501, &[1, 0xE0]),
+            ],
+            "lines 0 badcrc false held 0",
+        ),
+        (
+            "64",
+            &[
+                (0, 0, 0x107D_552A, &[1, 0xE0]),
+                (0, 0, 0x1060_6401, &[1, 0xC0]),
+            ],
+            "lines 0 badcrc false held 0",
+        ),
+    ];
+    for (extent, log, want) in rows {
+        let got = run(&rt, rt.alloc(), extent, log)?;
+        assert_eq!(rt; got.as_str(), want);
+    }
+    Ok(())
+}

@@ -1,0 +1,16 @@
+//! Tests of the node's crates. They stand in a crate of their own, since a crate with tests is proved
+//! twice.
+#![tactic(auto)]
+
+#[cfg(test)]
+mod core_tests;
+#[cfg(test)]
+mod generator_tests;
+#[cfg(test)]
+mod loop_tests;
+#[cfg(test)]
+mod queue_tests;
+#[cfg(test)]
+mod session_tests;
+#[cfg(test)]
+mod table_tests;

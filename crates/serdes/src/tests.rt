@@ -1,3 +1,0 @@
-mod reads;
-mod samples;
-mod writes;

@@ -1,0 +1,10 @@
+use Rattle.std.proofs.Common.{refl}
+use Rattle.value_tests.specs.Samples.{simples}
+use Rattle.value_tests.proofs.Samples.{composite, keeps}
+use Rattle.value_tests.proofs.samples.simples_layout.Goals as goal
+
+pub layout_of-requires-clause-rules : goal.layout_of-requires-clause-rules
+layout_of-requires-clause-rules c = keeps _ simples c.in_ok-simples.ensures refl
+
+pub layout_of-requires-clause-composite : goal.layout_of-requires-clause-composite
+layout_of-requires-clause-composite c = composite _ simples c.in_ok-simples.ensures refl

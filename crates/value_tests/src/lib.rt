@@ -1,0 +1,12 @@
+//! Tests of values: written, read, and of the standard types. They stand in a crate of their own, since a
+//! crate with tests is proved twice.
+#![tactic(auto)]
+
+#[cfg(test)]
+mod reads;
+#[cfg(test)]
+mod samples;
+#[cfg(test)]
+mod standard_tests;
+#[cfg(test)]
+mod writes;

@@ -1,0 +1,209 @@
+//! Types to write and read.
+ghost use Rattle.std.specs.Prelude.{◌≡◌, [], true, false, IfOk};
+ghost use Rattle.dsdl_types.specs.Schemas.{Struct, Var};
+ghost use Rattle.dsdl_types.specs.Views.{Padding, Typed, flds, kind_of, named, sch};
+ghost use Rattle.value_tests.specs.Samples.{choice, inner, list, newer_inner, newer_outer, numbers, outer, short, simples, uint};
+
+use cy_bits::{Boxed, List, NoMemory, Text};
+use dsdl_types::{Body, Cast, Field, Schema};
+use layout::{Layout, layout_of};
+use std::alloc::Global;
+
+/// The places of the types among `layouts`.
+pub const OUTER: usize = 0;
+
+pub const NEWER_OUTER: usize = 1;
+
+pub const LIST: usize = 2;
+
+pub const CHOICE: usize = 3;
+
+pub const SHORT: usize = 4;
+
+pub const NUMBERS: usize = 5;
+
+pub const SIMPLES: usize = 6;
+
+/// A saturated unsigned integer.
+fn uint(bits: u8) -> Schema
+    ensures { kind_of result ≡ Typed (uint bits) }
+{
+    Schema::Uint {
+        bits,
+        cast: Cast::Saturated,
+    }
+}
+
+/// An array of at most so many items.
+fn array(alloc: Global, item: Schema, cap: u32) -> Result<Schema, NoMemory>
+    ensures { IfOk result (λ s. kind_of s ≡ Typed (Var (sch item) cap)) }
+{
+    Ok(Schema::Var {
+        item: Boxed::new(alloc, item)?,
+        cap,
+    })
+}
+
+/// A field.
+fn field(alloc: Global, name: &str, schema: Schema) -> Result<Field, NoMemory>
+    ensures { IfOk result (λ f. named f ≡ (name.now, kind_of schema)) }
+{
+    Ok(Field {
+        name: Text::from_str(alloc, name)?,
+        schema,
+    })
+}
+
+/// So many bits of padding.
+fn padding(alloc: Global, bits: u8) -> Result<Field, NoMemory>
+    ensures { IfOk result (λ f. named f ≡ ([], Padding bits)) }
+{
+    field(alloc, "", Schema::Void { bits })
+}
+
+/// A structure.
+fn structure(fields: Vec<Field>, extent: u64, sealed: bool) -> Schema
+    ensures { kind_of result ≡ Typed
+        (Struct (flds fields.items) (record { extent = extent; sealed = sealed })) }
+{
+    Schema::Struct(Body {
+        fields: List::new(fields),
+        extent,
+        sealed,
+    })
+}
+
+fn inner(alloc: Global) -> Result<Schema, NoMemory>
+    ensures { IfOk result (λ s. kind_of s ≡ Typed inner) }
+{
+    let fields = vec![in alloc; field(alloc, "a", uint(8))?]?;
+    Ok(structure(fields, 64, false))
+}
+
+fn newer_inner(alloc: Global) -> Result<Schema, NoMemory>
+    ensures { IfOk result (λ s. kind_of s ≡ Typed newer_inner) }
+{
+    let fields = vec![in alloc; field(alloc, "a", uint(8))?, field(alloc, "b", uint(16))?]?;
+    Ok(structure(fields, 64, false))
+}
+
+fn outer(alloc: Global) -> Result<Schema, NoMemory>
+    ensures { IfOk result (λ s. kind_of s ≡ Typed outer) }
+{
+    let fields = vec![in alloc;
+        field(alloc, "inner", inner(alloc)?)?,
+        field(alloc, "z", uint(8))?,
+    ]?;
+    Ok(structure(fields, 128, false))
+}
+
+fn newer_outer(alloc: Global) -> Result<Schema, NoMemory>
+    ensures { IfOk result (λ s. kind_of s ≡ Typed newer_outer) }
+{
+    let fields = vec![in alloc;
+        field(alloc, "inner", newer_inner(alloc)?)?,
+        field(alloc, "z", uint(8))?,
+    ]?;
+    Ok(structure(fields, 128, false))
+}
+
+fn list(alloc: Global) -> Result<Schema, NoMemory>
+    ensures { IfOk result (λ s. kind_of s ≡ Typed list) }
+{
+    let items = array(alloc, newer_inner(alloc)?, 2)?;
+    let fields = vec![in alloc; field(alloc, "list", items)?]?;
+    Ok(structure(fields, 512, false))
+}
+
+fn choice(alloc: Global) -> Result<Schema, NoMemory>
+    ensures { IfOk result (λ s. kind_of s ≡ Typed choice) }
+{
+    let fields = vec![in alloc;
+        field(alloc, "a", uint(8))?,
+        field(alloc, "b", array(alloc, uint(16), 2)?)?,
+    ]?;
+    Ok(Schema::Union(Body {
+        fields: List::new(fields),
+        extent: 48,
+        sealed: true,
+    }))
+}
+
+fn short(alloc: Global) -> Result<Schema, NoMemory>
+    ensures { IfOk result (λ s. kind_of s ≡ Typed short) }
+{
+    let fields = vec![in alloc; field(alloc, "x", array(alloc, uint(8), 2)?)?]?;
+    Ok(structure(fields, 24, true))
+}
+
+fn numbers(alloc: Global) -> Result<Schema, NoMemory>
+    ensures { IfOk result (λ s. kind_of s ≡ Typed numbers) }
+{
+    let truncated = Schema::Uint {
+        bits: 8,
+        cast: Cast::Truncated,
+    };
+    let fields = vec![in alloc; field(alloc, "a", uint(8))?, field(alloc, "b", truncated)?]?;
+    Ok(structure(fields, 16, true))
+}
+
+fn simples(alloc: Global) -> Result<Schema, NoMemory>
+    ensures { IfOk result (λ s. kind_of s ≡ Typed simples) }
+{
+    let float = Schema::Float {
+        bits: 16,
+        cast: Cast::Saturated,
+    };
+    let fields = vec![in alloc;
+        field(alloc, "t", Schema::Bool)?,
+        field(alloc, "s", Schema::Int { bits: 2 })?,
+        padding(alloc, 2)?,
+        field(alloc, "u", uint(3))?,
+        field(alloc, "f", float)?,
+        field(alloc, "i", Schema::Int { bits: 64 })?,
+        field(alloc, "n", uint(64))?,
+    ]?;
+    Ok(structure(fields, 152, true))
+}
+
+fn outer_layout(alloc: Global) -> Result<Layout, NoMemory> {
+    layout_of(alloc, &outer(alloc)?)
+}
+
+fn newer_outer_layout(alloc: Global) -> Result<Layout, NoMemory> {
+    layout_of(alloc, &newer_outer(alloc)?)
+}
+
+fn list_layout(alloc: Global) -> Result<Layout, NoMemory> {
+    layout_of(alloc, &list(alloc)?)
+}
+
+fn choice_layout(alloc: Global) -> Result<Layout, NoMemory> {
+    layout_of(alloc, &choice(alloc)?)
+}
+
+fn short_layout(alloc: Global) -> Result<Layout, NoMemory> {
+    layout_of(alloc, &short(alloc)?)
+}
+
+fn numbers_layout(alloc: Global) -> Result<Layout, NoMemory> {
+    layout_of(alloc, &numbers(alloc)?)
+}
+
+fn simples_layout(alloc: Global) -> Result<Layout, NoMemory> {
+    layout_of(alloc, &simples(alloc)?)
+}
+
+/// The layouts of all types, in the order of their places.
+pub fn layouts(alloc: Global) -> Result<Vec<Layout>, NoMemory> {
+    let layouts = vec![in alloc;
+        outer_layout(alloc)?,
+        newer_outer_layout(alloc)?,
+        list_layout(alloc)?,
+        choice_layout(alloc)?,
+        short_layout(alloc)?,
+        numbers_layout(alloc)?,
+        simples_layout(alloc)?,
+    ]?;
+    Ok(layouts)
+}
