@@ -12,15 +12,11 @@ mod listed;
 mod literal;
 mod member;
 mod operator;
-#[cfg(test)]
-mod operator_tests;
 mod order;
 mod referred;
 mod residues;
 mod scope;
 mod set;
-#[cfg(test)]
-mod tests;
 mod text;
 mod type_member;
 mod unary;

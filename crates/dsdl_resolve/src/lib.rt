@@ -28,14 +28,10 @@ mod offsets;
 mod open_section;
 mod order;
 mod outcome;
-#[cfg(test)]
-mod pass_tests;
 mod primitive;
 mod printing;
 mod progress;
 mod room;
-#[cfg(test)]
-mod rule_tests;
 mod size;
 mod soundness;
 mod sources;

@@ -1,7 +1,10 @@
+//! What expressions are worth.
 ghost use Rattle.std.specs.Prelude.{IfOk};
 ghost use Rattle.const_expr.specs.Member.{IsScope};
 
-use crate::{ExprError, Scope, eval, print_text};
+use crate::expression_rows::{BITS, LENGTHS, LISTED, MEMBERS, NUMBERS, SETS, TRUTHS};
+use bit_length::LengthSet;
+use const_expr::{ExprError, Scope, eval, print_text};
 use cy_bits::{List, NoMemory};
 use dsdl_lex::tokens_of;
 use dsdl_names::{TypeId, parse_type_id};
@@ -9,8 +12,8 @@ use dsdl_parse::parse_expression;
 use dsdl_types::Namespace;
 use std::alloc::{AllocError, Global};
 
-/// A scope without constants and types.
-fn no_names(alloc: Global) -> Result<Scope, NoMemory>
+/// A scope without constants and types, where `_offset_` may mean lengths.
+fn no_names(alloc: Global, offset: Option<LengthSet>) -> Result<Scope, NoMemory>
     ensures { IfOk result IsScope }
 {
     let Ok(id) = parse_type_id(alloc, "demo.Num.1.0") else {
@@ -23,7 +26,7 @@ fn no_names(alloc: Global) -> Result<Scope, NoMemory>
     } = id;
     Ok(Scope {
         constants: List::empty(alloc),
-        offset: None,
+        offset,
         namespace: Namespace {
             definitions: List::empty(alloc),
             prints: List::empty(alloc),
@@ -49,8 +52,16 @@ fn write_refusal(text: &mut String, error: &ExprError) -> Result<(), AllocError>
     }
 }
 
+/// The lengths of so many items of 8 bits at most.
+fn lengths(alloc: Global, items: u32) -> Option<LengthSet> {
+    match LengthSet::of(alloc, 8) {
+        Ok(eight) => eight.up_to(items).ok(),
+        Err(_) => None,
+    }
+}
+
 /// The constant that a line is worth, as `@print` writes it, or its refusal.
-fn answer(alloc: Global, line: &str) -> Result<String, AllocError> {
+fn answer(alloc: Global, line: &str, offset: Option<LengthSet>) -> Result<String, AllocError> {
     let mut text = String::new(alloc);
     if line.len() > 1_000_000 {
         return Ok(text);
@@ -61,7 +72,7 @@ fn answer(alloc: Global, line: &str) -> Result<String, AllocError> {
     let Ok(expr) = parse_expression(alloc, line.as_bytes(), tokens.as_slice()) else {
         return Ok(text);
     };
-    let Ok(scope) = no_names(alloc) else {
+    let Ok(scope) = no_names(alloc, offset) else {
         return Ok(text);
     };
     match eval(alloc, &expr, &scope) {
@@ -76,28 +87,24 @@ fn answer(alloc: Global, line: &str) -> Result<String, AllocError> {
 
 #[test]
 fn expressions(rt: HostRuntime) -> Result<(), AllocError> {
-    let rows = [
-        ("1/3 + 1/6", "1/2"),
-        ("2 ** -2", "1/4"),
-        ("-2 ** 2", "-4"),
-        ("(-2) ** 127", "-170141183460469231731687303715884105728"),
-        ("2 ** 127", "Range 0 8"),
-        ("2e38", "Range 0 4"),
-        ("1 + 1e39", "Range 4 8"),
-        ("7 % -2", "-1"),
-        ("1 < 2 == true", "true"),
-        ("{1, 2} + 1", "{2, 3}"),
-        ("1 + {1, true}", "Kind 4 13"),
-        ("8 / 0", "Zero 0 5"),
-        ("nothing + 1", "Unknown 0 7 nothing"),
-        ("nothing + 8 / 0", "Unknown 0 7 nothing"),
-        ("{2, 1}.count", "2"),
-        ("demo.Num.1.0", "demo.Num.1.0"),
-        ("Other.2.1._extent_", "Unknown 0 18 _extent_"),
-    ];
-    for (line, wanted) in rows {
-        let got = answer(rt.alloc(), line)?;
-        assert_eq!(rt; got.as_str(), wanted, "{line}");
+    let tables: [&[(&str, &str)]; 5] = [&NUMBERS, &TRUTHS, &BITS, &SETS, &MEMBERS];
+    for rows in tables {
+        for (line, wanted) in rows {
+            let got = answer(rt.alloc(), line, None)?;
+            assert_eq!(rt; got.as_str(), *wanted, "{line}");
+        }
+    }
+    Ok(())
+}
+
+#[test]
+fn lengths_of_any_number(rt: HostRuntime) -> Result<(), AllocError> {
+    let tables: [(u32, &[(&str, &str)]); 2] = [(4096, &LENGTHS), (4095, &LISTED)];
+    for (items, rows) in tables {
+        for (line, wanted) in rows {
+            let got = answer(rt.alloc(), line, lengths(rt.alloc(), items))?;
+            assert_eq!(rt; got.as_str(), *wanted, "{line}");
+        }
     }
     Ok(())
 }
@@ -108,7 +115,7 @@ fn long_chain(rt: HostRuntime) -> Result<(), AllocError> {
     for _ in 0..100_000 {
         line.push_str("+1")?;
     }
-    let got = answer(rt.alloc(), line.as_str())?;
+    let got = answer(rt.alloc(), line.as_str(), None)?;
     assert_eq!(rt; got.as_str(), "100001");
     Ok(())
 }

@@ -1,73 +1,8 @@
 //! What several files are refused for, pass by pass, and what they are resolved to.
-use crate::{DsdlError, DsdlWhy, resolve};
-use cy_bits::{Bytes, NoMemory, Text};
+use crate::answers::{answer, file};
+use cy_bits::{Bytes, Text};
 use dsdl_files::DsdlFile;
-use dsdl_types::{Namespace, Parts};
 use std::alloc::{AllocError, Global};
-
-/// A file of these lines.
-fn file(alloc: Global, path: &str, text: &str) -> Result<DsdlFile, NoMemory> {
-    Ok(DsdlFile {
-        path: Text::from_str(alloc, path)?,
-        text: Bytes::from_slice(alloc, text.as_bytes())?,
-    })
-}
-
-/// A full name, written out.
-fn write_name(text: &mut String, name: &[u8]) -> Result<(), AllocError> {
-    for b in name {
-        text.push(*b as char)?;
-    }
-    Ok(())
-}
-
-/// The types of a namespace and what was printed, written out.
-fn write_names(text: &mut String, names: &Namespace) -> Result<(), AllocError> {
-    for d in names.definitions.as_slice() {
-        write_name(text, d.id.name.as_bytes())?;
-        match &d.parts {
-            Parts::Message(_) => write!(text, ".{}.{};", d.id.major, d.id.minor)?,
-            Parts::Service { .. } => { write!(text, ".{}.{} service;", d.id.major, d.id.minor)? }
-        }
-    }
-    for p in names.prints.as_slice() {
-        write!(text, " {}:{} {};", p.file.as_str(), p.line, p.text.as_str())?;
-    }
-    Ok(())
-}
-
-/// A cause, written out.
-fn write_why(text: &mut String, why: &DsdlWhy) -> Result<(), AllocError> {
-    match why {
-        DsdlWhy::Name(error) => write!(text, "Name {error:?}"),
-        DsdlWhy::Syntax => text.push_str("Syntax"),
-        DsdlWhy::Unresolved(id) => {
-            text.push_str("Unresolved ")?;
-            write_name(text, id.name.as_bytes())?;
-            write!(text, ".{}.{}", id.major, id.minor)
-        }
-        DsdlWhy::Cycle => text.push_str("Cycle"),
-        DsdlWhy::Assert => text.push_str("Assert"),
-        DsdlWhy::VersionClash => text.push_str("VersionClash"),
-        DsdlWhy::PortClash => text.push_str("PortClash"),
-        DsdlWhy::TooBig => text.push_str("TooBig"),
-        _ => text.push_str("another"),
-    }
-}
-
-/// What files are resolved to.
-fn answer(alloc: Global, files: &[DsdlFile]) -> Result<String, AllocError> {
-    let mut text = String::new(alloc);
-    match resolve(alloc, files) {
-        Ok(names) => write_names(&mut text, &names)?,
-        Err(DsdlError::At { file, line, why }) => {
-            write!(text, "{}:{line} ", file.as_str())?;
-            write_why(&mut text, &why)?;
-        }
-        Err(DsdlError::NoMemory) => text.push_str("no memory")?,
-    }
-    Ok(text)
-}
 
 /// What four files are, or fewer where some have no path.
 fn answer_of_texts(alloc: Global, files: [(&str, &str); 4]) -> Result<String, AllocError> {
@@ -89,7 +24,7 @@ const NONE: (&str, &str) = ("", "");
 
 #[test]
 fn passes(rt: HostRuntime) -> Result<(), AllocError> {
-    let rows: [([(&str, &str); 4], &str); 16] = [
+    let rows: [([(&str, &str); 4], &str); 24] = [
         ([NONE, NONE, NONE, NONE], ""),
         (
             [("B.1.0.dsdl", "@sealed"), ("a/A.1.0.dsdl", "!"), NONE, NONE],
@@ -211,6 +146,73 @@ fn passes(rt: HostRuntime) -> Result<(), AllocError> {
                 NONE,
             ],
             "a/B.1.1.dsdl:0 VersionClash",
+        ),
+        (
+            [
+                ("demo/A.1.0.dsdl", "B.1.0 b\n@sealed"),
+                ("demo/B.1.0.dsdl", "A.1.0 a\n@sealed"),
+                NONE,
+                NONE,
+            ],
+            "demo/A.1.0.dsdl:0 Cycle",
+        ),
+        (
+            [("demo/A.1.0.dsdl", "B.1.0 b\n@sealed"), NONE, NONE, NONE],
+            "demo/A.1.0.dsdl:1 Unresolved demo.B.1.0",
+        ),
+        (
+            [
+                ("demo/A.1.0.dsdl", "B.1.0[<=C.1.0.X] b = D.1.0.X\n@sealed"),
+                ("demo/C.1.0.dsdl", "!"),
+                NONE,
+                NONE,
+            ],
+            "demo/C.1.0.dsdl:1 Syntax",
+        ),
+        (
+            [
+                ("demo/A.1.0.dsdl", "B.1.0[<=C.1.0.X] b = D.1.0.X\n@sealed"),
+                ("demo/B.1.0.dsdl", "@sealed"),
+                NONE,
+                NONE,
+            ],
+            "demo/A.1.0.dsdl:1 Unresolved demo.C.1.0",
+        ),
+        (
+            [
+                ("a/A.1.0.dsdl", "@sealed"),
+                ("a/A.1.1.dsdl", "@sealed\n---\n@sealed"),
+                NONE,
+                NONE,
+            ],
+            "a/A.1.1.dsdl:0 VersionClash",
+        ),
+        (
+            [
+                ("a/A.1.0.dsdl", "@sealed"),
+                ("a/A.1.1.dsdl", "@extent 0"),
+                ("a/A.2.0.dsdl", "@extent 8"),
+                NONE,
+            ],
+            "a/A.1.1.dsdl:0 VersionClash",
+        ),
+        (
+            [
+                ("a/A.1.0.dsdl", "@extent 8\n---\n@sealed"),
+                ("a/A.1.1.dsdl", "uint8 a\n@extent 8\n---\n@sealed"),
+                ("a/A.1.2.dsdl", "@extent 8\n---\nuint8 a\n@sealed"),
+                NONE,
+            ],
+            "a/A.1.2.dsdl:0 VersionClash",
+        ),
+        (
+            [
+                ("a/A.1.0.dsdl", "@sealed"),
+                ("a/7.B.1.0.dsdl", "@sealed"),
+                ("b/7.C.1.0.dsdl", "@sealed\n---\n@sealed"),
+                ("b/7.D.1.0.dsdl", "@sealed\n---\n@sealed"),
+            ],
+            "b/7.D.1.0.dsdl:0 PortClash",
         ),
         (
             [

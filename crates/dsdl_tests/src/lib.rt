@@ -1,0 +1,17 @@
+//! Tests of whole DSDL definitions: what expressions are worth, what lines and files are refused for,
+//! and what files are resolved to. They stand in a crate of their own, since a crate with tests is
+//! proved twice.
+#![tactic(auto)]
+
+#[cfg(test)]
+mod answers;
+#[cfg(test)]
+mod expression_rows;
+#[cfg(test)]
+mod expressions;
+#[cfg(test)]
+mod passes;
+#[cfg(test)]
+mod rule_rows;
+#[cfg(test)]
+mod rules;
