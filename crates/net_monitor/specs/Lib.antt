@@ -1,0 +1,5 @@
+pub mod Beats
+pub mod Online
+pub mod Kept
+pub mod Stands
+pub mod Laws

@@ -1,0 +1,12 @@
+//! Who is online: the heartbeats of a network's nodes, and what they give of each node.
+#![tactic(auto)]
+
+pub mod laws;
+pub mod monitor;
+pub mod node_state;
+#[cfg(test)]
+mod tests;
+
+pub use laws::monitor_laws;
+pub use monitor::Monitor;
+pub use node_state::NodeState;

@@ -1,0 +1,105 @@
+ghost use Rattle.std.specs.Prelude.{◌≡◌, ◌≤◌, ◌<◌, ◌∷◌, [], length, ℕ, List, None, slice_index_or};
+
+use crate::node_state::NodeState;
+use cy_bits::ShortList;
+use std_types::node::Heartbeat;
+
+/// The heartbeats of each node, as far as they tell how it is.
+///
+/// It stands for a list of heartbeats: those that `event` was called with.
+#[derive(Drop)]
+pub struct Monitor {
+    /// By node-ID, how a node is that was heard.
+    nodes: [Option<NodeState>; 128],
+    /// The moment of the last heartbeat, or 0.
+    latest: u64,
+    ghost full: { length nodes ≡ 128 },
+}
+
+impl Monitor {
+    ghost use Rattle.net_monitor.specs.Beats.{Beat};
+    ghost use Rattle.net_monitor.specs.Online.{heard, online, gathered};
+    ghost use Rattle.net_monitor.specs.Kept.{kept_online, kept_heard};
+    ghost use Rattle.net_monitor.specs.Stands.{Stands};
+
+    /// No heartbeat yet.
+    pub fn new() -> Monitor
+        ensures stands { Stands [] result }
+        ensures latest { result.latest ≡ 0 }
+    {
+        Monitor {
+            nodes: [None; 128],
+            latest: 0,
+        }
+    }
+
+    /// Hears a heartbeat of a node, at a moment in microseconds not before the last one.
+    pub fn event(&mut self, moment: u64, node: u8, beat: &Heartbeat)
+        requires order { self.old.latest ≤ moment }
+        requires node { node ≤ 127 }
+        ensures stands { (past : List Beat) → Stands past self.old
+            → Stands (record { moment = moment; node = node; beat = beat.now } ∷ past) self.new }
+        ensures latest { self.new.latest ≡ moment }
+    {
+        let restarts = match self.state_of(node) {
+            Some(before) => before.restarts_after(beat.uptime),
+            None => 0,
+        };
+        self.nodes[node as usize] = Some(NodeState {
+            node,
+            beat: *beat,
+            last: moment,
+            restarts,
+        });
+        self.latest = moment;
+    }
+
+    /// The nodes that were heard, ascending.
+    pub fn heard(&self) -> ShortList<u8, 128>
+        ensures { (past : List Beat) → Stands past self.now → result ≡ heard past }
+    {
+        let mut list = ShortList::new();
+        for node in 0..128u8 {
+            if self.state_of(node).is_some() {
+                list.push(node);
+            }
+        }
+        list
+    }
+
+    /// The nodes that are online at a moment in microseconds not before the last heartbeat's,
+    /// ascending: those with a heartbeat at most 3 seconds before it.
+    pub fn online(&self, moment: u64) -> ShortList<NodeState, 128>
+        ensures { (past : List Beat) → Stands past self.now → result ≡ online moment past }
+    {
+        let mut list = ShortList::new();
+        for node in 0..128u8 {
+            match self.online_at(node, moment) {
+                Some(state) => list.push(state),
+                None => {}
+            }
+        }
+        list
+    }
+
+    /// How a node is, where it is online at this moment.
+    fn online_at(&self, node: u8, moment: u64) -> Option<NodeState>
+        requires { node < 128 }
+        ensures { result ≡ kept_online moment self.now.nodes node }
+    {
+        let state = self.state_of(node)?;
+        if state.is_online(moment) {
+            Some(state)
+        } else {
+            None
+        }
+    }
+
+    /// How a node is, where it was heard.
+    fn state_of(&self, node: u8) -> Option<NodeState>
+        requires { node < 128 }
+        ensures { result ≡ slice_index_or self.now.nodes node None }
+    {
+        self.nodes[node as usize]
+    }
+}
