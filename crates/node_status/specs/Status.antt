@@ -18,7 +18,8 @@ heartbeat_in health mode code seconds = record {
 abbrev pub heartbeat_bytes : ℕ → ℕ → ℕ → ℕ → List ℕ
 heartbeat_bytes health mode code seconds = to_le_bytes w32 seconds ++ health ∷ mode ∷ code ∷ []
 
--- what a node answers that is as `info` says: the protocol is 1.0, there is no CRC and no certificate
+-- what a node answers that is as `info` says: the protocol is 1.0, there is no CRC and no
+-- certificate
 abbrev pub info_of : NodeInfo → NodeInfo
 info_of info = record {
   protocol_version = record { major = 1; minor = 0 };
@@ -35,8 +36,8 @@ info_of info = record {
 abbrev pub version_bytes : Version → List ℕ
 version_bytes version = version.major ∷ version.minor ∷ []
 
--- its bytes: three versions, the revision with the least significant byte first, the unique id, the name behind its
--- length, and the two lengths 0
+-- its bytes: three versions, the revision with the least significant byte first, the unique id,
+-- the name behind its length, and the two lengths 0
 abbrev pub info_bytes : NodeInfo → List ℕ
 info_bytes info = 1 ∷ 0 ∷ version_bytes info.hardware_version ++ version_bytes info.software_version
     ++ to_le_bytes w64 info.software_vcs_revision_id ++ info.unique_id
