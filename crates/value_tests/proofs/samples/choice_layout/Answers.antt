@@ -1,6 +1,6 @@
 use Rattle.std.proofs.Common.{refl}
 use Rattle.value_tests.specs.Samples.{choice}
-use Rattle.value_tests.proofs.Samples.{composite, keeps}
+use Rattle.value_tests.proofs.SampleRules.{composite, keeps}
 use Rattle.value_tests.proofs.samples.choice_layout.Goals as goal
 
 pub layout_of-requires-clause-rules : goal.layout_of-requires-clause-rules
