@@ -1,7 +1,8 @@
+//! What is put in a buffer of text.
 ghost use Rattle.std.specs.Prelude.{◌≡◌, ◌≤◌, [], IfOk};
 ghost use Rattle.line_text.specs.Buffer.{text_of, room_of};
 
-use crate::TextBuffer;
+use line_text::TextBuffer;
 use std::alloc::Global;
 use std::test::Fail;
 

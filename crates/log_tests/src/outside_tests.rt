@@ -1,5 +1,6 @@
-use crate::*;
+//! Sources, sinks and trees, real and in memory.
 use cy_bits::List;
+use cy_outside::*;
 use std::alloc::Global;
 use std::fs;
 use std::test::Fail;

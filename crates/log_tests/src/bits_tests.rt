@@ -1,4 +1,5 @@
-use crate::{BitReader, BitWriter, Full, List, capped_decimal};
+//! Bits, decimals and lists.
+use cy_bits::{BitReader, BitWriter, Full, List, capped_decimal};
 
 /// Numbers put one behind the other, of which each keeps its bits alone.
 #[test]
