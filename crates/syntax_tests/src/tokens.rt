@@ -1,4 +1,5 @@
-use crate::{LexError, tokens_of};
+//! The tokens of lines.
+use dsdl_lex::{LexError, tokens_of};
 use std::alloc::{AllocError, Global};
 
 /// The tokens of a line, or the column at which none begins.

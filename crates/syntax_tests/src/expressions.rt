@@ -1,5 +1,6 @@
-use crate::{Expr, ExprNode, ReadError, Reference, parse_expression};
+//! The trees of expressions.
 use dsdl_lex::tokens_of;
+use dsdl_parse::{Expr, ExprNode, ReadError, Reference, parse_expression};
 use std::alloc::{AllocError, Global};
 
 pub fn write_reference(text: &mut String, r: &Reference) -> Result<(), AllocError> {

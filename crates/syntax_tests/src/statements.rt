@@ -1,6 +1,7 @@
-use crate::samples::*;
-use crate::tests::write_reference;
-use crate::{BoundSign, Expr, Form, Prefix, Scalar, Statement, SyntaxError, parse};
+//! The statements of lines and of texts.
+use crate::definitions::*;
+use crate::expressions::write_reference;
+use dsdl_parse::{BoundSign, Expr, Form, Prefix, Scalar, Statement, SyntaxError, parse};
 use std::alloc::{AllocError, Global};
 
 fn write_place(text: &mut String, x: &Expr) -> Result<(), AllocError> {
