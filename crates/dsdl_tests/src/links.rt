@@ -1,5 +1,6 @@
-use crate::{CycleError, LinkError, Source, links_of, mentions_of, order_of};
+//! Which file refers to which, and the order in which files are valued.
 use cy_bits::NoMemory;
+use dsdl_links::{CycleError, LinkError, Source, links_of, mentions_of, order_of};
 use dsdl_names::parse_type_id;
 use dsdl_parse::parse;
 use std::alloc::{AllocError, Global};
