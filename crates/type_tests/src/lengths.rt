@@ -1,4 +1,5 @@
-use crate::{LengthError, LengthSet};
+//! Sets of lengths.
+use bit_length::{LengthError, LengthSet};
 use cy_bits::{NoMemory, TryCopy};
 use std::alloc::Global;
 

@@ -1,34 +1,16 @@
+//! The text of a namespace's layouts.
 ghost use Rattle.std.specs.Prelude.{◌≡◌, ◌∷◌, [], true, false, length, codes, All, IfOk};
 ghost use Rattle.dsdl_types.specs.Definitions.{AreTypes, IsDefinition, IsNamespace, IsType, count_in, typed_count};
 ghost use Rattle.dsdl_types.specs.Schemas.{PUint, Simple, Var, Struct, End, Pad};
 ghost use Rattle.dsdl_types.specs.Schemas as schemas;
 ghost use Rattle.dsdl_types.specs.Views.{Typed, kind_of, flds, in_order, sch};
 
-use crate::namespace_text;
-use cy_bits::{Boxed, List, NoMemory, Text};
+use crate::samples::{array, structure, uint};
+use cy_bits::{List, NoMemory, Text};
 use dsdl_names::parse_type_id;
-use dsdl_types::{Body, Cast, Definition, Field, Namespace, Parts, Print, Schema};
+use dsdl_types::{Body, Definition, Field, Namespace, Parts, Print, Schema};
+use layout_text::namespace_text;
 use std::alloc::Global;
-
-/// A saturated unsigned integer.
-fn uint(bits: u8) -> Schema
-    ensures { kind_of result ≡ Typed (Simple (PUint bits true)) }
-{
-    Schema::Uint {
-        bits,
-        cast: Cast::Saturated,
-    }
-}
-
-/// An array of at most so many unsigned integers.
-fn array(alloc: Global, bits: u8, cap: u32) -> Result<Schema, NoMemory>
-    ensures { IfOk result (λ s. kind_of s ≡ Typed (Var (Simple (PUint bits true)) cap)) }
-{
-    Ok(Schema::Var {
-        item: Boxed::new(alloc, uint(bits))?,
-        cap,
-    })
-}
 
 /// Two fields, `a` and `b`.
 fn two(alloc: Global, a: Schema, b: Schema) -> Result<List<Field>, NoMemory>
@@ -44,17 +26,6 @@ fn two(alloc: Global, a: Schema, b: Schema) -> Result<List<Field>, NoMemory>
         schema: b,
     })?;
     Ok(fields)
-}
-
-/// A structure.
-fn structure(fields: List<Field>, extent: u64, sealed: bool) -> Schema
-    ensures { kind_of result ≡ Typed (Struct (flds fields) (record { extent = extent; sealed = sealed })) }
-{
-    Schema::Struct(Body {
-        fields,
-        extent,
-        sealed,
-    })
 }
 
 /// A union.

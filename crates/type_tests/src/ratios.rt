@@ -1,4 +1,5 @@
-use crate::{Ratio, RatioError};
+//! Fractions.
+use cy_ratio::{Ratio, RatioError};
 use std::cmp::Ordering;
 
 /// The operation of a sign; `^` is the power with a whole exponent.

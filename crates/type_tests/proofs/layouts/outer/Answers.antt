@@ -1,5 +1,5 @@
-use Rattle.layout.proofs.Samples.{two_fields, outer_keeps}
-use Rattle.layout.proofs.tests.outer.Goals as goal
+use Rattle.type_tests.proofs.SampleRules.{two_fields, outer_keeps}
+use Rattle.type_tests.proofs.layouts.outer.Goals as goal
 
 pub layout_of-requires-clause-rules : goal.layout_of-requires-clause-rules
 layout_of-requires-clause-rules c =

@@ -1,5 +1,6 @@
-use crate::{first_port_clash, first_version_clash};
+//! Versions and ports that clash.
 use cy_bits::{List, NoMemory};
+use dsdl_clash::{first_port_clash, first_version_clash};
 use dsdl_names::{NameError, parse_file_name};
 use dsdl_types::{Body, Definition, Parts, Schema};
 use std::alloc::Global;

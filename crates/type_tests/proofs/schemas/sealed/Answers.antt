@@ -7,7 +7,7 @@ use Rattle.dsdl_types.specs.declared.schema.Schema.TheVariants as S
 use Rattle.dsdl_types.specs.declared.schema.Body.{roll-Body}
 use Rattle.dsdl_types.proofs.RuleTests.{rules_kept}
 use Rattle.dsdl_types.proofs.Equations.{kind_bool, kind_struct}
-use Rattle.dsdl_types.proofs.tests.sealed.Goals as goal
+use Rattle.type_tests.proofs.schemas.sealed.Goals as goal
 
 abbrev truth : Flds → Sch
 truth fs = Struct fs (record { extent = 8; sealed = true })

@@ -1,43 +1,15 @@
+//! The texts of values.
 ghost use Rattle.std.specs.Prelude.{◌≡◌, [], ◌∷◌, true, false, IfOk};
 ghost use Rattle.dsdl_types.specs.Rules.{IsSchema};
 ghost use Rattle.dsdl_types.specs.Schemas.{PBool, PFloat, PUint, Simple, Struct, Union, Var};
 ghost use Rattle.dsdl_types.specs.Values.{Items, Num, Parts, Raw, Tagged, Truth};
 ghost use Rattle.dsdl_types.specs.Views.{Padding, Typed, flds, in_order, in_row, body_of, kind_of, named, sch, val, vals};
 
-use crate::{TextError, print_value, read_value};
+use crate::samples::{array, field, uint};
 use cy_bits::{Boxed, List, NoMemory, Text};
 use dsdl_types::{Body, Cast, Field, Schema, Value};
 use std::alloc::Global;
-
-/// An unsigned integer.
-fn uint(bits: u8) -> Schema
-    ensures { kind_of result ≡ Typed (Simple (PUint bits true)) }
-{
-    Schema::Uint {
-        bits,
-        cast: Cast::Saturated,
-    }
-}
-
-/// An array of at most two unsigned integers.
-fn array(alloc: Global, bits: u8) -> Result<Schema, NoMemory>
-    ensures { IfOk result (λ s. kind_of s ≡ Typed (Var (Simple (PUint bits true)) 2)) }
-{
-    Ok(Schema::Var {
-        item: Boxed::new(alloc, uint(bits))?,
-        cap: 2,
-    })
-}
-
-/// A field.
-fn field(alloc: Global, name: &str, schema: Schema) -> Result<Field, NoMemory>
-    ensures { IfOk result (λ f. named f ≡ (name.now, kind_of schema)) }
-{
-    Ok(Field {
-        name: Text::from_str(alloc, name)?,
-        schema,
-    })
-}
+use value_text::{TextError, print_value, read_value};
 
 /// The fields `first` and `second`.
 fn body(alloc: Global, first: Field, second: Field) -> Result<Body, NoMemory>
@@ -67,7 +39,7 @@ fn two(alloc: Global, first: Value, second: Value) -> Result<List<Value>, NoMemo
 /// The text of `[first, second]` in `@union`, `uint8 a`, `uint16[<=2] b`.
 fn union_text(alloc: Global, first: i64, second: i64) -> Result<Text, NoMemory> {
     let number = field(alloc, "a", uint(8))?;
-    let fields = body(alloc, number, field(alloc, "b", array(alloc, 16)?)?)?;
+    let fields = body(alloc, number, field(alloc, "b", array(alloc, 16, 2)?)?)?;
     let schema = Schema::Union(fields);
     let items = two(
         alloc,
@@ -88,7 +60,7 @@ fn struct_text(alloc: Global, bits: u16, first: i64, second: i64) -> Result<Text
         cast: Cast::Saturated,
     };
     let number = field(alloc, "f", float)?;
-    let fields = body(alloc, number, field(alloc, "x", array(alloc, 8)?)?)?;
+    let fields = body(alloc, number, field(alloc, "x", array(alloc, 8, 2)?)?)?;
     let schema = Schema::Struct(fields);
     let items = two(
         alloc,
@@ -151,7 +123,7 @@ fn part(alloc: Global) -> Result<Schema, NoMemory>
         cast: Cast::Saturated,
     };
     let first = field(alloc, "f", float)?;
-    let fields = body(alloc, first, field(alloc, "x", array(alloc, 8)?)?)?;
+    let fields = body(alloc, first, field(alloc, "x", array(alloc, 8, 2)?)?)?;
     Ok(Schema::Struct(fields))
 }
 
@@ -160,7 +132,7 @@ fn choice(alloc: Global) -> Result<Schema, NoMemory>
     ensures { IfOk result (λ s. IsSchema (sch s)) }
 {
     let first = field(alloc, "a", uint(8))?;
-    let fields = body(alloc, first, field(alloc, "b", array(alloc, 16)?)?)?;
+    let fields = body(alloc, first, field(alloc, "b", array(alloc, 16, 2)?)?)?;
     Ok(Schema::Union(fields))
 }
 

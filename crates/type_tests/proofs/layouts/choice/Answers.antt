@@ -1,7 +1,7 @@
 use Rattle.std.proofs.Common.{true}
 use Rattle.dsdl_types.proofs.Equations.{kind_union}
-use Rattle.layout.proofs.Samples.{two_fields, choice_keeps}
-use Rattle.layout.proofs.tests.choice.Goals as goal
+use Rattle.type_tests.proofs.SampleRules.{two_fields, choice_keeps}
+use Rattle.type_tests.proofs.layouts.choice.Goals as goal
 
 pub layout_of-requires-clause-rules : goal.layout_of-requires-clause-rules
 layout_of-requires-clause-rules c =

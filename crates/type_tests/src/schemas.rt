@@ -1,26 +1,18 @@
-ghost use Rattle.std.specs.Prelude.{◌≡◌, true, IfOk};
+//! Zeros, shapes, paths, and definitions that are found.
+ghost use Rattle.std.specs.Prelude.{◌≡◌, true};
 ghost use Rattle.dsdl_types.specs.Schemas.{is_composite};
 ghost use Rattle.dsdl_types.specs.Rules.{IsSchema};
-ghost use Rattle.dsdl_types.specs.Views.{sch, kind_of, named};
+ghost use Rattle.dsdl_types.specs.Views.{sch};
 ghost use Rattle.dsdl_types.specs.OneWay.{schema_prop};
 
-use crate::laws::shape_laws;
-use crate::{
-    Body, Cast, Definition, Field, Namespace, Parts, Schema, Shape, Step, Value, path_text, zero_of,
-};
+use crate::samples::field;
 use cy_bits::{Boxed, List, NoMemory, Text, TryCopy};
 use dsdl_names::parse_type_id;
+use dsdl_types::laws::shape_laws;
+use dsdl_types::{
+    Body, Cast, Definition, Namespace, Parts, Schema, Shape, Step, Value, path_text, zero_of,
+};
 use std::alloc::Global;
-
-/// A field.
-fn field(alloc: Global, name: &str, schema: Schema) -> Result<Field, NoMemory>
-    ensures { IfOk result (λ f. named f ≡ (name.now, kind_of schema)) }
-{
-    Ok(Field {
-        name: Text::from_str(alloc, name)?,
-        schema,
-    })
-}
 
 /// The body of two fields, the first without a name.
 fn body(alloc: Global, first: Schema, second: Schema) -> Result<Body, NoMemory> {

@@ -1,43 +1,15 @@
+//! Where fields stand, and which lengths they have.
 ghost use Rattle.std.specs.Prelude.{◌≡◌, ◌∷◌, [], codes, true, false, IfOk};
-ghost use Rattle.dsdl_types.specs.Schemas.{PUint, Simple, Var, Struct, End};
+ghost use Rattle.dsdl_types.specs.Schemas.{PUint, Simple, Struct, End};
 ghost use Rattle.dsdl_types.specs.Schemas as schemas;
 ghost use Rattle.dsdl_types.specs.Views.{Typed, kind_of, named, flds, in_order};
 
-use crate::{Layout, Row, layout_of};
+use crate::samples::{array, field, structure, uint};
 use bit_length::LengthSet;
-use cy_bits::{Boxed, List, NoMemory, Text};
+use cy_bits::{List, NoMemory};
 use dsdl_types::{Body, Cast, Field, Schema, Shape};
+use layout::{Layout, Row, layout_of};
 use std::alloc::Global;
-
-/// A saturated unsigned integer.
-fn uint(bits: u8) -> Schema
-    ensures { kind_of result ≡ Typed (Simple (PUint bits true)) }
-{
-    Schema::Uint {
-        bits,
-        cast: Cast::Saturated,
-    }
-}
-
-/// An array of at most so many unsigned integers.
-fn array(alloc: Global, bits: u8, cap: u32) -> Result<Schema, NoMemory>
-    ensures { IfOk result (λ s. kind_of s ≡ Typed (Var (Simple (PUint bits true)) cap)) }
-{
-    Ok(Schema::Var {
-        item: Boxed::new(alloc, uint(bits))?,
-        cap,
-    })
-}
-
-/// A field.
-fn field(alloc: Global, name: &str, schema: Schema) -> Result<Field, NoMemory>
-    ensures { IfOk result (λ f. named f ≡ (name.now, kind_of schema)) }
-{
-    Ok(Field {
-        name: Text::from_str(alloc, name)?,
-        schema,
-    })
-}
 
 /// A list of one field.
 fn one(alloc: Global, only: Field) -> Result<List<Field>, NoMemory>
@@ -56,17 +28,6 @@ fn two(alloc: Global, first: Field, second: Field) -> Result<List<Field>, NoMemo
     fields.push(first)?;
     fields.push(second)?;
     Ok(fields)
-}
-
-/// A structure.
-fn structure(fields: List<Field>, extent: u64, sealed: bool) -> Schema
-    ensures { kind_of result ≡ Typed (Struct (flds fields) (record { extent = extent; sealed = sealed })) }
-{
-    Schema::Struct(Body {
-        fields,
-        extent,
-        sealed,
-    })
 }
 
 /// `uint8 a` with an extent of 64 bits.

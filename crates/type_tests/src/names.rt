@@ -1,5 +1,6 @@
-use crate::{NameError, TypeId, parse_file_name, parse_type_id};
+//! The names of types and of their files.
 use cy_bits::TryCopy;
+use dsdl_names::{NameError, TypeId, parse_file_name, parse_type_id};
 use std::cmp::Ordering;
 
 /// 64 names of 3 letters, whose dotted name has 255 bytes.

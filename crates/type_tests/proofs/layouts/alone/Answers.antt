@@ -1,5 +1,5 @@
-use Rattle.layout.proofs.Samples.{inner_keeps}
-use Rattle.layout.proofs.tests.alone.Goals as goal
+use Rattle.type_tests.proofs.SampleRules.{inner_keeps}
+use Rattle.type_tests.proofs.layouts.alone.Goals as goal
 
 pub layout_of-requires-clause-rules : goal.layout_of-requires-clause-rules
 layout_of-requires-clause-rules c =

@@ -1,15 +1,9 @@
-use crate::{Verdict, newer};
-use cy_bits::{Boxed, List, NoMemory, Text};
-use dsdl_types::{Body, Cast, Field, Schema};
+//! Which types are newer versions, and where one isn't.
+use crate::samples::{field, uint};
+use compat_check::{Verdict, newer};
+use cy_bits::{Boxed, List, NoMemory};
+use dsdl_types::{Body, Schema};
 use std::alloc::Global;
-
-/// A saturated unsigned integer.
-fn uint(bits: u8) -> Schema {
-    Schema::Uint {
-        bits,
-        cast: Cast::Saturated,
-    }
-}
 
 /// A signed integer.
 fn int(bits: u8) -> Schema {
@@ -40,10 +34,7 @@ fn nothing(alloc: Global, extent: u64, sealed: bool) -> Body {
 
 /// One more field.
 fn with(alloc: Global, mut body: Body, name: &str, schema: Schema) -> Result<Body, NoMemory> {
-    body.fields.push(Field {
-        name: Text::from_str(alloc, name)?,
-        schema,
-    })?;
+    body.fields.push(field(alloc, name, schema)?)?;
     Ok(body)
 }
 

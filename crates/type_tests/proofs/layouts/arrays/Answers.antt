@@ -1,5 +1,5 @@
-use Rattle.layout.proofs.Samples.{two_fields, arrays_keep}
-use Rattle.layout.proofs.tests.arrays.Goals as goal
+use Rattle.type_tests.proofs.SampleRules.{two_fields, arrays_keep}
+use Rattle.type_tests.proofs.layouts.arrays.Goals as goal
 
 pub layout_of-requires-clause-rules : goal.layout_of-requires-clause-rules
 layout_of-requires-clause-rules c =

@@ -1,6 +1,6 @@
 use Rattle.dsdl_types.proofs.Equations.{kind_void}
-use Rattle.layout.proofs.Samples.{two_fields, padded_keeps}
-use Rattle.layout.proofs.tests.padded.Goals as goal
+use Rattle.type_tests.proofs.SampleRules.{two_fields, padded_keeps}
+use Rattle.type_tests.proofs.layouts.padded.Goals as goal
 
 pub layout_of-requires-clause-rules : goal.layout_of-requires-clause-rules
 layout_of-requires-clause-rules c =
