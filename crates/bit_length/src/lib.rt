@@ -15,8 +15,6 @@ mod search;
 mod set;
 mod steps;
 mod sums;
-#[cfg(test)]
-mod tests;
 
 use cy_bits::NoMemory;
 pub use set::LengthSet;

@@ -6,8 +6,6 @@ mod difference;
 mod equal;
 mod path;
 mod primitive;
-#[cfg(test)]
-mod tests;
 mod verdict;
 
 pub use verdict::{CompatWhy, Verdict, newer};

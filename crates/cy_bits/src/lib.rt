@@ -12,8 +12,6 @@ pub mod decimal;
 pub mod list;
 pub mod memory;
 pub mod short_list;
-#[cfg(test)]
-mod tests;
 pub mod text;
 
 pub use bit_reader::BitReader;

@@ -32,6 +32,3 @@ pub use sink::Sink;
 pub use source::Source;
 pub use tree::{Entry, Got, Listing, Size, Tree, TreeError};
 pub use writing::put_all;
-
-#[cfg(test)]
-mod tests;

@@ -9,8 +9,6 @@ pub mod laws;
 mod named;
 mod order;
 mod ratio;
-#[cfg(test)]
-mod tests;
 
 pub use ratio::Ratio;
 

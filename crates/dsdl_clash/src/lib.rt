@@ -4,7 +4,5 @@
 mod clash;
 mod numbers;
 mod outline;
-#[cfg(test)]
-mod tests;
 
 pub use clash::{first_port_clash, first_version_clash};

@@ -9,8 +9,6 @@ mod number;
 mod scan;
 mod split;
 mod state;
-#[cfg(test)]
-mod tests;
 mod token;
 mod word;
 

@@ -9,8 +9,6 @@ mod order;
 mod ready;
 mod reference;
 mod source;
-#[cfg(test)]
-mod tests;
 
 pub use error::{CycleError, LinkError};
 pub use laws::{one_meaning, one_order};

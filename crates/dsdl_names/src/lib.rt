@@ -8,8 +8,6 @@ mod laws;
 mod number;
 mod parse;
 mod parts;
-#[cfg(test)]
-mod tests;
 mod word;
 
 use cy_bits::{NoMemory, TryCopy};

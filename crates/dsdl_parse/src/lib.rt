@@ -11,16 +11,10 @@ mod level;
 mod line;
 mod read_error;
 mod reference;
-#[cfg(test)]
-mod samples;
 mod scalar;
 mod statement;
 mod syntax;
-#[cfg(test)]
-mod tests;
 mod text;
-#[cfg(test)]
-mod text_tests;
 mod trees;
 mod walk;
 mod whole;

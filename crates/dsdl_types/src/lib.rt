@@ -8,8 +8,6 @@ mod path;
 mod read_why;
 mod schema;
 mod shape;
-#[cfg(test)]
-mod tests;
 mod value;
 mod zero;
 

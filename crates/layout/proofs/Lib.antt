@@ -3,5 +3,4 @@ pub mod Sets
 pub mod Types
 pub mod Fields
 pub mod Variants
-pub mod Samples
 pub mod OneMore

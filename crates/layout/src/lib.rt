@@ -7,8 +7,6 @@ mod layout;
 mod lengths;
 mod of_schema;
 mod row;
-#[cfg(test)]
-mod tests;
 mod within;
 
 pub use ends::ends_after;

@@ -8,8 +8,6 @@ mod head;
 pub mod laws;
 mod namespace;
 mod set;
-#[cfg(test)]
-mod tests;
 mod words;
 
 pub use namespace::namespace_text;

@@ -9,6 +9,3 @@ pub mod text_buffer;
 mod two_digits;
 
 pub use text_buffer::TextBuffer;
-
-#[cfg(test)]
-mod tests;

@@ -6,8 +6,6 @@ mod parts;
 mod print;
 mod read;
 mod scan;
-#[cfg(test)]
-mod tests;
 mod words;
 
 pub use print::print_value;

@@ -1,0 +1,67 @@
+//! Versions and ports that clash.
+use cy_bits::{List, NoMemory};
+use dsdl_clash::{first_port_clash, first_version_clash};
+use dsdl_names::{NameError, parse_file_name};
+use dsdl_types::{Body, Definition, Parts, Schema};
+use std::alloc::Global;
+
+/// The type of a file, an empty structure of this extent.
+fn definition(
+    alloc: Global,
+    path: &str,
+    extent: u64,
+    sealed: bool,
+) -> Result<Definition, NameError> {
+    let name = parse_file_name(alloc, path)?;
+    Ok(Definition {
+        id: name.id,
+        port: name.port,
+        types: List::empty(alloc),
+        parts: Parts::Message(Schema::Struct(Body {
+            fields: List::empty(alloc),
+            extent,
+            sealed,
+        })),
+    })
+}
+
+/// The first clash of versions and the first clash of ports of two types.
+fn clashes(
+    alloc: Global,
+    a: Definition,
+    b: Definition,
+) -> Result<(Option<usize>, Option<usize>), NoMemory> {
+    let mut both = List::empty(alloc);
+    both.push(a)?;
+    both.push(b)?;
+    let versions = first_version_clash(alloc, both.as_slice())?;
+    let ports = first_port_clash(alloc, both.as_slice())?;
+    Ok((versions, ports))
+}
+
+#[test]
+fn two_types(rt: HostRuntime) {
+    let rows = [
+        ("a/A.1.0.dsdl", "a/B.1.0.dsdl", 64, None, None),
+        ("a/5.A.1.0.dsdl", "a/A.1.0.dsdl", 0, Some(1), None),
+        ("a/A.1.0.dsdl", "a/A.1.1.dsdl", 0, None, None),
+        ("a/A.1.0.dsdl", "a/A.1.1.dsdl", 64, Some(1), None),
+        ("a/A.0.1.dsdl", "a/A.0.2.dsdl", 64, None, None),
+        ("a/5.A.1.0.dsdl", "a/5.B.1.0.dsdl", 0, None, Some(1)),
+        ("a/5.A.1.0.dsdl", "a/5.A.2.0.dsdl", 0, None, Some(1)),
+        ("a/5.A.0.1.dsdl", "a/5.A.1.0.dsdl", 0, None, None),
+        ("a/5.A.1.0.dsdl", "a/6.B.1.0.dsdl", 0, None, None),
+    ];
+    for (first, second, extent, versions, ports) in rows {
+        let (Ok(a), Ok(b)) = (
+            definition(rt.alloc(), first, 0, true),
+            definition(rt.alloc(), second, extent, true),
+        ) else {
+            continue;
+        };
+        if let Ok(found) = clashes(rt.alloc(), a, b) {
+            assert!(rt; found.0 == versions, "versions of {first} and {second}");
+            assert!(rt; found.1 == ports, "ports of {first} and {second}");
+        }
+    }
+}

@@ -1,0 +1,213 @@
+//! Zeros, shapes, paths, and definitions that are found.
+ghost use Rattle.std.specs.Prelude.{◌≡◌, true};
+ghost use Rattle.dsdl_types.specs.Schemas.{is_composite};
+ghost use Rattle.dsdl_types.specs.Rules.{IsSchema};
+ghost use Rattle.dsdl_types.specs.Views.{sch};
+ghost use Rattle.dsdl_types.specs.OneWay.{schema_prop};
+
+use crate::samples::field;
+use cy_bits::{Boxed, List, NoMemory, Text, TryCopy};
+use dsdl_names::parse_type_id;
+use dsdl_types::laws::shape_laws;
+use dsdl_types::{
+    Body, Cast, Definition, Namespace, Parts, Schema, Shape, Step, Value, path_text, zero_of,
+};
+use std::alloc::Global;
+
+/// The body of two fields, the first without a name.
+fn body(alloc: Global, first: Schema, second: Schema) -> Result<Body, NoMemory> {
+    let mut fields = List::empty(alloc);
+    fields.push(field(alloc, "", first)?)?;
+    fields.push(field(alloc, "b", second)?)?;
+    Ok(Body {
+        fields,
+        extent: 64,
+        sealed: false,
+    })
+}
+
+/// Schemas, each with the text of its zero.
+fn rows(alloc: Global) -> Result<Vec<(Schema, &'static str)>, NoMemory> {
+    let cast = Cast::Truncated;
+    let byte = || Schema::Uint { bits: 8, cast };
+    let half = || Schema::Float { bits: 16, cast };
+    let bool3 = Schema::Fixed {
+        item: Boxed::new(alloc, Schema::Bool)?,
+        len: 3,
+    };
+    let bytes = Schema::Var {
+        item: Boxed::new(alloc, byte())?,
+        cap: 2,
+    };
+    let inner = body(alloc, Schema::Void { bits: 3 }, half())?;
+    let outer = body(alloc, Schema::Int { bits: 5 }, Schema::Struct(inner))?;
+    let choice = body(alloc, half(), byte())?;
+    let two = Schema::Fixed {
+        item: Boxed::new(alloc, Schema::Union(choice))?,
+        len: 2,
+    };
+    let mut rows = Vec::new(alloc);
+    rows.push((Schema::Bool, "f"))?;
+    rows.push((byte(), "0"))?;
+    rows.push((bool3, "[fff]"))?;
+    rows.push((bytes, "[]"))?;
+    rows.push((Schema::Struct(outer), "{0{b}}"))?;
+    rows.push((two, "[(0b)(0b)]"))?;
+    Ok(rows)
+}
+
+/// The value's text: `f` and `t`, a number, `b` for the raw bits 0.
+fn show(text: &mut String, value: &Value) -> Result<(), NoMemory> {
+    match value {
+        Value::Bool(truth) => text.push_str(if *truth { "t" } else { "f" })?,
+        Value::Num(number) => text.push_str(if *number == 0 { "0" } else { "n" })?,
+        Value::Bits(bits) => text.push_str(if *bits == 0 { "b" } else { "x" })?,
+        Value::Items(items) => {
+            text.push_str("[")?;
+            for item in items.as_slice() {
+                show(text, item)?;
+            }
+            text.push_str("]")?;
+        }
+        Value::Struct(fields) => {
+            text.push_str("{")?;
+            for field in fields.as_slice() {
+                show(text, field)?;
+            }
+            text.push_str("}")?;
+        }
+        Value::Union { tag, value } => {
+            text.push_str(if *tag == 0 { "(0" } else { "(n" })?;
+            show(text, value.get())?;
+            text.push_str(")")?;
+        }
+    }
+    Ok(())
+}
+
+/// The text of the zero, from copies of the schema and of the zero.
+fn zero_text(alloc: Global, schema: &Schema) -> Result<String, NoMemory> {
+    let schema = schema.copy(alloc)?;
+    let value = zero_of(alloc, &schema)?.copy(alloc)?;
+    let mut text = String::new(alloc);
+    show(&mut text, &value)?;
+    Ok(text)
+}
+
+/// The ports of the definitions that are found by these names.
+fn found(alloc: Global, names: &[&str]) -> Result<Vec<Option<Option<u16>>>, NoMemory> {
+    let mut definitions = List::empty(alloc);
+    for (name, port) in [("a.B.1.0", 1), ("a.C.1.0", 2), ("a.B.1.0", 3)] {
+        let Ok(id) = parse_type_id(alloc, name) else {
+            return Err(NoMemory);
+        };
+        definitions.push(Definition {
+            id,
+            port: Some(port),
+            types: List::empty(alloc),
+            parts: Parts::Message(Schema::Bool),
+        })?;
+    }
+    let namespace = Namespace {
+        definitions,
+        prints: List::empty(alloc),
+    };
+    let mut ports = Vec::new(alloc);
+    for name in names {
+        let Ok(id) = parse_type_id(alloc, name) else {
+            return Err(NoMemory);
+        };
+        ports.push(namespace.find(&id).map(|definition| definition.port))?;
+    }
+    Ok(ports)
+}
+
+/// The text of the path through these names and places: a name, or a place behind `#`.
+fn path_of(alloc: Global, steps: &[(&str, u32)]) -> Result<Text, NoMemory> {
+    let mut path = Vec::new(alloc);
+    for (name, place) in steps {
+        path.push(if *name == "#" {
+            Step::Index(*place)
+        } else {
+            Step::Name(Text::from_str(alloc, name)?)
+        })?;
+    }
+    path_text(alloc, path.as_slice())
+}
+
+/// A shape of the test's own.
+#[derive(Drop)]
+struct Own {
+    schema: Schema,
+    ghost rules: { IsSchema (sch schema) } by { schema_prop (sch schema) },
+    ghost composite: { is_composite (sch schema) ≡ true },
+}
+
+impl Shape for Own {
+    ghost shape = { λ own. sch own.schema };
+
+    fn extent_bytes(&self) -> usize {
+        self.schema.extent_bytes()
+    }
+
+    fn schema(&self) -> &Schema {
+        &self.schema
+    }
+}
+
+/// A sealed structure of one truth value.
+fn sealed(alloc: Global) -> Result<Own, NoMemory> {
+    let mut fields = List::empty(alloc);
+    fields.push(field(alloc, "value", Schema::Bool)?)?;
+    let body = Body {
+        fields,
+        extent: 8,
+        sealed: true,
+    };
+    Ok(Own {
+        schema: Schema::Struct(body),
+    })
+}
+
+/// The bytes that a shape keeps, and whether its schema is padding.
+fn kept<S: Shape>(shape: &S) -> (usize, bool) {
+    shape_laws(shape);
+    (shape.extent_bytes(), shape.schema().is_padding())
+}
+
+#[test]
+fn shapes(rt: HostRuntime) {
+    let own = sealed(rt.alloc()).expect(&rt, "memory");
+    assert!(rt; kept(&own) == (1, false), "shape");
+}
+
+#[test]
+fn zeros(rt: HostRuntime) {
+    let rows = rows(rt.alloc()).expect(&rt, "memory");
+    for (schema, want) in &rows {
+        let text = zero_text(rt.alloc(), schema).expect(&rt, "memory");
+        assert!(rt; text.as_str() == *want, "at {want}");
+    }
+}
+
+#[test]
+fn finds(rt: HostRuntime) {
+    let names = ["a.B.1.0", "a.C.1.0", "a.C.1.1", "a.c.1.0"];
+    let ports = found(rt.alloc(), &names).expect(&rt, "memory");
+    let want = [Some(Some(1)), Some(Some(2)), None, None];
+    assert!(rt; ports.as_slice() == want.as_slice(), "found");
+}
+
+#[test]
+fn paths(rt: HostRuntime) {
+    let whole: [(&str, u32); 0] = [];
+    let rows: [(&[(&str, u32)], &str); 3] = [
+        (&whole, "."),
+        (&[("#", 10)], "[10]"),
+        (&[("a", 0), ("b", 0), ("#", 2), ("c", 0)], "a.b[2].c"),
+    ];
+    for (steps, want) in rows {
+        let path = path_of(rt.alloc(), steps).expect(&rt, "memory");
+        assert!(rt; path.as_str() == want, "at {want}");
+    }
+}
