@@ -1,3 +1,5 @@
+pub mod FieldRows
 pub mod Parts
 pub mod Rows
 pub mod SchemaRules
+pub mod Variants

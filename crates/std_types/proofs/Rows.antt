@@ -1,7 +1,7 @@
 -- Arrays of values, as they are written and read item by item
 use Rattle.std.proofs.Common.{◌≡◌, ℕ, ◌+◌, ◌<◌, ◌≤◌, List, [], ◌∷◌, ◌++◌, length, get_or, drop, sym, ap, ◌∙◌}
 use Rattle.std.proofs.lemmas.List.{at_drop_more, at_drop_all, append-nil, append_assoc}
-use Rattle.dsdl_types.specs.Values.{Val, Items, More, join}
+use Rattle.dsdl_types.specs.Values.{Val, Vals, Items, Empty, More, join}
 use Rattle.dsdl_types.specs.Views.{val, vals}
 use Rattle.dsdl_types.specs.declared.value.Value.{Value}
 use Rattle.dsdl_types.specs.declared.value.Value.TheVariants as V
@@ -51,3 +51,11 @@ pub taken_all : {A : Type 0} (g : Val → A) (items : List Value) (i : ℕ) (don
     length items ≤ i → Taken g items i done → done ≡ list_of g (vals items)
 taken_all g items i done past so_far =
     sym (append-nil done) ∙ ap (λ l. done ++ l) (sym (at_drop_all (λ l. list_of g (vals l)) items i past)) ∙ so_far
+
+pub vals_push : (vs : List Value) (v : Value) → vals (vs ++ v ∷ []) ≡ join (vals vs) (More (val v) Empty)
+vals_push vs v = sym (join_none (vals (vs ++ v ∷ []))) ∙ join_push vs v Empty
+
+-- the values of the fields so far are known, and so is the next
+pub row_next : {before after known : Vals} {v w : Val} →
+    after ≡ join before (More v Empty) → before ≡ known → v ≡ w → after ≡ join known (More w Empty)
+row_next next so_far value = next ∙ (λ i. join (so_far i) (More (value i) Empty))

@@ -2,6 +2,7 @@ pub mod Schemas
 pub mod Types
 pub mod Held
 pub mod Fields
+pub mod FieldRows
 pub mod Node
 pub mod NodeLaws
 pub mod Times

@@ -4,7 +4,7 @@ ghost use Rattle.dsdl_types.specs.Views.{val};
 ghost use Rattle.std_types.specs.Allocation.{node_ids_of, node_ids_value};
 
 use crate::Standard;
-use crate::held::{items, number, number_value, part, structure};
+use crate::held::{alone, items, number, number_value, part, structure};
 use cy_bits::{List, NoMemory};
 use dsdl_types::Value;
 use std::alloc::Global;
@@ -44,7 +44,7 @@ impl Standard for NodeId {
     ghost forth = { node_id_forth };
 
     fn to_value(&self, alloc: Global) -> Result<Value, NoMemory> {
-        Ok(structure(vec![in alloc; number_value(self.value)]?))
+        alone(alloc, number_value(self.value))
     }
 
     fn of_value(_alloc: Global, from: &Value) -> Result<NodeId, NoMemory> {

@@ -1,8 +1,8 @@
 //! The standard types of primitives and arrays.
 use crate::Standard;
 use crate::held::{
-    bytes, bytes_value, floats, floats_value, numbers, numbers_value, part, structure, truths,
-    truths_value,
+    byte_array_value, bytes, float_array_value, floats, number_array_value, numbers, part,
+    structure, truth_array_value, truths,
 };
 use cy_bits::{Bytes, List, NoMemory};
 use dsdl_types::Value;
@@ -128,7 +128,7 @@ impl Standard for Empty {
     ghost forth = { empty_forth };
 
     fn to_value(&self, alloc: Global) -> Result<Value, NoMemory> {
-        Ok(structure(vec![in alloc;]?))
+        Ok(structure(Vec::new(alloc)))
     }
 
     fn of_value(_alloc: Global, _from: &Value) -> Result<Empty, NoMemory> {
@@ -154,8 +154,7 @@ impl Standard for PrimitiveString {
     ghost forth = { string_forth };
 
     fn to_value(&self, alloc: Global) -> Result<Value, NoMemory> {
-        let value = bytes_value(alloc, &self.value)?;
-        Ok(structure(vec![in alloc; value]?))
+        byte_array_value(alloc, &self.value)
     }
 
     fn of_value(alloc: Global, from: &Value) -> Result<PrimitiveString, NoMemory> {
@@ -183,8 +182,7 @@ impl Standard for Unstructured {
     ghost forth = { unstructured_forth };
 
     fn to_value(&self, alloc: Global) -> Result<Value, NoMemory> {
-        let value = bytes_value(alloc, &self.value)?;
-        Ok(structure(vec![in alloc; value]?))
+        byte_array_value(alloc, &self.value)
     }
 
     fn of_value(alloc: Global, from: &Value) -> Result<Unstructured, NoMemory> {
@@ -212,8 +210,7 @@ impl Standard for Bit {
     ghost forth = { bit_forth };
 
     fn to_value(&self, alloc: Global) -> Result<Value, NoMemory> {
-        let value = truths_value(alloc, self.value.as_slice())?;
-        Ok(structure(vec![in alloc; value]?))
+        truth_array_value(alloc, &self.value)
     }
 
     fn of_value(alloc: Global, from: &Value) -> Result<Bit, NoMemory> {
@@ -241,8 +238,7 @@ impl Standard for Integer64 {
     ghost forth = { integer64_forth };
 
     fn to_value(&self, alloc: Global) -> Result<Value, NoMemory> {
-        let value = numbers_value(alloc, self.value.as_slice())?;
-        Ok(structure(vec![in alloc; value]?))
+        number_array_value(alloc, &self.value)
     }
 
     fn of_value(alloc: Global, from: &Value) -> Result<Integer64, NoMemory> {
@@ -270,8 +266,7 @@ impl Standard for Integer32 {
     ghost forth = { integer32_forth };
 
     fn to_value(&self, alloc: Global) -> Result<Value, NoMemory> {
-        let value = numbers_value(alloc, self.value.as_slice())?;
-        Ok(structure(vec![in alloc; value]?))
+        number_array_value(alloc, &self.value)
     }
 
     fn of_value(alloc: Global, from: &Value) -> Result<Integer32, NoMemory> {
@@ -299,8 +294,7 @@ impl Standard for Integer16 {
     ghost forth = { integer16_forth };
 
     fn to_value(&self, alloc: Global) -> Result<Value, NoMemory> {
-        let value = numbers_value(alloc, self.value.as_slice())?;
-        Ok(structure(vec![in alloc; value]?))
+        number_array_value(alloc, &self.value)
     }
 
     fn of_value(alloc: Global, from: &Value) -> Result<Integer16, NoMemory> {
@@ -328,8 +322,7 @@ impl Standard for Integer8 {
     ghost forth = { integer8_forth };
 
     fn to_value(&self, alloc: Global) -> Result<Value, NoMemory> {
-        let value = numbers_value(alloc, self.value.as_slice())?;
-        Ok(structure(vec![in alloc; value]?))
+        number_array_value(alloc, &self.value)
     }
 
     fn of_value(alloc: Global, from: &Value) -> Result<Integer8, NoMemory> {
@@ -357,8 +350,7 @@ impl Standard for Natural64 {
     ghost forth = { natural64_forth };
 
     fn to_value(&self, alloc: Global) -> Result<Value, NoMemory> {
-        let value = numbers_value(alloc, self.value.as_slice())?;
-        Ok(structure(vec![in alloc; value]?))
+        number_array_value(alloc, &self.value)
     }
 
     fn of_value(alloc: Global, from: &Value) -> Result<Natural64, NoMemory> {
@@ -386,8 +378,7 @@ impl Standard for Natural32 {
     ghost forth = { natural32_forth };
 
     fn to_value(&self, alloc: Global) -> Result<Value, NoMemory> {
-        let value = numbers_value(alloc, self.value.as_slice())?;
-        Ok(structure(vec![in alloc; value]?))
+        number_array_value(alloc, &self.value)
     }
 
     fn of_value(alloc: Global, from: &Value) -> Result<Natural32, NoMemory> {
@@ -415,8 +406,7 @@ impl Standard for Natural16 {
     ghost forth = { natural16_forth };
 
     fn to_value(&self, alloc: Global) -> Result<Value, NoMemory> {
-        let value = numbers_value(alloc, self.value.as_slice())?;
-        Ok(structure(vec![in alloc; value]?))
+        number_array_value(alloc, &self.value)
     }
 
     fn of_value(alloc: Global, from: &Value) -> Result<Natural16, NoMemory> {
@@ -444,8 +434,7 @@ impl Standard for Natural8 {
     ghost forth = { natural8_forth };
 
     fn to_value(&self, alloc: Global) -> Result<Value, NoMemory> {
-        let value = numbers_value(alloc, self.value.as_slice())?;
-        Ok(structure(vec![in alloc; value]?))
+        number_array_value(alloc, &self.value)
     }
 
     fn of_value(alloc: Global, from: &Value) -> Result<Natural8, NoMemory> {
@@ -473,8 +462,7 @@ impl Standard for Real64 {
     ghost forth = { real64_forth };
 
     fn to_value(&self, alloc: Global) -> Result<Value, NoMemory> {
-        let value = floats_value(alloc, self.value.as_slice())?;
-        Ok(structure(vec![in alloc; value]?))
+        float_array_value(alloc, &self.value)
     }
 
     fn of_value(alloc: Global, from: &Value) -> Result<Real64, NoMemory> {
@@ -502,8 +490,7 @@ impl Standard for Real32 {
     ghost forth = { real32_forth };
 
     fn to_value(&self, alloc: Global) -> Result<Value, NoMemory> {
-        let value = floats_value(alloc, self.value.as_slice())?;
-        Ok(structure(vec![in alloc; value]?))
+        float_array_value(alloc, &self.value)
     }
 
     fn of_value(alloc: Global, from: &Value) -> Result<Real32, NoMemory> {
@@ -531,8 +518,7 @@ impl Standard for Real16 {
     ghost forth = { real16_forth };
 
     fn to_value(&self, alloc: Global) -> Result<Value, NoMemory> {
-        let value = floats_value(alloc, self.value.as_slice())?;
-        Ok(structure(vec![in alloc; value]?))
+        float_array_value(alloc, &self.value)
     }
 
     fn of_value(alloc: Global, from: &Value) -> Result<Real16, NoMemory> {

@@ -1,7 +1,7 @@
 //! The standard types of files.
 use crate::Standard;
 use crate::held::{
-    byte_array, byte_array_value, bytes, bytes_value, number, number_value, part, structure, truth,
+    alone, byte_array, byte_array_value, bytes, number, number_value, part, structure, truth,
 };
 use cy_bits::{Bytes, NoMemory};
 use dsdl_types::Value;
@@ -100,8 +100,7 @@ impl Standard for Path {
     ghost forth = { path_forth };
 
     fn to_value(&self, alloc: Global) -> Result<Value, NoMemory> {
-        let path = bytes_value(alloc, &self.path)?;
-        Ok(structure(vec![in alloc; path]?))
+        byte_array_value(alloc, &self.path)
     }
 
     fn of_value(alloc: Global, from: &Value) -> Result<Path, NoMemory> {
@@ -129,7 +128,7 @@ impl Standard for FileError {
     ghost forth = { file_error_forth };
 
     fn to_value(&self, alloc: Global) -> Result<Value, NoMemory> {
-        Ok(structure(vec![in alloc; number_value(self.value)]?))
+        alone(alloc, number_value(self.value))
     }
 
     fn of_value(_alloc: Global, from: &Value) -> Result<FileError, NoMemory> {
@@ -157,8 +156,7 @@ impl Standard for InfoRequest {
     ghost forth = { info_request_forth };
 
     fn to_value(&self, alloc: Global) -> Result<Value, NoMemory> {
-        let path = byte_array_value(alloc, &self.path)?;
-        Ok(structure(vec![in alloc; path]?))
+        alone(alloc, byte_array_value(alloc, &self.path)?)
     }
 
     fn of_value(alloc: Global, from: &Value) -> Result<InfoRequest, NoMemory> {
@@ -259,8 +257,7 @@ impl Standard for FileListReply {
     ghost forth = { file_list_reply_forth };
 
     fn to_value(&self, alloc: Global) -> Result<Value, NoMemory> {
-        let entry_base_name = byte_array_value(alloc, &self.entry_base_name)?;
-        Ok(structure(vec![in alloc; entry_base_name]?))
+        alone(alloc, byte_array_value(alloc, &self.entry_base_name)?)
     }
 
     fn of_value(alloc: Global, from: &Value) -> Result<FileListReply, NoMemory> {

@@ -194,6 +194,28 @@ pub fn byte_array_value(alloc: Global, bytes: &Bytes) -> Result<Value, NoMemory>
     alone(alloc, bytes_value(alloc, bytes)?)
 }
 
+/// The value of a structure whose one field is an array of numbers.
+pub fn number_array_value<T: Whole>(alloc: Global, numbers: &List<T>) -> Result<Value, NoMemory>
+    ensures { IfOk result (λ v. val v
+        ≡ alone (Items (row_of (λ n. Num (T.number n)) numbers.now))) }
+{
+    alone(alloc, numbers_value(alloc, numbers.as_slice())?)
+}
+
+/// The value of a structure whose one field is an array of floats, by their raw bits.
+pub fn float_array_value<T: FloatBits>(alloc: Global, floats: &List<T>) -> Result<Value, NoMemory>
+    ensures { IfOk result (λ v. val v ≡ alone (Items (row_of (λ n. Raw (T.bits n)) floats.now))) }
+{
+    alone(alloc, floats_value(alloc, floats.as_slice())?)
+}
+
+/// The value of a structure whose one field is an array of truth values.
+pub fn truth_array_value(alloc: Global, truths: &List<bool>) -> Result<Value, NoMemory>
+    ensures { IfOk result (λ v. val v ≡ alone (truths_value truths.now)) }
+{
+    alone(alloc, truths_value(alloc, truths.as_slice())?)
+}
+
 /// The bytes of a structure whose one field is an array of them.
 pub fn byte_array(alloc: Global, value: &Value) -> Result<Bytes, NoMemory>
     ensures { IfOk result (λ b. b ≡ naturals_of 8 (part 0 (val value.now))) }

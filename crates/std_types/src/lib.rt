@@ -4,6 +4,7 @@
 
 pub mod allocation;
 pub mod array;
+mod field_values;
 pub mod file;
 mod float_bits;
 mod held;

@@ -1,7 +1,9 @@
 //! The standard types of a node.
 use crate::Standard;
+use crate::field_values::FieldValues;
 use crate::held::{
-    bytes, bytes_value, number, number_value, numbers, numbers_value, part, structure, unique_id,
+    alone, bytes, bytes_value, number, number_value, numbers, numbers_value, part, structure,
+    unique_id,
 };
 use cy_bits::{Bytes, List, NoMemory};
 use dsdl_types::Value;
@@ -86,7 +88,7 @@ impl Standard for Health {
     ghost forth = { health_forth };
 
     fn to_value(&self, alloc: Global) -> Result<Value, NoMemory> {
-        Ok(structure(vec![in alloc; number_value(self.value)]?))
+        alone(alloc, number_value(self.value))
     }
 
     fn of_value(_alloc: Global, from: &Value) -> Result<Health, NoMemory> {
@@ -114,7 +116,7 @@ impl Standard for Mode {
     ghost forth = { mode_forth };
 
     fn to_value(&self, alloc: Global) -> Result<Value, NoMemory> {
-        Ok(structure(vec![in alloc; number_value(self.value)]?))
+        alone(alloc, number_value(self.value))
     }
 
     fn of_value(_alloc: Global, from: &Value) -> Result<Mode, NoMemory> {
@@ -171,14 +173,12 @@ impl Standard for Heartbeat {
     ghost forth = { heartbeat_forth };
 
     fn to_value(&self, alloc: Global) -> Result<Value, NoMemory> {
-        let health = self.health.to_value(alloc)?;
-        let mode = self.mode.to_value(alloc)?;
-        Ok(structure(vec![in alloc;
-            number_value(self.uptime),
-            health,
-            mode,
-            number_value(self.vendor_specific_status_code),
-        ]?))
+        let values = FieldValues::new(alloc)
+            .with(number_value(self.uptime))?
+            .with(self.health.to_value(alloc)?)?
+            .with(self.mode.to_value(alloc)?)?
+            .with(number_value(self.vendor_specific_status_code))?;
+        Ok(values.structure())
     }
 
     fn of_value(alloc: Global, from: &Value) -> Result<Heartbeat, NoMemory> {
@@ -209,7 +209,7 @@ impl Standard for NodeInfoRequest {
     ghost forth = { node_info_request_forth };
 
     fn to_value(&self, alloc: Global) -> Result<Value, NoMemory> {
-        Ok(structure(vec![in alloc;]?))
+        Ok(structure(Vec::new(alloc)))
     }
 
     fn of_value(_alloc: Global, _from: &Value) -> Result<NodeInfoRequest, NoMemory> {
@@ -235,23 +235,16 @@ impl Standard for NodeInfo {
     ghost forth = { node_info_forth };
 
     fn to_value(&self, alloc: Global) -> Result<Value, NoMemory> {
-        let protocol_version = self.protocol_version.to_value(alloc)?;
-        let hardware_version = self.hardware_version.to_value(alloc)?;
-        let software_version = self.software_version.to_value(alloc)?;
-        let unique_id = numbers_value(alloc, &self.unique_id)?;
-        let name = bytes_value(alloc, &self.name)?;
-        let software_image_crc = numbers_value(alloc, self.software_image_crc.as_slice())?;
-        let certificate_of_authenticity = bytes_value(alloc, &self.certificate_of_authenticity)?;
-        Ok(structure(vec![in alloc;
-            protocol_version,
-            hardware_version,
-            software_version,
-            number_value(self.software_vcs_revision_id),
-            unique_id,
-            name,
-            software_image_crc,
-            certificate_of_authenticity,
-        ]?))
+        let values = FieldValues::new(alloc)
+            .with(self.protocol_version.to_value(alloc)?)?
+            .with(self.hardware_version.to_value(alloc)?)?
+            .with(self.software_version.to_value(alloc)?)?
+            .with(number_value(self.software_vcs_revision_id))?
+            .with(numbers_value(alloc, &self.unique_id)?)?
+            .with(bytes_value(alloc, &self.name)?)?
+            .with(numbers_value(alloc, self.software_image_crc.as_slice())?)?
+            .with(bytes_value(alloc, &self.certificate_of_authenticity)?)?;
+        Ok(values.structure())
     }
 
     fn of_value(alloc: Global, from: &Value) -> Result<NodeInfo, NoMemory> {

@@ -1,7 +1,8 @@
 //! The standard types of registers.
 use crate::Standard;
+use crate::field_values::FieldValues;
 use crate::held::{
-    byte_array, byte_array_value, bytes, bytes_value, number, number_value, part, structure, truth,
+    alone, byte_array, byte_array_value, bytes, number, number_value, part, structure, truth,
 };
 use crate::register_value::RegisterValue;
 use crate::time::SynchronizedTimestamp;
@@ -70,8 +71,7 @@ impl Standard for Name {
     ghost forth = { register_name_forth };
 
     fn to_value(&self, alloc: Global) -> Result<Value, NoMemory> {
-        let name = bytes_value(alloc, &self.name)?;
-        Ok(structure(vec![in alloc; name]?))
+        byte_array_value(alloc, &self.name)
     }
 
     fn of_value(alloc: Global, from: &Value) -> Result<Name, NoMemory> {
@@ -130,14 +130,12 @@ impl Standard for AccessReply {
     ghost forth = { access_reply_forth };
 
     fn to_value(&self, alloc: Global) -> Result<Value, NoMemory> {
-        let timestamp = self.timestamp.to_value(alloc)?;
-        let value = self.value.to_value(alloc)?;
-        Ok(structure(vec![in alloc;
-            timestamp,
-            Value::Bool(self.mutable),
-            Value::Bool(self.persistent),
-            value,
-        ]?))
+        let values = FieldValues::new(alloc)
+            .with(self.timestamp.to_value(alloc)?)?
+            .with(Value::Bool(self.mutable))?
+            .with(Value::Bool(self.persistent))?
+            .with(self.value.to_value(alloc)?)?;
+        Ok(values.structure())
     }
 
     fn of_value(alloc: Global, from: &Value) -> Result<AccessReply, NoMemory> {
@@ -168,7 +166,7 @@ impl Standard for ListRequest {
     ghost forth = { list_request_forth };
 
     fn to_value(&self, alloc: Global) -> Result<Value, NoMemory> {
-        Ok(structure(vec![in alloc; number_value(self.index)]?))
+        alone(alloc, number_value(self.index))
     }
 
     fn of_value(_alloc: Global, from: &Value) -> Result<ListRequest, NoMemory> {
@@ -196,8 +194,7 @@ impl Standard for ListReply {
     ghost forth = { list_reply_forth };
 
     fn to_value(&self, alloc: Global) -> Result<Value, NoMemory> {
-        let name = byte_array_value(alloc, &self.name)?;
-        Ok(structure(vec![in alloc; name]?))
+        alone(alloc, byte_array_value(alloc, &self.name)?)
     }
 
     fn of_value(alloc: Global, from: &Value) -> Result<ListReply, NoMemory> {

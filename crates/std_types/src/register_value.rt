@@ -1,17 +1,14 @@
 //! The value of a register.
 ghost use Rattle.std.specs.Prelude.{◌≡◌, IfOk};
-ghost use Rattle.dsdl_types.specs.Values.{Items, Num, Raw, Tagged};
+ghost use Rattle.dsdl_types.specs.Values.{Tagged, inner_of, tag_of};
 ghost use Rattle.dsdl_types.specs.Views.{val};
-ghost use Rattle.std_types.specs.Held.{alone, row_of, truths_value};
-ghost use Rattle.std_types.specs.RegisterValues.{made_at, makers};
+ghost use Rattle.std_types.specs.RegisterValues.{made_at, makers, variant_value};
 
 use crate::Standard;
-use crate::float_bits::FloatBits;
 use crate::held::{
-    alone, byte_array, byte_array_value, floats, floats_value, numbers, numbers_value, part,
-    structure, truths, truths_value,
+    byte_array, byte_array_value, float_array_value, floats, number_array_value, numbers, part,
+    structure, truth_array_value, truths,
 };
-use crate::whole::Whole;
 use cy_bits::{Boxed, Bytes, List, NoMemory};
 use dsdl_types::Value;
 use std::alloc::Global;
@@ -68,24 +65,10 @@ impl Standard for RegisterValue {
 
     ghost forth = { variant_forth };
 
+    #[tactic(auto, using(crate::proofs::Variants::variant_tagged))]
     fn to_value(&self, alloc: Global) -> Result<Value, NoMemory> {
-        match self {
-            RegisterValue::Empty => tagged(alloc, 0, structure(Vec::new(alloc))),
-            RegisterValue::String(items) => tagged(alloc, 1, byte_array_value(alloc, items)?),
-            RegisterValue::Unstructured(items) => tagged(alloc, 2, byte_array_value(alloc, items)?),
-            RegisterValue::Bit(items) => tagged(alloc, 3, truth_array_value(alloc, items)?),
-            RegisterValue::Integer64(items) => tagged(alloc, 4, number_array_value(alloc, items)?),
-            RegisterValue::Integer32(items) => tagged(alloc, 5, number_array_value(alloc, items)?),
-            RegisterValue::Integer16(items) => tagged(alloc, 6, number_array_value(alloc, items)?),
-            RegisterValue::Integer8(items) => tagged(alloc, 7, number_array_value(alloc, items)?),
-            RegisterValue::Natural64(items) => tagged(alloc, 8, number_array_value(alloc, items)?),
-            RegisterValue::Natural32(items) => tagged(alloc, 9, number_array_value(alloc, items)?),
-            RegisterValue::Natural16(items) => tagged(alloc, 10, number_array_value(alloc, items)?),
-            RegisterValue::Natural8(items) => tagged(alloc, 11, number_array_value(alloc, items)?),
-            RegisterValue::Real64(items) => tagged(alloc, 12, float_array_value(alloc, items)?),
-            RegisterValue::Real32(items) => tagged(alloc, 13, float_array_value(alloc, items)?),
-            RegisterValue::Real16(items) => tagged(alloc, 14, float_array_value(alloc, items)?),
-        }
+        let value = variant_value(alloc, self)?;
+        tagged(alloc, tag(self), value)
     }
 
     fn of_value(alloc: Global, from: &Value) -> Result<RegisterValue, NoMemory> {
@@ -96,7 +79,53 @@ impl Standard for RegisterValue {
     }
 }
 
-/// The value of a variant.
+/// The tag of a variant, which is its number in the union.
+fn tag(variant: &RegisterValue) -> u32
+    ensures { result ≡ tag_of (variant_value variant.now) }
+{
+    match variant {
+        RegisterValue::Empty => 0,
+        RegisterValue::String(_) => 1,
+        RegisterValue::Unstructured(_) => 2,
+        RegisterValue::Bit(_) => 3,
+        RegisterValue::Integer64(_) => 4,
+        RegisterValue::Integer32(_) => 5,
+        RegisterValue::Integer16(_) => 6,
+        RegisterValue::Integer8(_) => 7,
+        RegisterValue::Natural64(_) => 8,
+        RegisterValue::Natural32(_) => 9,
+        RegisterValue::Natural16(_) => 10,
+        RegisterValue::Natural8(_) => 11,
+        RegisterValue::Real64(_) => 12,
+        RegisterValue::Real32(_) => 13,
+        RegisterValue::Real16(_) => 14,
+    }
+}
+
+/// The value of what a variant has.
+fn variant_value(alloc: Global, variant: &RegisterValue) -> Result<Value, NoMemory>
+    ensures { IfOk result (λ v. val v ≡ inner_of (variant_value variant.now)) }
+{
+    match variant {
+        RegisterValue::Empty => Ok(structure(Vec::new(alloc))),
+        RegisterValue::String(items) => byte_array_value(alloc, items),
+        RegisterValue::Unstructured(items) => byte_array_value(alloc, items),
+        RegisterValue::Bit(items) => truth_array_value(alloc, items),
+        RegisterValue::Integer64(items) => number_array_value(alloc, items),
+        RegisterValue::Integer32(items) => number_array_value(alloc, items),
+        RegisterValue::Integer16(items) => number_array_value(alloc, items),
+        RegisterValue::Integer8(items) => number_array_value(alloc, items),
+        RegisterValue::Natural64(items) => number_array_value(alloc, items),
+        RegisterValue::Natural32(items) => number_array_value(alloc, items),
+        RegisterValue::Natural16(items) => number_array_value(alloc, items),
+        RegisterValue::Natural8(items) => number_array_value(alloc, items),
+        RegisterValue::Real64(items) => float_array_value(alloc, items),
+        RegisterValue::Real32(items) => float_array_value(alloc, items),
+        RegisterValue::Real16(items) => float_array_value(alloc, items),
+    }
+}
+
+/// The value of a union, by the tag and the value of its variant.
 fn tagged(alloc: Global, tag: u32, value: Value) -> Result<Value, NoMemory>
     ensures { IfOk result (λ v. val v ≡ Tagged tag (val value)) }
 {
@@ -104,28 +133,6 @@ fn tagged(alloc: Global, tag: u32, value: Value) -> Result<Value, NoMemory>
         tag,
         value: Boxed::new(alloc, value)?,
     })
-}
-
-/// The value of a structure of numbers.
-fn number_array_value<T: Whole>(alloc: Global, numbers: &List<T>) -> Result<Value, NoMemory>
-    ensures { IfOk result (λ v. val v
-        ≡ alone (Items (row_of (λ n. Num (T.number n)) numbers.now))) }
-{
-    alone(alloc, numbers_value(alloc, numbers.as_slice())?)
-}
-
-/// The value of a structure of floats.
-fn float_array_value<T: FloatBits>(alloc: Global, floats: &List<T>) -> Result<Value, NoMemory>
-    ensures { IfOk result (λ v. val v ≡ alone (Items (row_of (λ n. Raw (T.bits n)) floats.now))) }
-{
-    alone(alloc, floats_value(alloc, floats.as_slice())?)
-}
-
-/// The value of a structure of truth values.
-fn truth_array_value(alloc: Global, truths: &List<bool>) -> Result<Value, NoMemory>
-    ensures { IfOk result (λ v. val v ≡ alone (truths_value truths.now)) }
-{
-    alone(alloc, truths_value(alloc, truths.as_slice())?)
 }
 
 /// The variant of a tag, by its value; the empty one of another tag.

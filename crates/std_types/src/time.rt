@@ -1,6 +1,6 @@
 //! The standard types of time.
 use crate::Standard;
-use crate::held::{number, number_value, part, structure};
+use crate::held::{alone, number, number_value, part};
 use cy_bits::NoMemory;
 use dsdl_types::Value;
 use std::alloc::Global;
@@ -37,7 +37,7 @@ impl Standard for SynchronizedTimestamp {
     ghost forth = { synchronized_timestamp_forth };
 
     fn to_value(&self, alloc: Global) -> Result<Value, NoMemory> {
-        Ok(structure(vec![in alloc; number_value(self.microsecond)]?))
+        alone(alloc, number_value(self.microsecond))
     }
 
     fn of_value(_alloc: Global, from: &Value) -> Result<SynchronizedTimestamp, NoMemory> {
@@ -65,9 +65,10 @@ impl Standard for Synchronization {
     ghost forth = { synchronization_forth };
 
     fn to_value(&self, alloc: Global) -> Result<Value, NoMemory> {
-        Ok(structure(vec![in alloc;
+        alone(
+            alloc,
             number_value(self.previous_transmission_timestamp_microsecond),
-        ]?))
+        )
     }
 
     fn of_value(_alloc: Global, from: &Value) -> Result<Synchronization, NoMemory> {

@@ -1,7 +1,8 @@
 //! The words of a schema.
 ghost use Rattle.std.specs.Prelude.{◌≡◌, IfOk, [], true, false};
-ghost use Rattle.dsdl_types.specs.Schemas.{Fixed, PBool, PFloat, PInt, PUint, Simple, Struct, Union, Var};
-ghost use Rattle.dsdl_types.specs.Views.{Padding, Typed, flds, kind_of, named, sch};
+ghost use Rattle.dsdl_types.specs.Schemas.{End, Fixed, Struct, Union, Var};
+ghost use Rattle.dsdl_types.specs.Views.{Padding, Typed, flds, kind_of, sch, with_field};
+ghost use Rattle.std_types.specs.FieldRows.{and_field};
 ghost use Rattle.std_types.specs.Schemas.{bytes, float, sint, truncated, uint};
 
 use cy_bits::{Boxed, List, NoMemory, Text};
@@ -72,55 +73,85 @@ pub fn bytes(alloc: Global, cap: u32) -> Result<Schema, NoMemory>
     array(alloc, uint(8), cap)
 }
 
-/// A field or a variant.
-pub fn field(alloc: Global, name: &str, schema: Schema) -> Result<Field, NoMemory>
-    ensures { IfOk result (λ f. named f ≡ (name.now, kind_of schema)) }
+/// A sealed structure of one field, with an extent in bits.
+pub fn single(alloc: Global, name: &str, schema: Schema, extent: u64) -> Result<Schema, NoMemory>
+    ensures { IfOk result (λ s. kind_of s ≡ Typed
+        (Struct (with_field name.now (kind_of schema) End)
+        (record { extent = extent; sealed = true }))) }
 {
-    Ok(Field {
-        name: Text::from_str(alloc, name)?,
-        schema,
-    })
+    Ok(Fields::new(alloc).with(name, schema)?.sealed(extent))
 }
 
-/// So many bits of padding.
-pub fn padding(alloc: Global, bits: u8) -> Result<Field, NoMemory>
-    ensures { IfOk result (λ f. named f ≡ ([], Padding bits)) }
-{
-    field(alloc, "", Schema::Void { bits })
+/// The fields of a structure or the variants of a union, in order.
+#[derive(Drop)]
+pub struct Fields {
+    alloc: Global,
+    fields: List<Field>,
 }
 
-/// A sealed structure, with an extent in bits.
-pub fn sealed(fields: Vec<Field>, extent: u64) -> Schema
-    ensures { kind_of result ≡ Typed
-        (Struct (flds fields.items) (record { extent = extent; sealed = true })) }
-{
-    Schema::Struct(Body {
-        fields: List::new(fields),
-        extent,
-        sealed: true,
-    })
-}
+impl Fields {
+    /// No fields.
+    pub fn new(alloc: Global) -> Fields
+        ensures { flds result.fields ≡ End }
+    {
+        Fields {
+            alloc,
+            fields: List::empty(alloc),
+        }
+    }
 
-/// A sealed union, with an extent in bits.
-pub fn sealed_union(variants: Vec<Field>, extent: u64) -> Schema
-    ensures { kind_of result ≡ Typed
-        (Union (flds variants.items) (record { extent = extent; sealed = true })) }
-{
-    Schema::Union(Body {
-        fields: List::new(variants),
-        extent,
-        sealed: true,
-    })
-}
+    /// One more field or variant, behind the others.
+    #[tactic(auto, using(crate::proofs::FieldRows::flds_push))]
+    pub fn with(mut self, name: &str, schema: Schema) -> Result<Fields, NoMemory>
+        ensures { IfOk result (λ fs. flds fs.fields
+            ≡ and_field (flds self.fields) name.now (kind_of schema)) }
+    {
+        let name = Text::from_str(self.alloc, name)?;
+        self.fields.push(Field { name, schema })?;
+        Ok(self)
+    }
 
-/// A delimited structure, with an extent in bits.
-pub fn of_extent(fields: Vec<Field>, extent: u64) -> Schema
-    ensures { kind_of result ≡ Typed
-        (Struct (flds fields.items) (record { extent = extent; sealed = false })) }
-{
-    Schema::Struct(Body {
-        fields: List::new(fields),
-        extent,
-        sealed: false,
-    })
+    /// So many bits of padding behind the fields.
+    pub fn padded(self, bits: u8) -> Result<Fields, NoMemory>
+        ensures { IfOk result (λ fs. flds fs.fields
+            ≡ and_field (flds self.fields) [] (Padding bits)) }
+    {
+        self.with("", Schema::Void { bits })
+    }
+
+    /// A sealed structure of these fields, with an extent in bits.
+    pub fn sealed(self, extent: u64) -> Schema
+        ensures { kind_of result ≡ Typed
+            (Struct (flds self.fields) (record { extent = extent; sealed = true })) }
+    {
+        Schema::Struct(Body {
+            fields: self.fields,
+            extent,
+            sealed: true,
+        })
+    }
+
+    /// A sealed union of these variants, with an extent in bits.
+    pub fn sealed_union(self, extent: u64) -> Schema
+        ensures { kind_of result ≡ Typed
+            (Union (flds self.fields) (record { extent = extent; sealed = true })) }
+    {
+        Schema::Union(Body {
+            fields: self.fields,
+            extent,
+            sealed: true,
+        })
+    }
+
+    /// A delimited structure of these fields, with an extent in bits.
+    pub fn of_extent(self, extent: u64) -> Schema
+        ensures { kind_of result ≡ Typed
+            (Struct (flds self.fields) (record { extent = extent; sealed = false })) }
+    {
+        Schema::Struct(Body {
+            fields: self.fields,
+            extent,
+            sealed: false,
+        })
+    }
 }
