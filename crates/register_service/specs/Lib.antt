@@ -1,0 +1,4 @@
+pub mod Variants
+pub mod Within
+pub mod RegisterMap
+pub mod Kept
