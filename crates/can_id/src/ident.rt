@@ -43,6 +43,7 @@ pub enum Ident {
 
 impl Ident {
     /// The key of the session that the frame belongs to.
+    #[inline(always)]
     pub fn key(self) -> Key
         ensures { result ≡ key_of self }
     {
@@ -79,6 +80,7 @@ impl Ident {
     }
 
     /// The priority, 0 (exceptional) to 7 (optional).
+    #[inline(always)]
     pub fn priority(self) -> u8
         ensures { result ≡ priority_of self }
     {
@@ -90,6 +92,7 @@ impl Ident {
     }
 
     /// The receiver's node-ID. A message has none.
+    #[inline(always)]
     pub fn destination(self) -> Option<u8>
         ensures { result ≡ destination_of self }
     {

@@ -40,6 +40,7 @@ pub fn make(ident: Ident) -> u32
 
 /// What an identifier says, or `None` where a frame with it is discarded: bit 23 is set, bit 7 of a
 /// message is set, or the source of a service is its destination.
+#[inline(always)]
 pub fn parse(bits: u32) -> Option<Ident>
     requires { bits < 2 ^ 29 }
     ensures value { result ≡ ident_of bits }

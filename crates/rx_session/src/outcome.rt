@@ -67,6 +67,7 @@ pub enum Step {
 
 impl Front {
     /// The delivery, with its payload lent from the session's buffer.
+    #[inline(always)]
     pub fn lend(self, buffer: &[u8]) -> Delivery<'_>
         ensures payload { result.payload.now ≡ take self.count buffer.now }
         ensures bus { result.bus ≡ self.bus }
@@ -95,6 +96,7 @@ impl Front {
 
 impl Step {
     /// The outcome, with a payload lent from the session's buffer.
+    #[inline(always)]
     pub fn lend(self, buffer: &[u8]) -> Outcome<'_>
         ensures { answer_of result ≡ step_answer buffer.now self }
     {

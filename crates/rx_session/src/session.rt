@@ -112,6 +112,7 @@ impl<S: Shape> Session<S> {
     }
 
     /// The outcome of the last step, with a payload lent from the buffer.
+    #[inline(always)]
     pub fn lend(&self, step: Step) -> Outcome<'_>
         ensures { answer_of result ≡ step_answer self.now.buffer step }
     {

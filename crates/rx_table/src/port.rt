@@ -216,6 +216,7 @@ impl<S: Shape> Port<S> {
     }
 
     /// What a frame of a source came to, with the payload lent from its session.
+    #[inline(always)]
     pub(crate) fn lend(&self, met: PortMet) -> Fed<'_>
         ensures { answer_of result ≡ met_answer (entries_in self.now) met }
     {
@@ -228,6 +229,7 @@ impl<S: Shape> Port<S> {
     }
 
     /// What the session at a place made of a frame, with the payload lent from its buffer.
+    #[inline(always)]
     fn lend_at(&self, index: usize, step: Step) -> Outcome<'_>
         ensures { outcome_of result ≡ step_answer (buffer_nth (entries_in self.now) index) step }
     {

@@ -201,6 +201,7 @@ impl<S: Shape> Table<S> {
     }
 
     /// What a frame came to, with the payload lent from the frame or from a session's buffer.
+    #[inline(always)]
     pub fn lend<'a>(&'a self, met: Met, frame: &Frame<'a>) -> Fed<'a>
         ensures { answer_of result ≡ told_by S.shape self.now frame.now met }
     {

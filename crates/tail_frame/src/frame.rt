@@ -26,7 +26,7 @@ pub struct Frame<'a> {
 /// The frame that a record is, or `None` where it is discarded: its identifier says nothing, it has no
 /// data, it is a start with toggle 0, it is anonymous and not both start and end, it isn't an end and
 /// has fewer than 7 bytes before the tail, or it isn't both start and end and has none.
-#[inline]
+#[inline(always)]
 pub fn frame_of(rec: &Record) -> Option<Frame<'_>>
     ensures value { option_map seen result ≡ frame_of rec.now }
     ensures place { IfSome result (λ f. (f.line ≡ rec.now.line) × (f.moment ≡ rec.now.moment) × (f.bus ≡ rec.now.bus)) }
@@ -53,7 +53,7 @@ pub fn frame_of(rec: &Record) -> Option<Frame<'_>>
 }
 
 /// What an identifier says. A number of more than 29 bits is none.
-#[inline]
+#[inline(always)]
 fn ident_of(bits: u32) -> Option<Ident>
     ensures value { result ≡ ident_of bits }
     ensures ranges { IfSome result IsIdent }
@@ -66,7 +66,7 @@ fn ident_of(bits: u32) -> Option<Ident>
 }
 
 /// Whether a frame with so many bytes before the tail is discarded.
-#[inline]
+#[inline(always)]
 fn is_discarded(ident: Ident, tail: Tail, size: usize) -> bool
     ensures { result ≡ is_discarded ident tail size }
 {
@@ -78,7 +78,7 @@ fn is_discarded(ident: Ident, tail: Tail, size: usize) -> bool
 }
 
 /// Whether the sender has no node-ID.
-#[inline]
+#[inline(always)]
 fn is_anonymous(ident: Ident) -> bool
     ensures { result ≡ is_anonymous ident }
 {

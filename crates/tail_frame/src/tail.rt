@@ -16,7 +16,7 @@ pub struct Tail {
 
 impl Tail {
     /// The tail that a byte says. `to_byte` undoes it.
-    #[inline]
+    #[inline(always)]
     pub fn parse(byte: u8) -> Tail
         ensures value { result ≡ tail_of byte }
         ensures range { result.tid < 32 }
