@@ -2,7 +2,7 @@
 use Rattle.std.proofs.Common.{◌≡◌, ◌≢◌, ℕ, suc, ◌+◌, ◌<◌, ◌≤◌, Bool, true, false, not, cond, eqb, ltb, ◌&&◌, ◌||◌, IsTrue, List, [], ◌∷◌, Option, Some, None, length, get_or, set, map, drop, refl, sym, ap, subst, ◌∙◌, add-one, drop-cons, arith}
 use Rattle.std.proofs.Math.ListN.{get_or-map, length-set, drop_of_length-le}
 use Rattle.std.proofs.Math.Seq.{map-set_same}
-use Rattle.std.proofs.lemmas.Bool.{and_parts, cond-true, cond-false, eqb-true, le-ltb, lt-ltb}
+use Rattle.std.proofs.lemmas.Bool.{and_from, and_parts, cond-true, cond-false, eqb-true, le-ltb, lt-ltb}
 use Rattle.std.proofs.lemmas.List.{get_or_default}
 use Rattle.std.proofs.lemmas.List.Elements.{All-set, AllWithin-more}
 use Rattle.std.proofs.lemmas.List.Sums.{position_or_len_is}
@@ -11,12 +11,13 @@ use Rattle.std.specs.List.{AllWithin, position_or_len}
 use Rattle.std.specs.Str.{bytes_eq}
 use denote.Ref.{Bor}
 use Rattle.std_types.specs.RegisterValues.{FitsRegisterValue}
+use Rattle.std_types.specs.declared.register.AccessReply.{AccessReply}
 use Rattle.std_types.specs.declared.register_value.RegisterValue.{RegisterValue}
 use Rattle.std_types.specs.declared.register_value.RegisterValue.TheVariants as V
 use Rattle.std_types.specs.declared.registers.Register.{Register}
 use Rattle.register_service.specs.Kept.{AllowsBy, AreKept, AreRegisters, AreWithin, IsGuard, IsOfVariant, Stand}
 use Rattle.register_service.specs.declared.service.Registers.{Registers}
-use Rattle.register_service.specs.RegisterMap.{Access, Request, access_reply, after_access, entry, entry_from, is_alike, reply, reply_at, takes, written_at}
+use Rattle.register_service.specs.RegisterMap.{Access, IsAccess, Request, access_reply, after_access, entry, entry_from, is_alike, reply, reply_at, takes, written_at}
 use Rattle.register_service.specs.Variants.{count, is_text, variant}
 use Rattle.register_service.specs.Within.{first_outside, is_within}
 
@@ -116,6 +117,39 @@ pub reply_taken : (allowed : ℕ → RegisterValue → Bool) (xs : List Register
 reply_taken allowed xs name v n r e holds =
     sym (ap (λ o. reply_at allowed o v) e ∙ ap (reply r.mutable) (cond-true (takes allowed n r v) v r.value holds))
 
+pub and_false : (x : Bool) → (x && false) ≡ false
+and_false true = refl
+and_false false = refl
+
+-- an access by what its name finds, whatever the guard answers
+pub access_unknown : (xs : List Register) (name : List ℕ) (v : RegisterValue) (a : AccessReply) → entry name xs ≡ None → a ≡ reply false V.Empty
+    → IsAccess xs name v xs a
+access_unknown xs name v a e is = record {
+  allows = false;
+  leaves = after_unknown (λ i w. false) xs name v e;
+  answers = is ∙ reply_unknown (λ i w. false) xs name v e;
+}
+
+pub access_refused : (xs : List Register) (name : List ℕ) (v : RegisterValue) (a : AccessReply) (n : ℕ) (r : Register) → entry name xs ≡ Some (n, r)
+    → a ≡ reply r.mutable r.value → IsAccess xs name v xs a
+access_refused xs name v a n r e is =
+    let fails : takes (λ i w. false) n r v ≡ false = ap (λ b. r.mutable && b) (and_false (is_alike r.value v)) ∙ and_false r.mutable in
+    record {
+      allows = false;
+      leaves = after_refused (λ i w. false) xs name v n r e fails;
+      answers = is ∙ reply_refused (λ i w. false) xs name v n r e fails;
+    }
+
+pub access_taken : (xs : List Register) (name : List ℕ) (v : RegisterValue) (a : AccessReply) (n : ℕ) (r : Register) → entry name xs ≡ Some (n, r)
+    → r.mutable ≡ true → is_alike r.value v ≡ true → a ≡ reply r.mutable v → IsAccess xs name v (set xs n (record r { value = v })) a
+access_taken xs name v a n r e m like is =
+    let holds : takes (λ i w. true) n r v ≡ true = and_from r.mutable (is_alike r.value v && true) m (and_from (is_alike r.value v) true like refl) in
+    record {
+      allows = true;
+      leaves = after_taken (λ i w. true) xs name v n r e holds;
+      answers = is ∙ reply_taken (λ i w. true) xs name v n r e holds;
+    }
+
 -- registers stand for the longer list
 pub stand_next : {G : Type 0} (g : Shared G (ℕ × (Bor RegisterValue × Unit {0})) Bool) (allowed : ℕ → RegisterValue → Bool) (opened : List Register) (past : List Request)
     (a b : Registers G) (name : List ℕ) (v : RegisterValue) → Stand g allowed opened past a → b.guard ≡ a.guard
@@ -148,4 +182,4 @@ pub ruleset opening = (outside_here, no_outside, AllWithin-more)
 
 pub ruleset finding = (entry_here, entry_next, entry_end)
 
-pub ruleset accessing = (kept_set, guard_set, alike_variant, after_unknown, after_refused, after_taken, reply_unknown, reply_refused, reply_taken, stand_next)
+pub ruleset accessing = (kept_set, guard_set, alike_variant, after_unknown, after_refused, after_taken, reply_unknown, reply_refused, reply_taken, access_unknown, access_refused, access_taken, stand_next)

@@ -1,7 +1,7 @@
 -- The register map: what registers answer to a list of accesses and listings, and what they hold after it. A register's
 -- number is its place in the list, counted from 0. As names are distinct, the list is a finite map from name to number,
 -- mutability, value and limits.
-use Rattle.std.specs.Prelude.{ℕ, zero, suc, ◌+◌, ◌==◌, Bool, true, false, not, ◌&&◌, ◌||◌, if◌then◌else◌, List, [], ◌∷◌, Option, Some, None, slice_get, slice_set}
+use Rattle.std.specs.Prelude.{◌≡◌, ℕ, zero, suc, ◌+◌, ◌==◌, Bool, true, false, not, ◌&&◌, ◌||◌, if◌then◌else◌, List, [], ◌∷◌, Option, Some, None, slice_get, slice_set}
 use Rattle.std.specs.Str.{bytes_eq}
 use Rattle.std.specs.Option.{option_map}
 use Rattle.std_types.specs.declared.register.AccessReply.{AccessReply}
@@ -49,6 +49,12 @@ access_reply allowed registers name v = reply_at allowed (entry name registers) 
 
 abbrev pub after_access : (ℕ → RegisterValue → Bool) → List Register → List ℕ → RegisterValue → List Register
 after_access allowed registers name v = written_at allowed registers (entry name registers) v
+
+-- an access to registers left these and was answered so: as the guard allowed the value or not
+pub record IsAccess (registers : List Register) (name : List ℕ) (v : RegisterValue) (left : List Register) (r : AccessReply) : Type 0 where
+  pub allows : Bool
+  pub leaves : left ≡ after_access (λ number w. allows) registers name v
+  pub answers : r ≡ access_reply (λ number w. allows) registers name v
 
 -- the name of the register with a number
 abbrev pub name_at : List Register → ℕ → Option (List ℕ)

@@ -2,12 +2,14 @@
 //! keeps it within its limits.
 #![tactic(auto)]
 
+pub mod laws;
 pub mod limits;
 mod number;
 pub mod open_error;
 pub mod service;
 mod values;
 
-pub use limits::{is_allowed, limits_of};
+pub use laws::register_laws;
+pub use limits::{is_allowed, is_within, limits_of};
 pub use open_error::OpenError;
 pub use service::Registers;

@@ -3,7 +3,7 @@ ghost use Rattle.std.specs.Option.{option_copied, option_map};
 ghost use Rattle.std_types.specs.RegisterValues.{FitsRegisterValue};
 ghost use Rattle.std_types.specs.Registers.{FitsAccessReply};
 ghost use Rattle.register_service.specs.Kept.{AllowsBy, AreGuarded, AreKept, AreRegisters, IsAt, IsGuard, IsOfVariant, Stand};
-ghost use Rattle.register_service.specs.RegisterMap.{Access, Listing, Request, access_reply, after, entry, is_alike, name_at, reply, takes};
+ghost use Rattle.register_service.specs.RegisterMap.{Access, IsAccess, Listing, Request, access_reply, after, entry, is_alike, name_at, reply, takes};
 ghost use Rattle.register_service.specs.Within.{IsOutside, first_outside, is_within};
 
 use crate::OpenError;
@@ -67,7 +67,9 @@ impl<G: Fn(u16, &RegisterValue) -> bool + Drop> Registers<G> {
         requires fits { FitsRegisterValue value }
         ensures guarded { AreGuarded G.Fn self.new }
         ensures guard { self.new.guard ≡ self.old.guard }
-        ensures memory { OnErr result (self.new.list ≡ self.old.list) }
+        ensures memory { OnErr result (self.new ≡ self.old) }
+        ensures access { IfOk result (λ r.
+            IsAccess self.old.list.items name.now value self.new.list.items r) }
         ensures fits { IfOk result (λ r. FitsAccessReply r) }
         ensures reply { (allowed : ℕ → RegisterValue → Bool) (opened : ListOf Register)
             (past : ListOf Request) → Stand G.Fn allowed opened past self.old
@@ -93,6 +95,9 @@ impl<G: Fn(u16, &RegisterValue) -> bool + Drop> Registers<G> {
     /// The name of the register with this number; `None` past the last. Takes no memory.
     pub fn list(&self, index: u16) -> Option<&[u8]>
         ensures name { option_copied result ≡ name_at self.now.list.items index }
+        ensures reply { (allowed : ℕ → RegisterValue → Bool) (opened : ListOf Register)
+            (past : ListOf Request) → Stand G.Fn allowed opened past self.now
+            → option_copied result ≡ name_at (after allowed opened past) index }
         ensures stands { (allowed : ℕ → RegisterValue → Bool) (opened : ListOf Register)
             (past : ListOf Request) → Stand G.Fn allowed opened past self.now
             → Stand G.Fn allowed opened (Listing index ∷ past) self.now }
@@ -135,6 +140,7 @@ impl<G: Fn(u16, &RegisterValue) -> bool + Drop> Registers<G> {
         requires at { IsAt self.now.list.items number register.now }
         requires fits { FitsRegisterValue value.now }
         ensures within { IsTrue result → IsTrue (is_within register.now.limits value.now) }
+        ensures mutable { IsTrue result → IsTrue register.now.mutable }
         ensures alike { IsTrue result → IsTrue (is_alike register.now.value value.now) }
         ensures takes { (allowed : ℕ → RegisterValue → Bool)
             → AllowsBy G.Fn self.now.guard allowed
