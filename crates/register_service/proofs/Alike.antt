@@ -40,11 +40,11 @@ same_count : (held v u : RegisterValue) → (is_text v || eqb (count v) (count h
     → (is_text u || eqb (count u) (count v)) ≡ (is_text u || eqb (count u) (count held))
 same_count held v u h e = elim (cases_Bool (is_text v)) [
   | inl holds ↦
-    let t : is_text u ≡ true = text_same u v e ∙ holds in
-    ap (λ b. b || eqb (count u) (count v)) t ∙ sym (ap (λ b. b || eqb (count u) (count held)) t)
+      let t : is_text u ≡ true = text_same u v e ∙ holds in
+      ap (λ b. b || eqb (count u) (count v)) t ∙ sym (ap (λ b. b || eqb (count u) (count held)) t)
   | inr fails ↦
-    let same : count v ≡ count held = eqb-true (count v) (count held) (sym (or_right (is_text v) (eqb (count v) (count held)) fails) ∙ h) in
-    ap (λ n. is_text u || eqb (count u) n) same
+      let same : count v ≡ count held = eqb-true (count v) (count held) (sym (or_right (is_text v) (eqb (count v) (count held)) fails) ∙ h) in
+      ap (λ n. is_text u || eqb (count u) n) same
 ]
 
 pub alike_same : (held v : RegisterValue) → is_alike held v ≡ true → (u : RegisterValue) → is_alike v u ≡ is_alike held u

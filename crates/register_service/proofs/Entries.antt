@@ -1,5 +1,5 @@
 -- What a name finds among registers.
-use Rattle.std.proofs.Common.{◌≡◌, ◌≢◌, ℕ, zero, suc, ◌+◌, ◌<◌, true, false, cond, List, [], ◌∷◌, Option, Some, None, length, get_or, refl, sym, ap, subst, ◌∙◌, inl, inr, arith}
+use Rattle.std.proofs.Common.{◌≡◌, ◌≢◌, ℕ, zero, suc, ◌+◌, ◌<◌, true, false, List, [], ◌∷◌, Option, Some, None, length, get_or, refl, sym, ap, subst, ◌∙◌, inl, inr, arith}
 use Rattle.std.proofs.lemmas.Bool.{cases_Bool, cond-true, cond-false}
 use Rattle.std.proofs.lemmas.Slice.Eq.{bytes_eq-Decides}
 use Rattle.std.specs.List.{All, AllPairs}
@@ -63,9 +63,9 @@ entry_found : (n : ℕ) (name : List ℕ) (xs : List Register) (k : ℕ) (r : Re
 entry_found n name [] k r e = cc
 entry_found n name (x ∷ xs) k r e = elim (cases_Bool (bytes_eq x.name name)) [
   | inl holds ↦ found_here x xs n name k r holds
-    (sym (cond-true (bytes_eq x.name name) (Some (n, x)) (entry_from (n + 1) name xs) holds) ∙ e)
+      (sym (cond-true (bytes_eq x.name name) (Some (n, x)) (entry_from (n + 1) name xs) holds) ∙ e)
   | inr fails ↦ found_next x xs n name k r
-    (entry_found (n + 1) name xs k r (sym (cond-false (bytes_eq x.name name) (Some (n, x)) (entry_from (n + 1) name xs) fails) ∙ e))
+      (entry_found (n + 1) name xs k r (sym (cond-false (bytes_eq x.name name) (Some (n, x)) (entry_from (n + 1) name xs) fails) ∙ e))
 ]
 
 -- what a name finds is a register with this name and number

@@ -1,5 +1,5 @@
 -- Registers one by one: what a name finds, and what stays where a value is written.
-use Rattle.std.proofs.Common.{◌≡◌, ◌≢◌, ℕ, suc, ◌+◌, ◌<◌, ◌≤◌, Bool, true, false, not, cond, eqb, ltb, ◌&&◌, ◌||◌, IsTrue, List, [], ◌∷◌, Option, Some, None, length, get_or, set, map, drop, refl, sym, ap, subst, ◌∙◌, add-one, drop-cons, arith}
+use Rattle.std.proofs.Common.{◌≡◌, ℕ, suc, ◌+◌, ◌<◌, ◌≤◌, Bool, true, false, not, eqb, ltb, ◌&&◌, ◌||◌, IsTrue, List, [], ◌∷◌, Some, None, length, get_or, set, drop, refl, sym, ap, subst, ◌∙◌, add-one, drop-cons, arith}
 use Rattle.std.proofs.Math.ListN.{get_or-map, length-set, drop_of_length-le}
 use Rattle.std.proofs.Math.Seq.{map-set_same}
 use Rattle.std.proofs.lemmas.Bool.{and_from, and_parts, cond-true, cond-false, eqb-true, le-ltb, lt-ltb}
@@ -15,7 +15,7 @@ use Rattle.std_types.specs.declared.register.AccessReply.{AccessReply}
 use Rattle.std_types.specs.declared.register_value.RegisterValue.{RegisterValue}
 use Rattle.std_types.specs.declared.register_value.RegisterValue.TheVariants as V
 use Rattle.std_types.specs.declared.registers.Register.{Register}
-use Rattle.register_service.specs.Kept.{AllowsBy, AreKept, AreRegisters, AreWithin, IsGuard, IsOfVariant, Stand}
+use Rattle.register_service.specs.Kept.{AllowsBy, AreKept, AreWithin, IsGuard, Stand}
 use Rattle.register_service.specs.declared.service.Registers.{Registers}
 use Rattle.register_service.specs.RegisterMap.{Access, IsAccess, Request, access_reply, after_access, entry, entry_from, is_alike, reply, reply_at, takes, written_at}
 use Rattle.register_service.specs.Variants.{count, is_text, variant}

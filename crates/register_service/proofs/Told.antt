@@ -1,5 +1,5 @@
 -- The laws: what registers hold and answer, over every list of requests.
-use Rattle.std.proofs.Common.{◌≡◌, ◌≢◌, ℕ, ◌+◌, ◌<◌, ◌≤◌, Bool, true, false, cond, ◌&&◌, IsTrue, List, [], ◌∷◌, ◌++◌, Option, Some, None, length, get_or, map, refl, sym, ap, subst, ◌∙◌, inl, inr, arith}
+use Rattle.std.proofs.Common.{◌≡◌, ℕ, ◌<◌, ◌≤◌, Bool, true, false, List, [], ◌∷◌, ◌++◌, Option, Some, None, length, refl, sym, ap, subst, ◌∙◌, inl, inr, arith}
 use Rattle.std.proofs.lemmas.Bool.{cases_Bool, cases_lt, cond-true, cond-false}
 use Rattle.std.proofs.lemmas.Option.{slice_get-map, slice_get_cases, slice_get_past, slice_get_read}
 use Rattle.std.proofs.Math.ListN.{length-set}
@@ -15,7 +15,7 @@ use Rattle.std_types.specs.declared.registers.Register.{Register}
 use Rattle.register_service.specs.Kept.{AreRegisters, IsAt}
 use Rattle.register_service.specs.Laws.{IsUnknown, KeepWithin, RegisterLaws, last_written}
 use Rattle.register_service.specs.RegisterMap.{Access, Request, access_reply, after, after_access, after_request, entry, name_at, replies, reply, reply_to, takes}
-use Rattle.register_service.specs.Within.{is_allowed, is_allowed_by, is_within, limits_of}
+use Rattle.register_service.specs.Within.{is_allowed, is_allowed_by, limits_of}
 use Rattle.register_service.proofs.Alike.{takes_empty, takes_nothing}
 use Rattle.register_service.proofs.Entries.{at_entry, found_at, found_name, some_inj, unknown_entry}
 use Rattle.register_service.proofs.Map.{after_refused, after_taken, after_unknown, reply_refused, reply_taken, reply_unknown}
@@ -45,11 +45,11 @@ known allowed opened past i r v h at =
     let named : bytes_eq r.name r.name ≡ true = (bytes_eq-Decides r.name r.name).1 refl in
     elim (cases_Bool (takes allowed i r v)) [
       | inl holds ↦
-        sym (reply_taken allowed xs r.name v i q found (same ∙ holds))
-        ∙ ap (reply r.mutable) (sym (cond-true (takes allowed i r v) v w holds) ∙ wrote r r.name (takes allowed i r v) v w named)
+          sym (reply_taken allowed xs r.name v i q found (same ∙ holds))
+          ∙ ap (reply r.mutable) (sym (cond-true (takes allowed i r v) v w holds) ∙ wrote r r.name (takes allowed i r v) v w named)
       | inr fails ↦
-        sym (reply_refused allowed xs r.name v i q found (same ∙ fails))
-        ∙ ap (reply r.mutable) (sym (cond-false (takes allowed i r v) v w fails) ∙ wrote r r.name (takes allowed i r v) v w named)
+          sym (reply_refused allowed xs r.name v i q found (same ∙ fails))
+          ∙ ap (reply r.mutable) (sym (cond-false (takes allowed i r v) v w fails) ∙ wrote r r.name (takes allowed i r v) v w named)
     ]
 
 unknown_after : (allowed : ℕ → RegisterValue → Bool) (opened : List Register) (past : List Request) (name : List ℕ) → IsUnknown name opened
@@ -143,7 +143,7 @@ listed_none xs i e = elim (slice_get_cases xs i).1 [
   | inr (past, none) ↦ past
 ]
 
-by_limits : (registers : List Register) → KeepWithin (is_allowed (limits_of registers)) registers
+pub by_limits : (registers : List Register) → KeepWithin (is_allowed (limits_of registers)) registers
 by_limits xs i r v at of yes' =
     let limits : Register → Option Limits = λ x. x.limits in
     let there : slice_get (limits_of xs) i ≡ Some r.limits = slice_get-map limits xs i ∙ ap (option_map limits) (slice_get_read xs (length xs) i r refl at.0 at.1) in

@@ -1,8 +1,8 @@
 -- What requests leave: names, limits and mutability as they were, and the values last written.
-use Rattle.std.proofs.Common.{◌≡◌, ◌≢◌, ℕ, ◌+◌, ◌<◌, ◌≤◌, Bool, true, false, cond, ◌&&◌, IsTrue, List, [], ◌∷◌, Option, Some, None, length, get_or, set, map, refl, sym, ap, subst, ◌∙◌, ◌⊎◌, inl, inr, arith}
+use Rattle.std.proofs.Common.{◌≡◌, ◌≢◌, ℕ, ◌<◌, Bool, true, false, cond, ◌&&◌, IsTrue, List, [], ◌∷◌, Option, Some, None, length, get_or, set, map, refl, sym, ap, subst, ◌∙◌, ◌⊎◌, inl, inr, arith}
 use Rattle.std.proofs.Math.ListN.{get_or-map, length-set}
 use Rattle.std.proofs.Math.Seq.{map-set_same}
-use Rattle.std.proofs.lemmas.Bool.{and_parts, and_from, both_ways, cases_Bool, cond-true, cond-false}
+use Rattle.std.proofs.lemmas.Bool.{both_ways, cases_Bool, cond-true, cond-false}
 use Rattle.std.proofs.lemmas.List.{get_or_default, get_or-set_same, get_or-set_other}
 use Rattle.std.proofs.lemmas.Slice.Eq.{bytes_eq-Decides}
 use Rattle.std.specs.List.{AllPairs}
@@ -10,7 +10,7 @@ use Rattle.std.specs.Str.{bytes_eq}
 use Rattle.std_types.specs.RegisterValues.{FitsRegisterValue}
 use Rattle.std_types.specs.declared.register_value.RegisterValue.{RegisterValue}
 use Rattle.std_types.specs.declared.registers.Register.{Register}
-use Rattle.register_service.specs.Kept.{AreKept, IsAt, IsOfVariant}
+use Rattle.register_service.specs.Kept.{AreKept, IsAt}
 use Rattle.register_service.specs.Laws.{AllFit, KeepWithin, last_written}
 use Rattle.register_service.specs.RegisterMap.{Access, Listing, Request, after, after_access, entry, is_alike, takes}
 use Rattle.register_service.specs.Variants.{variant}
@@ -44,8 +44,8 @@ module _ {A : Type 0} (f : Register → A) (blind : (r : Register) (v : Register
   access_map : (allowed : ℕ → RegisterValue → Bool) (xs : List Register) (name : List ℕ) (v : RegisterValue) → map f (after_access allowed xs name v) ≡ map f xs
   access_map allowed xs name v = elim (access_cases allowed xs name v) [
     | inl t ↦
-      ap (map f) (sym t.after)
-      ∙ map-set_same f xs t.number (record t.register { value = v }) t.register (blind t.register v ∙ ap f (found_at name xs t.number t.register t.found).1)
+        ap (map f) (sym t.after)
+        ∙ map-set_same f xs t.number (record t.register { value = v }) t.register (blind t.register v ∙ ap f (found_at name xs t.number t.register t.found).1)
     | inr same ↦ ap (map f) (sym same)
   ]
 
@@ -125,14 +125,14 @@ step_other : (allowed : ℕ → RegisterValue → Bool) (r : Register) (i : ℕ)
     → Stays r i xs w → bytes_eq r.name n ≡ false → Stays r i (after_access allowed xs n v) w
 step_other allowed r i xs w n v s fails = elim (access_cases allowed xs n v) [
   | inl t ↦
-    let o : Register = record r { value = w } in
-    let low : i < length xs = s.low in
-    subst (λ l. Stays r i l w) t.after
-    (record {
-      low = omega (arith, length-set xs t.number (record t.register { value = v }));
-      at = s.at ∙ sym (get_or-set_other xs t.number i (record t.register { value = v }) o (other_number o i xs n t.number t.register s.low s.at fails t.found));
-      alike = s.alike;
-    })
+      let o : Register = record r { value = w } in
+      let low : i < length xs = s.low in
+      subst (λ l. Stays r i l w) t.after
+      (record {
+        low = omega (arith, length-set xs t.number (record t.register { value = v }));
+        at = s.at ∙ sym (get_or-set_other xs t.number i (record t.register { value = v }) o (other_number o i xs n t.number t.register s.low s.at fails t.found));
+        alike = s.alike;
+      })
   | inr same ↦ subst (λ l. Stays r i l w) same s
 ]
 
@@ -151,9 +151,9 @@ step : (allowed : ℕ → RegisterValue → Bool) (r : Register) (i : ℕ) (xs :
 step allowed r i xs w n v d s = elim (cases_Bool (bytes_eq r.name n)) [
   | inl named ↦ elim (cases_Bool (takes allowed i r v)) [
     | inl holds ↦ subst (Stays r i (after_access allowed xs n v)) (sym (cond-true (takes allowed i r v) v w holds) ∙ wrote r n (takes allowed i r v) v w named)
-      (step_taken allowed r i xs w n v d s named holds)
+        (step_taken allowed r i xs w n v d s named holds)
     | inr fails ↦ subst (Stays r i (after_access allowed xs n v)) (sym (cond-false (takes allowed i r v) v w fails) ∙ wrote r n (takes allowed i r v) v w named)
-      (step_refused allowed r i xs w n v d s named fails)
+        (step_refused allowed r i xs w n v d s named fails)
   ]
   | inr other ↦ subst (Stays r i (after_access allowed xs n v)) (wrote_other r n (takes allowed i r v) v w other) (step_other allowed r i xs w n v s other)
 ]
@@ -191,11 +191,11 @@ keep_access : (allowed : ℕ → RegisterValue → Bool) (xs : List Register) (n
     → AreKept xs × KeepWithin allowed xs → AreKept (after_access allowed xs name v) × KeepWithin allowed (after_access allowed xs name v)
 keep_access allowed xs name v f h = elim (access_cases allowed xs name v) [
   | inl t ↦
-    let at = found_at name xs t.number t.register t.found in
-    let same = alike_variant t.register.value v (taken_alike allowed t.number t.register v t.takes) in
-    let w = h.1 t.number t.register v at (same, f) (taken_allowed allowed t.number t.register v t.takes) in
-    subst (λ l. AreKept l × KeepWithin allowed l) t.after
-    (kept_set xs t.number t.register v h.0 at.0 at.1 f w, keep_set allowed xs t.number t.register v h.1 at.1 same)
+      let at = found_at name xs t.number t.register t.found in
+      let same = alike_variant t.register.value v (taken_alike allowed t.number t.register v t.takes) in
+      let w = h.1 t.number t.register v at (same, f) (taken_allowed allowed t.number t.register v t.takes) in
+      subst (λ l. AreKept l × KeepWithin allowed l) t.after
+      (kept_set xs t.number t.register v h.0 at.0 at.1 f w, keep_set allowed xs t.number t.register v h.1 at.1 same)
   | inr same ↦ subst (λ l. AreKept l × KeepWithin allowed l) same h
 ]
 

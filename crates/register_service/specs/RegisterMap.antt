@@ -1,7 +1,7 @@
 -- The register map: what registers answer to a list of accesses and listings, and what they hold after it. A register's
 -- number is its place in the list, counted from 0. As names are distinct, the list is a finite map from name to number,
 -- mutability, value and limits.
-use Rattle.std.specs.Prelude.{◌≡◌, ℕ, zero, suc, ◌+◌, ◌==◌, Bool, true, false, not, ◌&&◌, ◌||◌, if◌then◌else◌, List, [], ◌∷◌, Option, Some, None, slice_get, slice_set}
+use Rattle.std.specs.Prelude.{◌≡◌, ℕ, ◌+◌, ◌==◌, Bool, false, not, ◌&&◌, ◌||◌, if◌then◌else◌, List, [], ◌∷◌, Option, Some, None, slice_get, slice_set}
 use Rattle.std.specs.Str.{bytes_eq}
 use Rattle.std.specs.Option.{option_map}
 use Rattle.std_types.specs.declared.register.AccessReply.{AccessReply}

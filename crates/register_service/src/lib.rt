@@ -7,6 +7,8 @@ pub mod limits;
 mod number;
 pub mod open_error;
 pub mod service;
+#[cfg(test)]
+mod tests;
 mod values;
 
 pub use laws::register_laws;

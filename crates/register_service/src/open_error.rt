@@ -6,6 +6,6 @@ pub enum OpenError {
         /// The number of the first such register, counted from 0.
         index: u16,
     },
-    /// Want of memory.
+    /// Want of memory; `open` takes none.
     NoMemory,
 }

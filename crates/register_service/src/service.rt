@@ -98,6 +98,8 @@ impl<G: Fn(u16, &RegisterValue) -> bool + Drop> Registers<G> {
         ensures reply { (allowed : ℕ → RegisterValue → Bool) (opened : ListOf Register)
             (past : ListOf Request) → Stand G.Fn allowed opened past self.now
             → option_copied result ≡ name_at (after allowed opened past) index }
+        ensures short { AreRegisters self.now.list.items
+            → IfSome result (λ n. length n.now ≤ 255) }
         ensures stands { (allowed : ℕ → RegisterValue → Bool) (opened : ListOf Register)
             (past : ListOf Request) → Stand G.Fn allowed opened past self.now
             → Stand G.Fn allowed opened (Listing index ∷ past) self.now }

@@ -1,4 +1,4 @@
-use Rattle.std.proofs.Common.{◌≡◌, ℕ, Some, arith}
+use Rattle.std.proofs.Common.{◌≡◌, Some, arith}
 use Rattle.std_types.specs.declared.registers.Register.{Register}
 use Rattle.register_service.specs.RegisterMap.{entry, reply}
 use Rattle.register_service.proofs.Map.{access_refused}
