@@ -13,7 +13,7 @@ use Rattle.std_types.specs.declared.register_value.RegisterValue.TheVariants as 
 use Rattle.std_types.specs.declared.registers.Limits.{Limits}
 use Rattle.std_types.specs.declared.registers.Register.{Register}
 use Rattle.register_service.specs.Kept.{AreRegisters, IsAt}
-use Rattle.register_service.specs.Laws.{IsUnknown, KeepWithin, RegisterLaws, last_written}
+use Rattle.register_service.specs.Laws.{HoldAfter, IsUnknown, KeepWithin, RegisterLaws, last_written}
 use Rattle.register_service.specs.RegisterMap.{Access, Request, access_reply, after, after_access, after_request, entry, name_at, replies, reply, reply_to, takes}
 use Rattle.register_service.specs.Within.{is_allowed, is_allowed_by, limits_of}
 use Rattle.register_service.proofs.Alike.{takes_empty, takes_nothing}
@@ -160,21 +160,26 @@ replies_in_parts allowed opened (q ∷ newer) past =
     ap (λ xs. reply_to allowed xs q ∷ replies allowed opened (newer ++ past)) (parts allowed opened newer past)
     ∙ ap (λ l. reply_to allowed (after allowed (after allowed opened past) newer) q ∷ l) (replies_in_parts allowed opened newer past)
 
+hold_after : (allowed : ℕ → RegisterValue → Bool) (opened : List Register) (past : List Request) → HoldAfter allowed opened past
+hold_after allowed opened past = record {
+  number = after_length allowed opened past;
+  value = value allowed opened past;
+  read_only = read_only allowed opened past;
+  known = known allowed opened past;
+  unknown = unknown allowed opened past;
+  unknown_stays = unknown_stays allowed opened past;
+  read = read allowed opened past;
+  listed = listed allowed opened past;
+  within = λ g k f. (keep_after allowed opened past f (k, g)).0;
+}
+
 pub register_laws : RegisterLaws
 register_laws = record {
-  value = value;
-  number = after_length;
-  read_only = read_only;
-  known = known;
-  unknown = unknown;
-  unknown_stays = unknown_stays;
-  read = read;
-  read_again = λ allowed registers name v h. again_by allowed registers name v (entry name registers) h refl;
-  listed = listed;
-  listed_once = listed_once;
-  listed_all = λ registers i. (listed_none registers i, λ past. ap (option_map (λ (x : Register). x.name)) (slice_get_past registers i past));
-  within = λ allowed opened past g k f. (keep_after allowed opened past f (k, g)).0;
-  by_limits = by_limits;
+  after_all = hold_after;
   parts = parts;
   replies_in_parts = replies_in_parts;
+  read_again = λ allowed registers name v h. again_by allowed registers name v (entry name registers) h refl;
+  listed_once = listed_once;
+  listed_all = λ registers i. (listed_none registers i, λ past. ap (option_map (λ (x : Register). x.name)) (slice_get_past registers i past));
+  by_limits = by_limits;
 }

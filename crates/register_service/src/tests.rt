@@ -143,7 +143,8 @@ fn is(value: &RegisterValue, short: Short) -> bool {
             matches!(value, RegisterValue::Bit(items) if items.as_slice() == bits)
         }
         Short::Integer(number) => {
-            matches!(value, RegisterValue::Integer16(items) if items.as_slice() == [number].as_slice())
+            let one = [number];
+            matches!(value, RegisterValue::Integer16(items) if items.as_slice() == one.as_slice())
         }
     }
 }
