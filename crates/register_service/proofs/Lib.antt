@@ -1,0 +1,5 @@
+pub mod Map
+pub mod Entries
+pub mod Alike
+pub mod Written
+pub mod Told

@@ -1,0 +1,17 @@
+//! Registers of a node: named values that others read, list and write, each behind a guard that
+//! keeps it within its limits.
+#![tactic(auto)]
+
+pub mod laws;
+pub mod limits;
+mod number;
+pub mod open_error;
+pub mod service;
+#[cfg(test)]
+mod tests;
+mod values;
+
+pub use laws::register_laws;
+pub use limits::{is_allowed, is_within, limits_of};
+pub use open_error::OpenError;
+pub use service::Registers;

@@ -1,0 +1,74 @@
+//! What numbers of registers are kept within.
+ghost use Rattle.std.specs.Prelude.{◌≡◌, IfOk, map};
+ghost use Rattle.std.specs.List.{list_all};
+ghost use Rattle.register_service.specs.Within.{is_allowed, is_within, lies, lie_within, limits_of};
+
+use crate::number::Number;
+use cy_bits::{List, NoMemory};
+use std::alloc::Global;
+use std_types::register_value::RegisterValue;
+use std_types::registers::{Limits, Register};
+
+/// Whether a number lies from the least to the greatest.
+fn lies(limits: Limits, number: i128) -> bool
+    ensures { result ≡ lies limits number }
+{
+    limits.low <= number && number <= limits.high
+}
+
+/// Whether each of these numbers does.
+fn all_lie<T: Number>(limits: Limits, numbers: &[T]) -> bool
+    ensures { result ≡ list_all (λ n. lies limits (T.worth n)) numbers.now }
+{
+    numbers.iter().all(|n| lies(limits, n.worth()))
+}
+
+/// Whether each item of an integer or natural variant lies within the limits; the items of other
+/// variants always do.
+fn lie_within(limits: Limits, value: &RegisterValue) -> bool
+    ensures { result ≡ lie_within limits value.now }
+{
+    match value {
+        RegisterValue::Integer64(items) => all_lie(limits, items.as_slice()),
+        RegisterValue::Integer32(items) => all_lie(limits, items.as_slice()),
+        RegisterValue::Integer16(items) => all_lie(limits, items.as_slice()),
+        RegisterValue::Integer8(items) => all_lie(limits, items.as_slice()),
+        RegisterValue::Natural64(items) => all_lie(limits, items.as_slice()),
+        RegisterValue::Natural32(items) => all_lie(limits, items.as_slice()),
+        RegisterValue::Natural16(items) => all_lie(limits, items.as_slice()),
+        RegisterValue::Natural8(items) => all_lie(limits, items.as_slice()),
+        _ => true,
+    }
+}
+
+/// Whether a value is within limits, where there are any.
+pub fn is_within(limits: Option<Limits>, value: &RegisterValue) -> bool
+    ensures { result ≡ is_within limits value.now }
+{
+    match limits {
+        Some(limits) => lie_within(limits, value),
+        None => true,
+    }
+}
+
+/// The limits of registers, in their order.
+pub fn limits_of(alloc: Global, registers: &[Register]) -> Result<List<Option<Limits>>, NoMemory>
+    ensures { IfOk result (λ l. l ≡ limits_of registers.now) }
+{
+    let mut limits = Vec::new(alloc);
+    for register in registers {
+        limits.push(register.limits)?;
+    }
+    Ok(List::new(limits))
+}
+
+/// The answer of a guard that keeps registers within these limits: yes where the value is within
+/// those of the register of that number, and no where there is none.
+pub fn is_allowed(limits: &[Option<Limits>], number: u16, value: &RegisterValue) -> bool
+    ensures { result ≡ is_allowed limits.now number value.now }
+{
+    match limits.get(number as usize) {
+        Some(limits) => is_within(*limits, value),
+        None => false,
+    }
+}

@@ -1,0 +1,105 @@
+//! What is asked of a register's value, and its copy.
+ghost use Rattle.std.specs.Prelude.{◌≡◌, IfOk};
+ghost use Rattle.register_service.specs.Variants.{count, is_text, variant};
+
+use cy_bits::{List, NoMemory, TryCopy};
+use std::alloc::Global;
+use std_types::register_value::RegisterValue;
+use std_types::registers::Register;
+
+/// The number of a value's variant, in the order of `uavcan.register.Value`; the empty one has 0.
+pub fn variant(value: &RegisterValue) -> u8
+    ensures { result ≡ variant value.now }
+{
+    match value {
+        RegisterValue::Empty => 0,
+        RegisterValue::String(_) => 1,
+        RegisterValue::Unstructured(_) => 2,
+        RegisterValue::Bit(_) => 3,
+        RegisterValue::Integer64(_) => 4,
+        RegisterValue::Integer32(_) => 5,
+        RegisterValue::Integer16(_) => 6,
+        RegisterValue::Integer8(_) => 7,
+        RegisterValue::Natural64(_) => 8,
+        RegisterValue::Natural32(_) => 9,
+        RegisterValue::Natural16(_) => 10,
+        RegisterValue::Natural8(_) => 11,
+        RegisterValue::Real64(_) => 12,
+        RegisterValue::Real32(_) => 13,
+        RegisterValue::Real16(_) => 14,
+    }
+}
+
+/// Whether a value is a string or unstructured: of any length.
+pub fn is_text(value: &RegisterValue) -> bool
+    ensures { result ≡ is_text value.now }
+{
+    matches!(
+        value,
+        RegisterValue::String(_) | RegisterValue::Unstructured(_)
+    )
+}
+
+/// The number of a value's items.
+pub fn count(value: &RegisterValue) -> usize
+    ensures { result ≡ count value.now }
+{
+    match value {
+        RegisterValue::Empty => 0,
+        RegisterValue::String(bytes) | RegisterValue::Unstructured(bytes) => bytes.len(),
+        RegisterValue::Bit(items) => items.len(),
+        RegisterValue::Integer64(items) => items.len(),
+        RegisterValue::Integer32(items) => items.len(),
+        RegisterValue::Integer16(items) => items.len(),
+        RegisterValue::Integer8(items) => items.len(),
+        RegisterValue::Natural64(items) => items.len(),
+        RegisterValue::Natural32(items) => items.len(),
+        RegisterValue::Natural16(items) => items.len(),
+        RegisterValue::Natural8(items) => items.len(),
+        RegisterValue::Real64(items) => items.len(),
+        RegisterValue::Real32(items) => items.len(),
+        RegisterValue::Real16(items) => items.len(),
+    }
+}
+
+/// An equal list.
+fn copy_items<T: Copy>(alloc: Global, items: &List<T>) -> Result<List<T>, NoMemory>
+    ensures { IfOk result (λ l. l ≡ items.now) }
+{
+    Ok(List::new(Vec::from_slice(alloc, items.as_slice())?))
+}
+
+/// An equal value.
+pub fn copy_value(alloc: Global, value: &RegisterValue) -> Result<RegisterValue, NoMemory>
+    ensures { IfOk result (λ v. v ≡ value.now) }
+{
+    Ok(match value {
+        RegisterValue::Empty => RegisterValue::Empty,
+        RegisterValue::String(bytes) => RegisterValue::String(bytes.copy(alloc)?),
+        RegisterValue::Unstructured(bytes) => RegisterValue::Unstructured(bytes.copy(alloc)?),
+        RegisterValue::Bit(items) => RegisterValue::Bit(copy_items(alloc, items)?),
+        RegisterValue::Integer64(items) => RegisterValue::Integer64(copy_items(alloc, items)?),
+        RegisterValue::Integer32(items) => RegisterValue::Integer32(copy_items(alloc, items)?),
+        RegisterValue::Integer16(items) => RegisterValue::Integer16(copy_items(alloc, items)?),
+        RegisterValue::Integer8(items) => RegisterValue::Integer8(copy_items(alloc, items)?),
+        RegisterValue::Natural64(items) => RegisterValue::Natural64(copy_items(alloc, items)?),
+        RegisterValue::Natural32(items) => RegisterValue::Natural32(copy_items(alloc, items)?),
+        RegisterValue::Natural16(items) => RegisterValue::Natural16(copy_items(alloc, items)?),
+        RegisterValue::Natural8(items) => RegisterValue::Natural8(copy_items(alloc, items)?),
+        RegisterValue::Real64(items) => RegisterValue::Real64(copy_items(alloc, items)?),
+        RegisterValue::Real32(items) => RegisterValue::Real32(copy_items(alloc, items)?),
+        RegisterValue::Real16(items) => RegisterValue::Real16(copy_items(alloc, items)?),
+    })
+}
+
+/// An equal register.
+pub fn copy_register(alloc: Global, register: &Register) -> Result<Register, NoMemory>
+    ensures { IfOk result (λ r. r ≡ register.now) }
+{
+    Ok(Register {
+        name: register.name.copy(alloc)?,
+        mutable: register.mutable,
+        value: copy_value(alloc, &register.value)?,
+        limits: register.limits,
+    })
+}
