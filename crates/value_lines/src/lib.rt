@@ -1,0 +1,12 @@
+//! Lines of values: each the text of a value or the hex of its bytes, and the line that answers it (Cyphal
+//! Specification, section 3.7).
+#![tactic(auto)]
+
+mod decoded;
+mod encoded;
+pub mod laws;
+mod refusal;
+
+pub use decoded::{Decoder, LONGEST_LINE};
+pub use encoded::Encoder;
+pub use refusal::Refusal;
