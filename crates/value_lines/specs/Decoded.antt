@@ -1,6 +1,6 @@
 -- What decoding a line gives: the text of the value that the bytes read as whose hex the line is (Cyphal
 -- Specification, section 3.7).
-use Rattle.std.specs.Prelude.{◌≡◌, ℕ, ◌^◌, nat_lt, if◌then◌else◌, List, [], ◌∷◌, ◌++◌, length, Result, Ok, Err}
+use Rattle.std.specs.Prelude.{◌≡◌, ℕ, if◌then◌else◌, List, [], ◌∷◌, ◌++◌, Result, Ok, Err}
 use Rattle.cy_bits.specs.Bits.{bits}
 use Rattle.hex.specs.Hex.{decode_of}
 use Rattle.hex.specs.declared.error.FromHexError.{FromHexError}
@@ -12,6 +12,7 @@ use Rattle.dsdl_types.specs.Values.{Val}
 use Rattle.dsdl_types.specs.declared.read_why.ReadWhy.{ReadWhy}
 use Rattle.dsdl_types.specs.declared.read_why.ReadWhy.TheVariants as why
 use Rattle.value_text.specs.Texts.{value_text}
+use Rattle.value_lines.specs.LongLines.{is_long}
 use Rattle.value_lines.specs.declared.refusal.Refusal.{Refusal}
 use Rattle.value_lines.specs.declared.refusal.Refusal.TheVariants as refusal
 
@@ -36,14 +37,10 @@ abbrev pub bytes_answer : Sch → ℕ → Result (List ℕ) FromHexError → Res
 bytes_answer s n (Ok b) = read_answer s n (own s 0 (bits b))
 bytes_answer s n (Err error) = Err (refusal.Text n)
 
--- a line of more bytes is refused
-abbrev pub longest_line : ℕ
-longest_line = 2 ^ 20
-
--- what decoding answers to a line, by its number
+-- what decoding answers to a line, by its number: a line that is too long is refused
 abbrev pub decoded : Sch → ℕ → List ℕ → Result (List ℕ) Refusal
 decoded s n line =
-    if nat_lt longest_line (length line) then Err (refusal.Text n) else bytes_answer s n (decode_of line)
+    if is_long line then Err (refusal.Text n) else bytes_answer s n (decode_of line)
 
 -- the same as a relation, as `Encodes` is, and first of bytes alone
 abbrev pub IsReadAnswer : Sch → ℕ → List ℕ → Result (List ℕ) Refusal → Type 0

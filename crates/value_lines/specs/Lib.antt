@@ -1,2 +1,3 @@
+pub mod LongLines
 pub mod Encoded
 pub mod Decoded

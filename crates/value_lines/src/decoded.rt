@@ -9,6 +9,7 @@ ghost use Rattle.line_loop.specs.Heard.{Hears};
 ghost use Rattle.line_text.specs.Buffer.{text_of};
 ghost use Rattle.value_lines.specs.Decoded.{Decodes, IsReadAnswer};
 
+use crate::LONGEST_LINE;
 use crate::refusal::Refusal;
 use cy_bits::NoMemory;
 use dsdl_types::Schema;
@@ -20,12 +21,9 @@ use serdes::{ReadError, read_as};
 use std::alloc::Global;
 use value_text::print_value;
 
-/// A line of more bytes is refused.
-pub const LONGEST_LINE: usize = 1 << 20;
-
 /// Answers each line, the hex of bytes, by the text of the value of a type that they read as: past the end of the bytes
-/// zeros are read, and surplus bytes are ignored. An empty line is the hex of no bytes. A line that is no hex is refused,
-/// and one whose bytes can't be read.
+/// zeros are read, and surplus bytes are ignored. An empty line is the hex of no bytes. A line that is no hex or has more
+/// bytes than `LONGEST_LINE` is refused, and one whose bytes can't be read.
 #[derive(Drop)]
 pub struct Decoder<'a> {
     /// Where memory comes from.

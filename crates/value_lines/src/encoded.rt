@@ -11,6 +11,7 @@ ghost use Rattle.line_loop.specs.Heard.{Hears};
 ghost use Rattle.line_text.specs.Buffer.{text_of};
 ghost use Rattle.value_lines.specs.Encoded.{hex_line, Encodes};
 
+use crate::LONGEST_LINE;
 use crate::refusal::Refusal;
 use cy_bits::{Bytes, NoMemory};
 use dsdl_types::{Schema, Value};
@@ -23,7 +24,7 @@ use value_text::{TextError, read_value};
 
 /// Answers each line, the text of a value of a type, by the hex of the value's serialized form. A saturated number is
 /// brought to the nearest end of its range, and a truncated one keeps its low bits. A line that is the text of no value
-/// is refused.
+/// or has more bytes than `LONGEST_LINE` is refused.
 #[derive(Drop)]
 pub struct Encoder<'a> {
     /// Where memory comes from.
@@ -69,6 +70,9 @@ fn encode_line(
     ensures { Hears (Encodes (sch schema.now) line text.now)
         (text_of gathered.old) (text_of gathered.new) result }
 {
+    if text.len() > LONGEST_LINE {
+        return Err(LineStop::Refused(Refusal::Text { line }));
+    }
     match read_value(alloc, schema, text, line) {
         Ok(value) => match put_encoding(alloc, schema, &value, gathered) {
             Ok(()) => Ok(()),

@@ -7,6 +7,9 @@ mod encoded;
 pub mod laws;
 mod refusal;
 
-pub use decoded::{Decoder, LONGEST_LINE};
+pub use decoded::Decoder;
 pub use encoded::Encoder;
 pub use refusal::Refusal;
+
+/// A line of more bytes, without its newline, is refused.
+pub const LONGEST_LINE: usize = 1 << 20;

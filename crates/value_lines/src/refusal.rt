@@ -4,7 +4,7 @@ use dsdl_types::ReadWhy;
 /// Why a line is refused.
 #[derive(Drop)]
 pub enum Refusal {
-    /// It is the text of no value, or no hex.
+    /// It is the text of no value, or no hex, or too long.
     Text {
         /// Its number, counted from 1.
         line: u64,
