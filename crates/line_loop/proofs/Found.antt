@@ -1,9 +1,9 @@
 -- The first newline behind bytes that are known to be none.
-use Rattle.std.proofs.Common.{◌≡◌, ◌∙◌, ◌==◌, ◌+◌, ◌-◌, ◌<◌, ◌≤◌, ℕ, true, List, length, take, drop, get_or, [], ◌∷◌, ◌++◌, append-nil, Option, Some, None, refl, sym, ap, subst, arith, length-drop, ◌⊎◌, inl, inr}
+use Rattle.std.proofs.Common.{◌≡◌, ◌∙◌, ◌==◌, ◌+◌, ◌-◌, ◌<◌, ◌≤◌, ℕ, true, List, length, take, drop, get_or, [], ◌∷◌, ◌++◌, append-nil, Some, None, sym, ap, subst, arith, length-drop, ◌⊎◌, inl, inr}
 use Rattle.std.proofs.lemmas.Bool.{cases_lt}
 use Rattle.std.proofs.lemmas.List.{get_or-drop, get_or_append_left}
 use Rattle.std.proofs.Math.Seq.{take-length}
-use Rattle.memchr.specs.Find.{IsFirstByte, Nowhere, NoneBefore, Passes, is_byte}
+use Rattle.memchr.specs.Find.{IsFirstByte, is_byte}
 use Rattle.line_loop.proofs.Splits.{IsClearTo}
 
 -- a place of the bytes behind
@@ -21,8 +21,7 @@ clear_behind s seen n front behind k low high t = either (cases_lt k seen)
 
 pub found_behind : (s : List ℕ) (seen n : ℕ) → seen ≤ length s → IsClearTo s seen → IsFirstByte (is_byte 10) (drop seen s) (Some n) → IsFirstByte (is_byte 10) s (Some (seen + n))
 found_behind s seen n le front f =
-    let size : length (drop seen s) ≡ length s - seen = length-drop seen s in
-    (
+    let size : length (drop seen s) ≡ length s - seen = length-drop seen s in (
       record { low = omega arith; high = omega (arith, f.0.high); before = clear_behind s seen n front f.0.before },
       ap (λ (b : ℕ). b == 10) (sym (get_or-drop seen s n 0)) ∙ f.1,
     )

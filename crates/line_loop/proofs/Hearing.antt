@@ -1,5 +1,5 @@
 -- Answers in a row.
-use Rattle.std.proofs.Common.{◌≡◌, ◌∙◌, ◌+◌, ◌<◌, ◌≤◌, ℕ, zero, suc, List, [], ◌∷◌, ◌++◌, length, take, drop, get_or, Result, Ok, Err, refl, sym, ap, subst, append_assoc, append-nil, length-append, arith, Option, Some, None}
+use Rattle.std.proofs.Common.{◌≡◌, ◌∙◌, ◌+◌, ◌<◌, ℕ, zero, suc, List, [], ◌∷◌, ◌++◌, length, take, drop, get_or, Result, Ok, Err, refl, sym, ap, subst, append_assoc, append-nil, length-append, arith, Option, Some, None}
 use Rattle.std.specs.Prelude.{◌==◌, Bool, true, false, MatchBool, nat_lt}
 use Rattle.std.proofs.lemmas.Bool.Decides.{nat_tests}
 use Rattle.cy_outside.specs.Written.{behind, Begins}
@@ -8,12 +8,12 @@ use Rattle.line_loop.specs.Gathered.{Gathered}
 use Rattle.line_loop.specs.Heard.{IsHeard, IsUnheard}
 use Rattle.line_loop.specs.Lines.{Lines, lines_of, with_last, last_line}
 use Rattle.line_loop.specs.Reply.{Voice, Answers, AreAnswered}
-use Rattle.line_loop.specs.Steps.{Answered, Goes, IsRefused, IsBroken, Refuses, Stops, IsRefusal, IsStop, IsLastBroken, EndsBy, in_front}
+use Rattle.line_loop.specs.Steps.{Answered, Goes, IsBroken, Refuses, Stops, IsRefusal, IsStop, IsLastBroken, EndsBy, in_front}
 use Rattle.line_loop.specs.declared.ended.LinesEnded.{LinesEnded}
 use Rattle.line_loop.specs.declared.ended.LinesEnded.TheVariants as end
 use Rattle.line_loop.specs.declared.listener.LineStop.{LineStop}
 use Rattle.line_loop.specs.declared.listener.LineStop.TheVariants as stop
-use Rattle.line_loop.proofs.Splits.{IsClearTo, IsFirstLine, first_long, line_parts, line_split, long_last, short_last}
+use Rattle.line_loop.proofs.Splits.{first_long, line_parts, line_split, long_last, short_last}
 use Rattle.line_loop.proofs.Written.{all_written, behind_none, begins_gathered, begins_none, gathered_all, gathered_less, gathered_more, gathered_none}
 
 pub are_append : {R : Type 0} (v : Voice R) (n : ℕ) (xs ys : List (List ℕ)) (t u : List ℕ) → AreAnswered v n xs t → AreAnswered v (length xs + n) ys u → AreAnswered v n (xs ++ ys) (t ++ u)
@@ -92,9 +92,12 @@ refuses_one v count s i refusal h a most le others =
     let rest = drop (i + 1) s in
     let parts : s ++ others ≡ whole ++ (rest ++ others) =
     ap (λ (t : List ℕ). t ++ others) (line_parts s i h.0.high ∙ sym (append_assoc (take i s) (get_or s i 0 ∷ []) rest)) ∙ append_assoc whole rest others in
-    let lines = lines_of (rest ++ others) in
-    (take i s, lines.ended ++ last_line most lines.rest,
-      ap (λ (t : List ℕ). with_last most (lines_of t)) parts ∙ ap (with_last most) (line_split s i h.0.high h.0.before h.1 (rest ++ others)), a)
+    let lines = lines_of (rest ++ others) in (
+      take i s,
+      lines.ended ++ last_line most lines.rest,
+      ap (λ (t : List ℕ). with_last most (lines_of t)) parts ∙ ap (with_last most) (line_split s i h.0.high h.0.before h.1 (rest ++ others)),
+      a,
+    )
 
 match_true : (t : Bool) (P Q : Type 0) → t ≡ true → P → MatchBool t P Q
 match_true t P Q e p = subst (λ (b : Bool). MatchBool b P Q) (sym e) p
@@ -242,12 +245,11 @@ last_none v count bytes before e =
 
 pub last_written : {R : Type 0} (v : Voice R) (count : ℕ) (bytes g h : List ℕ) (before after : Option (List ℕ))
     → 0 < length bytes → g ≡ [] → IsHeard (Answers v (count + 1) bytes) g h → after ≡ behind before h → EndsBy v count bytes before after end.Ok
-last_written v count bytes g h before after some none a w =
-    (
-      a.0,
-      subst (λ (ls : List (List ℕ)). AreAnswered v (count + 1) ls a.0) (sym (long_last 0 bytes some)) (are_one v (count + 1) bytes a.0 a.1),
-      w ∙ ap (behind before) (a.2 ∙ ap (λ (t : List ℕ). t ++ a.0) none),
-    )
+last_written v count bytes g h before after some none a w = (
+  a.0,
+  subst (λ (ls : List (List ℕ)). AreAnswered v (count + 1) ls a.0) (sym (long_last 0 bytes some)) (are_one v (count + 1) bytes a.0 a.1),
+  w ∙ ap (behind before) (a.2 ∙ ap (λ (t : List ℕ). t ++ a.0) none),
+)
 
 pub last_unwritten : {R : Type 0} (v : Voice R) (count : ℕ) (bytes g h : List ℕ) (before after : Option (List ℕ))
     → 0 < length bytes → g ≡ [] → IsHeard (Answers v (count + 1) bytes) g h → Begins h before after → EndsBy v count bytes before after end.WriteFault

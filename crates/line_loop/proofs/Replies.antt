@@ -1,7 +1,7 @@
 -- There is one reply to an input.
 use Rattle.std.proofs.Common.{◌≡◌, ◌∙◌, ◌+◌, ◌⊎◌, inl, inr, ℕ, suc, Bool, true, false, List, [], ◌∷◌, ◌++◌, length, Option, Some, None, Result, Ok, Err, refl, sym, ap, subst, arith}
 use Rattle.std.specs.Prelude.{MatchBool, nat_lt}
-use Rattle.line_loop.specs.Reply.{Voice, Answers, AreAnswered, IsRefusedIn, IsReply, HasOneAnswer, heard_lines, end_of}
+use Rattle.line_loop.specs.Reply.{Voice, Answers, AreAnswered, IsReply, HasOneAnswer, heard_lines, end_of}
 use Rattle.line_loop.specs.declared.ended.LinesEnded.{LinesEnded}
 use Rattle.line_loop.specs.declared.ended.LinesEnded.TheVariants as end
 

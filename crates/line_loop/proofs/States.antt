@@ -1,21 +1,21 @@
 -- Where a loop over lines stands between two reads, and how it ends.
-use Rattle.std.proofs.Common.{◌≡◌, ◌∙◌, ◌+◌, ◌-◌, ◌<◌, ◌≤◌, ℕ, suc, Bool, true, false, List, [], ◌∷◌, ◌++◌, length, take, drop, Option, Some, None, Err, refl, sym, ap, subst, append_assoc, append-nil, length-append, arith}
-use Rattle.std.specs.Prelude.{if◌then◌else◌, nat_lt}
+use Rattle.std.proofs.Common.{◌≡◌, ◌∙◌, ◌+◌, ◌-◌, ◌<◌, ◌≤◌, ℕ, Bool, true, false, List, [], ◌∷◌, ◌++◌, length, take, Option, None, Err, refl, sym, ap, subst, append_assoc, append-nil, length-append, arith}
+use Rattle.std.specs.Prelude.{nat_lt}
 use Rattle.std.proofs.lemmas.Bool.Decides.{nat_tests}
 use Rattle.std.proofs.lemmas.Grind.{common_steps}
 use Rattle.std.proofs.Math.Seq.{take-append-add}
 use Rattle.cy_outside.specs.Written.{behind, Begins}
 use Rattle.memchr.specs.Find.{IsFirstByte, is_byte}
 use Rattle.line_loop.specs.Gathered.{Gathered}
-use Rattle.line_loop.specs.Gone.{Said, AreFirst, Upto, Begun, Gone, HasGone}
+use Rattle.line_loop.specs.Gone.{Said, AreFirst, Begun, Gone, HasGone}
 use Rattle.line_loop.specs.Input.{IsTaken, Took, IsEnd}
 use Rattle.line_loop.specs.Lines.{Lines, lines_of, last_line, with_last}
-use Rattle.line_loop.specs.Reply.{Voice, Answers, AreAnswered, IsRefusedIn, IsReply, heard_lines, end_of}
-use Rattle.line_loop.specs.Steps.{Answered, Goes, IsRefused, IsBroken, Refuses, Stops, IsLastBroken, EndsBy, in_front}
+use Rattle.line_loop.specs.Reply.{Voice, Answers, AreAnswered, heard_lines, end_of}
+use Rattle.line_loop.specs.Steps.{Answered, Goes, IsBroken, Refuses, Stops, IsLastBroken, EndsBy, in_front}
 use Rattle.line_loop.specs.Streamed.{HasAnswered, IsStreamed}
 use Rattle.line_loop.specs.declared.ended.LinesEnded.{LinesEnded}
 use Rattle.line_loop.specs.declared.ended.LinesEnded.TheVariants as end
-use Rattle.line_loop.proofs.Hearing.{FirstAnswers, are_append, are_first, answered_none, answered_more, answered_behind}
+use Rattle.line_loop.proofs.Hearing.{are_append, are_first, answered_none, answered_more, answered_behind}
 use Rattle.line_loop.proofs.Inputs.{took_none, took_more, taken_end}
 use Rattle.line_loop.proofs.Splits.{clear_lines, front_within, lines_before, no, yes, short_last}
 use Rattle.line_loop.proofs.Written.{all_written, behind_more, behind_none, begins_later}
@@ -255,12 +255,11 @@ said_refused v new taken rest left text refusal before after h a r w =
 
 broken_done : {R : Type 0} (v : Voice R) (left now : Option (List ℕ)) (count : ℕ) (held : List ℕ) (room : ℕ) (before mid after : Option (List ℕ)) (o : Open v left now count held room before mid)
     → (b : IsBroken v count held [] mid after) → Begun v o.taken o.took.0 before after × Streams v 65536 o.taken before after
-broken_done v left now count held room before mid after o b =
-    (
-      begun_answered v b.new o.taken o.took.0 b.left (o.text ++ b.text) before after (omega (arith, o.size)) (answered_more v 0 count b.new o.taken held b.left o.text b.text o.answered b.answered)
-          (begins_later o.text b.text before mid after o.written b.written),
-      streams_later v o.taken before mid after o.streams (record { more = b.written.front; is = b.written.written }),
-    )
+broken_done v left now count held room before mid after o b = (
+  begun_answered v b.new o.taken o.took.0 b.left (o.text ++ b.text) before after (omega (arith, o.size)) (answered_more v 0 count b.new o.taken held b.left o.text b.text o.answered b.answered)
+      (begins_later o.text b.text before mid after o.written b.written),
+  streams_later v o.taken before mid after o.streams (record { more = b.written.front; is = b.written.written }),
+)
 
 pub stopped_done : {R : Type 0} (v : Voice R) (left now : Option (List ℕ)) (count : ℕ) (held : List ℕ) (room : ℕ) (before mid after : Option (List ℕ)) (ended : LinesEnded R)
     → Open v left now count held room before mid → Stops v count held [] mid after ended → Done v left now ended before after
@@ -379,12 +378,14 @@ pub calm_end : {R : Type 0} (v : Voice R) (left mid now : Option (List ℕ)) (co
 calm_end v left mid now count held room before mid_out after end.Ok c took is_end h =
     let heard = calm_heard v left mid count held room before mid_out c in
     let ends : end.Ok ≡ end_of v.bounds c.taken = sym (no (nat_lt v.bounds.all (length c.taken)) end.TooLong end.Ok (grind (arith, nat_tests, c.size))) in
-    calm_done v left mid now count held room before mid_out after end.Ok c took is_end (record { more = h.0; is = h.2 })
-    (refl, record {
-      text = c.text ++ h.0;
-      reply = (ends, subst (λ (ls : List (List ℕ)). AreAnswered v 1 ls (c.text ++ h.0)) (sym heard) (calm_last v left mid count held room before mid_out c h.0 h.1));
-      written = h.2 ∙ (ap (λ w. behind w h.0) c.written ∙ behind_more before c.text h.0);
-    })
+    calm_done v left mid now count held room before mid_out after end.Ok c took is_end (record { more = h.0; is = h.2 }) (
+      refl,
+      record {
+        text = c.text ++ h.0;
+        reply = (ends, subst (λ (ls : List (List ℕ)). AreAnswered v 1 ls (c.text ++ h.0)) (sym heard) (calm_last v left mid count held room before mid_out c h.0 h.1));
+        written = h.2 ∙ (ap (λ w. behind w h.0) c.written ∙ behind_more before c.text h.0);
+      },
+    )
 calm_end v left mid now count held room before mid_out after (end.Refused refusal) c took is_end h =
     let heard = calm_heard v left mid count held room before mid_out c in
     let n : count + 1 ≡ length c.answered.lines + 1 = omega (arith, c.answered.number) in

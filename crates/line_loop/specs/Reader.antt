@@ -1,7 +1,7 @@
 -- What a reader of lines holds, and what a read gives it.
 use Rattle.std.specs.Prelude.{◌≡◌, ◌<◌, ◌≤◌, ◌+◌, ◌++◌, ℕ, List, [], Option, length}
 use Rattle.line_loop.specs.Held.{bytes_of}
-use Rattle.line_loop.specs.Input.{IsTaken, Took, IsEnd}
+use Rattle.line_loop.specs.Input.{Took, IsEnd}
 use Rattle.line_loop.specs.declared.reader.LineReader.{LineReader}
 use Rattle.line_loop.specs.declared.reader.Came.{Came}
 use Rattle.line_loop.specs.declared.reader.Came.TheVariants as came

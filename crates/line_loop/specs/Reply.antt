@@ -1,6 +1,6 @@
 -- What a listener says to an input, line by line, and how it ends where nothing fails.
 use Rattle.std.specs.Prelude.{◌≡◌, ◌++◌, ◌+◌, ℕ, List, [], ◌∷◌, Result, Ok, Err, MatchBool, if◌then◌else◌, length, nat_lt, take}
-use Rattle.line_loop.specs.Lines.{Lines, lines_of, with_last}
+use Rattle.line_loop.specs.Lines.{lines_of, with_last}
 use Rattle.line_loop.specs.declared.bounds.LineBounds.{LineBounds}
 use Rattle.line_loop.specs.declared.ended.LinesEnded.{LinesEnded}
 use Rattle.line_loop.specs.declared.ended.LinesEnded.TheVariants as end

@@ -1,5 +1,5 @@
 -- What answering the lines that are held does.
-use Rattle.std.specs.Prelude.{◌≡◌, ◌≤◌, ◌+◌, ◌++◌, ℕ, List, [], ◌∷◌, Option, Result, Ok, Err, length}
+use Rattle.std.specs.Prelude.{◌≡◌, ◌≤◌, ◌+◌, ◌++◌, ℕ, List, [], ◌∷◌, Option, Err, length}
 use Rattle.cy_outside.specs.Written.{behind, Begins}
 use Rattle.line_loop.specs.Gathered.{Gathered}
 use Rattle.line_loop.specs.Lines.{Lines, lines_of, last_line, with_last}

@@ -29,11 +29,7 @@ pub fn answer<M: LineListener>(
 }
 
 /// Writes what is gathered, and ends by a refusal.
-pub fn refuse<R: Drop, O: Sink>(
-    refusal: R,
-    out: &mut O,
-    gathered: &mut TextBuffer,
-) -> LinesEnded<R>
+pub fn refuse<R: Drop, O: Sink>(refusal: R, out: &mut O, gathered: &mut TextBuffer) -> LinesEnded<R>
     ensures ended { IsRefusal refusal (text_of gathered.old)
         (O.written out.old) (O.written out.new) result }
     ensures write { result ≡ LinesEnded.WriteFault → Rose (O.faults out.old) (O.faults out.new) }

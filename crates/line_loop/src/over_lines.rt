@@ -197,5 +197,4 @@ pub fn one_reply<M: LineListener>(listener: &M, bounds: LineBounds)
     ensures end { let v = voice (M.answers listener.now) (M.long listener.now) bounds in
         HasOneAnswer v → (bytes t u : List ℕ) (e f : LinesEnded M.Refusal)
         → IsReply v bytes t e → IsReply v bytes u f → e ≡ f }
-{
-}
+{}

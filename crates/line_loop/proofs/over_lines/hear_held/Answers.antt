@@ -25,7 +25,7 @@ lines-preserved g c =
     let mid = c.find_line.new.self in
     let written = g.O.Sink.written in
     let here = goes_at v (count_of old) (count_of c.lines.reader) (count_of mid) (held_of old) (held_of c.lines.reader) (held_of mid) (text_of c.args.gathered.now) (text_of c.lines.gathered) (written c.args.out.now) (written c.lines.out)
-        i.goes c.find_line.ensures.count c.find_line.ensures.held in
+    i.goes c.find_line.ensures.count c.find_line.ensures.held in
     let new = c.hear_line.new.reader in record {
       goes = goes_more v (count_of old) (count_of mid) (count_of new) (held_of old) (held_of mid) (held_of new) (text_of c.args.gathered.now) (text_of c.lines.gathered) (text_of c.hear_line.new.gathered)
           (written c.args.out.now) (written c.lines.out) (written c.hear_line.new.out) here c.in_default-hear_line.ensures.goes;
@@ -43,6 +43,6 @@ returns-in-Err-clause-stops g c =
     let mid = c.find_line.new.self in
     let written = g.O.Sink.written in
     let here = goes_at v (count_of old) (count_of c.lines.reader) (count_of mid) (held_of old) (held_of c.lines.reader) (held_of mid) (text_of c.args.gathered.now) (text_of c.lines.gathered) (written c.args.out.now) (written c.lines.out)
-        i.goes c.find_line.ensures.count c.find_line.ensures.held in
+    i.goes c.find_line.ensures.count c.find_line.ensures.held in
     stops_more v (count_of old) (count_of mid) (held_of old) (held_of mid) (text_of c.args.gathered.now) (text_of c.lines.gathered) (written c.args.out.now) (written c.lines.out) (written c.hear_line.new.out) c.in-Err.ended
     here c.in-Err.ensures.stops

@@ -1,4 +1,4 @@
-use Rattle.std.proofs.Common.{◌≡◌, ◌∙◌, ◌<◌, ℕ, List, length, sym, subst}
+use Rattle.std.proofs.Common.{◌∙◌, ◌<◌, ℕ, List, length, sym, subst}
 use Rattle.line_text.specs.Buffer.{text_of}
 use Rattle.line_loop.specs.Heard.{IsHeard, IsUnheard}
 use Rattle.line_loop.specs.Reader.{held_of, count_of}

@@ -1,4 +1,4 @@
-use Rattle.std.proofs.Common.{◌∙◌, ◌<◌, ℕ, List, [], refl, sym, subst, arith}
+use Rattle.std.proofs.Common.{◌∙◌, ℕ, List, [], refl, sym, subst, arith}
 use Rattle.line_text.specs.Buffer.{text_of}
 use Rattle.line_loop.specs.Reader.{held_of, count_of, left_of}
 use Rattle.line_loop.specs.Reply.{voice}
@@ -37,7 +37,7 @@ returns-in-Failed-clause-gone g c =
     let old = c.reads.reader in
     let new = c.settle.new.reader in
     let calm = settled v (left c.args.input.now) (left c.reads.input) (count_of old) (count_of new) (held_of old) (held_of new) (left_of old) (left_of new) (text_of c.reads.gathered) (text_of c.settle.new.gathered)
-        (written c.args.out.now) (written c.reads.out) (written c.settle.new.out) i.state i.none c.in_default.ensures.goes c.in_default.ensures.written c.in_default.ensures.none c.in_default.ensures.short c.settle.ensures.room in
+    (written c.args.out.now) (written c.reads.out) (written c.settle.new.out) i.state i.none c.in_default.ensures.goes c.in_default.ensures.written c.in_default.ensures.none c.in_default.ensures.short c.settle.ensures.room in
     (calm_failed v (left c.args.input.now) (left c.reads.input) (left c.read.new.input) (count_of new) (held_of new) (left_of new) (written c.args.out.now) (written c.settle.new.out) calm c.in-Failed.ensures.reads).gone
 
 pub returns-in-Failed-clause-streamed : goal.returns-in-Failed-clause-streamed
@@ -50,7 +50,7 @@ returns-in-Failed-clause-streamed g c =
     let old = c.reads.reader in
     let new = c.settle.new.reader in
     let calm = settled v (left c.args.input.now) (left c.reads.input) (count_of old) (count_of new) (held_of old) (held_of new) (left_of old) (left_of new) (text_of c.reads.gathered) (text_of c.settle.new.gathered)
-        (written c.args.out.now) (written c.reads.out) (written c.settle.new.out) i.state i.none c.in_default.ensures.goes c.in_default.ensures.written c.in_default.ensures.none c.in_default.ensures.short c.settle.ensures.room in
+    (written c.args.out.now) (written c.reads.out) (written c.settle.new.out) i.state i.none c.in_default.ensures.goes c.in_default.ensures.written c.in_default.ensures.none c.in_default.ensures.short c.settle.ensures.room in
     (calm_failed v (left c.args.input.now) (left c.reads.input) (left c.read.new.input) (count_of new) (held_of new) (left_of new) (written c.args.out.now) (written c.settle.new.out) calm c.in-Failed.ensures.reads).streamed
 
 pub returns-in-NoMemory-clause-gone : goal.returns-in-NoMemory-clause-gone
@@ -63,7 +63,7 @@ returns-in-NoMemory-clause-gone g c =
     let old = c.reads.reader in
     let new = c.settle.new.reader in
     let calm = settled v (left c.args.input.now) (left c.reads.input) (count_of old) (count_of new) (held_of old) (held_of new) (left_of old) (left_of new) (text_of c.reads.gathered) (text_of c.settle.new.gathered)
-        (written c.args.out.now) (written c.reads.out) (written c.settle.new.out) i.state i.none c.in_default.ensures.goes c.in_default.ensures.written c.in_default.ensures.none c.in_default.ensures.short c.settle.ensures.room in
+    (written c.args.out.now) (written c.reads.out) (written c.settle.new.out) i.state i.none c.in_default.ensures.goes c.in_default.ensures.written c.in_default.ensures.none c.in_default.ensures.short c.settle.ensures.room in
     (calm_wanting v (left c.args.input.now) (left c.reads.input) (left c.read.new.input) (count_of new) (held_of new) (left_of new) (written c.args.out.now) (written c.settle.new.out) calm c.in-NoMemory.ensures.reads).gone
 
 pub returns-in-NoMemory-clause-streamed : goal.returns-in-NoMemory-clause-streamed
@@ -76,7 +76,7 @@ returns-in-NoMemory-clause-streamed g c =
     let old = c.reads.reader in
     let new = c.settle.new.reader in
     let calm = settled v (left c.args.input.now) (left c.reads.input) (count_of old) (count_of new) (held_of old) (held_of new) (left_of old) (left_of new) (text_of c.reads.gathered) (text_of c.settle.new.gathered)
-        (written c.args.out.now) (written c.reads.out) (written c.settle.new.out) i.state i.none c.in_default.ensures.goes c.in_default.ensures.written c.in_default.ensures.none c.in_default.ensures.short c.settle.ensures.room in
+    (written c.args.out.now) (written c.reads.out) (written c.settle.new.out) i.state i.none c.in_default.ensures.goes c.in_default.ensures.written c.in_default.ensures.none c.in_default.ensures.short c.settle.ensures.room in
     (calm_wanting v (left c.args.input.now) (left c.reads.input) (left c.read.new.input) (count_of new) (held_of new) (left_of new) (written c.args.out.now) (written c.settle.new.out) calm c.in-NoMemory.ensures.reads).streamed
 
 pub returns-in-Over-clause-gone : goal.returns-in-Over-clause-gone
@@ -89,7 +89,7 @@ returns-in-Over-clause-gone g c =
     let old = c.reads.reader in
     let new = c.settle.new.reader in
     let calm = settled v (left c.args.input.now) (left c.reads.input) (count_of old) (count_of new) (held_of old) (held_of new) (left_of old) (left_of new) (text_of c.reads.gathered) (text_of c.settle.new.gathered)
-        (written c.args.out.now) (written c.reads.out) (written c.settle.new.out) i.state i.none c.in_default.ensures.goes c.in_default.ensures.written c.in_default.ensures.none c.in_default.ensures.short c.settle.ensures.room in
+    (written c.args.out.now) (written c.reads.out) (written c.settle.new.out) i.state i.none c.in_default.ensures.goes c.in_default.ensures.written c.in_default.ensures.none c.in_default.ensures.short c.settle.ensures.room in
     let over = c.in-Over.ensures.reads in
     (calm_over v (left c.args.input.now) (left c.reads.input) (left c.read.new.input) (count_of new) (held_of new) (left_of new) (written c.args.out.now) (written c.settle.new.out) over.bytes calm over.took over.one over.full).gone
 
@@ -103,7 +103,7 @@ returns-in-Over-clause-streamed g c =
     let old = c.reads.reader in
     let new = c.settle.new.reader in
     let calm = settled v (left c.args.input.now) (left c.reads.input) (count_of old) (count_of new) (held_of old) (held_of new) (left_of old) (left_of new) (text_of c.reads.gathered) (text_of c.settle.new.gathered)
-        (written c.args.out.now) (written c.reads.out) (written c.settle.new.out) i.state i.none c.in_default.ensures.goes c.in_default.ensures.written c.in_default.ensures.none c.in_default.ensures.short c.settle.ensures.room in
+    (written c.args.out.now) (written c.reads.out) (written c.settle.new.out) i.state i.none c.in_default.ensures.goes c.in_default.ensures.written c.in_default.ensures.none c.in_default.ensures.short c.settle.ensures.room in
     let over = c.in-Over.ensures.reads in
     (calm_over v (left c.args.input.now) (left c.reads.input) (left c.read.new.input) (count_of new) (held_of new) (left_of new) (written c.args.out.now) (written c.settle.new.out) over.bytes calm over.took over.one over.full).streamed
 
@@ -117,7 +117,7 @@ returns-in-End-clause-gone g c =
     let old = c.reads.reader in
     let new = c.settle.new.reader in
     let calm = settled v (left c.args.input.now) (left c.reads.input) (count_of old) (count_of new) (held_of old) (held_of new) (left_of old) (left_of new) (text_of c.reads.gathered) (text_of c.settle.new.gathered)
-        (written c.args.out.now) (written c.reads.out) (written c.settle.new.out) i.state i.none c.in_default.ensures.goes c.in_default.ensures.written c.in_default.ensures.none c.in_default.ensures.short c.settle.ensures.room in
+    (written c.args.out.now) (written c.reads.out) (written c.settle.new.out) i.state i.none c.in_default.ensures.goes c.in_default.ensures.written c.in_default.ensures.none c.in_default.ensures.short c.settle.ensures.room in
     let end = c.in-End.ensures.reads in
     (calm_last_end v (left c.args.input.now) (left c.reads.input) (left c.read.new.input) (count_of new) (held_of new) (left_of new) (written c.args.out.now) (written c.settle.new.out) (written c.hear_last.new.out) c.hear_last.result (count_of c.read.new.self) (held_of c.read.new.self)
     calm end.0 end.1 c.read.ensures.count end.2 c.hear_last.ensures.last).gone
@@ -132,7 +132,7 @@ returns-in-End-clause-streamed g c =
     let old = c.reads.reader in
     let new = c.settle.new.reader in
     let calm = settled v (left c.args.input.now) (left c.reads.input) (count_of old) (count_of new) (held_of old) (held_of new) (left_of old) (left_of new) (text_of c.reads.gathered) (text_of c.settle.new.gathered)
-        (written c.args.out.now) (written c.reads.out) (written c.settle.new.out) i.state i.none c.in_default.ensures.goes c.in_default.ensures.written c.in_default.ensures.none c.in_default.ensures.short c.settle.ensures.room in
+    (written c.args.out.now) (written c.reads.out) (written c.settle.new.out) i.state i.none c.in_default.ensures.goes c.in_default.ensures.written c.in_default.ensures.none c.in_default.ensures.short c.settle.ensures.room in
     let end = c.in-End.ensures.reads in
     (calm_last_end v (left c.args.input.now) (left c.reads.input) (left c.read.new.input) (count_of new) (held_of new) (left_of new) (written c.args.out.now) (written c.settle.new.out) (written c.hear_last.new.out) c.hear_last.result (count_of c.read.new.self) (held_of c.read.new.self)
     calm end.0 end.1 c.read.ensures.count end.2 c.hear_last.ensures.last).streamed
@@ -147,7 +147,7 @@ reads-preserved g c =
     let old = c.reads.reader in
     let new = c.settle.new.reader in
     let calm = settled v (left c.args.input.now) (left c.reads.input) (count_of old) (count_of new) (held_of old) (held_of new) (left_of old) (left_of new) (text_of c.reads.gathered) (text_of c.settle.new.gathered)
-        (written c.args.out.now) (written c.reads.out) (written c.settle.new.out) i.state i.none c.in_default.ensures.goes c.in_default.ensures.written c.in_default.ensures.none c.in_default.ensures.short c.settle.ensures.room in
+    (written c.args.out.now) (written c.reads.out) (written c.settle.new.out) i.state i.none c.in_default.ensures.goes c.in_default.ensures.written c.in_default.ensures.none c.in_default.ensures.short c.settle.ensures.room in
     let grows = c.in-Bytes.ensures.reads in record {
       state = calm_bytes v (left c.args.input.now) (left c.reads.input) (left c.read.new.input) (count_of new) (held_of new) (held_of c.read.new.self) (left_of new) (left_of c.read.new.self) (written c.args.out.now) (written c.settle.new.out) grows.bytes (count_of c.read.new.self)
           calm grows.took grows.held grows.room grows.few c.read.ensures.count;

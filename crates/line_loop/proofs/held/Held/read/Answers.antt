@@ -1,4 +1,4 @@
-use Rattle.std.proofs.Common.{◌≡◌, ◌∙◌, ◌<◌, ◌≤◌, ◌+◌, ◌-◌, ◌++◌, ℕ, List, length, take, drop, arith, sym, ap, subst, refl}
+use Rattle.std.proofs.Common.{◌≡◌, ◌∙◌, ◌≤◌, ◌+◌, ◌-◌, ◌++◌, ℕ, List, length, take, drop, arith, sym, ap}
 use Rattle.std.proofs.lemmas.Grind.{common_steps}
 use borrow.Rule.Slice.PartMut.{put_mid}
 use Rattle.line_loop.specs.Held.{bytes_of, room_of}
@@ -18,8 +18,7 @@ returns-in_default-clause-err g c =
     let fits : h.end + k ≤ length xs = grind (arith, common_steps) in
     let len : h.buffer.len ≡ length xs = grind (arith, common_steps) in
     let same : xs ≡ h.buffer.items = grind (arith, common_steps) in
-    let size : h.buffer.len ≡ length z = len ∙ sym (length_part xs ys h.end k fits count) in
-    (
+    let size : h.buffer.len ≡ length z = len ∙ sym (length_part xs ys h.end k fits count) in (
       ap (λ (t : List ℕ). take (h.end - h.start) (drop h.start t)) (sym (whole_part z (drop (length z) h.buffer.items) h.buffer.len size))
           ∙ (kept_part xs ys h.start h.end k h.order inside ∙ ap (λ (t : List ℕ). take (h.end - h.start) (drop h.start t)) same),
       c.in_default.ensures.err,

@@ -1,4 +1,4 @@
-use Rattle.std.proofs.Common.{◌≤◌, ◌-◌, ℕ, List, length, take, drop, arith}
+use Rattle.std.proofs.Common.{◌≤◌, ◌-◌, length, take, drop, arith}
 use Rattle.std.proofs.lemmas.Grind.{common_steps}
 use Rattle.line_loop.specs.Held.{bytes_of}
 use Rattle.line_loop.proofs.Buffers.{skip_part}
