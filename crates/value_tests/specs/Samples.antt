@@ -51,3 +51,7 @@ simples =
     let wide = Field (codes "i") (Simple (PInt 64)) (with_uint (codes "n") 64 End) in
     let behind = with_uint (codes "u") 3 (Field (codes "f") (Simple (PFloat 16 true)) wide) in
     Struct (Field (codes "t") (Simple PBool) (Field (codes "s") (Simple (PInt 2)) (Pad 2 behind))) (sealed 152)
+
+-- no field
+abbrev pub empty : Sch
+empty = Struct End (sealed 0)

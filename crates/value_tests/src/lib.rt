@@ -1,7 +1,9 @@
-//! Tests of values: written, read, and of the standard types. They stand in a crate of their own, since a
+//! Tests of values: written, read, line by line, and of the standard types. They stand in a crate of their own, since a
 //! crate with tests is proved twice.
 #![tactic(auto)]
 
+#[cfg(test)]
+mod lines;
 #[cfg(test)]
 mod reads;
 #[cfg(test)]

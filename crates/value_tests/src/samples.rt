@@ -2,7 +2,7 @@
 ghost use Rattle.std.specs.Prelude.{◌≡◌, [], true, false, IfOk};
 ghost use Rattle.dsdl_types.specs.Schemas.{Struct, Var};
 ghost use Rattle.dsdl_types.specs.Views.{Padding, Typed, flds, kind_of, named, sch};
-ghost use Rattle.value_tests.specs.Samples.{choice, inner, list, newer_inner, newer_outer, numbers, outer, short, simples, uint};
+ghost use Rattle.value_tests.specs.Samples.{choice, empty, inner, list, newer_inner, newer_outer, numbers, outer, short, simples, uint};
 
 use cy_bits::{Boxed, List, NoMemory, Text};
 use dsdl_types::{Body, Cast, Field, Schema};
@@ -23,6 +23,8 @@ pub const SHORT: usize = 4;
 pub const NUMBERS: usize = 5;
 
 pub const SIMPLES: usize = 6;
+
+pub const EMPTY: usize = 7;
 
 /// A saturated unsigned integer.
 fn uint(bits: u8) -> Schema
@@ -166,6 +168,12 @@ fn simples(alloc: Global) -> Result<Schema, NoMemory>
     Ok(structure(fields, 152, true))
 }
 
+fn empty(alloc: Global) -> Schema
+    ensures { kind_of result ≡ Typed empty }
+{
+    structure(Vec::new(alloc), 0, true)
+}
+
 fn outer_layout(alloc: Global) -> Result<Layout, NoMemory> {
     layout_of(alloc, &outer(alloc)?)
 }
@@ -194,6 +202,10 @@ fn simples_layout(alloc: Global) -> Result<Layout, NoMemory> {
     layout_of(alloc, &simples(alloc)?)
 }
 
+fn empty_layout(alloc: Global) -> Result<Layout, NoMemory> {
+    layout_of(alloc, &empty(alloc))
+}
+
 /// The layouts of all types, in the order of their places.
 pub fn layouts(alloc: Global) -> Result<Vec<Layout>, NoMemory> {
     let layouts = vec![in alloc;
@@ -204,6 +216,7 @@ pub fn layouts(alloc: Global) -> Result<Vec<Layout>, NoMemory> {
         short_layout(alloc)?,
         numbers_layout(alloc)?,
         simples_layout(alloc)?,
+        empty_layout(alloc)?,
     ]?;
     Ok(layouts)
 }
