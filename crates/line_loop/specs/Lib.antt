@@ -1,0 +1,10 @@
+pub mod Input
+pub mod Lines
+pub mod Reply
+pub mod Heard
+pub mod Gathered
+pub mod Held
+pub mod Reader
+pub mod Steps
+pub mod Gone
+pub mod Streamed

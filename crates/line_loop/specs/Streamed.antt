@@ -1,0 +1,22 @@
+-- How far the input was taken before what it gave was answered.
+use Rattle.std.specs.Prelude.{◌≡◌, ◌<◌, ◌++◌, ℕ, List, Option, length}
+use Rattle.cy_outside.specs.Written.{behind}
+use Rattle.line_loop.specs.Input.{IsTaken}
+use Rattle.line_loop.specs.Lines.{lines_of}
+use Rattle.line_loop.specs.Reply.{Voice, AreAnswered}
+
+-- these lines are answered, the first of all, and the answers were written
+pub record HasAnswered {R : Type 0} (v : Voice R) (lines : List (List ℕ)) (before after : Option (List ℕ)) : Type 0 where
+  pub text : List ℕ
+  pub more : List ℕ
+  pub answered : AreAnswered v 1 lines text
+  pub written : after ≡ behind before (text ++ more)
+
+-- However it ended: one read takes 65,536 bytes at most, and before it each line whose newline was
+-- taken is answered, and the answer is written. So it is with the lines of each front of the bytes
+-- that were taken, behind which more were taken.
+pub record IsStreamed {R : Type 0} (v : Voice R) (left new before after : Option (List ℕ)) : Type 0 where
+  pub taken : List ℕ
+  pub rest : List ℕ
+  pub told : IsTaken left new taken rest
+  pub written : (front more : List ℕ) → taken ≡ front ++ more → 65536 < length more → HasAnswered v (lines_of front).ended before after

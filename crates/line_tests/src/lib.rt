@@ -1,0 +1,6 @@
+//! Tests of the loop over lines. They stand in a crate of their own, since a crate with tests is
+//! proved twice.
+#![tactic(auto)]
+
+#[cfg(test)]
+mod line_loop_tests;

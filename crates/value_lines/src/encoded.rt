@@ -1,0 +1,124 @@
+//! The text of a value as the hex of its bytes.
+ghost use Rattle.std.specs.Prelude.{◌≡◌, ◌++◌, true, OnOk, OnErr};
+ghost use Rattle.dsdl_types.specs.Definitions.{IsType};
+ghost use Rattle.dsdl_types.specs.OneWay.{schema_prop};
+ghost use Rattle.dsdl_types.specs.Rules.{IsSchema};
+ghost use Rattle.dsdl_types.specs.Schemas.{is_composite};
+ghost use Rattle.dsdl_types.specs.Fits.{Fits};
+ghost use Rattle.dsdl_types.specs.Laws.{encoding};
+ghost use Rattle.dsdl_types.specs.Views.{sch, val};
+ghost use Rattle.line_loop.specs.Heard.{Hears};
+ghost use Rattle.line_text.specs.Buffer.{text_of};
+ghost use Rattle.value_lines.specs.Encoded.{hex_line, Encodes};
+
+use crate::LONGEST_LINE;
+use crate::refusal::Refusal;
+use cy_bits::{Bytes, NoMemory};
+use dsdl_types::{Schema, Value};
+use line_loop::{LineListener, LineStop};
+use line_text::TextBuffer;
+use serdes::laws::{extent_has_room, fits_or_misfit};
+use serdes::{WriteError, write_as};
+use std::alloc::Global;
+use value_text::{TextError, read_value};
+
+/// Answers each line, the text of a value of a type, by the hex of the value's serialized form. A saturated number is
+/// brought to the nearest end of its range, and a truncated one keeps its low bits. A line that is the text of no value
+/// or has more bytes than `LONGEST_LINE` is refused.
+#[derive(Drop)]
+pub struct Encoder<'a> {
+    /// Where memory comes from.
+    pub alloc: Global,
+    /// The type: a structure or a union that keeps the rules.
+    pub schema: &'a Schema,
+    pub ghost rules: { IsSchema (sch schema.now) } by { schema_prop (sch schema.now) },
+    pub ghost composite: { is_composite (sch schema.now) ≡ true },
+}
+
+impl LineListener for Encoder<'_> {
+    ghost use Rattle.value_lines.specs.declared.refusal.Refusal.TheVariants as refusal;
+
+    type Refusal = Refusal;
+
+    ghost answers = { λ e. Encodes (sch e.schema.now) };
+
+    ghost long = { λ e n. refusal.Text n };
+
+    fn hear(
+        &self,
+        number: u64,
+        line: &[u8],
+        gathered: &mut TextBuffer,
+    ) -> Result<(), LineStop<Refusal>> {
+        encode_line(self.alloc, self.schema, number, line, gathered)
+    }
+
+    fn too_long(&self, number: u64) -> Refusal {
+        Refusal::Text { line: number }
+    }
+}
+
+/// Gathers the hex of the serialized form of the value of which a line is the text.
+fn encode_line(
+    alloc: Global,
+    schema: &Schema,
+    line: u64,
+    text: &[u8],
+    gathered: &mut TextBuffer,
+) -> Result<(), LineStop<Refusal>>
+    requires { IsType schema.now }
+    ensures { Hears (Encodes (sch schema.now) line text.now)
+        (text_of gathered.old) (text_of gathered.new) result }
+{
+    if text.len() > LONGEST_LINE {
+        return Err(LineStop::Refused(Refusal::Text { line }));
+    }
+    match read_value(alloc, schema, text, line) {
+        Ok(value) => match put_encoding(alloc, schema, &value, gathered) {
+            Ok(()) => Ok(()),
+            Err(_) => Err(LineStop::NoMemory),
+        },
+        Err(TextError::Text { line }) => Err(LineStop::Refused(Refusal::Text { line })),
+        Err(TextError::NoMemory) => Err(LineStop::NoMemory),
+    }
+}
+
+/// Gathers the hex of the serialized form of a value.
+fn put_encoding(
+    alloc: Global,
+    schema: &Schema,
+    value: &Value,
+    gathered: &mut TextBuffer,
+) -> Result<(), NoMemory>
+    requires rules { IsType schema.now }
+    requires fits { Fits (sch schema.now) (val value.now) }
+    ensures text { let line = hex_line (encoding (sch schema.now) (val value.now)) in
+        OnOk result (text_of gathered.new ≡ text_of gathered.old ++ line) }
+    ensures kept { OnErr result (text_of gathered.new ≡ text_of gathered.old) }
+{
+    extent_has_room();
+    fits_or_misfit();
+    let mut bytes = Bytes::zeros(alloc, schema.extent_bytes())?.into_vec();
+    match write_as(alloc, schema, value, bytes.as_mut_slice()) {
+        Ok(count) => put_hex_line(&bytes[..count], gathered),
+        Err(WriteError::NoMemory) => Err(NoMemory),
+        Err(WriteError::Misfit { .. }) => unreachable!(),
+    }
+}
+
+/// Gathers the line of bytes.
+fn put_hex_line(bytes: &[u8], gathered: &mut TextBuffer) -> Result<(), NoMemory>
+    ensures text { OnOk result (text_of gathered.new ≡ text_of gathered.old ++ hex_line bytes.now) }
+    ensures kept { OnErr result (text_of gathered.new ≡ text_of gathered.old) }
+{
+    let Some(digits) = bytes.len().checked_mul(2) else {
+        return Err(NoMemory);
+    };
+    let Some(room) = digits.checked_add(17) else {
+        return Err(NoMemory);
+    };
+    gathered.reserve(room)?;
+    gathered.put_hex(bytes);
+    gathered.put_slice(b"\n");
+    Ok(())
+}
