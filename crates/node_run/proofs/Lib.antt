@@ -5,3 +5,5 @@ pub mod Streams
 pub mod Roots
 pub mod Endings
 pub mod Summaries
+pub mod Messages
+pub mod LineStatuses

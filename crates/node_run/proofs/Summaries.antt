@@ -1,14 +1,12 @@
 -- What a run over a generated log came to.
-use Rattle.std.proofs.Common.{◌≡◌, ℕ, ◌-◌, ◌^◌, ◌<◌, ◌⊎◌, List, Option, Some, None, map, reverse, [], ◌∷◌, ◌++◌, append_assoc, refl, sym, ap, ◌∙◌, subst, inl, inr, arith}
+use Rattle.std.proofs.Common.{◌≡◌, ℕ, ◌⊎◌, List, Option, Some, None, reverse, [], ◌∷◌, ◌++◌, append_assoc, refl, ap, ◌∙◌, subst, inl, inr, arith}
 use Rattle.std.proofs.lemmas.List.{reverse-reverse}
-use Rattle.tail_frame.specs.declared.logged.Record.{Record}
 use Rattle.cy_outside.specs.Outside.{Rose}
 use Rattle.frame_log.specs.Log.{Log, log_of}
 use Rattle.frame_log.specs.declared.error.LogError.{LogError}
-use Rattle.log_gen.specs.Rules.{bus_names, log_text, plan_text}
+use Rattle.log_gen.specs.Rules.{log_text, plan_text}
 use Rattle.log_gen.specs.Laws.{records_by, IsRead}
-use Rattle.log_loop.specs.Voice.{newest_first}
-use Rattle.node_plan.specs.Plan.{PlanIs, Good, plan_of}
+use Rattle.node_plan.specs.Plan.{Good, plan_of}
 use Rattle.node_plan.specs.declared.plan.Plan.{Plan}
 use Rattle.node_core.specs.Steps.{steps, numbers}
 use Rattle.node_run.specs.Generated.{generated_plan, generated_numbers}
@@ -46,6 +44,8 @@ module _ (number : ℕ) (reads : IsRead number) (r : Reported) (before after : O
   only (status.Dsdl file line why) h read write = absurd h
   only (status.Plan line why) h read write = absurd h
   only (status.Log line why) h read write = absurd (no_refusal _ h.0)
+  only (status.Text line) h read write = absurd h
+  only (status.Unreadable line path why) h read write = absurd h
   only (status.NotNewer path why) h read write = absurd h
   only status.LogLong h read write = absurd (no_refusal _ h.0)
   only (status.NoFile path) h read write = absurd h

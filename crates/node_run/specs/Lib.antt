@@ -8,3 +8,4 @@ pub mod NamedTypes
 pub mod Ran
 pub mod Streamed
 pub mod Taken
+pub mod ValueLines

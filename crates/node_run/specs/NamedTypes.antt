@@ -5,6 +5,8 @@ use Rattle.dsdl_names.specs.Names.{type_id_of}
 use Rattle.dsdl_names.specs.declared.TypeId.{TypeId}
 use Rattle.dsdl_names.specs.declared.NameError.{NameError}
 use Rattle.dsdl_types.specs.Finding.{definition_of}
+use Rattle.dsdl_types.specs.Schemas.{Sch}
+use Rattle.dsdl_types.specs.Views.{sch}
 use Rattle.dsdl_types.specs.declared.definition.Definition.{Definition}
 use Rattle.dsdl_types.specs.declared.definition.Parts.{Parts}
 use Rattle.dsdl_types.specs.declared.definition.Parts.TheVariants as parts
@@ -48,3 +50,13 @@ named names name = named_by names name (without_end (codes ".Request") name) (wi
 abbrev pub parts_of : NamedParts → Parts
 parts_of (found.Message s) = parts.Message s.now
 parts_of (found.Service request response) = parts.Service request.now response.now
+
+-- the schema of a message, or of a half of a service; a whole service has none
+abbrev pub message_of : Option Parts → Option Sch
+message_of None = None
+message_of (Some (parts.Message s)) = Some (sch s)
+message_of (Some (parts.Service request response)) = None
+
+-- the schema of the message that a name stands for
+abbrev pub message_named : Namespace → List ℕ → Option Sch
+message_named names name = message_of (named names name)

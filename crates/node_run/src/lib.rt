@@ -1,10 +1,12 @@
-//! Two halves: `log`, what a plan's node does over a log, and `types`, what is written of a folder's types.
+//! Three parts: `log`, what a plan's node does over a log, `types`, what is written of a folder's types, and `values`, what
+//! is written of values of a type.
 #![tactic(auto)]
 
 pub mod log;
 pub mod report;
 pub mod status;
 pub mod types;
+pub mod values;
 
 pub use frame_log::LogWhy;
 pub use log::bound_text::bound;
@@ -15,3 +17,5 @@ pub use status::Status;
 pub use types::compared::compat;
 pub use types::layouts::compile;
 pub use types::namespace::load;
+pub use values::decoded::decode;
+pub use values::encoded::encode;

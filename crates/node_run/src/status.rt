@@ -1,6 +1,7 @@
 use compat_check::CompatWhy;
 use cy_bits::Text;
 use dsdl_resolve::DsdlWhy;
+use dsdl_types::ReadWhy;
 use frame_log::LogWhy;
 use node_plan::PlanWhy;
 
@@ -29,6 +30,19 @@ pub enum Status {
     Log {
         line: u64,
         why: LogWhy,
+    },
+    /// A line of the input, counted from 1, is the text of no value of the type, or no hex, or too long.
+    Text {
+        line: u64,
+    },
+    /// A line of the input, counted from 1, is the hex of bytes that can't be read as a value of the type.
+    Unreadable {
+        line: u64,
+        /// The first part that can't be read: names of fields with `.` between them, `[i]` for an item of an array; `.`
+        /// alone for the whole.
+        path: Text,
+        /// The cause, with the number that was read.
+        why: ReadWhy,
     },
     /// The new type isn't newer than the old one.
     NotNewer {

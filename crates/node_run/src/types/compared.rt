@@ -1,15 +1,15 @@
 //! Whether one type of a namespace is newer than another.
-ghost use Rattle.std.specs.Prelude.{◌≡◌, ◌⊎◌, IfOk, IfErr, Some, None, codes};
+ghost use Rattle.std.specs.Prelude.{◌≡◌, IfOk, codes};
 ghost use Rattle.cy_outside.specs.Outside.{Rose};
 ghost use Rattle.dsdl_types.specs.Definitions.{IsNamespace};
 ghost use Rattle.dsdl_types.specs.Difference.{difference};
 ghost use Rattle.dsdl_types.specs.Views.{sch};
 ghost use Rattle.compat_check.specs.Verdicts.{verdict_of};
-ghost use Rattle.node_run.specs.NamedTypes.{named, parts_of};
+ghost use Rattle.node_run.specs.NamedTypes.{parts_of};
 ghost use Rattle.node_run.specs.Compared.{half_path, in_half, parts_verdict, HasCompared};
 
 use crate::status::Status;
-use crate::types::named::{NamedParts, named};
+use crate::types::named::{NamedParts, found};
 use compat_check::{CompatWhy, Verdict, newer};
 use cy_bits::{NoMemory, Text};
 use cy_outside::{Sink, put_all};
@@ -51,21 +51,6 @@ pub fn compat<O: Sink>(
         return Status::WriteFault;
     };
     Status::Ok
-}
-
-/// What a name stands for, or how a comparison ends where that is nothing.
-fn found<'a>(alloc: Global, names: &'a Namespace, name: &str) -> Result<NamedParts<'a>, Status>
-    ensures found { IfOk result (λ found. named names.entry.now name.now ≡ Some (parts_of found)) }
-    ensures missing { IfErr result (λ stat. (stat ≡ Status.NoMemory) ⊎ ((stat ≡ Status.NoFile name.now) × (named names.entry.now name.now ≡ None))) }
-{
-    match named(alloc, names, name) {
-        Ok(Some(found)) => Ok(found),
-        Ok(None) => match Text::from_str(alloc, name) {
-            Ok(path) => Err(Status::NoFile { path }),
-            Err(_) => Err(Status::NoMemory),
-        },
-        Err(_) => Err(Status::NoMemory),
-    }
 }
 
 /// Whether what a name stands for is newer than what another does.

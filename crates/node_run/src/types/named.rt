@@ -1,10 +1,13 @@
 //! What a name stands for in a namespace.
-ghost use Rattle.std.specs.Prelude.{◌≡◌, IfOk, option_map, codes};
+ghost use Rattle.std.specs.Prelude.{◌≡◌, ◌⊎◌, IfOk, IfErr, Some, None, option_map, codes};
 ghost use Rattle.std.specs.Option.{option_copied};
 ghost use Rattle.dsdl_names.specs.Names.{type_id_of};
-ghost use Rattle.node_run.specs.NamedTypes.{without_end, parts_at, parts_of, named, requests_of, responses_of};
+ghost use Rattle.dsdl_types.specs.Definitions.{IsNamespace, IsType};
+ghost use Rattle.dsdl_types.specs.Views.{sch};
+ghost use Rattle.node_run.specs.NamedTypes.{message_named, without_end, parts_at, parts_of, named, requests_of, responses_of};
 
-use cy_bits::NoMemory;
+use crate::status::Status;
+use cy_bits::{NoMemory, Text};
 use dsdl_names::{NameError, parse_type_id};
 use dsdl_types::{Namespace, Parts, Schema};
 use std::alloc::Global;
@@ -49,6 +52,47 @@ pub fn named<'a>(
             response,
         })),
         None => Ok(None),
+    }
+}
+
+/// What a name stands for, or how a command ends where that is nothing.
+pub fn found<'a>(alloc: Global, names: &'a Namespace, name: &str) -> Result<NamedParts<'a>, Status>
+    ensures found { IfOk result (λ found. named names.entry.now name.now ≡ Some (parts_of found)) }
+    ensures missing { IfErr result (λ stat. (stat ≡ Status.NoMemory)
+        ⊎ ((stat ≡ Status.NoFile name.now) × (named names.entry.now name.now ≡ None))) }
+{
+    match named(alloc, names, name) {
+        Ok(Some(found)) => Ok(found),
+        Ok(None) => Err(missing(alloc, name)),
+        Err(_) => Err(Status::NoMemory),
+    }
+}
+
+/// The schema of the message, or of the half of a service, that a name stands for, or how a command ends where it stands
+/// for none.
+pub fn message<'a>(alloc: Global, names: &'a Namespace, name: &str) -> Result<&'a Schema, Status>
+    requires { IsNamespace names.now }
+    ensures found { IfOk result (λ schema.
+        message_named names.entry.now name.now ≡ Some (sch schema.now)) }
+    ensures rules { IfOk result (λ schema. IsType schema.now) }
+    ensures missing { let found = message_named names.entry.now name.now in
+        IfErr result (λ stat. (stat ≡ Status.NoMemory)
+        ⊎ ((stat ≡ Status.NoFile name.now) × (found ≡ None))) }
+{
+    match found(alloc, names, name) {
+        Ok(NamedParts::Message(schema)) => Ok(schema),
+        Ok(NamedParts::Service { .. }) => Err(missing(alloc, name)),
+        Err(status) => Err(status),
+    }
+}
+
+/// How a command ends where there is nothing of a name.
+fn missing(alloc: Global, name: &str) -> Status
+    ensures { (result ≡ Status.NoMemory) ⊎ (result ≡ Status.NoFile name.now) }
+{
+    match Text::from_str(alloc, name) {
+        Ok(path) => Status::NoFile { path },
+        Err(_) => Status::NoMemory,
     }
 }
 
