@@ -11,8 +11,9 @@ mod row;
 mod tests;
 mod within;
 
+pub use composite::Composite;
 pub use ends::ends_after;
 pub use layout::Layout;
 pub use lengths::part_lengths;
-pub use of_schema::layout_of;
+pub use of_schema::{composite_of, layout_of};
 pub use row::Row;
