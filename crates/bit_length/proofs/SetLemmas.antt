@@ -324,3 +324,32 @@ first_member s [] each lt = absurd (omega arith)
 first_member s (r ∷ runs) each lt =
     let run = All-head (IsRun s) r runs each in
     (r.residue + s * r.first, inl (r.first, omega arith, run.1, refl))
+
+-- ---- a set that is kept as one run
+
+pub one_run : (s t : ℕ) (others : List Run) (last : Run) (v : List ℕ) → AreRuns s (others ++ last ∷ []) → members_of s (others ++ last ∷ []) ≡ v → others ≡ [] → s ≡ t → Same (InRun t last) (Has v)
+one_run s t others last v set view none at =
+    subst (λ u. Same (InRun u last) (Has v)) at
+    (subst (λ l. Same (InRun s last) (Has l)) view (λ n. let w = single_value s others last none (last_run s others last set) n in (w.1, w.0)))
+
+pub one_member : (s m : ℕ) (others : List Run) (last : Run) (v : List ℕ) → AreRuns s (others ++ last ∷ []) → members_of s (others ++ last ∷ []) ≡ v → others ≡ [] → last.first ≡ last.last →
+    m ≡ last.residue + s * last.last → Same (Only m) (Has v)
+one_member s m others last v set view none one is n = (
+  λ e. (one_run s s others last v set view none refl n).0 (last.last, omega arith, omega arith, e ∙ is),
+  λ h. let (q, low, high, e) = (one_run s s others last v set view none refl n).1 h in
+      let same : q ≡ last.last = omega arith in
+      e ∙ ap (λ x. last.residue + s * x) same ∙ sym is,
+)
+
+-- a number and 0
+pub zero_and : (k : ℕ) (S T : Numbers) → Same (Only k) S → Same (Only 0) T → Same (InRun k (record { residue = 0; first = 0; last = 1 })) (Joins S T)
+zero_and k S T a b n = (there, back)
+  where
+    there : InRun k (record { residue = 0; first = 0; last = 1 }) n → Joins S T n
+    there (zero, low, high, e) = inr ((b n).0 (omega arith))
+    there (suc zero, low, high, e) = inl ((a n).0 (omega arith))
+    there (suc (suc q), low, high, e) = absurd (omega arith)
+
+    back : Joins S T n → InRun k (record { residue = 0; first = 0; last = 1 }) n
+    back (inl h) = (1, omega arith, omega arith, omega (arith, (a n).1 h))
+    back (inr h) = (0, omega arith, omega arith, omega (arith, (b n).1 h))

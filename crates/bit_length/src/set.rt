@@ -1,4 +1,4 @@
-ghost use Rattle.std.specs.Prelude.{◌≡◌, ◌≢◌, ℕ, ◌+◌, ◌*◌, ◌%◌, ◌/◌, ◌<◌, ◌≤◌, ◌^◌, ◌↔◌, IsTrue, IfOk, Err, length, All};
+ghost use Rattle.std.specs.Prelude.{◌≡◌, ◌≢◌, ℕ, ◌+◌, ◌*◌, ◌%◌, ◌/◌, ◌<◌, ◌≤◌, ◌^◌, ◌↔◌, IsTrue, IfOk, IfSome, Err, length, All};
 ghost use Rattle.bit_length.specs.Ascending.{Ascend};
 ghost use Rattle.bit_length.specs.Lengths.{Has, Same, Only, Delimited, Sums, Joins, Repeats, UpTo, Pads, SomeLeaves, IsWithin, IsLongBeyond, IsGreatest, IsLeast, IsNext};
 ghost use Rattle.bit_length.specs.Residues.{residues_of};
@@ -321,12 +321,81 @@ impl LengthSet {
         }
     }
 
+    /// The set of the members of one run. Takes no memory.
+    fn one(alloc: Global, step: u64, run: Run) -> LengthSet
+        requires { IsRun step run }
+        ensures { Same (Has result) (InRun step run) }
+    {
+        LengthSet {
+            step,
+            others: Vec::new(alloc),
+            last: run,
+        }
+    }
+
+    /// The number of the set, where it is kept as one number.
+    fn single(&self) -> Option<u64>
+        ensures short { IfSome result (λ n. n ≤ 2 ^ 32) }
+        ensures member { IfSome result (λ n. Same (Only n) (Has self.now)) }
+    {
+        if !self.others.as_slice().is_empty() {
+            return None;
+        }
+        if self.last.first == self.last.last {
+            return Some(self.last.member(self.step, self.last.last));
+        }
+        None
+    }
+
+    /// The set as one run of a step, where it is kept as one number.
+    fn single_at(&self, step: u64) -> Option<Run>
+        requires { 0 < step }
+        ensures run { IfSome result (IsRun step) }
+        ensures members { IfSome result (λ run. Same (InRun step run) (Has self.now)) }
+    {
+        let n = self.single()?;
+        Some(Run::single(step, n))
+    }
+
+    /// The set as one run of a step, where it is kept as one of this step, or as one number.
+    fn as_run(&self, step: u64) -> Option<Run>
+        requires { 0 < step }
+        ensures run { IfSome result (IsRun step) }
+        ensures members { IfSome result (λ run. Same (InRun step run) (Has self.now)) }
+    {
+        if self.step != step {
+            return self.single_at(step);
+        }
+        if self.others.as_slice().is_empty() {
+            return Some(self.last);
+        }
+        None
+    }
+
+    /// The number of the set, where it is kept as one number above 0, and another set as 0 alone.
+    fn above_zero(&self, o: &LengthSet) -> Option<u64>
+        ensures short { IfSome result (λ n. n ≤ 2 ^ 32) }
+        ensures positive { IfSome result (λ n. 0 < n) }
+        ensures member { IfSome result (λ n. Same (Only n) (Has self.now)) }
+        ensures zero { IfSome result (λ _. Same (Only 0) (Has o.now)) }
+    {
+        let n = self.single()?;
+        let least = o.single()?;
+        if n == 0 || least != 0 {
+            return None;
+        }
+        Some(n)
+    }
+
     /// All sums of a member each.
     fn sum_within(&self, o: &LengthSet) -> Result<LengthSet, NoMemory>
         requires { (n : ℕ) → Sums (Has self.now) (Has o.now) n → n ≤ 2 ^ 32 }
         ensures { IfOk result (λ s. Same (Has s) (Sums (Has self.now) (Has o.now))) }
     {
         let step = self.common_step(o);
+        if let (Some(a), Some(b)) = (self.as_run(step), o.as_run(step)) {
+            return Ok(LengthSet::one(self.alloc(), step, a.plus(step, &b)));
+        }
         let runs = sums(self.alloc(), step, &self.runs_at(step)?, &o.runs_at(step)?)?;
         LengthSet::from_runs(self.alloc(), step, runs, common_divisor(self.step, o.step))
     }
@@ -335,6 +404,14 @@ impl LengthSet {
     fn join_within(&self, o: &LengthSet) -> Result<LengthSet, NoMemory>
         ensures { IfOk result (λ s. Same (Has s) (Joins (Has self.now) (Has o.now))) }
     {
+        if let Some(n) = self.above_zero(o) {
+            let run = Run {
+                residue: 0,
+                first: 0,
+                last: 1,
+            };
+            return Ok(LengthSet::one(self.alloc(), n, run));
+        }
         let step = self.common_step(o);
         let mut runs = self.runs_at(step)?;
         runs.extend_from_slice(o.runs_at(step)?.as_slice())?;
@@ -365,6 +442,9 @@ impl LengthSet {
         ensures { IfOk result (λ s. Same (Has s) (Pads (Has self.now) to)) }
     {
         let step = self.step_for(to);
+        if let Some(run) = self.as_run(step) {
+            return Ok(LengthSet::one(self.alloc(), step, run.padded(step, to)));
+        }
         let runs = pads(self.alloc(), step, to, &self.runs_at(step)?)?;
         LengthSet::from_runs(self.alloc(), step, runs, to)
     }

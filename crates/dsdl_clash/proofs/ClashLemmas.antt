@@ -1,9 +1,9 @@
 -- The first definition that clashes with one before it
-use Rattle.std.proofs.Common.{◌≡◌, ℕ, ◌<◌, ◌≤◌, ◌+◌, Bool, true, false, List, [], ◌∷◌, ◌++◌, length, get_or, take, drop, Option, Some, None, cond, refl, sym, ap, ◌∙◌, arith}
+use Rattle.std.proofs.Common.{◌≡◌, ℕ, ◌<◌, ◌≤◌, ◌+◌, ◌==◌, ◌&&◌, ◌||◌, not, Bool, true, false, List, [], ◌∷◌, ◌++◌, length, get_or, take, drop, Option, Some, None, cond, refl, sym, ap, ◌∙◌, arith}
 use Rattle.std.proofs.lemmas.List.{drop_more, drop_all, take_more, length-take-le, get_or_default, length_push}
 use Rattle.std.specs.List.{HoldsAt}
 use Rattle.dsdl_types.specs.declared.definition.Definition.{Definition}
-use Rattle.dsdl_clash.specs.Clashes.{Clash, clashes_with, first_clash, first_clash_behind}
+use Rattle.dsdl_clash.specs.Clashes.{Clash, clashes_with, first_clash, first_clash_behind, ports_clash, same_kind, same_name, same_port}
 
 module _ (clash : Clash) (ds : List Definition) where
   front : (i : ℕ) (d : Definition) → i < length ds → d ≡ get_or ds i d → drop i ds ≡ d ∷ drop (i + 1) ds
@@ -59,3 +59,19 @@ clash_within clash before (d ∷ ds) i e = at (clashes_with clash before d) refl
 -- the number of a definition that clashes is one of the definitions'
 pub first_within : (clash : Clash) (ds : List Definition) (i : ℕ) → first_clash clash ds ≡ Some i → i < length ds
 first_within clash ds i e = omega (arith, clash_within clash [] ds i e)
+
+-- no definition clashes by ports with one that has no port
+pub no_port : (a b : Definition) → b.port ≡ None → ports_clash a b ≡ false
+no_port a b none = ap (λ p. same_port a.port p && rest) none ∙ at a.port
+  where
+    rest : Bool
+    rest = same_kind a.parts b.parts && (not (same_name a b) || (not (a.id.major == b.id.major) && (not (a.id.major == 0) && not (b.id.major == 0))))
+
+    at : (p : Option ℕ) → (same_port p None && rest) ≡ false
+    at None = refl
+    at (Some n) = refl
+
+-- what clashes with none clashes with none of these
+pub clashes_never : (clash : Clash) (before : List Definition) (d : Definition) → ((a : Definition) → clash a d ≡ false) → clashes_with clash before d ≡ false
+clashes_never clash [] d never = refl
+clashes_never clash (a ∷ before) d never = ap (λ b. b || clashes_with clash before d) (never a) ∙ clashes_never clash before d never

@@ -1,9 +1,10 @@
 //! The first definition that clashes with one before it.
-ghost use Rattle.std.specs.Prelude.{◌≡◌, ◌<◌, ◌≤◌, ℕ, length, take, slice_index, IfOk};
+ghost use Rattle.std.specs.Prelude.{◌≡◌, ◌<◌, ◌≤◌, ℕ, true, false, length, take, slice_index, IfOk};
 ghost use Rattle.std.specs.List.{HoldsAt};
 ghost use Rattle.dsdl_clash.specs.Clashes.{clashes_with, first_clash, same_name, versions_clash, ports_clash};
 ghost use Rattle.dsdl_clash.specs.Kinds.{clash_of};
 ghost use Rattle.dsdl_clash.specs.Names.{name_numbers};
+ghost use Rattle.dsdl_types.specs.declared.definition.Definition.{Definition as DefinitionOf};
 
 use crate::numbers::name_numbers;
 use crate::outline::{same_kind, same_outlines, same_port};
@@ -70,13 +71,27 @@ fn clashes_with_earlier(by: By, definitions: &[Definition], names: &[usize], at:
     ensures { HoldsAt (λ d. result
         ≡ clashes_with (clash_of by) (take at definitions.now) d) definitions.now at }
 {
+    let definition = &definitions[at];
+    if is_alone(by, definition) {
+        return false;
+    }
     for earlier in 0..at {
         let same = names[earlier] == names[at];
-        if clash(by, &definitions[earlier], &definitions[at], same) {
+        if clash(by, &definitions[earlier], definition, same) {
             return true;
         }
     }
     false
+}
+
+/// Whether a definition clashes with none, whatever stands before it: by ports where it has none.
+fn is_alone(by: By, definition: &Definition) -> bool
+    ensures { result ≡ true → (a : DefinitionOf) → clash_of by a definition.now ≡ false }
+{
+    match by {
+        By::Version => false,
+        By::Port => definition.port.is_none(),
+    }
 }
 
 /// Whether a definition clashes with a later one, where it is known whether their full names are

@@ -1,5 +1,5 @@
 -- What a section says with a field more.
-use Rattle.std.proofs.Common.{◌≡◌, ℕ, Bool, List, [], ◌∷◌, ◌++◌, Option, refl, sym, ap, ◌∙◌, subst}
+use Rattle.std.proofs.Common.{◌≡◌, ℕ, Bool, List, [], ◌∷◌, ◌++◌, Option, sym, ap, ◌∙◌, subst}
 use Rattle.dsdl_types.specs.declared.schema.Field.{Field, roll-Field}
 use Rattle.const_expr.specs.declared.scope.NamedConst.{NamedConst}
 use Rattle.dsdl_resolve.specs.declared.addition.Addition.{Addition}

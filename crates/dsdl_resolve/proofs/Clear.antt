@@ -1,8 +1,7 @@
 -- A file that passed is refused by no pass.
-use Rattle.std.proofs.Common.{◌≡◌, ◌≢◌, ℕ, ◌<◌, ◌≤◌, suc, arith, length-append, List, ◌∷◌, ◌++◌, length, take, drop, get_or, Result, Ok, Err, refl, sym, ap, ◌∙◌, subst}
+use Rattle.std.proofs.Common.{◌≡◌, ◌≢◌, ℕ, ◌<◌, ◌≤◌, suc, arith, length-append, List, ◌∷◌, ◌++◌, length, take, drop, get_or, Result, Ok, Err, refl, sym, ap, ◌∙◌}
 use Rattle.std.specs.List.{All, AllZip}
 use Rattle.dsdl_files.specs.declared.file.DsdlFile.{DsdlFile}
-use Rattle.dsdl_links.specs.declared.source.Source.{Source}
 use Rattle.dsdl_names.specs.Names.{file_name_of}
 use Rattle.dsdl_names.specs.declared.FileName.{FileName}
 use Rattle.dsdl_names.specs.declared.NameError.{NameError}
@@ -55,8 +54,8 @@ module _ (files : List DsdlFile) (i : ℕ) (f : DsdlFile) (lt : i < length files
       first_at NameRefuses files i f path line why lt (sym is) (zip_all _ (Passes NameRefuses) name_clear (take i files) ns named) r.1
       (error, sym (answer no ∙ ap file_name_of same), r.3, r.2)) e h
 
-  pub first_text : IsParsedOneWay → (reads : List Read) (error : SyntaxError) (e : DsdlError) → AreRead (take i files) reads →
-      ((line : ℕ) → ◌≡◌ {A = Result Source SyntaxError} (Err error) (Err (syntax_error.Syntax line)) → FirstBad f.text line) →
+  pub first_text : {X : Type 0} → IsParsedOneWay → (reads : List Read) (error : SyntaxError) (e : DsdlError) → AreRead (take i files) reads →
+      ((line : ℕ) → ◌≡◌ {A = Result X SyntaxError} (Err error) (Err (syntax_error.Syntax line)) → FirstBad f.text line) →
       IsRefusal (λ path line why. (error ≡ syntax_error.Syntax line) × (path ≡ f.path) × (why ≡ cause.Syntax)) e → IsRefusal (IsFirst SyntaxRefuses files) e
   first_text law reads error e read answer h =
       told _ _ (λ path line why r.

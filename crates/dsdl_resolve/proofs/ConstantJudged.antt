@@ -1,12 +1,8 @@
 -- What a constant is refused for, and what it adds.
-use Rattle.std.proofs.Common.{◌≡◌, ℕ, Bool, true, false, List, [], ◌∷◌, ◌++◌, Option, Some, None, if◌then◌else◌, is_some, refl, sym, ap, ◌∙◌, subst}
+use Rattle.std.proofs.Common.{◌≡◌, ℕ, true, false, List, [], ◌∷◌, Option, Some, None, is_some, sym, ap, ◌∙◌, subst}
 use Rattle.std.specs.Option.{option_map, option_or}
-use Rattle.std.proofs.lemmas.Option.{none-some}
 use Rattle.dsdl_parse.specs.declared.expr.Expr.{Expr}
 use Rattle.dsdl_parse.specs.declared.statement.Form.{Form}
-use Rattle.dsdl_parse.specs.declared.statement.Scalar.{Scalar}
-use Rattle.dsdl_parse.specs.declared.statement.Scalar.TheVariants as scalar
-use Rattle.dsdl_parse.specs.declared.statement.Statement.{Statement}
 use Rattle.dsdl_parse.specs.declared.statement.Statement.TheVariants as statement
 use Rattle.dsdl_types.specs.Views.{flds}
 use Rattle.const_expr.specs.declared.constant.Const.{Const}
@@ -16,12 +12,10 @@ use Rattle.dsdl_resolve.specs.declared.totals.Totals.{Totals}
 use Rattle.dsdl_resolve.specs.declared.values.Values.{Values}
 use Rattle.dsdl_resolve.specs.declared.why.DsdlWhy.{DsdlWhy}
 use Rattle.dsdl_resolve.specs.declared.why.DsdlWhy.TheVariants as why
-use Rattle.dsdl_resolve.specs.declared.primitive.Primitive.{Primitive}
 use Rattle.dsdl_resolve.specs.Additions.{with_addition, name_of, IsJudged}
-use Rattle.dsdl_resolve.specs.Forms.{primitive_of}
 use Rattle.dsdl_resolve.specs.Judged.{assert_at, long_at, refusal_valued}
 use Rattle.dsdl_resolve.specs.Place.{Place}
-use Rattle.dsdl_resolve.specs.Rules.{Tests, least, rules_of, named_rules, breaks_14, breaks_15, breaks_16, holds}
+use Rattle.dsdl_resolve.specs.Rules.{least, rules_of, named_rules, breaks_14, breaks_15, breaks_16}
 use Rattle.dsdl_resolve.specs.Said.{Said}
 use Rattle.dsdl_resolve.specs.Says.{attribute_of}
 use Rattle.dsdl_resolve.specs.Totals.{AreTotals, AreWithin}

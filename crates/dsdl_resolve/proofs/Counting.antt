@@ -1,9 +1,8 @@
 -- Counting the nodes of fields and how deep they nest, one field after the other.
-use Rattle.std.proofs.Common.{◌≡◌, ℕ, zero, suc, ◌+◌, ◌*◌, ◌^◌, ◌<◌, ◌≤◌, Bool, true, false, List, length, drop, get_or, refl, sym, ap, ◌∙◌, subst, arith}
+use Rattle.std.proofs.Common.{◌≡◌, ℕ, zero, suc, ◌+◌, ◌*◌, ◌^◌, ◌<◌, ◌≤◌, true, false, List, length, drop, get_or, ap, subst, arith}
 use Rattle.std.specs.Prelude.{max}
 use Rattle.dsdl_types.specs.Rules.{IsFormed, AreFormed, nodes, nodes_of, nesting, nesting_of}
-use Rattle.dsdl_types.specs.Schemas.{Sch, Flds, End, Pad}
-use Rattle.dsdl_types.specs.Schemas as D
+use Rattle.dsdl_types.specs.Schemas.{Flds}
 use Rattle.dsdl_types.specs.Views.{Kind, Typed, Padding, with_field, named, flds, type_of, is_padding}
 use Rattle.dsdl_types.specs.declared.schema.Field.{Field}
 use Rattle.layout.proofs.Types.{flds_next, flds_end}

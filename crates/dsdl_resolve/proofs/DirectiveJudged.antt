@@ -1,32 +1,28 @@
 -- What a directive is refused for, and what it adds.
-use Rattle.std.proofs.Common.{◌≡◌, ℕ, Bool, true, false, List, [], ◌∷◌, Option, Some, None, Result, Ok, Err, IfOk, IfErr, if◌then◌else◌, is_some, refl, sym, ap, ◌∙◌, subst}
+use Rattle.std.proofs.Common.{◌≡◌, ℕ, Bool, true, false, List, [], Option, Some, None, if◌then◌else◌, is_some, refl, sym, ap, ◌∙◌, subst}
 use Rattle.std.specs.Prelude.{codes, ◌||◌, not}
 use Rattle.std.specs.List.{list_any}
 use Rattle.std.specs.Option.{option_map, option_or}
 use Rattle.std.specs.Str.{bytes_eq}
 use Rattle.std.proofs.lemmas.Bool.{false≢true}
-use Rattle.std.proofs.lemmas.Option.{none-some}
 use Rattle.dsdl_parse.specs.declared.expr.Expr.{Expr}
-use Rattle.dsdl_parse.specs.declared.statement.Statement.{Statement}
 use Rattle.dsdl_parse.specs.declared.statement.Statement.TheVariants as statement
 use Rattle.dsdl_types.specs.Schemas.{End}
 use Rattle.dsdl_types.specs.Views.{flds}
-use Rattle.dsdl_types.specs.declared.schema.Field.{Field}
 use Rattle.const_expr.specs.declared.constant.Const.{Const}
 use Rattle.const_expr.specs.declared.scope.Scope.{Scope}
 use Rattle.dsdl_resolve.specs.declared.addition.Addition.TheVariants as addition
-use Rattle.dsdl_resolve.specs.declared.addition.Judged.{Judged}
 use Rattle.dsdl_resolve.specs.declared.before.Before.{Before}
 use Rattle.dsdl_resolve.specs.declared.totals.Totals.{Totals}
 use Rattle.dsdl_resolve.specs.declared.values.Values.{Values}
 use Rattle.dsdl_resolve.specs.declared.why.DsdlWhy.{DsdlWhy}
 use Rattle.dsdl_resolve.specs.declared.why.DsdlWhy.TheVariants as why
-use Rattle.dsdl_resolve.specs.Additions.{with_addition, name_of, IsBefore, IsJudged}
+use Rattle.dsdl_resolve.specs.Additions.{IsBefore, IsJudged}
 use Rattle.dsdl_resolve.specs.Judged.{assert_at, if_false, long_at, long_extent, refusal_valued}
 use Rattle.dsdl_resolve.specs.Place.{Place}
-use Rattle.dsdl_resolve.specs.Rules.{Tests, least, rules_of, directive_rules, breaks_3, breaks_4, breaks_6, is_extent_for}
+use Rattle.dsdl_resolve.specs.Rules.{least, rules_of, directive_rules, breaks_4, is_extent_for}
 use Rattle.dsdl_resolve.specs.Said.{Said, greatest}
-use Rattle.dsdl_resolve.specs.Says.{attribute_of, is_union, is_entry}
+use Rattle.dsdl_resolve.specs.Says.{is_union, is_entry}
 use Rattle.dsdl_resolve.specs.Totals.{AreTotals, AreWithin}
 use Rattle.dsdl_resolve.specs.Values.{added, natural_of, with_directive}
 use Rattle.dsdl_resolve.proofs.SoundSection.{kept}

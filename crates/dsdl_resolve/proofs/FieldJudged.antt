@@ -1,21 +1,18 @@
 -- What a field is refused for, and what it adds.
-use Rattle.std.proofs.Common.{◌≡◌, ℕ, suc, ◌+◌, ◌^◌, Bool, true, false, List, [], ◌∷◌, ◌++◌, Option, Some, None, if◌then◌else◌, refl, sym, ap, ◌∙◌, subst, arith}
+use Rattle.std.proofs.Common.{◌≡◌, ℕ, suc, ◌+◌, ◌^◌, Bool, true, false, List, [], ◌∷◌, ◌++◌, Option, Some, None, if◌then◌else◌, refl, sym, ap, ◌∙◌, subst}
 use Rattle.std.specs.Prelude.{max, nat_lt}
 use Rattle.std.specs.Option.{option_map, option_or}
-use Rattle.std.proofs.lemmas.Option.{none-some}
 use Rattle.dsdl_parse.specs.declared.statement.Form.{Form}
-use Rattle.dsdl_parse.specs.declared.statement.Statement.{Statement}
 use Rattle.dsdl_parse.specs.declared.statement.Statement.TheVariants as statement
 use Rattle.dsdl_types.specs.Rules.{nodes, nodes_of, nesting, nesting_of}
 use Rattle.dsdl_types.specs.Schemas.{Flds}
-use Rattle.dsdl_types.specs.Views.{Kind, Typed, kind_of, type_of, is_padding, named, sch, flds}
+use Rattle.dsdl_types.specs.Views.{Typed, kind_of, type_of, is_padding, named, sch, flds}
 use Rattle.dsdl_types.specs.declared.schema.Field.{Field, roll-Field}
 use Rattle.dsdl_types.specs.declared.schema.Schema.{Schema}
 use Rattle.dsdl_types.proofs.Equations.{named_field}
 use Rattle.const_expr.specs.declared.constant.Const.{Const}
 use Rattle.const_expr.specs.declared.scope.Scope.{Scope}
 use Rattle.dsdl_resolve.specs.declared.addition.Addition.TheVariants as addition
-use Rattle.dsdl_resolve.specs.declared.addition.Judged.{Judged}
 use Rattle.dsdl_resolve.specs.declared.measure.Measure.{Measure}
 use Rattle.dsdl_resolve.specs.declared.totals.Totals.{Totals}
 use Rattle.dsdl_resolve.specs.declared.typed.Typed as of_form
@@ -26,8 +23,8 @@ use Rattle.dsdl_resolve.specs.Additions.{size_refusal, with_addition, name_of, I
 use Rattle.dsdl_resolve.specs.Forms as forms
 use Rattle.dsdl_resolve.specs.Judged.{above_limit, assert_at, long_at, refusal_valued}
 use Rattle.dsdl_resolve.specs.Place.{Place}
-use Rattle.dsdl_resolve.specs.Rules.{Tests, least, rules_of, field_rules, named_rules, breaks_14, breaks_23, breaks_24}
-use Rattle.dsdl_resolve.specs.Said.{Said, greatest, greatest_in, node_count, depth}
+use Rattle.dsdl_resolve.specs.Rules.{Tests, least, rules_of, named_rules, breaks_14, breaks_23, breaks_24}
+use Rattle.dsdl_resolve.specs.Said.{Said, greatest}
 use Rattle.dsdl_resolve.specs.Says.{attribute_of}
 use Rattle.dsdl_resolve.specs.Totals.{AreTotals, AreWithin, IsMeasure}
 use Rattle.dsdl_resolve.specs.Values.{added, with_field}

@@ -1,12 +1,11 @@
 -- What an open file keeps when it takes a statement, and what it is at its end.
-use Rattle.std.proofs.Common.{◌≡◌, ℕ, zero, suc, ◌+◌, ◌^◌, ◌<◌, ◌≤◌, ◌||◌, Bool, true, false, List, [], ◌∷◌, ◌++◌, length, take, drop, get_or, Option, Some, None, Result, Ok, Err, IfOk, if◌then◌else◌, refl, sym, ap, ◌∙◌, subst, inl, inr, arith, append_assoc}
+use Rattle.std.proofs.Common.{◌≡◌, ℕ, suc, ◌+◌, ◌^◌, ◌<◌, ◌≤◌, ◌||◌, Bool, true, false, List, [], ◌∷◌, ◌++◌, length, take, drop, get_or, Option, Some, None, Ok, Err, refl, sym, ap, ◌∙◌, subst, arith, append_assoc}
 use Rattle.std.specs.List.{All, list_any, before_first}
 use Rattle.std.specs.Option.{option_map, option_or, option_to_list}
 use Rattle.std.proofs.Math.Seq.{drop-cons}
 use Rattle.std.proofs.lemmas.Bool.{cond-true, cond-false, false≢true}
 use Rattle.std.proofs.lemmas.List.{append-nil, take_more, take_all, drop_all}
 use Rattle.std.proofs.lemmas.List.Elements.{All-nil}
-use Rattle.std.proofs.lemmas.Option.{none-some, same_Some}
 use Rattle.dsdl_names.specs.declared.FileName.{FileName}
 use Rattle.dsdl_names.specs.declared.TypeId.{TypeId}
 use Rattle.dsdl_parse.specs.declared.statement.Statement.{Statement}
@@ -24,7 +23,7 @@ use Rattle.dsdl_resolve.specs.Answers.{Answers}
 use Rattle.dsdl_resolve.specs.Files.{IsFile, IsFileRefusal, IsRequest, IsStepped}
 use Rattle.dsdl_resolve.specs.Judged.{composite_of, finished, in_file, message_of, on_line, outcome, prints_at, prints_from, prints_of, refusal_at, refusal_at_end, refusal_from, refusal_valued, unless_refused}
 use Rattle.dsdl_resolve.specs.Opens.{IsOpen, IsReady, IsTaken, between, said_of}
-use Rattle.dsdl_resolve.specs.Place.{Place, place, onto_section, last_section}
+use Rattle.dsdl_resolve.specs.Place.{place, onto_section, last_section}
 use Rattle.dsdl_resolve.specs.Rules.{least, rules_at_end, split_rules}
 use Rattle.dsdl_resolve.specs.Said.{Said}
 use Rattle.dsdl_resolve.specs.Says.{is_split}
@@ -47,7 +46,7 @@ use Rattle.dsdl_resolve.specs.declared.values.Values.{Values}
 use Rattle.dsdl_resolve.specs.declared.why.DsdlWhy.{DsdlWhy}
 use Rattle.dsdl_resolve.specs.declared.why.DsdlWhy.TheVariants as why
 use Rattle.dsdl_resolve.proofs.SoundFile.{before_last, before_some, last_more, splits}
-use Rattle.dsdl_resolve.proofs.SoundSection.{any_more, any_parts, any_same, kept, map_none, or_none, sound_none}
+use Rattle.dsdl_resolve.proofs.SoundSection.{any_more, any_same, kept, map_none, or_none, sound_none}
 
 pub none_kept : AreConstants []
 none_kept = All-nil (λ (c : NamedConst). IsConst c.value)

@@ -3,7 +3,7 @@ use Rattle.std.proofs.Common.{◌≡◌, ℕ, ◌-◌, ◌^◌, ◌≤◌, ◌&&
 use Rattle.std.specs.Prelude.{nat_lt, nat_le, nat_eq, codes, drop}
 use Rattle.std.specs.List.{All, starts_with}
 use Rattle.std.specs.Str.{bytes_eq}
-use Rattle.std.specs.Option.{option_map, option_and_then}
+use Rattle.std.specs.Option.{option_map}
 use Rattle.std.proofs.lemmas.Bool.{ltb-false, leb-true, and_parts}
 use Rattle.std.proofs.lemmas.List.Elements.{All-head, All-tail}
 use Rattle.std.proofs.lemmas.Option.{none-some, same_Some, option_and_then_some}
@@ -22,7 +22,7 @@ use Rattle.dsdl_types.specs.Definitions.{IsDefinition, IsType, AreTypes}
 use Rattle.dsdl_types.specs.Finding.{same_id, definition_of}
 use Rattle.dsdl_types.specs.Names.{HasNames}
 use Rattle.dsdl_types.specs.Rules.{IsPrim, IsItem, IsFormed, IsSchema, is_float_width}
-use Rattle.dsdl_types.specs.Schemas.{Sch, Prim, PBool, PUint, PInt, PFloat, Simple, Fixed, Var, Struct, Union, is_composite}
+use Rattle.dsdl_types.specs.Schemas.{Sch, Prim, PBool, Simple, Fixed, Var, Struct, Union, is_composite}
 use Rattle.dsdl_types.specs.Views.{Kind, Typed, Padding, kind_of, type_of, sch}
 use Rattle.dsdl_types.specs.declared.definition.Definition.{Definition}
 use Rattle.dsdl_types.specs.declared.definition.Parts.{Parts}

@@ -30,3 +30,4 @@ pub mod Rereading
 pub mod Resolving
 pub mod OneAnswer
 pub mod Used
+pub mod SameTexts

@@ -1,9 +1,8 @@
 -- The numbers of a section with one field more.
-use Rattle.std.proofs.Common.{◌≡◌, ℕ, suc, ◌+◌, ◌≤◌, Bool, true, false, List, [], ◌∷◌, ◌++◌, if◌then◌else◌, refl, sym, ap, ◌∙◌, subst, arith}
+use Rattle.std.proofs.Common.{◌≡◌, ℕ, ◌+◌, Bool, true, false, List, [], ◌∷◌, ◌++◌, if◌then◌else◌, refl, sym, ap, ◌∙◌, subst, arith}
 use Rattle.std.specs.Prelude.{max}
-use Rattle.dsdl_types.specs.Greatest.{from_lead, longest_fields, longest_variant}
-use Rattle.dsdl_types.specs.Rules.{nodes, nodes_of, nesting, nesting_of}
-use Rattle.dsdl_types.specs.Schemas.{Sch, Flds, is_aligned, variants}
+use Rattle.dsdl_types.specs.Rules.{nesting, nesting_of}
+use Rattle.dsdl_types.specs.Schemas.{Sch, Flds, is_aligned}
 use Rattle.dsdl_types.specs.Views.{Kind, Typed, Padding, is_padding, type_of, named, flds}
 use Rattle.dsdl_types.specs.declared.schema.Field.{Field}
 use Rattle.dsdl_resolve.specs.declared.measure.Measure.{Measure}

@@ -1,5 +1,5 @@
 -- The names of fields with one more at the end.
-use Rattle.std.proofs.Common.{◌≡◌, ◌≢◌, true, ℕ, List, [], ◌∷◌, sym}
+use Rattle.std.proofs.Common.{◌≡◌, ◌≢◌, true, ℕ, List, sym}
 use Rattle.dsdl_names.specs.Words.{is_name}
 use Rattle.dsdl_types.specs.Names.{IsNew, AreNamed, HasNames, HaveNames}
 use Rattle.dsdl_types.specs.Schemas.{Sch, Flds, End, Pad, Field}

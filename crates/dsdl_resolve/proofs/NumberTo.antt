@@ -1,9 +1,8 @@
 -- Numbers of three digits or more.
-use Rattle.std.proofs.Common.{◌≡◌, ◌≢◌, ℕ, ◌+◌, ◌-◌, ◌*◌, ◌<◌, ◌≤◌, ◌||◌, ◌==◌, Bool, true, false, List, [], ◌∷◌, length, nat_lt, Option, Some, None, refl, sym, ap, ◌∙◌, arith}
+use Rattle.std.proofs.Common.{◌≡◌, ℕ, ◌+◌, ◌-◌, ◌*◌, ◌<◌, ◌≤◌, ◌||◌, ◌==◌, Bool, true, false, List, [], ◌∷◌, length, nat_lt, Option, Some, None, refl, arith}
 use Rattle.std.specs.Prelude.{cond}
-use Rattle.std.proofs.lemmas.Grind.{common_steps}
 use Rattle.std.proofs.lemmas.Bool.Decides.{nat_tests}
-use Rattle.dsdl_names.specs.Words.{decimal_from, number_of, number_to, at_most}
+use Rattle.dsdl_names.specs.Words.{decimal_from, number_to, at_most}
 
 by_digit : (t : Bool) (n m k : ℕ) (s : List ℕ) → n ≤ k → (decimal_from k s ≡ Some m → k ≤ m) → cond t None (decimal_from k s) ≡ Some m → n ≤ m
 by_digit true n m k s le f e = absurd (cc)

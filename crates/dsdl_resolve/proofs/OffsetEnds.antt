@@ -1,5 +1,5 @@
 -- Where the fields of a structure end, with one field more after another.
-use Rattle.std.proofs.Common.{◌≡◌, ℕ, suc, ◌+◌, ◌<◌, ◌≤◌, ◌^◌, Bool, true, false, List, [], ◌∷◌, ◌++◌, length, take, drop, get_or, map, refl, sym, ap, ◌∙◌, subst, arith}
+use Rattle.std.proofs.Common.{◌≡◌, ℕ, ◌+◌, ◌<◌, ◌≤◌, ◌^◌, Bool, true, false, List, [], ◌∷◌, ◌++◌, length, take, drop, get_or, map, refl, sym, ap, ◌∙◌, subst, arith}
 use Rattle.std.proofs.lemmas.List.{map-append, take-append-drop, take_more, take_all}
 use Rattle.bit_length.specs.Lengths.{Has, Same}
 use Rattle.bit_length.proofs.MemberLemmas.{below-has, has-below}
@@ -17,7 +17,7 @@ use Rattle.bit_length.proofs.AscendingLemmas.{one_below}
 use Rattle.const_expr.proofs.MemberSizes.{ends_tell, told, tells}
 use Rattle.const_expr.specs.Sizes.{ends_at}
 use Rattle.dsdl_resolve.specs.Said.{offsets}
-use Rattle.dsdl_resolve.proofs.Onto.{onto, flds_more, part_of, longest_typed, longest_padding}
+use Rattle.dsdl_resolve.proofs.Onto.{onto, flds_more, part_of}
 
 -- ---- one field more
 module _ (name : List ℕ) (k : Kind) where

@@ -1,9 +1,9 @@
 -- The lengths of a union: its tag and a variant.
-use Rattle.std.proofs.Common.{◌≡◌, ◌⊎◌, inl, inr, ℕ, suc, ◌+◌, ◌-◌, ◌<◌, ◌≤◌, ◌^◌, ◌==◌, ◌&&◌, Bool, true, false, List, [], ◌∷◌, ◌++◌, length, take, drop, get_or, map, Result, Ok, Err, IfOk, refl, sym, ap, ◌∙◌, subst, arith}
-use Rattle.std.proofs.lemmas.List.{map-append, take-append-drop, take_more, take_all}
+use Rattle.std.proofs.Common.{◌≡◌, ◌⊎◌, inl, inr, ℕ, ◌+◌, ◌-◌, ◌<◌, ◌≤◌, ◌^◌, ◌==◌, ◌&&◌, true, List, [], ◌∷◌, ◌++◌, length, take, drop, get_or, map, Result, Ok, Err, IfOk, refl, sym, ap, ◌∙◌, subst, arith}
+use Rattle.std.proofs.lemmas.List.{take-append-drop, take_more, take_all}
 use Rattle.bit_length.specs.Lengths.{Numbers, Has, Same, Only, Joins, Sums}
 use Rattle.bit_length.specs.declared.LengthError.{LengthError}
-use Rattle.dsdl_types.specs.Greatest.{longest_variant, longest}
+use Rattle.dsdl_types.specs.Greatest.{longest_variant}
 use Rattle.dsdl_types.specs.Lengths.{VariantLength, Size}
 use Rattle.dsdl_types.specs.Rules.{AreFormed, IsFormed, NoPadding}
 use Rattle.dsdl_types.specs.Schemas.{Sch, Flds, End, Pad, Field, prefix, variants}
@@ -14,10 +14,10 @@ use Rattle.layout.specs.Sets.{IsShortPart, IsShort}
 use Rattle.bit_length.specs.Ascending.{Ascend}
 use Rattle.bit_length.proofs.AscendingLemmas.{one_below}
 use Rattle.const_expr.proofs.MemberSizes.{Tells, some_tells, both_tell, equal_tells, variant_tells, told, tells}
-use Rattle.const_expr.specs.Sizes.{is_variant, some_to}
+use Rattle.const_expr.specs.Sizes.{is_variant}
 use Rattle.dsdl_resolve.specs.Said.{offsets, is_offset}
 use Rattle.dsdl_resolve.proofs.OffsetEnds.{flds_append, formed_split}
-use Rattle.dsdl_resolve.proofs.Onto.{onto, flds_more, part_of, variant_typed}
+use Rattle.dsdl_resolve.proofs.Onto.{onto, flds_more, variant_typed}
 
 -- ---- one variant more
 module _ (name : List ℕ) (s : Sch) where

@@ -1,7 +1,7 @@
 -- Files have one answer
 use Rattle.std.proofs.Common.{◌≡◌, ℕ, zero, suc, ◌+◌, ◌-◌, ◌<◌, ◌≤◌, List, [], ◌∷◌, ◌++◌, length, get_or, map, Option, Some, None, Result, Ok, Err, ◌⊎◌, inl, inr, refl, sym, ap, ◌∙◌, subst, arith, zero-add}
 use Rattle.std.specs.Prelude.{slice_get}
-use Rattle.std.specs.List.{All, AllZip}
+use Rattle.std.specs.List.{All}
 use Rattle.std.proofs.lemmas.Bool.{cases_order, cases_lt}
 use Rattle.std.proofs.lemmas.List.{length-map}
 use Rattle.std.proofs.lemmas.List.Elements.{All-cons}
@@ -13,7 +13,6 @@ use Rattle.dsdl_links.specs.Laws.{HaveOneMeaning, HaveOneOrder}
 use Rattle.dsdl_links.specs.Links.{AreLinks, IsUnresolved}
 use Rattle.dsdl_links.proofs.Placing.{links_within}
 use Rattle.dsdl_links.specs.Order.{IsOrder, IsCycle}
-use Rattle.dsdl_links.specs.declared.source.Source.{Source}
 use Rattle.dsdl_names.specs.Names.{file_name_of}
 use Rattle.dsdl_names.specs.declared.FileName.{FileName}
 use Rattle.dsdl_names.specs.declared.NameError.{NameError}

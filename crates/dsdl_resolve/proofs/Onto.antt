@@ -1,5 +1,5 @@
 -- Fields with one more at the end.
-use Rattle.std.proofs.Common.{◌≡◌, ℕ, suc, ◌+◌, ◌≤◌, Bool, true, false, List, [], ◌∷◌, ◌++◌, map, refl, sym, ap, ◌∙◌, arith}
+use Rattle.std.proofs.Common.{◌≡◌, ℕ, suc, ◌+◌, ◌≤◌, List, [], ◌∷◌, ◌++◌, map, refl, ap, ◌∙◌, arith}
 use Rattle.std.specs.Prelude.{max}
 use Rattle.std.proofs.lemmas.List.{map-append}
 use Rattle.dsdl_types.specs.Greatest.{as_part, from_lead, longest, longest_fields, longest_variant}

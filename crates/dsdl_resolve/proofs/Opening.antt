@@ -1,6 +1,6 @@
 -- What an open section keeps when it takes a statement.
-use Rattle.std.proofs.Common.{◌≡◌, ◌≢◌, ℕ, zero, suc, ◌+◌, ◌-◌, ◌≤◌, ◌<◌, ◌&&◌, ◌||◌, Bool, true, false, List, [], ◌∷◌, ◌++◌, length, take, Option, Some, None, Result, Ok, Err, IfOk, MatchResult, if◌then◌else◌, refl, sym, ap, ◌∙◌, subst, inl, inr, arith, append_assoc, length-append, codes}
-use Rattle.std.specs.Prelude.{nat_lt, is_some, IfSome}
+use Rattle.std.proofs.Common.{◌≡◌, ◌≢◌, ℕ, zero, suc, ◌+◌, ◌<◌, ◌&&◌, ◌||◌, Bool, true, false, List, [], ◌∷◌, ◌++◌, length, Option, Some, None, Result, Ok, Err, IfOk, MatchResult, if◌then◌else◌, refl, sym, ap, ◌∙◌, subst, inl, inr, arith, append_assoc, length-append, codes}
+use Rattle.std.specs.Prelude.{nat_lt, IfSome}
 use Rattle.std.specs.List.{All, list_any, filter_map, count_by, before_first}
 use Rattle.std.specs.Str.{bytes_eq}
 use Rattle.std.proofs.lemmas.Bool.{and_cases, or_parts, cond-false, false≢true, ltb-false, lt-ltb, le-ltb}
@@ -8,12 +8,12 @@ use Rattle.std.proofs.lemmas.List.{take-append-le, take_all}
 use Rattle.std.proofs.lemmas.List.Elements.{filter_map-append, All-push}
 use Rattle.std.proofs.lemmas.List.Folds.{list_any-append}
 use Rattle.std.proofs.lemmas.List.Sums.{sum_by-append, sum_by-cons}
-use Rattle.std.proofs.lemmas.Option.{none-some, same_Some}
+use Rattle.std.proofs.lemmas.Option.{none-some}
 use Rattle.dsdl_parse.specs.Spelling.{WellSpelled}
 use Rattle.dsdl_parse.specs.declared.statement.Statement.{Statement}
 use Rattle.dsdl_parse.specs.declared.statement.Statement.TheVariants as statement
 use Rattle.dsdl_types.specs.Definitions.{IsDefinition}
-use Rattle.dsdl_types.specs.Schemas.{End, variants}
+use Rattle.dsdl_types.specs.Schemas.{End}
 use Rattle.dsdl_types.specs.Views.{flds}
 use Rattle.dsdl_types.specs.declared.schema.Field.{Field}
 use Rattle.const_expr.specs.Constants.{IsConst, Layer}
@@ -26,16 +26,16 @@ use Rattle.const_expr.specs.declared.scope.NamedConst.{NamedConst}
 use Rattle.const_expr.specs.declared.scope.Scope.{Scope}
 use Rattle.const_expr.proofs.Keeps.{number_keeps}
 use Rattle.dsdl_resolve.specs.Additions.{IsBefore, IsJudged, IsStatementRefusal, name_of, with_addition}
-use Rattle.dsdl_resolve.specs.Judged.{cause_of, refusal_at, refusal_behind, refusal_of_values, refusal_valued}
+use Rattle.dsdl_resolve.specs.Judged.{refusal_at, refusal_of_values, refusal_valued}
 use Rattle.dsdl_resolve.specs.Opens.{AreOffsets, IsOpen, IsReady, IsTaken, between, is_early, kept_offsets, of_values, on_name, offset_for, said_of, value_refusal, with_offset}
 use Rattle.dsdl_resolve.specs.Place.{Place, place, onto_section, last_section, is_union_section, is_union_at}
 use Rattle.dsdl_resolve.specs.Rules.{breaks_22, is_used}
 use Rattle.dsdl_resolve.specs.Said.{Said, offsets}
-use Rattle.dsdl_resolve.specs.Says.{is_split, is_union, is_field, is_entry, attribute_of, names_offset}
+use Rattle.dsdl_resolve.specs.Says.{is_split, is_field, attribute_of, names_offset}
 use Rattle.dsdl_resolve.specs.SoundSections.{AreFine, IsSound, KeepsRules}
 use Rattle.dsdl_resolve.specs.Standing.{Stands}
 use Rattle.dsdl_resolve.specs.Totals.{AreTotals, AreWithin}
-use Rattle.dsdl_resolve.specs.Values.{added, character, constant_value, if_valued, numbered, offset_in, said_by, say, scope_at, values, with_constant, with_field, with_padding, nothing}
+use Rattle.dsdl_resolve.specs.Values.{added, if_valued, numbered, offset_in, said_by, scope_at, values, with_constant, with_field, with_padding, nothing}
 use Rattle.dsdl_resolve.specs.declared.addition.Addition.{Addition}
 use Rattle.dsdl_resolve.specs.declared.addition.Addition.TheVariants as addition
 use Rattle.dsdl_resolve.specs.declared.addition.Judged.{Judged}

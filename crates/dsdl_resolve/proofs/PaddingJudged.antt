@@ -1,5 +1,5 @@
 -- What padding adds.
-use Rattle.std.proofs.Common.{◌≡◌, ℕ, ◌≤◌, ◌^◌, Bool, true, false, List, [], ◌∷◌, ◌++◌, Option, Some, None, if◌then◌else◌, refl, sym, ap, ◌∙◌, subst}
+use Rattle.std.proofs.Common.{◌≡◌, ℕ, ◌≤◌, ◌^◌, Bool, false, List, [], ◌∷◌, ◌++◌, Option, Some, None, sym, ap, ◌∙◌, subst}
 use Rattle.std.specs.Prelude.{is_none}
 use Rattle.std.specs.Option.{option_map, option_or}
 use Rattle.dsdl_parse.specs.declared.statement.Statement.TheVariants as statement
@@ -18,9 +18,9 @@ use Rattle.dsdl_resolve.specs.Forms.{width_in}
 use Rattle.dsdl_resolve.specs.Judged.{above_limit, assert_at, long_at, refusal_valued}
 use Rattle.dsdl_resolve.specs.Place.{Place}
 use Rattle.dsdl_resolve.specs.Rules.{least, rules_of, breaks_5, breaks_8}
-use Rattle.dsdl_resolve.specs.Said.{Said, greatest, greatest_in}
+use Rattle.dsdl_resolve.specs.Said.{Said, greatest}
 use Rattle.dsdl_resolve.specs.Says.{attribute_of}
-use Rattle.dsdl_resolve.specs.Totals.{AreTotals, AreCounted, AreWithin}
+use Rattle.dsdl_resolve.specs.Totals.{AreTotals, AreCounted}
 use Rattle.dsdl_resolve.specs.Values.{added, with_padding}
 use Rattle.dsdl_resolve.proofs.WithinLimits.{within_totals}
 

@@ -1,10 +1,10 @@
 -- Types at the places of their files' numbers
-use Rattle.std.proofs.Common.{◌≡◌, ◌≢◌, ℕ, zero, suc, ◌+◌, ◌<◌, ◌≤◌, ◌==◌, Bool, true, false, not, List, [], ◌∷◌, ◌++◌, length, take, drop, get_or, set, map, replicate, Option, Some, None, cond, refl, sym, ap, ◌∙◌, subst, arith, eq-eqb, inl, inr, ◌⊎◌}
-use Rattle.std.specs.Prelude.{filter, filter_map, find}
+use Rattle.std.proofs.Common.{◌≡◌, ◌≢◌, ℕ, suc, ◌+◌, ◌<◌, ◌≤◌, ◌==◌, Bool, true, false, not, List, [], ◌∷◌, ◌++◌, length, take, drop, get_or, set, map, replicate, Option, Some, None, cond, refl, sym, ap, ◌∙◌, subst, arith, eq-eqb, inl, inr, ◌⊎◌}
+use Rattle.std.specs.Prelude.{filter_map, find}
 use Rattle.std.specs.List.{All, range_with_len}
 use Rattle.std.specs.Option.{option_map, option_or}
 use Rattle.std.proofs.lemmas.Bool.{false≢true, eqb-true}
-use Rattle.std.proofs.lemmas.List.{drop_more, drop_all, take_all, get_or-map, length-map, get_or-set_same, get_or-set_other, length-set, same_lists, get_or-replicate, length-replicate, get_or_default, length_push, length-take, take_more, set_past}
+use Rattle.std.proofs.lemmas.List.{drop_more, drop_all, get_or-map, length-map, get_or-set_same, get_or-set_other, length-set, same_lists, get_or-replicate, length-replicate, get_or_default, length_push, length-take, take_more, set_past}
 use Rattle.std.proofs.lemmas.Bool.{cases_lt}
 use Rattle.std.proofs.lemmas.List.Elements.{All-cons}
 use Rattle.std.proofs.lemmas.List.FromFn.{length-map-range_with_len, get_or-map-range_with_len}

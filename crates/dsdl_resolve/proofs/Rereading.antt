@@ -1,9 +1,8 @@
 -- A file that is read again, and one more that is valued
-use Rattle.std.proofs.Common.{◌≡◌, ℕ, zero, suc, ◌+◌, ◌<◌, ◌≤◌, ◌==◌, Bool, true, false, ◌||◌, List, [], ◌∷◌, ◌++◌, length, take, drop, get_or, map, Option, Some, None, Result, Ok, Err, cond, refl, sym, ap, ◌∙◌, subst, arith}
+use Rattle.std.proofs.Common.{◌≡◌, ℕ, zero, suc, ◌+◌, ◌<◌, ◌≤◌, ◌==◌, Bool, true, false, List, [], ◌∷◌, length, drop, get_or, map, Some, None, Result, Ok, Err, cond, refl, sym, ap, ◌∙◌, subst, arith}
 use Rattle.std.specs.Prelude.{◌&&◌, slice_get, unwrap_or, option_and_then}
-use Rattle.std.specs.List.{All, AllZip, position_from}
+use Rattle.std.specs.List.{All, position_from}
 use Rattle.std.specs.Str.{bytes_eq}
-use Rattle.std.proofs.lemmas.Bool.{false≢true, eqb-true}
 use Rattle.std.proofs.Common.{eq-eqb}
 use Rattle.std.proofs.lemmas.List.{drop_more, drop_all, get_or-map, length-map}
 use Rattle.std.proofs.lemmas.Option.{slice_get-get_or, get_or_from_slice_get}
@@ -33,9 +32,7 @@ use Rattle.dsdl_resolve.specs.Reads.{Read, IsRead, AreRead, source_of, sources_o
 use Rattle.dsdl_resolve.specs.Reread.{WereRead, HasStatements, scope_in, IsValuedTo}
 use Rattle.dsdl_resolve.specs.Valuing.{Done, definition_of, is_first, is_number, meant, scope_of, outcome_behind, valued, valued_behind, with_done, with_file, with_outcome}
 use Rattle.dsdl_resolve.specs.declared.outcome.FileError.{FileError}
-use Rattle.dsdl_resolve.specs.declared.outcome.FileError.TheVariants as file_error
 use Rattle.dsdl_resolve.specs.declared.outcome.Outcome.{Outcome}
-use Rattle.dsdl_resolve.specs.declared.outcome.Refused.{Refused}
 use Rattle.dsdl_resolve.specs.declared.progress.Progress.{Progress}
 use Rattle.dsdl_resolve.specs.declared.why.DsdlWhy.{DsdlWhy}
 use Rattle.dsdl_resolve.proofs.Lists.{zip_at, zip_long}

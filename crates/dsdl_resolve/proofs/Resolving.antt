@@ -1,31 +1,28 @@
 -- The passes together
-use Rattle.std.proofs.Common.{◌≡◌, ℕ, suc, ◌+◌, ◌<◌, ◌≤◌, List, [], ◌∷◌, ◌++◌, length, map, get_or, Option, Some, None, Result, Ok, Err, refl, sym, ap, ◌∙◌, subst, arith, length-append}
+use Rattle.std.proofs.Common.{◌≡◌, ℕ, ◌+◌, ◌<◌, ◌≤◌, List, [], ◌∷◌, length, get_or, Option, Some, None, refl, sym, ap, ◌∙◌, subst, arith, length-append}
 use Rattle.std.specs.Prelude.{filter_map}
-use Rattle.std.specs.List.{All, AllZip, range_with_len, cons_option}
+use Rattle.std.specs.List.{All, range_with_len, cons_option}
 use Rattle.std.proofs.lemmas.List.{length-map}
 use Rattle.std.proofs.lemmas.List.FromFn.{length-range_with_len}
 use Rattle.dsdl_clash.specs.Clashes.{first_clash, versions_clash, ports_clash}
 use Rattle.dsdl_files.specs.declared.file.DsdlFile.{DsdlFile}
 use Rattle.dsdl_links.specs.Links.{AreLinks, AreLinksOf, IsUnresolved}
-use Rattle.dsdl_links.specs.Order.{Valued, begin, next, IsOrder, IsCycle}
+use Rattle.dsdl_links.specs.Order.{Valued, begin, next}
 use Rattle.dsdl_links.specs.declared.source.Source.{Source}
-use Rattle.dsdl_names.specs.Names.{file_name_of}
 use Rattle.dsdl_names.specs.declared.FileName.{FileName}
-use Rattle.dsdl_names.specs.declared.NameError.{NameError}
 use Rattle.dsdl_names.specs.declared.TypeId.{TypeId}
 use Rattle.dsdl_parse.specs.Ast.{IsParsedOneWay}
 use Rattle.dsdl_parse.specs.declared.statement.Statement.{Statement}
 use Rattle.dsdl_types.specs.declared.definition.Definition.{Definition}
 use Rattle.dsdl_resolve.specs.Ordering.{IsOrdering}
-use Rattle.dsdl_resolve.specs.Passes.{AreWithinLimits, ArePassed, AreLinked, AreOrdered, AreValued, FirstRefusal, unresolved, cycle, valuing, version, port, IsUnresolvedAt, IsCycleAt, StopsAt, ClashesAt, definitions_of}
+use Rattle.dsdl_resolve.specs.Passes.{AreWithinLimits, AreOrdered, AreValued, FirstRefusal, unresolved, cycle, valuing, version, port, IsUnresolvedAt, IsCycleAt, StopsAt, ClashesAt, definitions_of}
 use Rattle.dsdl_resolve.specs.Progressing.{AreBeside, Holds, doubled}
-use Rattle.dsdl_resolve.specs.Reads.{Read, IsRead, AreRead, source_of, sources_of}
+use Rattle.dsdl_resolve.specs.Reads.{Read, IsRead, AreRead, sources_of}
 use Rattle.dsdl_resolve.specs.Refusals.{IsRefusal}
-use Rattle.dsdl_resolve.specs.Valuing.{Done, definition_of, definition_at, meant, in_path_order}
+use Rattle.dsdl_resolve.specs.Valuing.{Done, definition_of, definition_at, meant}
 use Rattle.dsdl_resolve.specs.declared.error.DsdlError.{DsdlError}
 use Rattle.dsdl_resolve.specs.declared.order.FileOrder.{FileOrder}
 use Rattle.dsdl_resolve.specs.declared.progress.Progress.{Progress}
-use Rattle.dsdl_resolve.specs.declared.why.DsdlWhy.{DsdlWhy}
 use Rattle.dsdl_resolve.specs.declared.why.DsdlWhy.TheVariants as cause
 use Rattle.dsdl_resolve.proofs.Clear.{told}
 use Rattle.dsdl_resolve.proofs.Lists.{all_more, zip_long}

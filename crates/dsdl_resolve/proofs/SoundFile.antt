@@ -1,7 +1,7 @@
 -- A file that is not refused defines types that keep the rules.
-use Rattle.std.proofs.Common.{◌≡◌, ℕ, zero, suc, ◌+◌, ◌-◌, ◌^◌, ◌≤◌, ◌&&◌, ◌||◌, not, cond, Bool, true, false, List, [], ◌∷◌, ◌++◌, length, take, Option, Some, None, Result, Ok, Err, if◌then◌else◌, refl, sym, ap, ◌∙◌, subst, inl, inr, arith, append_assoc, length-append}
+use Rattle.std.proofs.Common.{◌≡◌, ℕ, zero, suc, ◌+◌, ◌-◌, ◌^◌, ◌≤◌, ◌||◌, not, cond, Bool, true, false, List, [], ◌∷◌, ◌++◌, length, take, Option, Some, None, Result, Ok, Err, if◌then◌else◌, refl, sym, ap, ◌∙◌, subst, inl, inr, arith, append_assoc, length-append}
 use Rattle.std.specs.Prelude.{nat_lt}
-use Rattle.std.specs.List.{All, list_any, count_by, before_first, fold, position_or_len}
+use Rattle.std.specs.List.{All, list_any, count_by, before_first, position_or_len}
 use Rattle.std.specs.Option.{option_map, option_or}
 use Rattle.std.proofs.lemmas.Bool.{cond-true, cond-false, cases_Bool, and_cases, ltb-false, false≢true, or_parts}
 use Rattle.std.proofs.lemmas.List.Elements.{All-head, All-tail}
@@ -12,10 +12,10 @@ use Rattle.dsdl_names.specs.declared.FileName.{FileName}
 use Rattle.dsdl_parse.specs.Spelling.{WellSpelled}
 use Rattle.dsdl_parse.specs.declared.statement.Statement.{Statement}
 use Rattle.dsdl_parse.specs.declared.statement.Statement.TheVariants as statement
-use Rattle.dsdl_types.specs.Definitions.{IsDefinition, IsNamespace, IsType, typed_count}
+use Rattle.dsdl_types.specs.Definitions.{IsDefinition, IsType, typed_count}
 use Rattle.dsdl_types.specs.Greatest.{up, longest_variant}
 use Rattle.dsdl_types.specs.Rules.{IsSchema, IsExtent}
-use Rattle.dsdl_types.specs.Schemas.{Flds, Sch, Struct, Union, prefix, variants, is_composite}
+use Rattle.dsdl_types.specs.Schemas.{Flds, Struct, Union, prefix, variants, is_composite}
 use Rattle.dsdl_types.specs.Views.{sch, flds, type_of}
 use Rattle.dsdl_types.specs.declared.namespace.Print.{Print}
 use Rattle.dsdl_types.specs.declared.schema.Body.{roll-Body}
@@ -28,16 +28,16 @@ use Rattle.const_expr.specs.declared.scope.Scope.{Scope}
 use Rattle.dsdl_resolve.specs.declared.outcome.Outcome.{Outcome}
 use Rattle.dsdl_resolve.specs.declared.outcome.Refused.{Refused}
 use Rattle.dsdl_resolve.specs.declared.values.Values.{Values}
-use Rattle.dsdl_resolve.specs.Judged.{composite_of, body_of, finished, in_file, message_of, on_line, outcome, prints_from, refusal_at, refusal_at_end, refusal_behind, refusal_from, refusal_of_values, refusal_valued, service_of, unless_refused}
+use Rattle.dsdl_resolve.specs.Judged.{body_of, finished, in_file, on_line, prints_from, refusal_at, refusal_at_end, refusal_behind, refusal_from, refusal_of_values, refusal_valued, unless_refused}
 use Rattle.dsdl_resolve.specs.Place.{Place, place, onto_section, last_section}
-use Rattle.dsdl_resolve.specs.Rules.{least, rules_at_end, breaks_2, breaks_7, breaks_21, breaks_22, split_rules}
+use Rattle.dsdl_resolve.specs.Rules.{least, rules_at_end, breaks_7, breaks_22, split_rules}
 use Rattle.dsdl_resolve.specs.Said.{Said, greatest, greatest_union}
 use Rattle.dsdl_resolve.specs.Says.{is_split, is_union, is_field}
 use Rattle.dsdl_resolve.specs.Soundness.{DefinitionsKeepRules}
 use Rattle.dsdl_resolve.specs.Values.{values, scope_at, say, said_by, nothing, added, if_valued}
 use Rattle.dsdl_resolve.specs.declared.why.DsdlWhy.{DsdlWhy}
 use Rattle.dsdl_resolve.specs.declared.why.DsdlWhy.TheVariants as why
-use Rattle.dsdl_resolve.specs.SoundSections.{AreFine, Holds, IsSound, IsFinished, KeepsRules}
+use Rattle.dsdl_resolve.specs.SoundSections.{AreFine, IsSound, IsFinished, KeepsRules}
 use Rattle.dsdl_resolve.proofs.SoundSection.{sound_none, sound_more, any_parts, any_same, kept, map_none, or_none}
 
 -- ---- what stands before the first element that passes a test

@@ -1,16 +1,16 @@
 -- What the statements of a section say that are not refused makes a type that keeps the rules.
-use Rattle.std.proofs.Common.{◌≡◌, ◌≢◌, ℕ, zero, suc, ◌+◌, ◌-◌, ◌^◌, ◌≤◌, ◌<◌, ◌%◌, ◌==◌, ◌&&◌, ◌||◌, not, cond, take, Bool, true, false, List, [], ◌∷◌, ◌++◌, length, Option, Some, None, Result, Ok, Err, if◌then◌else◌, refl, sym, ap, ◌∙◌, subst, inl, inr, arith, codes, length-append}
+use Rattle.std.proofs.Common.{◌≡◌, ◌≢◌, ℕ, suc, ◌+◌, ◌^◌, ◌≤◌, ◌%◌, ◌==◌, ◌&&◌, ◌||◌, not, cond, take, Bool, true, false, List, [], ◌∷◌, ◌++◌, Option, Some, None, if◌then◌else◌, refl, sym, ap, ◌∙◌, subst, inl, inr, arith, codes, length-append}
 use Rattle.std.specs.Prelude.{nat_lt, nat_le, is_some, is_none, min, max}
-use Rattle.std.specs.List.{All, take_while, prefix_len, list_any, filter_map, count_by, fold}
+use Rattle.std.specs.List.{All, take_while, prefix_len, list_any, filter_map, count_by}
 use Rattle.std.specs.Option.{option_map, option_or, option_and_then}
 use Rattle.std.specs.Str.{bytes_eq}
-use Rattle.std.proofs.lemmas.Bool.{or_cases, cases_Bool, cond-false, ltb-false, leb-true, eqb-true, and_parts, or_parts, or_from, false≢true, not-true, not-false}
+use Rattle.std.proofs.lemmas.Bool.{or_cases, cases_Bool, cond-false, ltb-false, leb-true, eqb-true, and_parts, or_parts, false≢true, not-false}
 use Rattle.std.proofs.lemmas.List.Folds.{list_any-append}
 use Rattle.std.proofs.lemmas.List.Elements.{filter_map-append}
-use Rattle.std.proofs.lemmas.List.Sums.{fold-append, sum_by_push}
-use Rattle.std.proofs.lemmas.Option.{none-some, same_Some}
+use Rattle.std.proofs.lemmas.List.Sums.{sum_by_push}
+use Rattle.std.proofs.lemmas.Option.{none-some}
 use Rattle.std.proofs.lemmas.Slice.Eq.{bytes_eq-Decides}
-use Rattle.dsdl_names.specs.Words.{is_name, is_reserved}
+use Rattle.dsdl_names.specs.Words.{is_name}
 use Rattle.dsdl_parse.specs.Spelling.{WellSpelled}
 use Rattle.dsdl_parse.specs.declared.expr.Expr.{Expr}
 use Rattle.dsdl_parse.specs.declared.statement.Bound.{Bound}
@@ -19,26 +19,25 @@ use Rattle.dsdl_parse.specs.declared.statement.Scalar.{Scalar}
 use Rattle.dsdl_parse.specs.declared.statement.Scalar.TheVariants as scalar
 use Rattle.dsdl_parse.specs.declared.statement.Statement.{Statement}
 use Rattle.dsdl_parse.specs.declared.statement.Statement.TheVariants as statement
-use Rattle.dsdl_types.specs.Definitions.{IsDefinition, IsType, typed_count}
-use Rattle.dsdl_types.specs.Greatest.{up, longest_fields, longest_variant}
-use Rattle.dsdl_types.specs.Names.{IsNew, AreNamed, HasNames, HaveNames}
-use Rattle.dsdl_types.specs.Rules.{AreFormed, IsSchema, IsExtent, IsOutline, NoPadding, nesting, nesting_of, nodes, nodes_of}
-use Rattle.dsdl_types.specs.Schemas.{Flds, Outline, Struct, Union, End, prefix, variants, is_composite}
-use Rattle.dsdl_types.specs.Views.{Typed, Padding, kind_of, sch, flds, named, type_of}
+use Rattle.dsdl_types.specs.Definitions.{IsDefinition}
+use Rattle.dsdl_types.specs.Names.{IsNew, AreNamed, HaveNames}
+use Rattle.dsdl_types.specs.Rules.{AreFormed, NoPadding, nesting, nesting_of, nodes, nodes_of}
+use Rattle.dsdl_types.specs.Schemas.{variants}
+use Rattle.dsdl_types.specs.Views.{Typed, Padding, kind_of, sch, flds}
 use Rattle.dsdl_types.specs.declared.schema.Field.{Field, roll-Field}
 use Rattle.dsdl_types.specs.declared.schema.Schema.{Schema}
 use Rattle.dsdl_types.specs.declared.schema.Schema.TheVariants as schema
-use Rattle.dsdl_types.proofs.Equations.{kind_struct, kind_union, kind_void, named_field}
+use Rattle.dsdl_types.proofs.Equations.{kind_void, named_field}
 use Rattle.const_expr.specs.declared.constant.Const.{Const}
 use Rattle.const_expr.specs.declared.scope.Scope.{Scope}
 use Rattle.dsdl_resolve.specs.declared.typed.Typed as of_form
 use Rattle.dsdl_resolve.specs.Forms as forms
 use Rattle.dsdl_resolve.specs.Forms.{width_in, primitive_of, of_primitive, referred, item_of, bounded, in_bound, array_of}
-use Rattle.dsdl_resolve.specs.Judged.{above_limit, assert_at, composite_of, body_of, long_at, long_extent, refusal_valued}
+use Rattle.dsdl_resolve.specs.Judged.{above_limit, assert_at, long_at, long_extent, refusal_valued}
 use Rattle.dsdl_resolve.specs.Place.{Place, is_union_section}
-use Rattle.dsdl_resolve.specs.Rules.{Tests, least, rules_of, rules_at, field_rules, padding_rules, directive_rules, breaks_7, breaks_11, breaks_13, breaks_14, breaks_23, breaks_24, is_used, is_extent_for, breaks_4}
-use Rattle.dsdl_resolve.specs.Said.{Said, greatest, greatest_in, greatest_union, node_count, depth}
-use Rattle.dsdl_resolve.specs.Says.{is_split, is_union, is_extent, is_field, is_entry, is_directive, attribute_of}
+use Rattle.dsdl_resolve.specs.Rules.{Tests, least, rules_of, rules_at, field_rules, padding_rules, directive_rules, breaks_11, breaks_13, breaks_14, breaks_23, breaks_24, is_used, is_extent_for, breaks_4}
+use Rattle.dsdl_resolve.specs.Said.{Said, greatest, node_count, depth}
+use Rattle.dsdl_resolve.specs.Says.{is_split, is_union, is_extent, is_field, is_entry, attribute_of}
 use Rattle.dsdl_resolve.specs.declared.values.Values.{Values}
 use Rattle.dsdl_resolve.specs.Values.{added, with_field, with_padding, with_constant, with_directive, natural_of, nothing}
 use Rattle.dsdl_resolve.specs.declared.why.DsdlWhy.{DsdlWhy}

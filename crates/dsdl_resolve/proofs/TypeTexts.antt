@@ -1,5 +1,5 @@
 -- The text of a type.
-use Rattle.std.proofs.Common.{◌≡◌, Ok, refl, rules}
+use Rattle.std.proofs.Common.{◌≡◌, Ok, rules}
 use Rattle.const_expr.proofs.Layers.{type_layer}
 use Rattle.const_expr.specs.Text.{id_text, text_of}
 use Rattle.const_expr.specs.declared.constant.Const.TheVariants as c

@@ -1,8 +1,7 @@
 -- A section within the limits.
-use Rattle.std.proofs.Common.{◌≡◌, ℕ, zero, suc, ◌+◌, ◌-◌, ◌^◌, ◌<◌, ◌≤◌, Bool, true, false, Option, Some, None, IfNone, refl, sym, ap, ◌∙◌, subst, arith}
-use Rattle.std.specs.Prelude.{max}
-use Rattle.dsdl_types.specs.Greatest.{up, longest_fields, longest_variant}
-use Rattle.dsdl_types.specs.Schemas.{Flds, End, Pad, Field, prefix, variants}
+use Rattle.std.proofs.Common.{◌≡◌, ℕ, zero, suc, ◌^◌, ◌≤◌, Bool, true, false, Option, Some, None, IfNone, refl, subst, arith}
+use Rattle.dsdl_types.specs.Greatest.{longest_variant}
+use Rattle.dsdl_types.specs.Schemas.{Flds, End, Pad, Field, variants}
 use Rattle.dsdl_resolve.specs.Said.{greatest_in, greatest_union}
 use Rattle.dsdl_resolve.specs.Totals.{AreTotals, AreCounted, AreWithin, end_of}
 use Rattle.dsdl_resolve.specs.declared.totals.Totals.{Totals}

@@ -2,7 +2,6 @@
 use Rattle.std.specs.Prelude.{◌≡◌, ℕ, ◌++◌, ◌∷◌, true, false, List, [], Option, Some, None}
 use Rattle.std.specs.List.{list_any, before_first}
 use Rattle.dsdl_parse.specs.declared.statement.Statement.{Statement}
-use Rattle.dsdl_types.specs.declared.namespace.Print.{Print}
 use Rattle.const_expr.specs.Member.{AreConstants}
 use Rattle.const_expr.specs.declared.scope.NamedConst.{NamedConst}
 use Rattle.const_expr.specs.declared.scope.Scope.{Scope}

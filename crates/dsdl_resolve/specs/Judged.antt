@@ -1,5 +1,5 @@
 -- What a file is refused for, and what it defines.
-use Rattle.std.specs.Prelude.{ℕ, ◌+◌, ◌++◌, ◌^◌, nat_lt, min, Bool, true, false, List, [], ◌∷◌, length, Option, Some, None, Result, Ok, Err, unwrap_or, if◌then◌else◌, codes}
+use Rattle.std.specs.Prelude.{ℕ, ◌+◌, ◌++◌, ◌^◌, nat_lt, min, Bool, true, false, List, [], ◌∷◌, length, Option, Some, None, Result, Ok, Err, if◌then◌else◌, codes}
 use Rattle.std.specs.List.{list_any, before_first}
 use Rattle.std.specs.Option.{option_map, option_or}
 use Rattle.std.specs.Str.{bytes_eq}
@@ -7,8 +7,6 @@ use Rattle.dsdl_names.specs.declared.FileName.{FileName}
 use Rattle.dsdl_parse.specs.declared.expr.Expr.{Expr}
 use Rattle.dsdl_parse.specs.declared.statement.Statement.{Statement}
 use Rattle.dsdl_parse.specs.declared.statement.Statement.TheVariants as statement
-use Rattle.dsdl_types.specs.declared.definition.Definition.{Definition}
-use Rattle.dsdl_types.specs.declared.definition.Parts.{Parts}
 use Rattle.dsdl_types.specs.declared.definition.Parts.TheVariants as parts
 use Rattle.dsdl_types.specs.declared.namespace.Print.{Print}
 use Rattle.dsdl_types.specs.declared.schema.Body.{Body, roll-Body}
@@ -18,7 +16,6 @@ use Rattle.const_expr.specs.declared.constant.Const.{Const, out-Const}
 use Rattle.const_expr.specs.declared.constant.Const.TheOpen as o
 use Rattle.const_expr.specs.declared.error.ExprError.{ExprError}
 use Rattle.const_expr.specs.declared.error.ExprError.TheVariants as error
-use Rattle.const_expr.specs.declared.scope.NamedConst.{NamedConst}
 use Rattle.const_expr.specs.declared.scope.Scope.{Scope}
 use Rattle.const_expr.specs.Constants.{Layer}
 use Rattle.dsdl_resolve.specs.Place.{Place, place, last_section}

@@ -16,6 +16,7 @@ pub mod Totals
 pub mod Additions
 pub mod Answers
 pub mod Files
+pub mod Kept
 pub mod Namespaces
 pub mod Ordering
 pub mod Placing

@@ -1,9 +1,8 @@
 -- What is known of a section that isn't at its end.
-use Rattle.std.specs.Prelude.{◌≡◌, ℕ, ◌≤◌, ◌∷◌, ◌++◌, ◌&&◌, ◌||◌, nat_lt, true, false, Bool, List, [], length, take, Option, Some, None, is_some, Result, Ok, Err, if◌then◌else◌}
+use Rattle.std.specs.Prelude.{◌≡◌, ℕ, ◌≤◌, ◌∷◌, ◌++◌, ◌&&◌, ◌||◌, nat_lt, true, false, Bool, List, [], length, take, Option, Some, None, Result, Ok, Err, if◌then◌else◌}
 use Rattle.std.specs.List.{filter_map, count_by, before_first}
 use Rattle.dsdl_parse.specs.declared.statement.Statement.{Statement}
 use Rattle.dsdl_types.specs.Views.{flds}
-use Rattle.dsdl_types.specs.declared.namespace.Print.{Print}
 use Rattle.dsdl_types.specs.declared.schema.Field.{Field}
 use Rattle.const_expr.specs.Member.{AreConstants}
 use Rattle.const_expr.specs.declared.error.ExprError.{ExprError}

@@ -14,7 +14,7 @@ use Rattle.dsdl_parse.specs.Ast.{FirstBad}
 use Rattle.dsdl_types.specs.declared.definition.Definition.{Definition}
 use Rattle.dsdl_types.specs.declared.namespace.Namespace.{Namespace}
 use Rattle.dsdl_resolve.specs.Reads.{Read, AreRead, sources_of}
-use Rattle.dsdl_resolve.specs.Valuing.{Done, Stop, valued, in_path_order, prints_of}
+use Rattle.dsdl_resolve.specs.Valuing.{Done, valued, in_path_order, prints_of}
 use Rattle.dsdl_resolve.specs.declared.why.DsdlWhy.{DsdlWhy}
 use Rattle.dsdl_resolve.specs.declared.why.DsdlWhy.TheVariants as cause
 

@@ -1,14 +1,10 @@
 -- The rules of the language as tests of a statement at its place. Each kind of statement has those that it can break.
-use Rattle.std.specs.Prelude.{ℕ, suc, ◌+◌, ◌-◌, ◌*◌, ◌^◌, ◌++◌, ◌==◌, ◌&&◌, ◌||◌, ◌%◌, nat_lt, nat_le, nat_eq, Bool, true, false, not, ℤ, pos, negsuc, List, [], ◌∷◌, length, Option, Some, None, is_some, is_none, if◌then◌else◌, codes}
+use Rattle.std.specs.Prelude.{ℕ, ◌-◌, ◌*◌, ◌^◌, ◌==◌, ◌&&◌, ◌||◌, ◌%◌, nat_lt, nat_le, nat_eq, Bool, true, false, not, ℤ, pos, negsuc, List, [], ◌∷◌, length, Option, Some, None, is_some, is_none, if◌then◌else◌, codes}
 use Rattle.std.specs.List.{list_any, filter_map, count_by, starts_with}
 use Rattle.std.specs.Str.{bytes_eq}
-use Rattle.cy_ratio.specs.Fraction.{Fraction}
 use Rattle.dsdl_names.specs.Words.{is_reserved}
-use Rattle.dsdl_parse.specs.declared.expr.Reference.{Reference}
-use Rattle.dsdl_parse.specs.declared.expr.Expr.{Expr}
 use Rattle.dsdl_parse.specs.declared.statement.Bound.{Bound}
 use Rattle.dsdl_parse.specs.declared.statement.Form.{Form}
-use Rattle.dsdl_parse.specs.declared.statement.Prefix.{Prefix}
 use Rattle.dsdl_parse.specs.declared.statement.Scalar.{Scalar}
 use Rattle.dsdl_parse.specs.declared.statement.Scalar.TheVariants as scalar
 use Rattle.dsdl_parse.specs.declared.statement.Statement.{Statement}

@@ -1,5 +1,5 @@
 -- What a section says, and how large it is.
-use Rattle.std.specs.Prelude.{ℕ, zero, suc, ◌+◌, ◌-◌, ◌^◌, ◌==◌, ◌&&◌, Bool, true, false, List, Option, if◌then◌else◌}
+use Rattle.std.specs.Prelude.{ℕ, zero, suc, ◌+◌, ◌-◌, ◌^◌, ◌==◌, ◌&&◌, Bool, true, false, List, Option}
 use Rattle.bit_length.specs.Runs.{numbers_below}
 use Rattle.const_expr.specs.Sizes.{some_to, ends_at, is_variant}
 use Rattle.const_expr.specs.declared.scope.NamedConst.{NamedConst}

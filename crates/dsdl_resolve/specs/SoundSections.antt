@@ -1,5 +1,5 @@
 -- What the sections of a file keep whose statements are not refused.
-use Rattle.std.specs.Prelude.{◌≡◌, ℕ, ◌^◌, ◌≤◌, ◌%◌, true, false, Bool, List, [], length, Option, Some, None}
+use Rattle.std.specs.Prelude.{◌≡◌, ℕ, ◌^◌, ◌≤◌, ◌%◌, true, false, Bool, List, [], length, Some, None}
 use Rattle.std.specs.List.{list_any, filter_map, count_by, before_first}
 use Rattle.dsdl_parse.specs.declared.statement.Statement.{Statement}
 use Rattle.dsdl_types.specs.Definitions.{IsType, typed_count}

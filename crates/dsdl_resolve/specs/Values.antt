@@ -1,13 +1,11 @@
 -- What the expressions of a statement are worth, and what a statement adds to what its section says.
-use Rattle.std.specs.Prelude.{ℕ, ◌++◌, ◌==◌, ◌&&◌, nat_le, Bool, true, false, ℤ, pos, negsuc, List, [], ◌∷◌, fold, Option, Some, None, Result, Ok, Err, if◌then◌else◌, codes}
+use Rattle.std.specs.Prelude.{ℕ, ◌++◌, Bool, true, false, ℤ, pos, negsuc, List, [], ◌∷◌, fold, Option, Some, None, Result, Ok, Err, if◌then◌else◌, codes}
 use Rattle.std.specs.Str.{bytes_eq}
 use Rattle.dsdl_parse.specs.declared.expr.Expr.{Expr, out-Expr}
 use Rattle.dsdl_parse.specs.declared.statement.Bound.{Bound}
-use Rattle.dsdl_parse.specs.declared.statement.Form.{Form}
 use Rattle.dsdl_parse.specs.declared.statement.Statement.{Statement}
 use Rattle.dsdl_parse.specs.declared.statement.Statement.TheVariants as statement
-use Rattle.dsdl_types.specs.declared.schema.Field.{Field, roll-Field}
-use Rattle.dsdl_types.specs.declared.schema.Schema.{Schema}
+use Rattle.dsdl_types.specs.declared.schema.Field.{roll-Field}
 use Rattle.dsdl_types.specs.declared.schema.Schema.TheVariants as schema
 use Rattle.const_expr.specs.declared.constant.Const.{Const, out-Const}
 use Rattle.const_expr.specs.declared.constant.Const.TheOpen as o

@@ -1,5 +1,5 @@
 -- The files are valued one after the other, each with what those before it define.
-use Rattle.std.specs.Prelude.{◌≡◌, ◌==◌, ℕ, Bool, false, List, [], ◌∷◌, ◌++◌, map, filter, flat_map, filter_map, find, slice_get, Option, Some, None, option_map, option_and_then, Result, Ok, Err}
+use Rattle.std.specs.Prelude.{◌==◌, ℕ, Bool, false, List, [], ◌∷◌, ◌++◌, map, filter, flat_map, filter_map, find, slice_get, Option, Some, None, option_map, option_and_then, Result, Ok, Err}
 use Rattle.std.specs.List.{range_with_len}
 use Rattle.const_expr.specs.declared.scope.Scope.{Scope}
 use Rattle.const_expr.specs.declared.scope.TypeConsts.{TypeConsts}

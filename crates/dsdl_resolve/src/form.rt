@@ -4,6 +4,7 @@ ghost use Rattle.std.specs.Option.{option_copied};
 ghost use Rattle.const_expr.specs.Text.{id_text};
 ghost use Rattle.dsdl_resolve.specs.Forms.{array_of, array_schema, bound_text, bounded, capacity, in_bound, item_of, items_of, message, message_in, of_message, of_primitive, referred, type_of, within};
 
+use crate::finding::find;
 use crate::primitive::{primitive_of, push_number};
 use crate::typed::Typed;
 use const_expr::{Const, Scope, print_text};
@@ -82,7 +83,7 @@ fn message_in(parts: &Parts) -> Option<&Schema>
 pub fn message<'a>(scope: &'a Scope, id: &TypeId) -> Option<&'a Schema>
     ensures { option_copied result ≡ message scope.now id.now }
 {
-    match scope.namespace.find(id) {
+    match find(scope.namespace.definitions.as_slice(), id) {
         Some(definition) => message_in(&definition.parts),
         None => None,
     }

@@ -13,6 +13,7 @@ mod directive;
 mod entry;
 mod error;
 mod file;
+mod finding;
 mod fits;
 mod form;
 mod in_order;

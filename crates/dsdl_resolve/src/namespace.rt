@@ -1,6 +1,7 @@
 //! The passes over the files.
 ghost use Rattle.std.specs.Prelude.{◌≡◌, ◌<◌, ◌^◌, None, length, List as ListOf, IfOk, IfErr, All};
 ghost use Rattle.dsdl_types.specs.Definitions.{IsNamespace};
+ghost use Rattle.dsdl_resolve.specs.Kept.{AreKept};
 ghost use Rattle.dsdl_resolve.specs.Ordering.{IsOrdering};
 ghost use Rattle.dsdl_resolve.specs.Namespaces.{IsValuedNamespace};
 ghost use Rattle.dsdl_resolve.specs.Passes.{AreWithinLimits, FirstRefusal, Compiled};
@@ -13,9 +14,10 @@ use crate::names::names_of;
 use crate::order::{FileOrder, order_of_files};
 use crate::size::check_sizes;
 use crate::valuing::value_files;
+use cy_bits::List;
 use dsdl_files::DsdlFile;
 use dsdl_names::FileName;
-use dsdl_parse::one_parsing;
+use dsdl_parse::{Ast, one_parsing};
 use dsdl_types::Namespace;
 use std::alloc::Global;
 
@@ -36,8 +38,9 @@ pub fn resolve(alloc: Global, files: &[DsdlFile]) -> Result<Namespace, DsdlError
 {
     check_sizes(alloc, files)?;
     let names = names_of(alloc, files)?;
-    let order = order_of_files(alloc, files, names.as_slice())?;
-    let namespace = valued_namespace(alloc, files, names.as_slice(), order)?;
+    let mut kept = List::empty(alloc);
+    let order = order_of_files(alloc, files, names.as_slice(), &mut kept)?;
+    let namespace = valued_namespace(alloc, files, names.as_slice(), kept.as_slice(), order)?;
     check_versions(alloc, files, namespace.definitions.as_slice())?;
     check_ports(alloc, files, namespace.definitions.as_slice())?;
     Ok(namespace)
@@ -48,10 +51,12 @@ fn valued_namespace(
     alloc: Global,
     files: &[DsdlFile],
     names: &[FileName],
+    kept: &[Option<Ast>],
     order: FileOrder,
 ) -> Result<Namespace, DsdlError>
     requires sizes { All (λ file. length file.text < 2 ^ 32) files.now }
     requires within { AreWithinLimits files.now }
+    requires kept { AreKept files.now kept.now }
     requires ordered { IsOrdering files.now names.now order }
     ensures valued { IfOk result (IsValuedNamespace files.now) }
     ensures sound { IfOk result IsNamespace }
@@ -62,6 +67,7 @@ fn valued_namespace(
         alloc,
         files,
         names,
+        kept,
         order.firsts.as_slice(),
         order.files.as_slice(),
     )?;

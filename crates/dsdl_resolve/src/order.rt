@@ -1,7 +1,8 @@
 //! The passes on references: each means a file, and no file reaches itself.
-ghost use Rattle.std.specs.Prelude.{◌≡◌, ◌<◌, ◌^◌, ℕ, length, IfOk, IfErr, All};
+ghost use Rattle.std.specs.Prelude.{◌≡◌, ◌<◌, ◌^◌, ℕ, [], length, IfOk, OnOk, IfErr, All};
 ghost use Rattle.dsdl_links.specs.Links.{AreLinks};
 ghost use Rattle.dsdl_links.specs.Order.{IsOrder};
+ghost use Rattle.dsdl_resolve.specs.Kept.{AreKept};
 ghost use Rattle.dsdl_resolve.specs.Ordering.{IsOrdering};
 ghost use Rattle.dsdl_resolve.specs.Passes.{AreWithinLimits, FirstRefusal, IsUnresolvedAt, IsCycleAt};
 ghost use Rattle.dsdl_resolve.specs.Refusals.{IsRefusal};
@@ -14,7 +15,7 @@ use cy_bits::List;
 use dsdl_files::DsdlFile;
 use dsdl_links::{CycleError, LinkError, Links, Source, first_numbers, links_of, order_of};
 use dsdl_names::FileName;
-use dsdl_parse::one_parsing;
+use dsdl_parse::{Ast, one_parsing};
 use std::alloc::Global;
 
 /// How files are valued.
@@ -27,20 +28,23 @@ pub struct FileOrder {
 }
 
 /// The order in which files are valued, or the first refusal of the passes on syntax and on
-/// references.
+/// references. Statements of files are kept as `sources_of` does.
 pub fn order_of_files(
     alloc: Global,
     files: &[DsdlFile],
     names: &[FileName],
+    kept: &mut List<Option<Ast>>,
 ) -> Result<FileOrder, DsdlError>
     requires sizes { All (λ file. length file.text < 2 ^ 32) files.now }
     requires within { AreWithinLimits files.now }
     requires named { AreNamed files.now names.now }
+    requires none { kept.old ≡ [] }
+    ensures kept { OnOk result (AreKept files.now kept.new) }
     ensures ordered { IfOk result (IsOrdering files.now names.now) }
     ensures refused { IfErr result (IsRefusal (FirstRefusal files.now)) }
 {
     one_parsing();
-    let sources = sources_of(alloc, files, names)?;
+    let sources = sources_of(alloc, files, names, kept)?;
     let links = links_between(alloc, files, sources.as_slice())?;
     Ok(FileOrder {
         files: order_between(alloc, files, &links)?,

@@ -7,6 +7,7 @@ ghost use Rattle.dsdl_parse.specs.Ast.{IsAst};
 ghost use Rattle.dsdl_types.specs.Definitions.{IsDefinition};
 ghost use Rattle.dsdl_resolve.specs.Answers.{Answers};
 ghost use Rattle.dsdl_resolve.specs.Judged.{outcome};
+ghost use Rattle.dsdl_resolve.specs.Kept.{AreKept, IsKept};
 ghost use Rattle.dsdl_resolve.specs.Passes.{StopsAt};
 ghost use Rattle.dsdl_resolve.specs.Progressing.{IsSound};
 ghost use Rattle.dsdl_resolve.specs.Reads.{Read, IsRead, AreRead, sources_of};
@@ -22,7 +23,7 @@ use const_expr::Scope;
 use cy_bits::{List, NoMemory, TryCopy};
 use dsdl_files::DsdlFile;
 use dsdl_names::FileName;
-use dsdl_parse::{Ast, SyntaxError, one_parsing, parse, well_spelled};
+use dsdl_parse::{Ast, Statement, SyntaxError, one_parsing, parse, well_spelled};
 use std::alloc::Global;
 
 /// The greatest number of fields and paddings in all types of a namespace together, counted through
@@ -30,16 +31,19 @@ use std::alloc::Global;
 const MAX_FIELDS: u32 = 1 << 24;
 
 /// The files of these numbers valued in this order, or the first that is refused. `firsts` has for
-/// each file the number of the first one that defines the same type.
+/// each file the number of the first one that defines the same type, and `kept` the statements of
+/// some.
 pub fn value_files(
     alloc: Global,
     files: &[DsdlFile],
     names: &[FileName],
+    kept: &[Option<Ast>],
     firsts: &[usize],
     order: &[usize],
 ) -> Result<Progress, DsdlError>
     requires sizes { All (λ file. length file.text < 2 ^ 32) files.now }
     requires read { WereRead files.now names.now }
+    requires kept { AreKept files.now kept.now }
     requires firsts { (reads : ListOf Read) → AreRead files.now reads →
         firsts.now ≡ first_numbers (sources_of reads) }
     requires within { (k : ℕ) → k < length order.now → slice_index order.now k < length files.now }
@@ -54,7 +58,8 @@ pub fn value_files(
     for k in 0..order.len() {
         let number = order[k];
         let file = &files[number];
-        match value_one(alloc, file, &names[number], &mut progress.scope, &mut room) {
+        let (name, kept) = (&names[number], &kept[number]);
+        match value_one(alloc, file, name, kept, &mut progress.scope, &mut room) {
             Ok(done) => progress.add(alloc, number, firsts[number] == number, done)?,
             Err(error) => return Err(refused(alloc, file, error)),
         }
@@ -74,18 +79,50 @@ fn refused(alloc: Global, file: &DsdlFile, error: FileError) -> DsdlError
     }
 }
 
-/// A file valued with the types of a scope. Its text is read once more, so that the statements of
-/// all files never stand together.
+/// A file valued with the types of a scope. Where its statements aren't kept, its text is read once
+/// more.
 fn value_one(
     alloc: Global,
     file: &DsdlFile,
     name: &FileName,
+    kept: &Option<Ast>,
     scope: &mut Scope,
     room: &mut u32,
 ) -> Result<Outcome, FileError>
     requires short { length file.now.text < 2 ^ 32 }
     requires named { file_name_of file.now.path ≡ Ok name.now }
     requires text { HasStatements file.now.text }
+    requires kept { IsKept file.now kept.now }
+    requires types { All IsDefinition scope.old.namespace.definitions }
+    requires members { All (λ t. AreConstants t.constants) scope.old.members }
+    ensures value { (r : Read) → IsRead file.now r →
+        Answers (outcome (scope_in scope.old r) r.path r.name r.lines) result }
+    ensures sound { IfOk result (λ o. IsDefinition o.definition) }
+    ensures constants { IfOk result (λ o. AreConstants o.constants) }
+    ensures namespace { scope.new.namespace ≡ scope.old.namespace }
+    ensures members { scope.new.members ≡ scope.old.members }
+{
+    match kept {
+        Some(ast) => value_lines(alloc, file, name, ast.lines.as_slice(), scope, room),
+        None => {
+            let ast = statements_of(alloc, file)?;
+            value_lines(alloc, file, name, ast.lines.as_slice(), scope, room)
+        }
+    }
+}
+
+/// A file of these statements valued with the types of a scope.
+fn value_lines(
+    alloc: Global,
+    file: &DsdlFile,
+    name: &FileName,
+    lines: &[Statement],
+    scope: &mut Scope,
+    room: &mut u32,
+) -> Result<Outcome, FileError>
+    requires short { length file.now.text < 2 ^ 32 }
+    requires named { file_name_of file.now.path ≡ Ok name.now }
+    requires text { IsAst file.now.text lines.now }
     requires types { All IsDefinition scope.old.namespace.definitions }
     requires members { All (λ t. AreConstants t.constants) scope.old.members }
     ensures value { (r : Read) → IsRead file.now r →
@@ -97,11 +134,10 @@ fn value_one(
 {
     one_parsing();
     well_spelled();
-    let ast = statements_of(alloc, file)?;
     scope.own = name.id.name.copy(alloc)?;
     scope.constants = List::empty(alloc);
     scope.offset = None;
-    value_file(alloc, &file.path, name, ast.lines.as_slice(), scope, room)
+    value_file(alloc, &file.path, name, lines, scope, room)
 }
 
 /// The statements of a file, which has only such.

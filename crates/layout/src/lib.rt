@@ -9,8 +9,9 @@ mod of_schema;
 mod row;
 mod within;
 
+pub use composite::Composite;
 pub use ends::ends_after;
 pub use layout::Layout;
 pub use lengths::part_lengths;
-pub use of_schema::layout_of;
+pub use of_schema::{composite_of, layout_of};
 pub use row::Row;

@@ -10,6 +10,15 @@ use cy_bits::{NoMemory, TryCopy};
 use dsdl_types::Schema;
 use std::alloc::Global;
 
+/// The rows and the lengths of a structure or a union that keeps the rules, without a copy of its schema.
+pub fn composite_of(alloc: Global, schema: &Schema) -> Result<Composite, NoMemory>
+    requires rules { IsSchema (sch schema.now) }
+    requires composite { is_composite (sch schema.now) ≡ true }
+    ensures { IfOk result (λ c. IsLayout (sch schema.now) c.rows c.lengths) }
+{
+    rows_of(alloc, schema)
+}
+
 /// The layout of a structure or a union that keeps the rules: where each field can stand, which lengths it and the
 /// whole can have (Cyphal Specification, section 3.7), and an equal schema. No length is above 2^32 bits.
 pub fn layout_of(alloc: Global, schema: &Schema) -> Result<Layout, NoMemory>
@@ -18,7 +27,7 @@ pub fn layout_of(alloc: Global, schema: &Schema) -> Result<Layout, NoMemory>
     ensures layout { IfOk result (λ l. IsLayout (sch schema.now) l.rows l.lengths) }
     ensures schema { IfOk result (λ l. l.schema ≡ schema.now) }
 {
-    let Composite { rows, lengths } = rows_of(alloc, schema)?;
+    let Composite { rows, lengths } = composite_of(alloc, schema)?;
     Ok(Layout {
         rows,
         lengths,

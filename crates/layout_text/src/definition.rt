@@ -10,8 +10,8 @@ use crate::fields::push_fields;
 use crate::head::{Role, push_named, push_outline};
 use cy_bits::{NoMemory, Text};
 use dsdl_names::TypeId;
-use dsdl_types::{Definition, Parts};
-use layout::{Layout, layout_of};
+use dsdl_types::{Definition, Parts, Schema};
+use layout::{Composite, composite_of};
 use std::alloc::Global;
 
 /// Appends the text of a definition.
@@ -32,15 +32,15 @@ pub fn push_definition(
     let types = types.as_slice();
     match parts {
         Parts::Message(schema) => {
-            let layout = layout_of(alloc, schema)?;
-            push_composite(text, Role::Message, id, *port, &layout, types)
+            let layout = composite_of(alloc, schema)?;
+            push_composite(text, Role::Message, id, *port, schema, &layout, types)
         }
         Parts::Service { request, response } => {
-            let request = layout_of(alloc, request)?;
-            let response = layout_of(alloc, response)?;
-            let (asked, answered) = types.split_at(request.rows.len());
-            push_composite(text, Role::Request, id, *port, &request, asked)?;
-            push_composite(text, Role::Response, id, *port, &response, answered)
+            let first = composite_of(alloc, request)?;
+            let second = composite_of(alloc, response)?;
+            let (asked, answered) = types.split_at(first.rows.len());
+            push_composite(text, Role::Request, id, *port, request, &first, asked)?;
+            push_composite(text, Role::Response, id, *port, response, &second, answered)
         }
     }
 }
@@ -51,14 +51,15 @@ fn push_composite(
     role: Role,
     id: &TypeId,
     port: Option<u16>,
-    layout: &Layout,
+    schema: &Schema,
+    layout: &Composite,
     types: &[Text],
 ) -> Result<(), NoMemory>
-    requires layout { IsLayout (sch layout.now.schema) layout.now.rows layout.now.lengths }
+    requires layout { IsLayout (sch schema.now) layout.now.rows layout.now.lengths }
     requires texts { length types.now ≡ length layout.now.rows }
-    ensures { OnOk result (Appends (IsTypeText role id.now port (sch layout.now.schema) types.now) text.old.items text.new.items) }
+    ensures { OnOk result (Appends (IsTypeText role id.now port (sch schema.now) types.now) text.old.items text.new.items) }
 {
     push_named(text, role, id, port)?;
-    push_outline(text, &layout.schema, &layout.lengths)?;
-    push_fields(text, &layout.schema, layout.rows.as_slice(), types)
+    push_outline(text, schema, &layout.lengths)?;
+    push_fields(text, schema, layout.rows.as_slice(), types)
 }

@@ -1,8 +1,9 @@
-use Rattle.std.proofs.Common.{◌≡◌, ◌==◌, ◌<◌, true, length, get_or, take, ap, sym, ◌∙◌, subst, arith}
+use Rattle.std.proofs.Common.{◌≡◌, ◌==◌, ◌<◌, true, false, length, get_or, take, ap, sym, ◌∙◌, subst, arith}
 use Rattle.std.proofs.lemmas.List.{length-take-le, get_or-take, get_or_default}
 use Rattle.std.proofs.lemmas.List.Folds.{list_any_at}
 use Rattle.dsdl_clash.specs.Clashes.{clashes_with, same_name}
 use Rattle.dsdl_clash.specs.Kinds.{clash_of}
+use Rattle.dsdl_clash.proofs.ClashLemmas.{clashes_never}
 use Rattle.dsdl_clash.proofs.NameLemmas.{same_number_at}
 use Rattle.dsdl_clash.proofs.clash.clashes_with_earlier.Goals as goal
 
@@ -24,3 +25,10 @@ returns-then-clash c = λ d.
     let holds : clash_of c.args.by a b ≡ true = sym c.clash.ensures ∙ c.if-clash.true in
     let any : clashes_with (clash_of c.args.by) (take c.args.at ds) b ≡ true = list_any_at (λ e. clash_of c.args.by e b) (take c.args.at ds) i a lt (ap (λ e. clash_of c.args.by e b) here ∙ holds) in
     sym (ap (clashes_with (clash_of c.args.by) (take c.args.at ds)) (get_or_default ds c.args.at d b c.requires.at ∙ sym c.index-definitions-at.is) ∙ any)
+
+pub returns-then-is_alone : goal.returns-then-is_alone
+returns-then-is_alone c = λ d.
+    let before = take c.args.at c.args.definitions.now in
+    let b = c.index-definitions-at.result in
+    let none : clashes_with (clash_of c.args.by) before b ≡ false = clashes_never (clash_of c.args.by) before b (c.is_alone.ensures c.if-is_alone.true) in
+    sym (ap (clashes_with (clash_of c.args.by) before) (get_or_default c.args.definitions.now c.args.at d b c.requires.at ∙ sym c.index-definitions-at.is) ∙ none)

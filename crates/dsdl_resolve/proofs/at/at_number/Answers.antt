@@ -1,5 +1,3 @@
-use Rattle.std.proofs.Common.{ℕ, List}
-use Rattle.dsdl_resolve.specs.declared.why.DsdlWhy.{DsdlWhy}
 use Rattle.dsdl_resolve.proofs.Clear.{told}
 use Rattle.dsdl_resolve.proofs.Rereading.{path_is}
 use Rattle.dsdl_resolve.proofs.at.at_number.Goals as goal

@@ -1,6 +1,6 @@
-use Rattle.std.proofs.Common.{◌≡◌, ◌∙◌, sym, ap, Some, None, true, false, is_some}
+use Rattle.std.proofs.Common.{◌∙◌, sym, ap}
 use Rattle.dsdl_resolve.specs.Rules.{breaks_14}
-use Rattle.dsdl_resolve.proofs.ConstantJudged.{named_refused, message_refused, value_refused, constant_judged}
+use Rattle.dsdl_resolve.proofs.ConstantJudged.{named_refused, message_refused, value_refused}
 use Rattle.dsdl_resolve.proofs.constant.judge_constant.Goals as goal
 
 pub returns-in-Some-clause-refused : goal.returns-in-Some-clause-refused

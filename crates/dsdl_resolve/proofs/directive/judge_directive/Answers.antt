@@ -1,10 +1,9 @@
-use Rattle.std.proofs.Common.{◌≡◌, ◌∙◌, sym, ap, subst, rules, false, true, None, is_some}
+use Rattle.std.proofs.Common.{◌≡◌, ◌∙◌, sym, ap, subst, rules, false, true, is_some}
 use Rattle.std.specs.Prelude.{codes}
 use Rattle.std.specs.Str.{bytes_eq}
 use Rattle.dsdl_types.specs.Views.{flds}
 use Rattle.dsdl_resolve.specs.Additions.{IsJudged}
 use Rattle.dsdl_resolve.specs.Judged.{long_extent}
-use Rattle.dsdl_resolve.specs.Rules.{least, directive_rules}
 use Rattle.dsdl_resolve.specs.Totals.{AreTotals, AreWithin}
 use Rattle.dsdl_resolve.specs.Values.{natural_of}
 use Rattle.dsdl_resolve.proofs.Answering.{judged_so}

@@ -1,11 +1,6 @@
-use Rattle.std.proofs.Common.{◌≡◌, ◌∙◌, sym, ap, subst, Option, Some, None, [], List, ℕ, true, false}
-use Rattle.std.proofs.lemmas.Option.{none-some}
-use Rattle.dsdl_parse.specs.declared.statement.Form.{Form}
+use Rattle.std.proofs.Common.{◌∙◌, sym, ap}
 use Rattle.dsdl_types.specs.Views.{is_padding}
-use Rattle.const_expr.specs.declared.constant.Const.{Const}
 use Rattle.dsdl_resolve.specs.Forms.{type_of}
-use Rattle.dsdl_resolve.specs.Place.{Place}
-use Rattle.dsdl_resolve.specs.Rules.{least, named_rules}
 use Rattle.dsdl_resolve.proofs.FieldJudged.{at_bound, made, made_typed, made_measure, named_refused, message_refused, sized, field_judged}
 use Rattle.dsdl_resolve.proofs.FormTypes.{type_fine}
 use Rattle.dsdl_resolve.proofs.SoundSection.{type_some}

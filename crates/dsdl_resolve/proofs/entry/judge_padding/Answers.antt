@@ -1,4 +1,4 @@
-use Rattle.std.proofs.Common.{◌≡◌, ◌∙◌, ◌≤◌, ◌^◌, sym, ap, Some, None, arith, false}
+use Rattle.std.proofs.Common.{◌∙◌, sym, arith}
 use Rattle.dsdl_resolve.proofs.PaddingJudged.{gap_of, gap_is, padding_judged}
 use Rattle.dsdl_resolve.proofs.entry.judge_padding.Goals as goal
 

@@ -1,5 +1,5 @@
-use Rattle.std.proofs.Common.{◌≡◌, ◌+◌, ◌∙◌, ◌∷◌, ◌≤◌, length, take, drop, get_or, None, Some, Ok, sym, ap, subst, refl, arith}
-use Rattle.std.proofs.lemmas.List.{length-take-le, length-drop}
+use Rattle.std.proofs.Common.{◌≡◌, ◌+◌, ◌∙◌, ◌∷◌, ◌≤◌, length, take, None, Some, Ok, sym, ap, subst, refl, arith}
+use Rattle.std.proofs.lemmas.List.{length-take-le}
 use Rattle.std.proofs.lemmas.List.Elements.{All-get_or}
 use Rattle.const_expr.specs.declared.scope.Scope.{Scope}
 use Rattle.dsdl_parse.specs.Spelling.{WellSpelled}

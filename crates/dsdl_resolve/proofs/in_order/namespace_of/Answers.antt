@@ -1,11 +1,10 @@
-use Rattle.std.proofs.Common.{◌≡◌, List, None, map, sym, ap, ◌∙◌, subst}
+use Rattle.std.proofs.Common.{◌≡◌, List, sym, ◌∙◌, subst}
 use Rattle.std.specs.List.{All}
 use Rattle.dsdl_types.specs.Definitions.{IsDefinition}
-use Rattle.dsdl_types.specs.declared.definition.Definition.{Definition}
 use Rattle.dsdl_links.specs.declared.source.Source.{Source}
-use Rattle.dsdl_resolve.specs.Placing.{AreNumbered, Places}
+use Rattle.dsdl_resolve.specs.Placing.{Places}
 use Rattle.dsdl_resolve.specs.Progressing.{Holds, doubled}
-use Rattle.dsdl_resolve.specs.Valuing.{Done, in_path_order, meant, definition_of}
+use Rattle.dsdl_resolve.specs.Valuing.{Done, in_path_order, meant}
 use Rattle.dsdl_resolve.proofs.Placement.{all_placed, in_order_keep}
 use Rattle.dsdl_resolve.proofs.in_order.namespace_of.Goals as goal
 

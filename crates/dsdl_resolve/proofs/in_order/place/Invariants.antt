@@ -1,5 +1,4 @@
 use Rattle.std.proofs.Common.{◌≡◌, ◌≤◌, List, length, take, drop}
-use Rattle.std.specs.Vec.{vec_len}
 use Rattle.dsdl_resolve.specs.Placing.{AreNumbered, Places}
 use Rattle.dsdl_resolve.specs.Valuing.{Done}
 use Rattle.dsdl_resolve.proofs.in_order.place.Given as goal

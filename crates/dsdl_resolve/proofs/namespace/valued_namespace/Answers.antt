@@ -1,4 +1,4 @@
-use Rattle.std.proofs.Common.{◌≡◌, ◌<◌, ℕ, List, Ok, get_or, sym, ap, ◌∙◌, length, subst, arith}
+use Rattle.std.proofs.Common.{◌≡◌, ◌<◌, List, Ok, get_or, sym, ap, ◌∙◌, length, subst, arith}
 use Rattle.std.proofs.lemmas.Result.{err_from_is_err_and}
 use Rattle.dsdl_links.specs.Links.{first_numbers}
 use Rattle.dsdl_resolve.specs.Reads.{Read, sources_of}

@@ -1,4 +1,4 @@
-use Rattle.std.proofs.Common.{arith, subst, sym}
+use Rattle.std.proofs.Common.{arith}
 use Rattle.dsdl_resolve.proofs.OffsetEnds as offsets
 use Rattle.dsdl_resolve.proofs.offsets.ends_behind.Goals as goal
 

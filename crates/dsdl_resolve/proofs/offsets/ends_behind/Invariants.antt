@@ -1,4 +1,4 @@
-use Rattle.std.proofs.Common.{◌≤◌, ◌<◌, length, take}
+use Rattle.std.proofs.Common.{take}
 use Rattle.bit_length.specs.Lengths.{Has, Same}
 use Rattle.dsdl_types.specs.Lengths.{EndsAt}
 use Rattle.dsdl_types.specs.Views.{flds}

@@ -1,5 +1,5 @@
-use Rattle.std.proofs.Common.{ℕ, ◌-◌, ◌+◌, ◌≡◌, ◌≤◌, ◌^◌, arith, subst}
-use Rattle.bit_length.specs.Lengths.{Has, Same, Only, Sums}
+use Rattle.std.proofs.Common.{◌-◌, arith}
+use Rattle.bit_length.specs.Lengths.{Has, Only, Sums}
 use Rattle.dsdl_types.specs.Schemas.{prefix}
 use Rattle.layout.proofs.Sets.{never_long}
 use Rattle.dsdl_resolve.proofs.OffsetVariants as offsets

@@ -1,5 +1,5 @@
-use Rattle.std.proofs.Common.{◌≡◌, ◌<◌, length, get_or, arith, ap, subst, sym, refl}
-use Rattle.bit_length.specs.Lengths.{Has, Same, Joins}
+use Rattle.std.proofs.Common.{get_or, arith, ap, refl}
+use Rattle.bit_length.specs.Lengths.{Has, Joins}
 use Rattle.dsdl_resolve.proofs.OffsetVariants as offsets
 use Rattle.dsdl_resolve.proofs.offsets.variants_of.Goals as goal
 

@@ -1,4 +1,4 @@
-use Rattle.std.proofs.Common.{◌≡◌, sym, ap, ◌∙◌, length, arith}
+use Rattle.std.proofs.Common.{ap, ◌∙◌, length}
 use Rattle.std.proofs.lemmas.Result.{err_from_is_err_and}
 use Rattle.dsdl_resolve.proofs.Clear.{syntax_refusal}
 use Rattle.dsdl_resolve.proofs.Rereading.{source_count}

@@ -1,4 +1,4 @@
-use Rattle.std.proofs.Common.{◌≡◌, refl, sym, ◌∙◌, arith, ap, length, subst}
+use Rattle.std.proofs.Common.{◌≡◌, refl, ◌∙◌, arith, ap, length, subst}
 use Rattle.dsdl_links.specs.Mentions.{mentions}
 use Rattle.dsdl_links.specs.declared.source.Source.{Source}
 use Rattle.dsdl_parse.specs.Ast.{IsAst}

@@ -1,4 +1,4 @@
-use Rattle.std.proofs.Common.{◌≡◌, ◌∙◌, Err, ap, subst}
+use Rattle.std.proofs.Common.{Err, ap, subst}
 use Rattle.dsdl_parse.specs.Ast.{FirstBad}
 use Rattle.dsdl_resolve.proofs.valuing.statements_of.Goals as goal
 

@@ -1,17 +1,26 @@
-use Rattle.std.proofs.Common.{◌≡◌, ◌<◌, ℕ, List, Err, get_or, refl, sym, ap, ◌∙◌, length, arith, subst}
+use Rattle.std.proofs.Common.{ℕ, List, Err, get_or, refl, arith, subst}
 use Rattle.dsdl_resolve.specs.Answers.{Answers}
 use Rattle.dsdl_resolve.specs.Judged.{outcome}
 use Rattle.dsdl_resolve.specs.Passes.{StopsAt}
-use Rattle.dsdl_resolve.specs.Reads.{Read, AreRead, IsRead, sources_of}
+use Rattle.dsdl_resolve.specs.Reads.{Read, AreRead, sources_of}
 use Rattle.dsdl_resolve.specs.Reread.{scope_in}
-use Rattle.dsdl_resolve.specs.declared.outcome.FileError.TheVariants as file_error
 use Rattle.dsdl_resolve.specs.declared.why.DsdlWhy.{DsdlWhy}
+use Rattle.dsdl_resolve.specs.Kept.{IsKept}
 use Rattle.dsdl_resolve.proofs.Clear.{told}
+use Rattle.dsdl_resolve.proofs.Lists.{zip_here, zip_long}
 use Rattle.dsdl_resolve.proofs.Rereading.{so_far_none, so_far_all, one_more, stops_here, has_name, has_statements, name_count, moved_sound, firsts_count}
 use Rattle.dsdl_resolve.proofs.valuing.value_files.Goals as goal
 
 pub bounds-names-number : goal.bounds-names-number
 bounds-names-number c = omega (arith, name_count c.args.files.now c.args.names.now c.requires.read, c.requires.within c.loop-k.k c.loop-k-test.true)
+
+pub bounds-kept-number : goal.bounds-kept-number
+bounds-kept-number c = omega (arith, zip_long IsKept c.args.files.now c.args.kept.now c.requires.kept, c.requires.within c.loop-k.k c.loop-k-test.true)
+
+pub value_one-requires-clause-kept : goal.value_one-requires-clause-kept
+value_one-requires-clause-kept c =
+    zip_here IsKept c.args.files.now c.args.kept.now c.args.kept.now (get_or c.args.order.now c.loop-k.k 0) c.index-files-number.result c.index-kept-number.result c.requires.kept
+    (c.requires.within c.loop-k.k c.loop-k-test.true) c.index-files-number.is refl c.index-kept-number.is
 
 pub bounds-firsts-number : goal.bounds-firsts-number
 bounds-firsts-number c = omega (arith, firsts_count c.args.files.now c.args.names.now c.args.firsts.now c.requires.read c.requires.firsts, c.requires.within c.loop-k.k c.loop-k-test.true)

@@ -1,4 +1,4 @@
-use Rattle.std.proofs.Common.{◌≡◌, ◌∙◌, refl, sym, ap, arith}
+use Rattle.std.proofs.Common.{◌∙◌, refl, sym, ap, arith}
 use Rattle.std.specs.List.{count_by}
 use Rattle.dsdl_resolve.specs.Place.{is_union_section}
 use Rattle.dsdl_resolve.specs.Says.{is_entry, is_field}

@@ -1,5 +1,6 @@
-use Rattle.bit_length.specs.Lengths.{Has, Pads}
-use Rattle.bit_length.specs.Runs.{InSome}
+use Rattle.std.proofs.Common.{◌+◌, ◌*◌, refl, arith}
+use Rattle.bit_length.specs.Lengths.{Has, Pads, padded}
+use Rattle.bit_length.specs.Runs.{InRun, InSome}
 use Rattle.bit_length.proofs.SetLemmas.{done, some_of, pads_alike, some_pad, same_join}
 use Rattle.bit_length.proofs.set.LengthSet.pad_within.Goals as goal
 
@@ -20,3 +21,16 @@ returns c =
     let a = c.in_ok-runs_at.field-0.items in
     let pads = rw c.deref.ensures.value at c.in_ok-runs.ensures in
     done c.from_runs.result (InSome s c.in_ok-runs.runs.items) (Pads (Has c.args.self.now) c.args.to) (same_join (InSome s c.in_ok-runs.runs.items) (Pads (InSome s a) c.args.to) (Pads (Has c.args.self.now) c.args.to) pads.same (pads_alike (InSome s a) (Has c.args.self.now) c.args.to c.in_ok-runs_at.ensures.runs.same)) c.from_runs.ensures
+
+pub padded-requires-clause-short : goal.padded-requires-clause-short
+padded-requires-clause-short c =
+    let run = c.in-Some.run' in
+    let greatest = run.residue + c.step_for-step.result * run.last in
+    c.requires.short (padded c.args.to greatest) (greatest, (c.in-Some.ensures.members greatest).0 (run.last, c.in-Some.ensures.run.1, omega arith, refl), refl)
+
+pub returns-in-Some : goal.returns-in-Some
+returns-in-Some c =
+    let s = c.step_for-step.result in
+    same_join (Has c.one.result) (InRun s c.padded.result) (Pads (Has c.args.self.now) c.args.to) c.one.ensures
+    (same_join (InRun s c.padded.result) (Pads (InRun s c.in-Some.run') c.args.to) (Pads (Has c.args.self.now) c.args.to) c.padded.ensures.pads
+    (pads_alike (InRun s c.in-Some.run') (Has c.args.self.now) c.args.to c.in-Some.ensures.members))

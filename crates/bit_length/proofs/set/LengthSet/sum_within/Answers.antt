@@ -1,6 +1,6 @@
-use Rattle.std.proofs.Common.{◌+◌, refl}
+use Rattle.std.proofs.Common.{◌+◌, ◌*◌, refl, arith}
 use Rattle.bit_length.specs.Lengths.{Has, Sums}
-use Rattle.bit_length.specs.Runs.{InSome}
+use Rattle.bit_length.specs.Runs.{InRun, InSome}
 use Rattle.bit_length.proofs.SetLemmas.{done, some_of, sums_alike, some_sum, same_join}
 use Rattle.bit_length.proofs.set.LengthSet.sum_within.Goals as goal
 
@@ -23,3 +23,21 @@ returns c =
     let b = c.in_ok-runs_at-2.field-0.items in
     let sums = rw (c.deref.ensures.value, c.deref-2.ensures.value) at c.in_ok-runs.ensures in
     done c.from_runs.result (InSome s c.in_ok-runs.runs.items) (Sums (Has c.args.self.now) (Has c.args.o.now)) (same_join (InSome s c.in_ok-runs.runs.items) (Sums (InSome s a) (InSome s b)) (Sums (Has c.args.self.now) (Has c.args.o.now)) sums.same (sums_alike (InSome s a) (Has c.args.self.now) (InSome s b) (Has c.args.o.now) c.in_ok-runs_at.ensures.runs.same c.in_ok-runs_at-2.ensures.runs.same)) c.from_runs.ensures
+
+pub plus-requires-clause-short : goal.plus-requires-clause-short
+plus-requires-clause-short c =
+    let a = c.in-Some-Some.a in
+    let b = c.in-Some-Some.b in
+    let m = a.residue + c.common_step-step.result * a.last in
+    let n = b.residue + c.common_step-step.result * b.last in
+    c.requires (m + n)
+    (m, n, (c.in-Some-Some.ensures.members m).0 (a.last, c.in-Some-Some.ensures.run.1, omega arith, refl), (c.in-Some-Some.ensures'.members n).0 (b.last, c.in-Some-Some.ensures'.run.1, omega arith, refl), refl)
+
+pub returns-in-Some-Some : goal.returns-in-Some-Some
+returns-in-Some-Some c =
+    let s = c.common_step-step.result in
+    let a = c.in-Some-Some.a in
+    let b = c.in-Some-Some.b in
+    same_join (Has c.one.result) (InRun s c.plus.result) (Sums (Has c.args.self.now) (Has c.args.o.now)) c.one.ensures
+    (same_join (InRun s c.plus.result) (Sums (InRun s a) (InRun s b)) (Sums (Has c.args.self.now) (Has c.args.o.now)) c.plus.ensures.sums
+    (sums_alike (InRun s a) (Has c.args.self.now) (InRun s b) (Has c.args.o.now) c.in-Some-Some.ensures.members c.in-Some-Some.ensures'.members))

@@ -1,8 +1,7 @@
 use Rattle.std.proofs.Common.{◌∙◌, sym, subst, refl}
 use Rattle.const_expr.specs.declared.scope.Scope.{Scope}
 use Rattle.dsdl_types.specs.Definitions.{IsNamespace}
-use Rattle.dsdl_resolve.specs.Place.{last_section, place}
-use Rattle.dsdl_resolve.specs.Judged.{refusal_at}
+use Rattle.dsdl_resolve.specs.Place.{last_section}
 use Rattle.dsdl_resolve.specs.Values.{said_by, scope_at}
 use Rattle.dsdl_resolve.proofs.Filing as filing
 use Rattle.dsdl_resolve.proofs.file.OpenFile.take.Goals as goal

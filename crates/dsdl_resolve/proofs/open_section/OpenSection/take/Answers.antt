@@ -1,4 +1,4 @@
-use Rattle.std.proofs.Common.{◌≡◌, None, Some, sym, subst}
+use Rattle.std.proofs.Common.{◌≡◌, Some, subst}
 use Rattle.const_expr.specs.declared.scope.Scope.{Scope}
 use Rattle.dsdl_types.specs.Definitions.{IsNamespace}
 use Rattle.dsdl_resolve.specs.Additions.{IsBefore, IsJudged, IsStatementRefusal, name_of, with_addition}
