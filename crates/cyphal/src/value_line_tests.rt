@@ -9,15 +9,36 @@ use std::test::Fail;
 /// The files below the folder `types`.
 const FILES: &[(&str, &[u8])] = &[
     ("types/demo/Inner.1.0.dsdl", b"uint8 a\n@extent 64\n"),
-    ("types/demo/Inner.1.1.dsdl", b"uint8 a\nuint16 b\n@extent 64\n"),
-    ("types/demo/Outer.1.0.dsdl", b"Inner.1.0 inner\nuint8 z\n@extent 128\n"),
-    ("types/demo/Outer.1.1.dsdl", b"Inner.1.1 inner\nuint8 z\n@extent 128\n"),
-    ("types/demo/Some.1.0.dsdl", b"Inner.1.1[<=2] list\n@extent 512\n"),
-    ("types/demo/U.1.0.dsdl", b"@union\nuint8 a\nuint16[<=2] b\n@sealed\n"),
+    (
+        "types/demo/Inner.1.1.dsdl",
+        b"uint8 a\nuint16 b\n@extent 64\n",
+    ),
+    (
+        "types/demo/Outer.1.0.dsdl",
+        b"Inner.1.0 inner\nuint8 z\n@extent 128\n",
+    ),
+    (
+        "types/demo/Outer.1.1.dsdl",
+        b"Inner.1.1 inner\nuint8 z\n@extent 128\n",
+    ),
+    (
+        "types/demo/Some.1.0.dsdl",
+        b"Inner.1.1[<=2] list\n@extent 512\n",
+    ),
+    (
+        "types/demo/U.1.0.dsdl",
+        b"@union\nuint8 a\nuint16[<=2] b\n@sealed\n",
+    ),
     ("types/demo/V.1.0.dsdl", b"uint8[<=2] x\n@sealed\n"),
-    ("types/demo/Num.1.0.dsdl", b"uint8 a\ntruncated uint8 b\n@sealed\n"),
+    (
+        "types/demo/Num.1.0.dsdl",
+        b"uint8 a\ntruncated uint8 b\n@sealed\n",
+    ),
     ("types/demo/S.1.0.dsdl", b"uint8 a\n@sealed\n---\n@sealed\n"),
-    ("types/uavcan/node/Health.1.0.dsdl", b"uint2 value\n@sealed\n"),
+    (
+        "types/uavcan/node/Health.1.0.dsdl",
+        b"uint2 value\n@sealed\n",
+    ),
     ("types/uavcan/node/Mode.1.0.dsdl", b"uint3 value\n@sealed\n"),
     ("types/uavcan/node/7509.Heartbeat.1.0.dsdl", HEARTBEAT),
 ];
@@ -61,28 +82,161 @@ const fn row(
 #[test]
 fn each_line_is_answered_by_a_line(rt: HostRuntime) -> Result<(), Fail> {
     let rows = [
-        row("decode", "demo.Outer.1.1", b"0300000005341209\n", 0, b"{inner: {a: 5, b: 4660}, z: 9}\n", b""),
-        row("decode", "demo.Outer.1.0", b"0300000005341209", 0, b"{inner: {a: 5}, z: 9}\n", b""),
-        row("decode", "demo.Outer.1.1", b"010000000509", 0, b"{inner: {a: 5, b: 0}, z: 9}\n", b""),
-        row("decode", "demo.Outer.1.0", b"05000000010203\n", 6, b"", b"cyphal: line 1: BadDelimiter 5 at inner\n"),
-        row("decode", "demo.Outer.1.0", b"\n", 0, b"{inner: {a: 0}, z: 0}\n", b""),
+        row(
+            "decode",
+            "demo.Outer.1.1",
+            b"0300000005341209\n",
+            0,
+            b"{inner: {a: 5, b: 4660}, z: 9}\n",
+            b"",
+        ),
+        row(
+            "decode",
+            "demo.Outer.1.0",
+            b"0300000005341209",
+            0,
+            b"{inner: {a: 5}, z: 9}\n",
+            b"",
+        ),
+        row(
+            "decode",
+            "demo.Outer.1.1",
+            b"010000000509",
+            0,
+            b"{inner: {a: 5, b: 0}, z: 9}\n",
+            b"",
+        ),
+        row(
+            "decode",
+            "demo.Outer.1.0",
+            b"05000000010203\n",
+            6,
+            b"",
+            b"cyphal: line 1: BadDelimiter 5 at inner\n",
+        ),
+        row(
+            "decode",
+            "demo.Outer.1.0",
+            b"\n",
+            0,
+            b"{inner: {a: 0}, z: 0}\n",
+            b"",
+        ),
         row("decode", "demo.Outer.1.0", b"", 0, b"", b""),
-        row("decode", "demo.Some.1.0", b"020100000005010000000600", 0, b"{list: [{a: 5, b: 0}, {a: 6, b: 0}]}\n", b""),
+        row(
+            "decode",
+            "demo.Some.1.0",
+            b"020100000005010000000600",
+            0,
+            b"{list: [{a: 5, b: 0}, {a: 6, b: 0}]}\n",
+            b"",
+        ),
         row("decode", "uavcan.node.Heartbeat.1.0", b"01", 0, FIRST, b""),
-        row("encode", "uavcan.node.Heartbeat.1.0", FIRST, 0, b"01000000000000\n", b""),
-        row("encode", "demo.Num.1.0", b"{a: 300, b: 300}\n{a: -1, b: -1}", 0, b"FF2C\n00FF\n", b""),
-        row("encode", "demo.Num.1.0", b"{a: 1}", 5, b"", b"cyphal: line 1: no value\n"),
-        row("encode", "demo.Num.1.0", b"{a: 1, b: 2}\n\n{a: 1, b: 2}", 5, b"0102\n", b"cyphal: line 2: no value\n"),
-        row("encode", "demo.Num.1.0", b"{a: 1, b: 2}\r\n", 5, b"", b"cyphal: line 1: no value\n"),
-        row("decode", "demo.U.1.0", b"0102010002ff\n\n02", 6, b"{b: [1, 65282]}\n{a: 0}\n", b"cyphal: line 3: BadTag 2 at .\n"),
-        row("decode", "demo.U.1.0", b"0103", 6, b"", b"cyphal: line 1: BadLength 3 at b\n"),
-        row("decode", "demo.U.1.0", b"00\n0\n", 5, b"{a: 0}\n", b"cyphal: line 2: no value\n"),
-        row("encode", "demo.V.1.0", b"{x: #0301}\n{x: [300, 1]}\n{x: [3, 1]}\n", 5, b"020301\n02FF01\n", b"cyphal: line 3: no value\n"),
+        row(
+            "encode",
+            "uavcan.node.Heartbeat.1.0",
+            FIRST,
+            0,
+            b"01000000000000\n",
+            b"",
+        ),
+        row(
+            "encode",
+            "demo.Num.1.0",
+            b"{a: 300, b: 300}\n{a: -1, b: -1}",
+            0,
+            b"FF2C\n00FF\n",
+            b"",
+        ),
+        row(
+            "encode",
+            "demo.Num.1.0",
+            b"{a: 1}",
+            5,
+            b"",
+            b"cyphal: line 1: no value\n",
+        ),
+        row(
+            "encode",
+            "demo.Num.1.0",
+            b"{a: 1, b: 2}\n\n{a: 1, b: 2}",
+            5,
+            b"0102\n",
+            b"cyphal: line 2: no value\n",
+        ),
+        row(
+            "encode",
+            "demo.Num.1.0",
+            b"{a: 1, b: 2}\r\n",
+            5,
+            b"",
+            b"cyphal: line 1: no value\n",
+        ),
+        row(
+            "decode",
+            "demo.U.1.0",
+            b"0102010002ff\n\n02",
+            6,
+            b"{b: [1, 65282]}\n{a: 0}\n",
+            b"cyphal: line 3: BadTag 2 at .\n",
+        ),
+        row(
+            "decode",
+            "demo.U.1.0",
+            b"0103",
+            6,
+            b"",
+            b"cyphal: line 1: BadLength 3 at b\n",
+        ),
+        row(
+            "decode",
+            "demo.U.1.0",
+            b"00\n0\n",
+            5,
+            b"{a: 0}\n",
+            b"cyphal: line 2: no value\n",
+        ),
+        row(
+            "encode",
+            "demo.V.1.0",
+            b"{x: #0301}\n{x: [300, 1]}\n{x: [3, 1]}\n",
+            5,
+            b"020301\n02FF01\n",
+            b"cyphal: line 3: no value\n",
+        ),
         row("encode", "demo.S.1.0.Request", b"{a: 7}", 0, b"07\n", b""),
-        row("encode", "demo.S.1.0.Response", b"{}\n{}\n", 0, b"\n\n", b""),
-        row("encode", "demo.S.1.0", b"{a: 7}", 12, b"", b"cyphal: not found: demo.S.1.0\n"),
-        row("decode", "demo.T.1.0", b"07", 12, b"", b"cyphal: not found: demo.T.1.0\n"),
-        row("decode", "demo.V.1.0.Request", b"", 12, b"", b"cyphal: not found: demo.V.1.0.Request\n"),
+        row(
+            "encode",
+            "demo.S.1.0.Response",
+            b"{}\n{}\n",
+            0,
+            b"\n\n",
+            b"",
+        ),
+        row(
+            "encode",
+            "demo.S.1.0",
+            b"{a: 7}",
+            12,
+            b"",
+            b"cyphal: not found: demo.S.1.0\n",
+        ),
+        row(
+            "decode",
+            "demo.T.1.0",
+            b"07",
+            12,
+            b"",
+            b"cyphal: not found: demo.T.1.0\n",
+        ),
+        row(
+            "decode",
+            "demo.V.1.0.Request",
+            b"",
+            12,
+            b"",
+            b"cyphal: not found: demo.V.1.0.Request\n",
+        ),
     ];
     for row in &rows {
         let alloc = rt.alloc();
@@ -103,7 +257,10 @@ fn each_line_is_answered_by_a_line(rt: HostRuntime) -> Result<(), Fail> {
         assert_eq!(rt; out.written.as_slice(), row.written);
         assert_eq!(rt; err.written.as_slice(), row.line);
         let unread = row.code == 12;
-        assert_eq!(rt; input.source.left == row.input, unread || row.input.is_empty());
+        assert_eq!(rt;
+            input.source.left == row.input,
+            unread || row.input.is_empty()
+        );
     }
     Ok(())
 }
