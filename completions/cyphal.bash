@@ -5,7 +5,7 @@ _cyphal()
     local word=${COMP_WORDS[COMP_CWORD]} command=${COMP_WORDS[1]}
     COMPREPLY=()
     if [ "$COMP_CWORD" -eq 1 ]; then
-        mapfile -t COMPREPLY < <(compgen -W 'compile compat run bound gen --help --version' -- "$word")
+        mapfile -t COMPREPLY < <(compgen -W 'compile compat encode decode run bound gen --help --version' -- "$word")
         return
     fi
     case $command:$COMP_CWORD in
@@ -16,11 +16,11 @@ _cyphal()
             compopt -o filenames
             mapfile -t COMPREPLY < <(compgen -f -- "$word")
             ;;
-        compile:2 | compat:2)
+        compile:2 | compat:2 | encode:2 | decode:2)
             compopt -o filenames
             mapfile -t COMPREPLY < <(compgen -d -- "$word")
             ;;
-        compat:3 | compat:4)
+        compat:3 | compat:4 | encode:3 | decode:3)
             mapfile -t COMPREPLY < <(compgen -W "$(_cyphal_types "${COMP_WORDS[2]}")" -- "$word")
             ;;
     esac

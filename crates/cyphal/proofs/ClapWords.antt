@@ -7,14 +7,8 @@ use Rattle.clap.specs.Walk.{Text, first_of}
 use Rattle.clap.specs.declared.parser.matches.ArgMatches.{ArgMatches}
 use Rattle.clap.proofs.WalkLemmas.{first_value-rows, both}
 use Rattle.clap.proofs.OnLiterals.{clap_on_literals}
-use Rattle.cyphal.specs.ClapShape.{one_shape, types_shape, plan_shape}
-use Rattle.cyphal.specs.Words.{is_argument, are_types, one_given, plan_given, types_given}
-
--- the value of an argument that a parse of the words gives, which is the one that they have
-pub record Parsed (app : App) (id : Text) (given : List Text → Option Text) (words : List Text) : Type 0 where
-  pub value : Text
-  pub is : first_of id (matches_of app words) ≡ Some value
-  pub asked : given words ≡ Some value
+use Rattle.cyphal.specs.ClapShape.{one_shape, types_shape, two_shape}
+use Rattle.cyphal.specs.Words.{is_argument, are_arguments, are_types, one_given, two_given, types_given}
 
 unhyphened : (b : Bool) → not b ≡ true → b ≡ false
 unhyphened true h = absurd cc
@@ -27,6 +21,12 @@ accepted false x h = absurd cc
 
 -- one argument
 
+-- the value that a parse of the words gives, which is the one that they have
+pub record ParsedOne (words : List Text) : Type 0 where
+  pub value : Text
+  pub is : first_of (codes "ARGUMENT") (matches_of one_shape words) ≡ Some value
+  pub asked : one_given words ≡ Some value
+
 simple_one : is_simple one_shape ≡ true
 simple_one = refl
 
@@ -34,40 +34,60 @@ value_of_one : (w : Text) (x : ℕ) (xs : Text) → (x == 45) ≡ false → firs
 unfolding clap_on_literals
 value_of_one w x xs h = simp h refl
 
-one_there : (w argument : Text) → is_argument argument ≡ true → Parsed one_shape (codes "ARGUMENT") one_given (w ∷ argument ∷ [])
+one_there : (w argument : Text) → is_argument argument ≡ true → ParsedOne (w ∷ argument ∷ [])
 one_there w [] h = absurd cc
 one_there w (x ∷ xs) h = let e = unhyphened (x == 45) h in record { value = x ∷ xs; is = value_of_one w x xs e; asked = simp e refl }
 
-parsed_one : (words : List Text) → is_some (one_given words) ≡ true → Parsed one_shape (codes "ARGUMENT") one_given words
+parsed_one : (words : List Text) → is_some (one_given words) ≡ true → ParsedOne words
 parsed_one [] h = absurd cc
 parsed_one (w ∷ []) h = absurd cc
 parsed_one (w ∷ argument ∷ []) h = one_there w argument (accepted (is_argument argument) argument h)
 parsed_one (w ∷ argument ∷ more ∷ rest) h = absurd cc
 
--- a root and a plan
+-- a root and another argument
 
-simple_plan : is_simple plan_shape ≡ true
-simple_plan = refl
+simple_two : is_simple two_shape ≡ true
+simple_two = refl
 
-value_of_plan : (w : Text) (x y : ℕ) (xs ys : Text) → (x == 45) ≡ false → (y == 45) ≡ false
-    → first_of (codes "PLAN") (matches_of plan_shape (w ∷ (x ∷ xs) ∷ (y ∷ ys) ∷ [])) ≡ Some (y ∷ ys)
+-- the values of both arguments that a parse of the words gives, which are those that they have
+pub record ParsedTwo (words : List Text) : Type 0 where
+  pub root : Text
+  pub argument : Text
+  pub is_root : first_of (codes "ROOT") (matches_of two_shape words) ≡ Some root
+  pub is_argument : first_of (codes "ARGUMENT") (matches_of two_shape words) ≡ Some argument
+  pub asked : two_given words ≡ Some (root, argument)
+
+root_of_two : (w : Text) (x y : ℕ) (xs ys : Text) → (x == 45) ≡ false → (y == 45) ≡ false
+    → first_of (codes "ROOT") (matches_of two_shape (w ∷ (x ∷ xs) ∷ (y ∷ ys) ∷ [])) ≡ Some (x ∷ xs)
 unfolding clap_on_literals
-value_of_plan w x y xs ys h k = simp (h, k) refl
+root_of_two w x y xs ys h k = simp (h, k) refl
 
-plan_there : (w root plan : Text) → is_argument root ≡ true → is_argument plan ≡ true → Parsed plan_shape (codes "PLAN") plan_given (w ∷ root ∷ plan ∷ [])
-plan_there w [] plan h k = absurd cc
-plan_there w (x ∷ xs) [] h k = absurd cc
-plan_there w (x ∷ xs) (y ∷ ys) h k =
+argument_of_two : (w : Text) (x y : ℕ) (xs ys : Text) → (x == 45) ≡ false → (y == 45) ≡ false
+    → first_of (codes "ARGUMENT") (matches_of two_shape (w ∷ (x ∷ xs) ∷ (y ∷ ys) ∷ [])) ≡ Some (y ∷ ys)
+unfolding clap_on_literals
+argument_of_two w x y xs ys h k = simp (h, k) refl
+
+two_there : (w root argument : Text) → is_argument root ≡ true → is_argument argument ≡ true → ParsedTwo (w ∷ root ∷ argument ∷ [])
+two_there w [] argument h k = absurd cc
+two_there w (x ∷ xs) [] h k = absurd cc
+two_there w (x ∷ xs) (y ∷ ys) h k =
     let first = unhyphened (x == 45) h in
-    let second = unhyphened (y == 45) k in record { value = y ∷ ys; is = value_of_plan w x y xs ys first second; asked = simp (first, second) refl }
+    let second = unhyphened (y == 45) k in record {
+      root = x ∷ xs;
+      argument = y ∷ ys;
+      is_root = root_of_two w x y xs ys first second;
+      is_argument = argument_of_two w x y xs ys first second;
+      asked = simp (first, second) refl;
+    }
 
-parsed_plan : (words : List Text) → is_some (plan_given words) ≡ true → Parsed plan_shape (codes "PLAN") plan_given words
-parsed_plan [] h = absurd cc
-parsed_plan (w ∷ []) h = absurd cc
-parsed_plan (w ∷ root ∷ []) h = absurd cc
-parsed_plan (w ∷ root ∷ plan ∷ []) h =
-    let each = both (is_argument root) (is_argument plan) (accepted (is_argument root && is_argument plan) plan h) in plan_there w root plan each.0 each.1
-parsed_plan (w ∷ root ∷ plan ∷ more ∷ rest) h = absurd cc
+parsed_two : (words : List Text) → is_some (two_given words) ≡ true → ParsedTwo words
+parsed_two [] h = absurd cc
+parsed_two (w ∷ []) h = absurd cc
+parsed_two (w ∷ root ∷ []) h = absurd cc
+parsed_two (w ∷ root ∷ argument ∷ []) h =
+    let each = both (is_argument root) (is_argument argument) (accepted {A = Text × Text} (are_arguments root argument) (root, argument) h) in
+    two_there w root argument each.0 each.1
+parsed_two (w ∷ root ∷ argument ∷ more ∷ rest) h = absurd cc
 
 -- a root and the names of two types
 
@@ -127,26 +147,41 @@ parsed_types (w ∷ root ∷ new ∷ old ∷ []) h =
     types_there w root new old first.0 others.0 others.1
 parsed_types (w ∷ root ∷ new ∷ old ∷ more ∷ rest) h = absurd cc
 
--- the value that the matches have of an argument
-pub record Has (id : Text) (given : List Text → Option Text) (m : ArgMatches) (words : List Text) : Type 0 where
+-- the value that the matches have of one argument
+pub record HasOne (m : ArgMatches) (words : List Text) : Type 0 where
   pub value : Text
-  pub is : first_value (found_of m) id ≡ Some value
-  pub asked : given words ≡ Some value
+  pub is : first_value (found_of m) (codes "ARGUMENT") ≡ Some value
+  pub asked : one_given words ≡ Some value
 
-matched : (app a : App) (id : Text) (given : List Text → Option Text) (m : ArgMatches) (words : List Text) → is_simple app ≡ true → a ≡ app → Parsed app id given words → HasMatchesOf a words m → Has id given m words
-matched app a id given m words simple e p hm =
+-- what matches have of an argument is what a parse of the words gives
+matched : (app a : App) (m : ArgMatches) (words : List Text) → is_simple app ≡ true → a ≡ app → HasMatchesOf a words m → (id : Text) → first_value (found_of m) id ≡ first_of id (matches_of app words)
+matched app a m words simple e hm id =
     let whole : HasMatchesOf app words m = subst (λ (b : App). HasMatchesOf b words m) e hm in
-    let rows = (whole simple).0 in record {
-      value = p.value;
-      is = first_value-rows (found_of m) id ∙ ap (first_of id) rows ∙ p.is;
+    first_value-rows (found_of m) id ∙ ap (first_of id) (whole simple).0
+
+pub has_one : (a : App) (m : ArgMatches) (words : List Text) → a ≡ one_shape → is_some (one_given words) ≡ true → HasMatchesOf a words m → HasOne m words
+has_one a m words e h hm =
+    let p = parsed_one words h in
+    record { value = p.value; is = matched one_shape a m words simple_one e hm (codes "ARGUMENT") ∙ p.is; asked = p.asked }
+
+-- the values that the matches have of a root and another argument
+pub record HasTwo (m : ArgMatches) (words : List Text) : Type 0 where
+  pub root : Text
+  pub argument : Text
+  pub is_root : first_value (found_of m) (codes "ROOT") ≡ Some root
+  pub is_argument : first_value (found_of m) (codes "ARGUMENT") ≡ Some argument
+  pub asked : two_given words ≡ Some (root, argument)
+
+pub has_two : (a : App) (m : ArgMatches) (words : List Text) → a ≡ two_shape → is_some (two_given words) ≡ true → HasMatchesOf a words m → HasTwo m words
+has_two a m words e h hm =
+    let p = parsed_two words h in
+    let value = matched two_shape a m words simple_two e hm in record {
+      root = p.root;
+      argument = p.argument;
+      is_root = value (codes "ROOT") ∙ p.is_root;
+      is_argument = value (codes "ARGUMENT") ∙ p.is_argument;
       asked = p.asked;
     }
-
-pub has_one : (a : App) (m : ArgMatches) (words : List Text) → a ≡ one_shape → is_some (one_given words) ≡ true → HasMatchesOf a words m → Has (codes "ARGUMENT") one_given m words
-has_one a m words e h hm = matched one_shape a (codes "ARGUMENT") one_given m words simple_one e (parsed_one words h) hm
-
-pub has_plan : (a : App) (m : ArgMatches) (words : List Text) → a ≡ plan_shape → is_some (plan_given words) ≡ true → HasMatchesOf a words m → Has (codes "PLAN") plan_given m words
-has_plan a m words e h hm = matched plan_shape a (codes "PLAN") plan_given m words simple_plan e (parsed_plan words h) hm
 
 -- the values that the matches have of the arguments of two types
 pub record HasTypes (m : ArgMatches) (words : List Text) : Type 0 where
@@ -160,10 +195,8 @@ pub record HasTypes (m : ArgMatches) (words : List Text) : Type 0 where
 
 pub has_types : (a : App) (m : ArgMatches) (words : List Text) → a ≡ types_shape → is_some (types_given words) ≡ true → HasMatchesOf a words m → HasTypes m words
 has_types a m words e h hm =
-    let whole : HasMatchesOf types_shape words m = subst (λ (b : App). HasMatchesOf b words m) e hm in
-    let rows = (whole simple_types).0 in
     let p = parsed_types words h in
-    let value : (id : Text) → first_value (found_of m) id ≡ first_of id (matches_of types_shape words) = λ id. first_value-rows (found_of m) id ∙ ap (first_of id) rows in record {
+    let value = matched types_shape a m words simple_types e hm in record {
       root = p.root;
       new = p.new;
       old = p.old;

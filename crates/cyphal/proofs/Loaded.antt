@@ -1,5 +1,5 @@
 -- What a command of a root comes to, from what is found of the root's files.
-use Rattle.std.proofs.Common.{◌≡◌, ◌∙◌, inl, inr, ℕ, Bool, true, false, ◌||◌, List, [], Option, Some, None, is_some, IfSome, Result, Ok, Err, refl, sym, ap}
+use Rattle.std.proofs.Common.{◌≡◌, ◌∙◌, inl, inr, ℕ, Bool, true, false, ◌||◌, List, [], Option, Some, None, is_some, IfSome, Result, Ok, Err, refl, sym, ap, subst}
 use Rattle.cy_outside.specs.Files.{Files}
 use Rattle.dsdl_files.specs.Folders.{files_of_folder}
 use Rattle.dsdl_files.specs.declared.file.DsdlFile.{DsdlFile}
@@ -15,9 +15,9 @@ use Rattle.node_run.specs.declared.status.Status.{Status}
 use Rattle.node_run.specs.declared.status.Status.TheVariants as status
 use Rattle.cyphal.specs.Job.{is_fault}
 
--- what a command comes to where this was found of a root's files, of whose namespace it makes the rest
-pub data Comes (root : List ℕ) (rest : Namespace → Status) (found : Result (List DsdlFile) FolderError) (stat : Status) : Type 0 where
-  loaded : (files : List DsdlFile) (names : Namespace) → found ≡ Ok files → Compiled files names → stat ≡ rest names → Comes root rest found stat
+-- what a command comes to where this was found of a root's files, with what it may come to in their namespace
+pub data Comes (root : List ℕ) (rest : Namespace → Status → Type 0) (found : Result (List DsdlFile) FolderError) (stat : Status) : Type 0 where
+  loaded : (files : List DsdlFile) (names : Namespace) → found ≡ Ok files → Compiled files names → rest names stat → Comes root rest found stat
   missing : found ≡ Err folder_error.NotFolder → stat ≡ status.NoFile root → Comes root rest found stat
   too_big : (path : List ℕ) → found ≡ Err (folder_error.TooBig path) → stat ≡ status.Dsdl path 0 why.TooBig → Comes root rest found stat
   refused : (files : List DsdlFile) (path : List ℕ) (line : ℕ) (cause : DsdlWhy) → found ≡ Ok files → FirstRefusal files path line cause → stat ≡ status.Dsdl path line cause → Comes root rest found stat
@@ -43,13 +43,15 @@ pub found_told : (b : Bool) (root : List ℕ) (told : Option Files) → is_none 
 found_told true root told e h = none_found root told e
 found_told false root told e h = tree_found root told e h
 
-pub not_loaded : (root : List ℕ) (rest : Namespace → Status) (told : Option Files) (f : Found root told) (stat : Status) → is_fault stat ≡ false → IsNotLoaded root told stat → Comes root rest f.found stat
+pub not_loaded : (root : List ℕ) (rest : Namespace → Status → Type 0) (told : Option Files) (f : Found root told) (stat : Status) → is_fault stat ≡ false → IsNotLoaded root told stat → Comes root rest f.found stat
 not_loaded root rest told f status.Ok h n = absurd n
 not_loaded root rest told f status.Usage h n = absurd n
 not_loaded root rest told f (status.Dsdl path line w) h (inl t) = too_big path (f.not (folder_error.TooBig path) t.not_none t.limit) cc
 not_loaded root rest told f (status.Dsdl path line w) h (inr r) = refused r.files path line w (f.are r.files r.are) r.first refl
 not_loaded root rest told f (status.Plan line w) h n = absurd n
 not_loaded root rest told f (status.Log line w) h n = absurd n
+not_loaded root rest told f (status.Text line) h n = absurd n
+not_loaded root rest told f (status.Unreadable line path w) h n = absurd n
 not_loaded root rest told f (status.NotNewer path w) h n = absurd n
 not_loaded root rest told f status.LogLong h n = absurd n
 not_loaded root rest told f (status.NoFile path) h n = missing (f.not folder_error.NotFolder n.not_none n.missing) cc
@@ -67,23 +69,27 @@ module _ (law : HaveOneAnswer) where
   same_names : (found : Result (List DsdlFile) FolderError) (a b : List DsdlFile) (n m : Namespace) → found ≡ Ok a → found ≡ Ok b → Compiled a n → Compiled b m → n ≡ m
   same_names found a b n m e f c d = law.one_namespace a n m c (rw (sym (same_files found a b e f)) at d)
 
-  pub one : (root : List ℕ) (rest : Namespace → Status) (found : Result (List DsdlFile) FolderError) (s t : Status) → Comes root rest found s → Comes root rest found t → s ≡ t
-  one root rest found s t (loaded a n e c i) (loaded b m f d j) = i ∙ (ap rest (same_names found a b n m e f c d) ∙ sym j)
-  one root rest found s t (loaded a n e c i) (missing f j) = absurd cc
-  one root rest found s t (loaded a n e c i) (too_big p f j) = absurd cc
-  one root rest found s t (loaded a n e c i) (refused b p l w f r j) = absurd (apart found a b n p l w e f c r)
-  one root rest found s t (missing e i) (loaded b m f d j) = absurd cc
-  one root rest found s t (missing e i) (missing f j) = i ∙ sym j
-  one root rest found s t (missing e i) (too_big p f j) = absurd cc
-  one root rest found s t (missing e i) (refused b p l w f r j) = absurd cc
-  one root rest found s t (too_big q e i) (loaded b m f d j) = absurd cc
-  one root rest found s t (too_big q e i) (missing f j) = absurd cc
-  one root rest found s t (too_big q e i) (too_big p f j) = cc
-  one root rest found s t (too_big q e i) (refused b p l w f r j) = absurd cc
-  one root rest found s t (refused a q k v e x i) (loaded b m f d j) = absurd (apart found b a m q k v f e d x)
-  one root rest found s t (refused a q k v e x i) (missing f j) = absurd cc
-  one root rest found s t (refused a q k v e x i) (too_big p f j) = absurd cc
-  one root rest found s t (refused a q k v e x i) (refused b p l w f r j) =
+  -- in a namespace it comes to one status
+  abbrev pub IsOne : (Namespace → Status → Type 0) → Type 0
+  IsOne rest = (names : Namespace) (s t : Status) → rest names s → rest names t → s ≡ t
+
+  pub one : (root : List ℕ) (rest : Namespace → Status → Type 0) → IsOne rest → (found : Result (List DsdlFile) FolderError) (s t : Status) → Comes root rest found s → Comes root rest found t → s ≡ t
+  one root rest single found s t (loaded a n e c i) (loaded b m f d j) = single m s t (subst (λ (names : Namespace). rest names s) (same_names found a b n m e f c d) i) j
+  one root rest single found s t (loaded a n e c i) (missing f j) = absurd cc
+  one root rest single found s t (loaded a n e c i) (too_big p f j) = absurd cc
+  one root rest single found s t (loaded a n e c i) (refused b p l w f r j) = absurd (apart found a b n p l w e f c r)
+  one root rest single found s t (missing e i) (loaded b m f d j) = absurd cc
+  one root rest single found s t (missing e i) (missing f j) = i ∙ sym j
+  one root rest single found s t (missing e i) (too_big p f j) = absurd cc
+  one root rest single found s t (missing e i) (refused b p l w f r j) = absurd cc
+  one root rest single found s t (too_big q e i) (loaded b m f d j) = absurd cc
+  one root rest single found s t (too_big q e i) (missing f j) = absurd cc
+  one root rest single found s t (too_big q e i) (too_big p f j) = cc
+  one root rest single found s t (too_big q e i) (refused b p l w f r j) = absurd cc
+  one root rest single found s t (refused a q k v e x i) (loaded b m f d j) = absurd (apart found b a m q k v f e d x)
+  one root rest single found s t (refused a q k v e x i) (missing f j) = absurd cc
+  one root rest single found s t (refused a q k v e x i) (too_big p f j) = absurd cc
+  one root rest single found s t (refused a q k v e x i) (refused b p l w f r j) =
       let same = law.one_refusal a q p k l v w x (rw (sym (same_files found a b e f)) at r) in
       let path : q ≡ p = same.0 in
       let line : k ≡ l = same.1 in

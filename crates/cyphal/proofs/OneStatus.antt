@@ -1,19 +1,25 @@
 -- What is asked for has one status, where all that decides it is told.
 use Rattle.std.proofs.Common.{◌∙◌, Option, Some, None, sym}
 use Rattle.dsdl_resolve.specs.Laws.{HaveOneAnswer}
-use Rattle.cyphal.specs.Words.{Command, Compile, Compat, Run, Bound, Gen}
+use Rattle.value_lines.specs.Decoded.{Decodes}
+use Rattle.value_lines.specs.Encoded.{Encodes}
+use Rattle.node_run.specs.ValueLines.{HasOneStatus}
+use Rattle.cyphal.specs.Words.{Command, Compile, Compat, Encode, Decode, Run, Bound, Gen}
 use Rattle.cyphal.specs.Expected.{job_of, job_asked}
 use Rattle.cyphal.proofs.statuses.Single.{IsSingle}
 use Rattle.cyphal.proofs.statuses.Compile as compile
 use Rattle.cyphal.proofs.statuses.Compat as compat
+use Rattle.cyphal.proofs.statuses.Values as values
 use Rattle.cyphal.proofs.statuses.Run as run
 use Rattle.cyphal.proofs.statuses.Bound as bound
 use Rattle.cyphal.proofs.statuses.Gen as gen
 
-module _ (law : HaveOneAnswer) where
+module _ (law : HaveOneAnswer) (encodes : HasOneStatus Encodes) (decodes : HasOneStatus Decodes) where
   single : (command : Command) → IsSingle (job_of command)
   single (Compile root) = compile.single law root
   single (Compat root new old) = compat.single law root new old
+  single (Encode root name) = values.single law Encodes encodes root name
+  single (Decode root name) = values.single law Decodes decodes root name
   single (Run path) = run.single path
   single (Bound path) = bound.single path
   single (Gen number) = gen.single number

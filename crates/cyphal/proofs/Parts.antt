@@ -35,6 +35,11 @@ three a b c x y z e f g = ap₂ (λ s t. s ++ t) e (ap₂ (λ s t. s ++ t) f (ap
 pub five : (a b c d e x y z u v : List ℕ) → a ≡ x → b ≡ y → c ≡ z → d ≡ u → e ≡ v → a ++ (b ++ (c ++ (d ++ (e ++ [])))) ≡ x ++ (y ++ (z ++ (u ++ v)))
 five a b c d e x y z u v f g h k l = ap₂ (λ s t. s ++ t) f (ap₂ (λ s t. s ++ t) g (three c d e z u v h k l))
 
+pub eight : (a b c d e f g h p q r s t u v w : List ℕ) → a ≡ p → b ≡ q → c ≡ r → d ≡ s → e ≡ t → f ≡ u → g ≡ v → h ≡ w
+    → a ++ (b ++ (c ++ (d ++ (e ++ (f ++ (g ++ (h ++ []))))))) ≡ p ++ (q ++ (r ++ (s ++ (t ++ (u ++ (v ++ w))))))
+eight a b c d e f g h p q r s t u v w i j k l m n o z =
+    ap₂ (λ x y. x ++ y) i (ap₂ (λ x y. x ++ y) j (ap₂ (λ x y. x ++ y) k (five d e f g h s t u v w l m n o z)))
+
 -- all of a line came, or its beginning
 pub begins_either : {T E : Type 0} (r : Result T E) (line : List ℕ) (before after : Option (List ℕ)) → OnOk r (after ≡ behind before line) → OnErr r (Begins line before after) → Begins line before after
 begins_either (Ok x) line before after w b = record { front = line; rest = []; whole = sym (append-nil line); written = w }

@@ -20,6 +20,6 @@ root_shape = with_rule (new_app (codes "cyphal")) (given (codes "ROOT"))
 abbrev pub types_shape : App
 types_shape = with_rule (with_rule root_shape (given (codes "NEW"))) (given (codes "OLD"))
 
--- a root and a plan
-abbrev pub plan_shape : App
-plan_shape = with_rule root_shape (given (codes "PLAN"))
+-- a root and a plan or the name of a type
+abbrev pub two_shape : App
+two_shape = with_rule root_shape (given (codes "ARGUMENT"))

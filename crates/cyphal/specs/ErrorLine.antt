@@ -9,6 +9,8 @@ use Rattle.dsdl_names.specs.declared.TypeId.{TypeId}
 use Rattle.dsdl_resolve.specs.declared.why.DsdlWhy.TheVariants as dsdl_why
 use Rattle.dsdl_resolve.specs.declared.why.ExprWhy.{ExprWhy}
 use Rattle.dsdl_resolve.specs.declared.why.ExprWhy.TheVariants as expr_why
+use Rattle.dsdl_types.specs.declared.read_why.ReadWhy.{ReadWhy}
+use Rattle.dsdl_types.specs.declared.read_why.ReadWhy.TheVariants as read_why
 use Rattle.node_plan.specs.declared.plan.PlanWhy.{PlanWhy}
 use Rattle.node_plan.specs.declared.plan.PlanWhy.TheVariants as plan_why
 use Rattle.frame_log.specs.declared.error.LogWhy.{LogWhy}
@@ -27,6 +29,16 @@ log_why_text log_why.BadLine = codes "BadLine"
 log_why_text log_why.TimeBack = codes "TimeBack"
 log_why_text log_why.UnknownBus = codes "UnknownBus"
 log_why_text log_why.TooFar = codes "TooFar"
+
+abbrev pub read_why_word : ReadWhy → List ℕ
+read_why_word (read_why.BadTag n) = codes "BadTag "
+read_why_word (read_why.BadLength n) = codes "BadLength "
+read_why_word (read_why.BadDelimiter n) = codes "BadDelimiter "
+
+abbrev pub read_why_number : ReadWhy → ℕ
+read_why_number (read_why.BadTag n) = n
+read_why_number (read_why.BadLength n) = n
+read_why_number (read_why.BadDelimiter n) = n
 
 abbrev pub compat_why_text : CompatWhy → List ℕ
 compat_why_text compat_why.Kind = codes "Kind"
@@ -78,6 +90,14 @@ in_file file n why =
 abbrev pub numbered : List ℕ → ℕ → List ℕ → List ℕ
 numbered head n why = head ++ (decimal n ++ (codes ": " ++ (why ++ 10 ∷ [])))
 
+-- a line of the input whose bytes can't be read, where, why, and the number that was read
+abbrev pub unreadable : ℕ → List ℕ → List ℕ → ℕ → List ℕ
+unreadable n path why number =
+    codes "cyphal: line "
+    ++ (decimal n
+    ++ (codes ": "
+    ++ (why ++ (decimal number ++ (codes " at " ++ (path ++ 10 ∷ []))))))
+
 -- where a type isn't newer, and why
 abbrev pub not_newer : List ℕ → List ℕ → List ℕ
 not_newer path why = codes "cyphal: not newer at " ++ (path ++ (codes ": " ++ (why ++ 10 ∷ [])))
@@ -92,6 +112,9 @@ error_line status.Usage = codes "cyphal: usage\n"
 error_line (status.Dsdl file n why) = in_file file n (dsdl_why_text why)
 error_line (status.Plan n why) = numbered (codes "cyphal: plan line ") n (plan_why_text why)
 error_line (status.Log n why) = numbered (codes "cyphal: log line ") n (log_why_text why)
+error_line (status.Text n) = numbered (codes "cyphal: line ") n (codes "no value")
+error_line (status.Unreadable n path why) =
+    unreadable n path (read_why_word why) (read_why_number why)
 error_line (status.NotNewer path why) = not_newer path (compat_why_text why)
 error_line status.LogLong = codes "cyphal: input too long\n"
 error_line (status.NoFile path) = missing path
@@ -106,6 +129,8 @@ code_of status.Usage = 1
 code_of (status.Dsdl file n why) = 2
 code_of (status.Plan n why) = 3
 code_of (status.Log n why) = 4
+code_of (status.Text n) = 5
+code_of (status.Unreadable n path why) = 6
 code_of (status.NotNewer path why) = 7
 code_of status.ReadFault = 8
 code_of status.WriteFault = 9

@@ -1,11 +1,14 @@
 -- What the words ask for.
 use Rattle.std.specs.Prelude.{◌≡◌, ◌⊎◌, ℕ, true, false, List, Option, Some, None}
 use Rattle.node_run.specs.declared.status.Status.TheVariants as status
-use Rattle.cyphal.specs.Words.{Command, Compile, Compat, Run, Bound, Gen, command_of}
+use Rattle.value_lines.specs.Decoded.{Decodes}
+use Rattle.value_lines.specs.Encoded.{Encodes}
+use Rattle.cyphal.specs.Words.{Command, Compile, Compat, Encode, Decode, Run, Bound, Gen, command_of}
 use Rattle.cyphal.specs.Cause.{Outside}
 use Rattle.cyphal.specs.Job.{Told, Outcome, Job, NotDone}
 use Rattle.cyphal.specs.jobs.Compile.{compile_job}
 use Rattle.cyphal.specs.jobs.Compat.{compat_job}
+use Rattle.cyphal.specs.jobs.Values.{values_job}
 use Rattle.cyphal.specs.jobs.Run.{run_job}
 use Rattle.cyphal.specs.jobs.Bound.{bound_job}
 use Rattle.cyphal.specs.jobs.Gen.{gen_job}
@@ -14,6 +17,8 @@ use Rattle.cyphal.specs.jobs.Gen.{gen_job}
 abbrev pub job_of : Command → Job
 job_of (Compile root) = compile_job root
 job_of (Compat root new old) = compat_job root new old
+job_of (Encode root name) = values_job Encodes root name
+job_of (Decode root name) = values_job Decodes root name
 job_of (Run path) = run_job path
 job_of (Bound path) = bound_job path
 job_of (Gen number) = gen_job number

@@ -3,6 +3,7 @@ use Rattle.std.specs.Prelude.{◌≡◌, ℕ, Bool, true, false, List, Option}
 use Rattle.cy_outside.specs.Files.{Files}
 use Rattle.cy_outside.specs.Outside.{Rose}
 use Rattle.node_run.specs.Ran.{Reported, no_numbers}
+use Rattle.node_run.specs.ValueLines.{Flow, flow}
 use Rattle.node_run.specs.declared.status.Status.{Status}
 use Rattle.node_run.specs.declared.status.Status.TheVariants as status
 use Rattle.cyphal.specs.Cause.{Outside}
@@ -63,10 +64,12 @@ is_fault status.WriteFault = true
 is_fault status.NoMemory = true
 is_fault other = false
 
--- the statuses of a run over all of the log that counts
+-- the statuses of a command that came to the end of what counts of its input
 abbrev pub is_settled : Status → Bool
 is_settled status.Ok = true
 is_settled (status.Log n why) = true
+is_settled (status.Text n) = true
+is_settled (status.Unreadable n path why) = true
 is_settled status.LogLong = true
 is_settled other = false
 
@@ -80,8 +83,18 @@ pub record NotDone {L : Type 0} (told : Told) (came : Outcome) (old new : Outsid
   pub source : new.source ≡ old.source
   pub tree : came.status ≡ status.ReadFault → Rose old.tree new.tree
 
+-- what a command that is given no sink of lines came to
+abbrev pub flow_of : Told → Outcome → Flow
+flow_of told came = flow told.input came.left told.written came.written
+
 -- a command that is given neither an input nor a sink of lines wrote nothing
 pub record WroteNothing (print : Printed) : Type 0 where
   pub written : print.after ≡ print.before
   pub not_settled : is_settled print.status ≡ false
   pub not_write : ¬ (print.status ≡ status.WriteFault)
+
+-- the same of a command that is given an input: it took nothing either, and a read fault is one of the tree
+pub record TookNothing {L : Type 0} (print : Printed) (old new : Outside L) : Type 0 where
+  pub nothing : WroteNothing print
+  pub source : new.source ≡ old.source
+  pub tree : print.status ≡ status.ReadFault → Rose old.tree new.tree

@@ -5,11 +5,14 @@ use Rattle.dsdl_names.specs.Words.{number_to}
 use Rattle.cyphal.specs.declared.words.Accepted.{Accepted}
 use Rattle.cyphal.specs.declared.words.Accepted.TheVariants as accepted
 
--- what the words ask for: the layouts of the types below this root, whether one of them is newer than another, a run of
--- the plan at this path, its memory bound, or the run of the log that is made of this number
+-- what the words ask for: the layouts of the types below this root, whether one of them is newer than another, values of
+-- one of them as bytes, bytes as values of it, a run of the plan at this path, its memory bound, or the run of the log that
+-- is made of this number
 pub data Command : Type 0 where
   Compile : List ℕ → Command
   Compat : List ℕ → List ℕ → List ℕ → Command
+  Encode : List ℕ → List ℕ → Command
+  Decode : List ℕ → List ℕ → Command
   Run : List ℕ → Command
   Bound : List ℕ → Command
   Gen : ℕ → Command
@@ -18,6 +21,8 @@ pub data Command : Type 0 where
 abbrev pub asked_by : Accepted → Command
 asked_by (accepted.Compile root) = Compile root.now
 asked_by (accepted.Compat root new old) = Compat root.now new.now old.now
+asked_by (accepted.Encode root name) = Encode root.now name.now
+asked_by (accepted.Decode root name) = Decode root.now name.now
 asked_by (accepted.Run plan) = Run plan.now
 asked_by (accepted.Bound plan) = Bound plan.now
 asked_by (accepted.Gen number) = Gen number
@@ -27,9 +32,9 @@ abbrev pub is_argument : List ℕ → Bool
 is_argument [] = false
 is_argument (x ∷ xs) = not (x == 45)
 
--- the arguments ROOT and PLAN; the one ROOT is `none`, the empty namespace
+-- the arguments ROOT and another
 abbrev pub are_arguments : List ℕ → List ℕ → Bool
-are_arguments root plan = (is_argument root && is_argument plan) && bytes_eq root (codes "none")
+are_arguments root argument = is_argument root && is_argument argument
 
 -- the arguments ROOT, NEW and OLD
 abbrev pub are_types : List ℕ → List ℕ → List ℕ → Bool
@@ -40,11 +45,11 @@ abbrev pub one_given : List (List ℕ) → Option (List ℕ)
 one_given (word ∷ argument ∷ []) = if is_argument argument then Some argument else None
 one_given other = None
 
--- the path of words that have a root and a plan
-abbrev pub plan_given : List (List ℕ) → Option (List ℕ)
-plan_given (word ∷ root ∷ plan ∷ []) =
-    if is_argument root && is_argument plan then Some plan else None
-plan_given other = None
+-- the root and the other argument of words that have these two
+abbrev pub two_given : List (List ℕ) → Option (List ℕ × List ℕ)
+two_given (word ∷ root ∷ argument ∷ []) =
+    if are_arguments root argument then Some (root, argument) else None
+two_given other = None
 
 -- the root and the names of two types of words that have these
 abbrev pub types_given : List (List ℕ) → Option (List ℕ × List ℕ × List ℕ)
@@ -68,20 +73,27 @@ named_of_plan word plan =
     if bytes_eq word (codes "run") then Some (Run plan)
     else (if bytes_eq word (codes "bound") then Some (Bound plan) else None)
 
+-- the command that a word names, of a root and another argument; the one root of a plan is `none`, the empty namespace
+abbrev pub named_of_two : List ℕ → List ℕ → List ℕ → Option Command
+named_of_two word root argument =
+    if bytes_eq word (codes "encode") then Some (Encode root argument)
+    else (if bytes_eq word (codes "decode") then Some (Decode root argument)
+    else (if bytes_eq root (codes "none") then named_of_plan word argument else None))
+
 -- the command that a word names, of two types of a root
 abbrev pub named_of_types : List ℕ → List ℕ → List ℕ → List ℕ → Option Command
 named_of_types word root new old =
     if bytes_eq word (codes "compat") then Some (Compat root new old) else None
 
--- what the words ask for, where they are accepted: `compile ROOT`, `compat ROOT NEW OLD`, `run ROOT PLAN`,
--- `bound ROOT PLAN` or `gen NUMBER`
+-- what the words ask for, where they are accepted: `compile ROOT`, `compat ROOT NEW OLD`, `encode ROOT TYPE`,
+-- `decode ROOT TYPE`, `run ROOT PLAN`, `bound ROOT PLAN` or `gen NUMBER`
 abbrev pub command_of : List (List ℕ) → Option Command
 command_of [] = None
 command_of (word ∷ []) = None
 command_of (word ∷ argument ∷ []) =
     if is_argument argument then named_of_one word argument else None
-command_of (word ∷ root ∷ plan ∷ []) =
-    if are_arguments root plan then named_of_plan word plan else None
+command_of (word ∷ root ∷ argument ∷ []) =
+    if are_arguments root argument then named_of_two word root argument else None
 command_of (word ∷ root ∷ new ∷ old ∷ []) =
     if are_types root new old then named_of_types word root new old else None
 command_of (word ∷ root ∷ new ∷ old ∷ more ∷ rest) = None

@@ -1,5 +1,6 @@
 pub mod Compile
 pub mod Compat
+pub mod Values
 pub mod Run
 pub mod Bound
 pub mod Gen

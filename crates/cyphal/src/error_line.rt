@@ -3,11 +3,12 @@ ghost use Rattle.std.specs.Prelude.{◌≡◌, OnOk, OnErr};
 ghost use Rattle.std.specs.List.{flat_map};
 ghost use Rattle.cy_outside.specs.Outside.{Rose};
 ghost use Rattle.cy_outside.specs.Written.{behind, Begins};
-ghost use Rattle.cyphal.specs.ErrorLine.{plan_why_text, log_why_text, compat_why_text, numbered, not_newer, missing, error_line};
+ghost use Rattle.cyphal.specs.ErrorLine.{plan_why_text, log_why_text, read_why_word, read_why_number, compat_why_text, numbered, unreadable, not_newer, missing, error_line};
 
 use crate::dsdl_line::put_refused_file;
 use compat_check::CompatWhy;
 use cy_outside::{Failed, Sink, put_all};
+use dsdl_types::ReadWhy;
 use frame_log::LogWhy;
 use itoa::Buffer;
 use node_plan::PlanWhy;
@@ -39,6 +40,11 @@ pub fn put_error<E: Sink>(err: &mut E, status: &Status) -> Result<(), Failed>
             *line,
             log_why_text(*why),
         ),
+        Status::Text { line } => put_numbered(err, b"cyphal: line ", *line, b"no value"),
+        Status::Unreadable { line, path, why } => {
+            let word = read_why_word(*why);
+            put_unreadable(err, *line, path.as_str(), word, read_why_number(*why))
+        }
         Status::NotNewer { path, why } => {
             put_not_newer(err, path.as_str(), compat_why_text(*why))
         }
@@ -60,6 +66,37 @@ fn put_missing<E: Sink>(err: &mut E, path: &str) -> Result<(), Failed>
 {
     let parts = [
         b"cyphal: not found: ".as_slice(),
+        path.as_bytes(),
+        b"\n".as_slice(),
+    ];
+    put_parts(err, &parts)
+}
+
+/// Writes the line of bytes that can't be read: a word says why, and with it stands the number that was read.
+fn put_unreadable<E: Sink>(
+    err: &mut E,
+    line: u64,
+    path: &str,
+    word: &[u8],
+    number: u64,
+) -> Result<(), Failed>
+    ensures written { let text = unreadable line path.now word.now number in
+        OnOk result (E.written err.new ≡ behind (E.written err.old) text) }
+    ensures begins { let text = unreadable line path.now word.now number in
+        OnErr result (Begins text (E.written err.old) (E.written err.new)) }
+    ensures fault { OnErr result (Rose (E.faults err.old) (E.faults err.new)) }
+{
+    let mut line_buffer = Buffer::new();
+    let line_digits = line_buffer.format(line).as_bytes();
+    let mut number_buffer = Buffer::new();
+    let number_digits = number_buffer.format(number).as_bytes();
+    let parts = [
+        b"cyphal: line ".as_slice(),
+        line_digits,
+        b": ".as_slice(),
+        word,
+        number_digits,
+        b" at ".as_slice(),
         path.as_bytes(),
         b"\n".as_slice(),
     ];
@@ -135,6 +172,26 @@ fn log_why_text(why: LogWhy) -> &'static [u8]
         LogWhy::TimeBack => b"TimeBack",
         LogWhy::UnknownBus => b"UnknownBus",
         LogWhy::TooFar => b"TooFar",
+    }
+}
+
+/// The word of why bytes can't be read, with a space behind it.
+fn read_why_word(why: ReadWhy) -> &'static [u8]
+    ensures { result.now ≡ read_why_word why }
+{
+    match why {
+        ReadWhy::BadTag(_) => b"BadTag ",
+        ReadWhy::BadLength(_) => b"BadLength ",
+        ReadWhy::BadDelimiter(_) => b"BadDelimiter ",
+    }
+}
+
+/// The number that was read where bytes can't be read.
+fn read_why_number(why: ReadWhy) -> u64
+    ensures { result ≡ read_why_number why }
+{
+    match why {
+        ReadWhy::BadTag(n) | ReadWhy::BadLength(n) | ReadWhy::BadDelimiter(n) => n,
     }
 }
 

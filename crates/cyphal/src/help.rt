@@ -15,6 +15,14 @@ cyphal compat ROOT NEW OLD
     other writes; names are as a.b.Name.1.0, with .Request or .Response behind
     them for a half of a service
 
+cyphal encode ROOT TYPE
+    writes for each line of standard input, the text of a value of TYPE, the
+    hex of its bytes
+
+cyphal decode ROOT TYPE
+    writes for each line of standard input, the hex of bytes, the text of the
+    value of TYPE that they read as
+
 cyphal run none PLAN
     runs a node by the plan in the file PLAN over the log on standard input,
     and writes its report
@@ -30,8 +38,9 @@ cyphal --help, cyphal --version
     write this, or the version
 
 statuses: 0 done, 1 usage, 2 DSDL file refused, 3 plan refused, 4 log refused,
-    7 not newer, 8 read fault, 9 write fault, 10 out of memory,
-    11 input too long, 12 no such file, folder or type
+    5 line of no value, 6 bytes that can't be read, 7 not newer, 8 read fault,
+    9 write fault, 10 out of memory, 11 input too long,
+    12 no such file, folder or type
 ";
 
 /// What `--version` answers.

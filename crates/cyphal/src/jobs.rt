@@ -2,5 +2,7 @@
 pub mod bound;
 pub mod compat;
 pub mod compile;
+pub mod decoded;
+pub mod encoded;
 pub mod generated;
 pub mod run;

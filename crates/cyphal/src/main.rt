@@ -16,6 +16,8 @@ mod run_words;
 #[cfg(test)]
 mod tests;
 mod top;
+#[cfg(test)]
+mod value_line_tests;
 mod words;
 mod work;
 
@@ -53,6 +55,8 @@ fn code_of(status: &Status) -> u8
         Status::Dsdl { .. } => 2,
         Status::Plan { .. } => 3,
         Status::Log { .. } => 4,
+        Status::Text { .. } => 5,
+        Status::Unreadable { .. } => 6,
         Status::NotNewer { .. } => 7,
         Status::ReadFault => 8,
         Status::WriteFault => 9,

@@ -19,6 +19,7 @@ use dsdl_resolve::one_answer;
 use frame_log::ordered;
 use node_core::{LineSink, Numbers};
 use node_run::Status;
+use node_run::values::laws::one_status;
 use once::{due_in_report, once_in_part, wire_explains_fields};
 use session_lines::laws::reported;
 use std::alloc::Global;
@@ -108,6 +109,7 @@ pub fn run_words<T: Tree, L: Source, O: Sink, E: Sink, K: LineSink>(
     wire_explains_fields();
     ordered();
     one_answer();
+    one_status();
     let mut numbers = no_numbers();
     let status = work(alloc, words, tree, input, out, lines, &mut numbers);
     let _ = put_error(err, &status);

@@ -2,8 +2,8 @@
 ghost use Rattle.std.specs.Prelude.{◌≡◌, ℕ, List, IfOk, OnErr, Some, is_some, map, option_map, string_bytes, true, false};
 ghost use Rattle.clap.specs.Words.{app_of};
 ghost use Rattle.clap.specs.Walk.{rule_of};
-ghost use Rattle.cyphal.specs.ClapShape.{given, one_shape, types_shape, plan_shape};
-ghost use Rattle.cyphal.specs.Words.{Gen, asked_by, is_argument, are_types, are_arguments, one_given, plan_given, types_given, named_of_one, named_of_types, named_of_plan, command_of};
+ghost use Rattle.cyphal.specs.ClapShape.{given, one_shape, types_shape, two_shape};
+ghost use Rattle.cyphal.specs.Words.{Gen, asked_by, is_argument, are_types, are_arguments, one_given, two_given, types_given, named_of_one, named_of_two, named_of_types, named_of_plan, command_of};
 
 use crate::number::number_of;
 use clap::{Arg, ArgAction, Command};
@@ -23,6 +23,16 @@ pub enum Accepted<'a> {
         new: &'a str,
         old: &'a str,
     },
+    /// Writes values of a type of a root as bytes.
+    Encode {
+        root: &'a str,
+        name: &'a str,
+    },
+    /// Writes bytes as values of a type of a root.
+    Decode {
+        root: &'a str,
+        name: &'a str,
+    },
     /// Runs the plan at a path over a log.
     Run {
         plan: &'a str,
@@ -37,8 +47,8 @@ pub enum Accepted<'a> {
     },
 }
 
-/// The command that the words are, so `compile ROOT`, `compat ROOT NEW OLD`, `run none PLAN`, `bound none PLAN` or
-/// `gen NUMBER`; none where they aren't accepted. It wants memory where they are.
+/// The command that the words are, so `compile ROOT`, `compat ROOT NEW OLD`, `encode ROOT TYPE`, `decode ROOT TYPE`,
+/// `run none PLAN`, `bound none PLAN` or `gen NUMBER`; none where they aren't accepted. It wants memory where they are.
 pub fn command_of<'a>(alloc: Global, words: &'a [String]) -> Result<Option<Accepted<'a>>, NoMemory>
     ensures is { let asked = command_of (map string_bytes words.entry.now) in
         IfOk result (λ given. option_map asked_by given ≡ asked) }
@@ -59,13 +69,13 @@ pub fn command_of<'a>(alloc: Global, words: &'a [String]) -> Result<Option<Accep
                 Ok(None)
             }
         }
-        [word, root, plan] => {
-            if are_arguments(root.as_str(), plan.as_str()) {
-                match of_plan(word.as_str(), plan.as_str()) {
+        [word, root, argument] => {
+            if are_arguments(root.as_str(), argument.as_str()) {
+                match of_two(word.as_str(), root.as_str(), argument.as_str()) {
                     None => Ok(None),
                     Some(_) => {
-                        let plan = plan_word(alloc, words)?;
-                        Ok(of_plan(word.as_str(), plan))
+                        let (root, argument) = two_words(alloc, words)?;
+                        Ok(of_two(word.as_str(), root, argument))
                     }
                 }
             } else {
@@ -124,6 +134,28 @@ fn of_types<'a>(word: &str, root: &'a str, new: &'a str, old: &'a str) -> Option
     }
 }
 
+/// The command of a root and another argument that a word names.
+fn of_two<'a>(word: &str, root: &'a str, argument: &'a str) -> Option<Accepted<'a>>
+    ensures { option_map asked_by result
+        ≡ named_of_two word.now root.entry.now argument.entry.now }
+{
+    if word == "encode" {
+        Some(Accepted::Encode {
+            root,
+            name: argument,
+        })
+    } else if word == "decode" {
+        Some(Accepted::Decode {
+            root,
+            name: argument,
+        })
+    } else if root == "none" {
+        of_plan(word, argument)
+    } else {
+        None
+    }
+}
+
 /// The command of a plan that a word names.
 fn of_plan<'a>(word: &str, plan: &'a str) -> Option<Accepted<'a>>
     ensures { option_map asked_by result ≡ named_of_plan word.now plan.entry.now }
@@ -147,11 +179,11 @@ fn is_argument(word: &str) -> bool
     }
 }
 
-/// Whether the arguments of a plan's command are accepted, so `none PLAN`.
-fn are_arguments(root: &str, plan: &str) -> bool
-    ensures { result ≡ are_arguments root.now plan.now }
+/// Whether a root and another argument are accepted.
+fn are_arguments(root: &str, argument: &str) -> bool
+    ensures { result ≡ are_arguments root.now argument.now }
 {
-    is_argument(root) && is_argument(plan) && root == "none"
+    is_argument(root) && is_argument(argument)
 }
 
 /// Whether the arguments of a command of two types are accepted.
@@ -186,12 +218,12 @@ fn types_shape<'a>(alloc: Global) -> Result<Command<'a>, NoMemory>
     Ok(command)
 }
 
-fn plan_shape<'a>(alloc: Global) -> Result<Command<'a>, NoMemory>
-    ensures { IfOk result (λ c. app_of c ≡ plan_shape) }
+fn two_shape<'a>(alloc: Global) -> Result<Command<'a>, NoMemory>
+    ensures { IfOk result (λ c. app_of c ≡ two_shape) }
 {
     let command = Command::new(alloc, "cyphal")
         .arg(given(alloc, "ROOT"))?
-        .arg(given(alloc, "PLAN"))?;
+        .arg(given(alloc, "ARGUMENT"))?;
     Ok(command)
 }
 
@@ -228,14 +260,19 @@ fn types_words<'a>(
     }
 }
 
-/// The path of the plan of accepted words that have one. It refuses nothing, and wants memory.
-fn plan_word<'a>(alloc: Global, words: &'a [String]) -> Result<&'a str, NoMemory>
-    requires { is_some (plan_given (map string_bytes words.now)) ≡ true }
-    ensures { IfOk result (λ plan. plan_given (map string_bytes words.entry.now) ≡ Some plan.now) }
+/// The arguments of accepted words that have a root and another. It refuses nothing, and wants memory.
+fn two_words<'a>(alloc: Global, words: &'a [String]) -> Result<(&'a str, &'a str), NoMemory>
+    requires { is_some (two_given (map string_bytes words.now)) ≡ true }
+    ensures { let given = two_given (map string_bytes words.entry.now) in
+        IfOk result (λ got. given ≡ Some (got.0.now, got.1.now)) }
 {
-    let command = plan_shape(alloc)?;
+    let command = two_shape(alloc)?;
     match command.try_get_matches_from(words) {
-        Ok(matches) => Ok(matches.get_str("PLAN").unwrap()),
+        Ok(matches) => {
+            let root = matches.get_str("ROOT").unwrap();
+            let argument = matches.get_str("ARGUMENT").unwrap();
+            Ok((root, argument))
+        }
         Err(_) => Err(NoMemory),
     }
 }

@@ -9,6 +9,8 @@ ghost use Rattle.cyphal.specs.Expected.{job_of, job_for, WasDone};
 use crate::jobs::bound::bound_plan;
 use crate::jobs::compat::compat_types;
 use crate::jobs::compile::compile_root;
+use crate::jobs::decoded::decode_lines;
+use crate::jobs::encoded::encode_lines;
 use crate::jobs::generated::generated;
 use crate::jobs::run::run_plan;
 use crate::words::{Accepted, command_of};
@@ -84,6 +86,8 @@ fn carry_out<T: Tree, L: Source, O: Sink, K: LineSink>(
     match given {
         Accepted::Compile { root } => compile_root(alloc, root, tree, out),
         Accepted::Compat { root, new, old } => compat_types(alloc, root, new, old, tree, out),
+        Accepted::Encode { root, name } => encode_lines(alloc, root, name, tree, input, out),
+        Accepted::Decode { root, name } => decode_lines(alloc, root, name, tree, input, out),
         Accepted::Run { plan } => run_plan(alloc, plan, tree, input, out, lines, numbers),
         Accepted::Bound { plan } => bound_plan(alloc, plan, tree, out),
         Accepted::Gen { number } => generated(alloc, number, out),

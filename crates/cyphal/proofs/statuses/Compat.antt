@@ -1,5 +1,5 @@
 -- A comparison's status.
-use Rattle.std.proofs.Common.{◌≡◌, inl, inr, ℕ, false, List, Option, Some, None, refl, sym, subst}
+use Rattle.std.proofs.Common.{◌≡◌, ◌∙◌, inl, inr, ℕ, false, List, Option, Some, None, refl, sym, subst}
 use Rattle.cy_outside.specs.Files.{Files}
 use Rattle.dsdl_types.specs.declared.definition.Parts.{Parts}
 use Rattle.dsdl_types.specs.declared.namespace.Namespace.{Namespace}
@@ -23,6 +23,8 @@ compared_answer names new old status.Usage before after h f = sym h.0
 compared_answer names new old (status.Dsdl file n w) before after h f = sym h.0
 compared_answer names new old (status.Plan n w) before after h f = sym h.0
 compared_answer names new old (status.Log n w) before after h f = sym h.0
+compared_answer names new old (status.Text line) before after h f = sym h.0
+compared_answer names new old (status.Unreadable line path w) before after h f = sym h.0
 compared_answer names new old (status.NotNewer path w) before after h f = sym h.0
 compared_answer names new old status.LogLong before after h f = sym h.0
 compared_answer names new old (status.NoFile path) before after h f = sym h.0
@@ -47,12 +49,16 @@ compared_usage names new old stat before after h e =
 pub compared_read : (names : Namespace) (new old : List ℕ) (stat : Status) (before after : Option (List ℕ)) → HasCompared names new old stat before after → stat ≡ status.ReadFault → ⊥
 compared_read names new old stat before after h e = subst (λ (s : Status). HasCompared names new old s before after) e h
 
-comes_compared : (root new old : List ℕ) (told : Option Files) (f : Found root told) (stat : Status) → Compares root new old told stat → Comes root (λ names. compared names new old) f.found stat
-comes_compared root new old told f stat (h, inl n) = not_loaded root (λ names. compared names new old) told f stat h n
+-- a comparison ends so
+abbrev compares : List ℕ → List ℕ → Namespace → Status → Type 0
+compares new old names stat = stat ≡ compared names new old
+
+comes_compared : (root new old : List ℕ) (told : Option Files) (f : Found root told) (stat : Status) → Compares root new old told stat → Comes root (compares new old) f.found stat
+comes_compared root new old told f stat (h, inl n) = not_loaded root (compares new old) told f stat h n
 comes_compared root new old told f stat (h, inr (names, is, e)) = loaded is.files names (f.are is.files is.are) is.compiled e
 
 pub single : HaveOneAnswer → (root new old : List ℕ) → IsSingle (compat_job root new old)
 single law root new old told s t h a b =
     let files = told.files in
     let f = found_told (is_none root) root files refl h in
-    one law root (λ names. compared names new old) f.found s t (comes_compared root new old files f s a) (comes_compared root new old files f t b)
+    one law root (compares new old) (λ names a b x y. x ∙ sym y) f.found s t (comes_compared root new old files f s a) (comes_compared root new old files f t b)

@@ -1,5 +1,5 @@
 -- A compilation's status.
-use Rattle.std.proofs.Common.{ℕ, List, Option, refl}
+use Rattle.std.proofs.Common.{◌≡◌, ◌∙◌, ℕ, List, Option, refl, sym}
 use Rattle.cy_outside.specs.Files.{Files}
 use Rattle.dsdl_types.specs.declared.namespace.Namespace.{Namespace}
 use Rattle.dsdl_resolve.specs.Laws.{HaveOneAnswer}
@@ -11,8 +11,8 @@ use Rattle.cyphal.proofs.Loaded.{Comes, loaded, Found, found_told, not_loaded, o
 use Rattle.cyphal.proofs.statuses.Single.{IsSingle}
 
 -- every namespace has layouts
-abbrev laid_out : Namespace → Status
-laid_out names = status.Ok
+abbrev laid_out : Namespace → Status → Type 0
+laid_out names stat = stat ≡ status.Ok
 
 comes : (root : List ℕ) (told : Option Files) (f : Found root told) (stat : Status) → Compiles root told stat → Comes root laid_out f.found stat
 comes root told f status.Ok c = loaded c.1.files c.0 (f.are c.1.files c.1.are) c.1.compiled refl
@@ -20,6 +20,8 @@ comes root told f status.Usage c = absurd c
 comes root told f (status.Dsdl path n w) c = not_loaded root laid_out told f (status.Dsdl path n w) refl c
 comes root told f (status.Plan n w) c = absurd c
 comes root told f (status.Log n w) c = absurd c
+comes root told f (status.Text line) c = absurd c
+comes root told f (status.Unreadable line path w) c = absurd c
 comes root told f (status.NotNewer path w) c = absurd c
 comes root told f status.LogLong c = absurd c
 comes root told f (status.NoFile path) c = not_loaded root laid_out told f (status.NoFile path) refl c
@@ -30,4 +32,4 @@ comes root told f status.NoMemory c = absurd c
 pub single : HaveOneAnswer → (root : List ℕ) → IsSingle (compile_job root)
 single law root told s t h a b =
     let f = found_told (is_none root) root told.files refl h in
-    one law root laid_out f.found s t (comes root told.files f s a) (comes root told.files f t b)
+    one law root laid_out (λ names a b x y. x ∙ sym y) f.found s t (comes root told.files f s a) (comes root told.files f t b)

@@ -1,6 +1,6 @@
 use Rattle.std.proofs.Common.{◌≡◌, ◌∙◌, List, ℕ, Option, Result, OnOk, codes, ap, sym, subst}
 use Rattle.cy_outside.specs.Written.{behind}
-use Rattle.cyphal.specs.ErrorLine.{numbered, missing, error_line}
+use Rattle.cyphal.specs.ErrorLine.{numbered, unreadable, missing, error_line}
 use Rattle.node_run.specs.declared.status.Status.{Status}
 use Rattle.cyphal.proofs.error_line.put_error.Goals as goal
 
@@ -13,6 +13,15 @@ returns-in-Plan-clause-written g c = told _ _ _ _ c.args.status.now (ap (λ (w :
 
 pub returns-in-Log-clause-written : goal.returns-in-Log-clause-written
 returns-in-Log-clause-written g c = told _ _ _ _ c.args.status.now (ap (λ (w : List ℕ). numbered (codes "cyphal: log line ") c.in-Log.line w) c.log_why_text.ensures ∙ ap error_line (sym c.in-Log.is)) c.put_numbered-in-Log.ensures.written
+
+pub returns-in-Text-clause-written : goal.returns-in-Text-clause-written
+returns-in-Text-clause-written g c = told _ _ _ _ c.args.status.now (ap error_line (sym c.in-Text.is)) c.put_numbered-in-Text.ensures.written
+
+same_line : (n : ℕ) (p q v w : List ℕ) (a b : ℕ) → p ≡ q → v ≡ w → a ≡ b → unreadable n p v a ≡ unreadable n q w b
+same_line n p q v w a b e f g = λ i. unreadable n (e i) (f i) (g i)
+
+pub returns-in-Unreadable-clause-written : goal.returns-in-Unreadable-clause-written
+returns-in-Unreadable-clause-written g c = told _ _ _ _ c.args.status.now (same_line c.in-Unreadable.line _ _ _ _ _ _ c.as_str-in-Unreadable.ensures c.read_why_word-word.ensures c.read_why_number.ensures ∙ ap error_line (sym c.in-Unreadable.is)) c.put_unreadable.ensures.written
 
 pub returns-in-LogLong-clause-written : goal.returns-in-LogLong-clause-written
 returns-in-LogLong-clause-written g c = told _ _ _ _ c.args.status.now (ap error_line (sym c.in-LogLong.is)) c.put_all-in-LogLong.ensures.written

@@ -12,14 +12,14 @@ pub returns-clause-exact : goal.returns-clause-exact
 returns-clause-exact g c stat told asked settled =
     let command = command_of (map string_bytes c.args.words.now) in
     let outside = told_by (g.T.Tree.files c.args.tree.now) (g.L.Source.left c.args.input.now) (g.O.Sink.written c.args.out.now) in
-    one_status c.one_answer.ensures command outside c.work-status.result stat told (c.work-status.ensures.answer settled) asked
+    one_status c.one_answer.ensures c.one_status.ensures.encode c.one_status.ensures.decode command outside c.work-status.result stat told (c.work-status.ensures.answer settled) asked
 
 pub returns-clause-complete : goal.returns-clause-complete
 returns-clause-complete g c due told asked x y z =
     let command = command_of (map string_bytes c.args.words.now) in
     let outside = told_by (g.T.Tree.files c.args.tree.now) (g.L.Source.left c.args.input.now) (g.O.Sink.written c.args.out.now) in
     let cause = c.work-status.ensures.cause in
-    completed due c.work-status.result _ _ _ _ (λ h. one_status c.one_answer.ensures command outside c.work-status.result due told (c.work-status.ensures.answer h) asked) cause.read cause.write x y z
+    completed due c.work-status.result _ _ _ _ (λ h. one_status c.one_answer.ensures c.one_status.ensures.encode c.one_status.ensures.decode command outside c.work-status.result due told (c.work-status.ensures.answer h) asked) cause.read cause.write x y z
 
 pub returns-clause-line : goal.returns-clause-line
 returns-clause-line g c = begins_either c.put_error.result _ _ _ c.put_error.ensures.written c.put_error.ensures.begins

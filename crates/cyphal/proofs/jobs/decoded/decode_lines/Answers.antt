@@ -1,0 +1,28 @@
+use Rattle.std.proofs.Common.{inr}
+use Rattle.value_lines.specs.Decoded.{Decodes}
+use Rattle.node_run.specs.NamedTypes.{message_named}
+use Rattle.node_run.specs.ValueLines.{flow}
+use Rattle.cyphal.proofs.statuses.Values.{answered_ends, no_usage, refused_none}
+use Rattle.cyphal.proofs.jobs.decoded.decode_lines.Goals as goal
+
+pub returns-clause-answer : goal.returns-clause-answer
+returns-clause-answer g c h =
+    let names = c.in-Ok.names in
+    let name = c.args.name.now in
+    let told = flow (g.L.Source.left c.args.input.now) (g.L.Source.left c.decode.new.input) (g.O.Sink.written c.args.out.now) (g.O.Sink.written c.decode.new.out) in
+    (h, inr (record { names = names; is = c.in-Ok.ensures.loaded; rules = c.in-Ok.ensures.sound; ends = answered_ends Decodes (message_named names name) name told c.decode.result h c.decode.ensures.did }))
+
+pub returns-clause-usage : goal.returns-clause-usage
+returns-clause-usage g c = no_usage Decodes _ c.args.name.now _ c.decode.result c.decode.ensures.did
+
+pub returns-clause-cause : goal.returns-clause-cause
+returns-clause-cause g c =
+    let names = c.in-Ok.names in
+    let name = c.args.name.now in
+    let told = flow (g.L.Source.left c.args.input.now) (g.L.Source.left c.decode.new.input) (g.O.Sink.written c.args.out.now) (g.O.Sink.written c.decode.new.out) in record {
+      read = λ e. inr (c.decode.ensures.read e);
+      unread = λ e. absurd cc;
+      refused = λ e. c.decode.ensures.unread (refused_none Decodes (message_named names name) name told c.decode.result e c.decode.ensures.did);
+      write = c.decode.ensures.write;
+      kept = λ e. (c.in-Ok.ensures.cause, (c.decode.ensures.kept e).0, (c.decode.ensures.kept e).1);
+    }

@@ -1,0 +1,28 @@
+use Rattle.std.proofs.Common.{inr}
+use Rattle.value_lines.specs.Encoded.{Encodes}
+use Rattle.node_run.specs.NamedTypes.{message_named}
+use Rattle.node_run.specs.ValueLines.{flow}
+use Rattle.cyphal.proofs.statuses.Values.{answered_ends, no_usage, refused_none}
+use Rattle.cyphal.proofs.jobs.encoded.encode_lines.Goals as goal
+
+pub returns-clause-answer : goal.returns-clause-answer
+returns-clause-answer g c h =
+    let names = c.in-Ok.names in
+    let name = c.args.name.now in
+    let told = flow (g.L.Source.left c.args.input.now) (g.L.Source.left c.encode.new.input) (g.O.Sink.written c.args.out.now) (g.O.Sink.written c.encode.new.out) in
+    (h, inr (record { names = names; is = c.in-Ok.ensures.loaded; rules = c.in-Ok.ensures.sound; ends = answered_ends Encodes (message_named names name) name told c.encode.result h c.encode.ensures.did }))
+
+pub returns-clause-usage : goal.returns-clause-usage
+returns-clause-usage g c = no_usage Encodes _ c.args.name.now _ c.encode.result c.encode.ensures.did
+
+pub returns-clause-cause : goal.returns-clause-cause
+returns-clause-cause g c =
+    let names = c.in-Ok.names in
+    let name = c.args.name.now in
+    let told = flow (g.L.Source.left c.args.input.now) (g.L.Source.left c.encode.new.input) (g.O.Sink.written c.args.out.now) (g.O.Sink.written c.encode.new.out) in record {
+      read = λ e. inr (c.encode.ensures.read e);
+      unread = λ e. absurd cc;
+      refused = λ e. c.encode.ensures.unread (refused_none Encodes (message_named names name) name told c.encode.result e c.encode.ensures.did);
+      write = c.encode.ensures.write;
+      kept = λ e. (c.in-Ok.ensures.cause, (c.encode.ensures.kept e).0, (c.encode.ensures.kept e).1);
+    }

@@ -1,0 +1,41 @@
+//! `encode ROOT TYPE`: values of a type as bytes.
+ghost use Rattle.std.specs.Prelude.{◌≡◌, ◌⊎◌, false};
+ghost use Rattle.value_lines.specs.Encoded.{Encodes};
+ghost use Rattle.node_run.specs.ValueLines.{flow};
+ghost use Rattle.cyphal.specs.Job.{is_fault, printed, told_by, TookNothing};
+ghost use Rattle.cyphal.specs.Cause.{outside, HasCauseOver};
+ghost use Rattle.cyphal.specs.jobs.Values.{values_job, HasAnsweredAt};
+
+use cy_outside::{Sink, Source, Tree};
+use node_run::{Status, encode, load};
+use std::alloc::Global;
+
+/// Answers each line of the input, the text of a value of a type of a root, by the hex of its bytes.
+pub fn encode_lines<T: Tree, L: Source, O: Sink>(
+    alloc: Global,
+    root: &str,
+    name: &str,
+    tree: &mut T,
+    input: &mut L,
+    out: &mut O,
+) -> Status
+    ensures answer { let told = told_by (T.files tree.old) (L.left input.old) (O.written out.old) in
+        is_fault result ≡ false → (values_job Encodes root.now name.now).expects told result }
+    ensures usage { ¬ (result ≡ Status.Usage) }
+    ensures cause { let job = values_job Encodes root.now name.now in
+        let old = outside (T.faults tree.old) (L.faults input.old) (O.faults out.old) input.old in
+        let new = outside (T.faults tree.new) (L.faults input.new) (O.faults out.new) input.new in
+        HasCauseOver job.takes_input result old new }
+    ensures ran { let print = printed result (O.written out.old) (O.written out.new) in
+        let old = outside (T.faults tree.old) (L.faults input.old) (O.faults out.old) input.old in
+        let new = outside (T.faults tree.new) (L.faults input.new) (O.faults out.new) input.new in
+        let told = flow (L.left input.old) (L.left input.new) print.before print.after in
+        TookNothing print old new
+        ⊎ HasAnsweredAt Encodes root.now name.now (T.files tree.old) result told }
+{
+    let names = match load(alloc, tree, root) {
+        Ok(names) => names,
+        Err(status) => return status,
+    };
+    encode(alloc, &names, name, input, out)
+}
