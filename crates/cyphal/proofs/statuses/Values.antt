@@ -1,5 +1,5 @@
 -- The status of lines of values.
-use Rattle.std.proofs.Common.{◌≡◌, ◌∙◌, inl, inr, ℕ, true, false, ◌&&◌, ◌||◌, List, [], ◌++◌, Option, Some, None, is_some, IfSome, refl, sym, ap, subst, append-nil}
+use Rattle.std.proofs.Common.{◌≡◌, ◌∙◌, inl, inr, ℕ, true, false, ◌||◌, List, ◌++◌, Option, Some, None, is_some, IfSome, refl, sym, ap, subst, append-nil}
 use Rattle.clap.proofs.WalkLemmas.{both}
 use Rattle.dsdl_types.specs.Definitions.{IsNamespace}
 use Rattle.dsdl_types.specs.Schemas.{Sch}
