@@ -143,8 +143,8 @@ fn is(value: &RegisterValue, short: Short) -> bool {
             matches!(value, RegisterValue::Bit(items) if items.as_slice() == bits)
         }
         Short::Integer(number) => {
-            let one = [number];
-            matches!(value, RegisterValue::Integer16(items) if items.as_slice() == one.as_slice())
+            let alone = [number];
+            matches!(value, RegisterValue::Integer16(items) if items.as_slice() == alone.as_slice())
         }
     }
 }
