@@ -1,5 +1,5 @@
 //! A log that is made of a number, and what its run comes to.
-ghost use Rattle.std.specs.Prelude.{◌≡◌, IfOk, None};
+ghost use Rattle.std.specs.Prelude.{◌≡◌, IfOk};
 ghost use Rattle.cy_outside.specs.Outside.{Rose};
 ghost use Rattle.node_plan.specs.IsPlan.{IsPlan};
 ghost use Rattle.node_run.specs.Generated.{HasGenerated, generated_numbers, generated_plan, summary_line};
@@ -13,23 +13,9 @@ use cy_outside::{NeverSink, NeverSource, Sink, put_all};
 use log_gen::laws::explained_and_read;
 use log_gen::transfers::transfers;
 use log_gen::{PLAN, log_bytes};
-use node_core::{LineRef, LineSink, Numbers};
+use node_core::{NoLines, Numbers};
 use node_plan::{Plan, PlanError, read_plan};
 use std::alloc::Global;
-
-/// A sink that keeps no line. It is a type of its own, so that the run of a plan shares no code with this one: its loop is
-/// one function then, which is a tenth faster.
-#[derive(Drop)]
-struct Unkept;
-
-impl LineSink for Unkept {
-    ghost lines = { λ _. None };
-
-    #[inline(always)]
-    fn put(&mut self, _line: &LineRef<'_>) -> Result<(), NoMemory> {
-        Ok(())
-    }
-}
 
 /// Makes the log of a number, runs it, and writes one line on it: how many transfers were sent, and the numbers of the
 /// run. Where memory is wanting, nothing is written.
@@ -64,7 +50,7 @@ fn numbers_of(alloc: Global, number: u32) -> Result<Numbers, NoMemory>
         plan,
         &mut input,
         &mut NeverSink,
-        &mut Unkept,
+        &mut NoLines,
         &mut numbers,
     ) {
         Status::Ok => Ok(numbers),
