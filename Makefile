@@ -3,7 +3,7 @@
 # make build: proves the program and leaves it, optimised, as build/cyphal. From nothing that proves every crate.
 # make install [PREFIX=FOLDER] [DESTDIR=FOLDER]: copies build/cyphal, its man page and its completions.
 # make test: the whole gate: proofs, must-fail edits, tests and programs.
-# make bench: how fast build/cyphal is and what it holds, over short logs.
+# make bench: how fast build/cyphal is and what it holds, over short logs and lines of values.
 
 PLAN = examples/first/plan
 LOG = examples/first/log
@@ -43,3 +43,4 @@ test:
 bench:
 	test -x build/cyphal || $(MAKE) build
 	bench/run --short build/cyphal
+	bench/values build/cyphal 1
