@@ -3,8 +3,10 @@ use Rattle.std.proofs.Common.{◌∙◌, Option, Some, None, sym}
 use Rattle.dsdl_resolve.specs.Laws.{HaveOneAnswer}
 use Rattle.value_lines.specs.Decoded.{Decodes}
 use Rattle.value_lines.specs.Encoded.{Encodes}
+use Rattle.node_reach.specs.Allocated.{allocate_voice}
+use Rattle.node_reach.specs.Monitored.{monitor_voice}
 use Rattle.node_run.specs.ValueLines.{HasOneStatus}
-use Rattle.cyphal.specs.Words.{Command, Compile, Compat, Encode, Decode, Run, Bound, Gen}
+use Rattle.cyphal.specs.Words.{Command, Compile, Compat, Encode, Decode, Run, Bound, Gen, Monitor, Allocate}
 use Rattle.cyphal.specs.Expected.{job_of, job_asked}
 use Rattle.cyphal.proofs.statuses.Single.{IsSingle}
 use Rattle.cyphal.proofs.statuses.Compile as compile
@@ -13,6 +15,7 @@ use Rattle.cyphal.proofs.statuses.Values as values
 use Rattle.cyphal.proofs.statuses.Run as run
 use Rattle.cyphal.proofs.statuses.Bound as bound
 use Rattle.cyphal.proofs.statuses.Gen as gen
+use Rattle.cyphal.proofs.statuses.Reach as reach
 
 module _ (law : HaveOneAnswer) (encodes : HasOneStatus Encodes) (decodes : HasOneStatus Decodes) where
   single : (command : Command) → IsSingle (job_of command)
@@ -23,6 +26,8 @@ module _ (law : HaveOneAnswer) (encodes : HasOneStatus Encodes) (decodes : HasOn
   single (Run root path) = run.single law root path
   single (Bound root path) = bound.single law root path
   single (Gen number) = gen.single number
+  single (Monitor own) = reach.single (monitor_voice own)
+  single (Allocate own) = reach.single (allocate_voice own)
 
   pub one_status : (command : Option Command) → IsSingle (job_asked command)
   one_status None told s t h a b = a ∙ sym b

@@ -4,3 +4,4 @@ pub mod Values
 pub mod Run
 pub mod Bound
 pub mod Gen
+pub mod Reach

@@ -9,6 +9,7 @@ mod error_line;
 mod help;
 mod jobs;
 mod law;
+mod node_id;
 mod number;
 mod plan_file;
 mod program;
