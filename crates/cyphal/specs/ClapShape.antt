@@ -24,6 +24,6 @@ first_shape = with_rule (new_app (codes "cyphal")) (given (codes "FIRST"))
 abbrev pub two_shape : App
 two_shape = with_rule root_shape (given (codes "ARGUMENT"))
 
--- three arguments: a root and the names of two types
+-- three arguments: a root and the names of two types, or two nodes and a path
 abbrev pub three_shape : App
 three_shape = with_rule (with_rule first_shape (given (codes "SECOND"))) (given (codes "THIRD"))

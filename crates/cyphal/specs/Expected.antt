@@ -5,7 +5,7 @@ use Rattle.node_reach.specs.Monitored.{monitor_voice}
 use Rattle.node_run.specs.declared.status.Status.TheVariants as status
 use Rattle.value_lines.specs.Decoded.{Decodes}
 use Rattle.value_lines.specs.Encoded.{Encodes}
-use Rattle.cyphal.specs.Words.{Command, Compile, Compat, Encode, Decode, Run, Bound, Gen, Monitor, Allocate, command_of}
+use Rattle.cyphal.specs.Words.{Command, Compile, Compat, Encode, Decode, Run, Bound, Gen, Monitor, Allocate, Fetch, command_of}
 use Rattle.cyphal.specs.Cause.{Outside}
 use Rattle.cyphal.specs.Job.{Told, Outcome, Job, NotDone}
 use Rattle.cyphal.specs.jobs.Compile.{compile_job}
@@ -15,6 +15,7 @@ use Rattle.cyphal.specs.jobs.Run.{run_job}
 use Rattle.cyphal.specs.jobs.Bound.{bound_job}
 use Rattle.cyphal.specs.jobs.Gen.{gen_job}
 use Rattle.cyphal.specs.jobs.Reach.{reach_job}
+use Rattle.cyphal.specs.jobs.Fetch.{client, fetch_job}
 
 -- the commands
 abbrev pub job_of : Command → Job
@@ -27,6 +28,7 @@ job_of (Bound root path) = bound_job root path
 job_of (Gen number) = gen_job number
 job_of (Monitor own) = reach_job (monitor_voice own)
 job_of (Allocate own) = reach_job (allocate_voice own)
+job_of (Fetch own server path) = fetch_job (client own server path)
 
 -- words that are no command ask for their refusal alone
 abbrev pub no_job : Job

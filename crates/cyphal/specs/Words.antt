@@ -1,5 +1,6 @@
 -- Which words are a command.
-use Rattle.std.specs.Prelude.{ℕ, Bool, false, ◌==◌, ◌&&◌, not, List, [], ◌∷◌, codes, Option, Some, None, option_map, if◌then◌else◌}
+use Rattle.std.specs.Prelude.{ℕ, Bool, false, ◌==◌, nat_le, ◌&&◌, not, List, [], ◌∷◌, length, codes, Option, Some, None, option_map, if◌then◌else◌}
+use Rattle.std.specs.List.{list_all}
 use Rattle.std.specs.Str.{bytes_eq}
 use Rattle.dsdl_names.specs.Words.{number_to}
 use Rattle.cyphal.specs.declared.words.Accepted.{Accepted}
@@ -8,7 +9,8 @@ use Rattle.cyphal.specs.declared.words.Accepted.TheVariants as accepted
 -- what the words ask for: the layouts of the types below this root, whether one of them is newer than another, values of
 -- one of them as bytes, bytes as values of it, a run of the plan at this path, which is read in the namespace of the root,
 -- its memory bound, the run of the log that is made of this number, who is online in the log of the input, which a node with
--- this node-ID hears, or node-IDs for the nodes of that log that have none
+-- this node-ID hears, node-IDs for the nodes of that log that have none, or the file that a node with this node-ID fetches of
+-- another one over that log
 pub data Command : Type 0 where
   Compile : List ℕ → Command
   Compat : List ℕ → List ℕ → List ℕ → Command
@@ -19,6 +21,7 @@ pub data Command : Type 0 where
   Gen : ℕ → Command
   Monitor : ℕ → Command
   Allocate : ℕ → Command
+  Fetch : ℕ → ℕ → List ℕ → Command
 
 -- the command of accepted words
 abbrev pub asked_by : Accepted → Command
@@ -31,6 +34,7 @@ asked_by (accepted.Bound root plan) = Bound root.now plan.now
 asked_by (accepted.Gen number) = Gen number
 asked_by (accepted.Monitor own) = Monitor own.number
 asked_by (accepted.Allocate own) = Allocate own.number
+asked_by (accepted.Fetch file) = Fetch file.own.number file.server.number file.path.now
 
 -- an argument isn't empty and begins with no hyphen
 abbrev pub is_argument : List ℕ → Bool
@@ -70,6 +74,20 @@ number_given word = number_to 4294967295 word
 abbrev pub node_given : List ℕ → Option ℕ
 node_given word = number_to 127 word
 
+-- a path has at most 255 bytes, each a space or a visible character of ASCII
+abbrev pub is_visible : ℕ → Bool
+is_visible byte = nat_le 32 byte && nat_le byte 126
+
+abbrev pub is_path : List ℕ → Bool
+is_path path = nat_le (length path) 255 && list_all is_visible path
+
+-- the fetch of a file, where the node-IDs of both nodes are given and differ, and its path is one
+abbrev pub fetch_given : Option ℕ → Option ℕ → List ℕ → Option Command
+fetch_given None server path = None
+fetch_given (Some own) None path = None
+fetch_given (Some own) (Some server) path =
+    if not (server == own) && is_path path then Some (Fetch own server path) else None
+
 -- the command that a word names, of a node-ID, if there is one
 abbrev pub named_of_node : List ℕ → Option ℕ → Option Command
 named_of_node word node =
@@ -99,10 +117,13 @@ named_of_two word root argument =
 -- the command that a word names, of three arguments
 abbrev pub named_of_three : List ℕ → List ℕ → List ℕ → List ℕ → Option Command
 named_of_three word first second third =
-    if bytes_eq word (codes "compat") then Some (Compat first second third) else None
+    if bytes_eq word (codes "compat") then Some (Compat first second third)
+    else (if bytes_eq word (codes "fetch")
+    then fetch_given (node_given first) (node_given second) third else None)
 
 -- what the words ask for, where they are accepted: `compile ROOT`, `compat ROOT NEW OLD`, `encode ROOT TYPE`,
--- `decode ROOT TYPE`, `run ROOT PLAN`, `bound ROOT PLAN`, `gen NUMBER`, `monitor NODE` or `allocate NODE`
+-- `decode ROOT TYPE`, `run ROOT PLAN`, `bound ROOT PLAN`, `gen NUMBER`, `monitor NODE`, `allocate NODE` or
+-- `fetch NODE SERVER PATH`
 abbrev pub command_of : List (List ℕ) → Option Command
 command_of [] = None
 command_of (word ∷ []) = None

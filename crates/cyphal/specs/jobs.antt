@@ -5,3 +5,4 @@ pub mod Run
 pub mod Bound
 pub mod Gen
 pub mod Reach
+pub mod Fetch

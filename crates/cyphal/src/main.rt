@@ -13,6 +13,9 @@ mod node_id;
 mod number;
 mod plan_file;
 mod program;
+#[cfg(test)]
+mod reach_tests;
+mod remote_file;
 mod run_words;
 #[cfg(test)]
 mod tests;

@@ -7,6 +7,7 @@ ghost use Rattle.cyphal.specs.Words.{Gen, Monitor, Allocate, asked_by, is_argume
 
 use crate::node_id::NodeId;
 use crate::number::{node_of, number_of};
+use crate::remote_file::RemoteFile;
 use clap::{Arg, ArgAction, Command};
 use cy_bits::NoMemory;
 use std::alloc::Global;
@@ -56,11 +57,15 @@ pub enum Accepted<'a> {
     Allocate {
         own: NodeId,
     },
+    /// Fetches a file of another node over a log.
+    Fetch {
+        file: RemoteFile<'a>,
+    },
 }
 
 /// The command that the words are, so `compile ROOT`, `compat ROOT NEW OLD`, `encode ROOT TYPE`, `decode ROOT TYPE`,
-/// `run ROOT PLAN`, `bound ROOT PLAN`, `gen NUMBER`, `monitor NODE` or `allocate NODE`; none where they aren't accepted. It
-/// wants memory where they are.
+/// `run ROOT PLAN`, `bound ROOT PLAN`, `gen NUMBER`, `monitor NODE`, `allocate NODE` or `fetch NODE SERVER PATH`; none where
+/// they aren't accepted. It wants memory where they are.
 pub fn command_of<'a>(alloc: Global, words: &'a [String]) -> Result<Option<Accepted<'a>>, NoMemory>
     ensures is { let asked = command_of (map string_bytes words.entry.now) in
         IfOk result (λ given. option_map asked_by given ≡ asked) }
@@ -163,6 +168,12 @@ fn of_three<'a>(word: &str, first: &'a str, second: &'a str, third: &'a str) -> 
             root: first,
             new: second,
             old: third,
+        })
+    } else if word == "fetch" {
+        let own = node_of(first.as_bytes());
+        let server = node_of(second.as_bytes());
+        Some(Accepted::Fetch {
+            file: RemoteFile::new(own, server, third)?,
         })
     } else {
         None

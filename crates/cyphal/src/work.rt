@@ -12,6 +12,7 @@ use crate::jobs::compat::compat_types;
 use crate::jobs::compile::compile_root;
 use crate::jobs::decoded::decode_lines;
 use crate::jobs::encoded::encode_lines;
+use crate::jobs::fetch::fetch_file;
 use crate::jobs::generated::generated;
 use crate::jobs::monitor::monitor_network;
 use crate::jobs::run::run_plan;
@@ -100,5 +101,6 @@ fn carry_out<T: Tree, L: Source, O: Sink, K: LineSink>(
         Accepted::Gen { number } => generated(alloc, number, out),
         Accepted::Monitor { own } => monitor_network(alloc, own, input, out),
         Accepted::Allocate { own } => allocate_nodes(alloc, own, input, out),
+        Accepted::Fetch { file } => fetch_file(alloc, file, input, out),
     }
 }

@@ -19,3 +19,6 @@ returns-in-Monitor-clause-cause g c = c.monitor_network.ensures.cause (g.T.Tree.
 
 pub returns-in-Allocate-clause-cause : goal.returns-in-Allocate-clause-cause
 returns-in-Allocate-clause-cause g c = c.allocate_nodes.ensures.cause (g.T.Tree.faults c.args.tree.now)
+
+pub returns-in-Fetch-clause-cause : goal.returns-in-Fetch-clause-cause
+returns-in-Fetch-clause-cause g c = c.fetch_file.ensures.cause (g.T.Tree.faults c.args.tree.now)
