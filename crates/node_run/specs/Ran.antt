@@ -125,7 +125,7 @@ refused (error.TooFar line) = status.Log line why.TooFar
 refused error.LogLong = status.LogLong
 refused error.Failed = status.ReadFault
 
--- the status of a command that hears a log, by how its loop over the log ended
+-- the status of a run, by how its loop over the log ended
 abbrev pub status_of : Ended → Status
 status_of end.Ok = status.Ok
 status_of (end.Log line why) = status.Log line why
