@@ -48,7 +48,8 @@ fn read_last(
     if line.is_empty() {
         return finished(draft, n);
     }
-    draft.take(n, read_line(alloc, names, line)?)?;
+    let said = read_line(alloc, names, line)?;
+    draft.take(n, said)?;
     finished(draft, n + 1)
 }
 
@@ -69,7 +70,8 @@ fn read_lines(
     let mut draft = Draft::new(alloc);
     let mut n = 1;
     while let Some((line, rest)) = cut(b'\n', behind) {
-        draft.take(n, read_line(alloc, names, line)?)?;
+        let said = read_line(alloc, names, line)?;
+        draft.take(n, said)?;
         n += 1;
         behind = rest;
     }
