@@ -10,7 +10,7 @@ use Rattle.rx_table.specs.Ports.{Port, Answer, is_admitted, AnswerIs}
 use Rattle.rx_table.specs.Received.{Delivery}
 use Rattle.rx_table.specs.Steps.{delivery_at}
 use Rattle.rx_table.specs.Table.{keyed, port_on, Told, ToldAt}
-use Rattle.node_reach.specs.Ears.{of_outcome, of_answer, answered}
+use Rattle.node_reach.specs.Told.{of_outcome, of_answer, answered}
 use Rattle.node_reach.specs.Transfers.{Transfer, of_delivery, on_port}
 
 -- an outcome tells the transfer of the delivery that it tells

@@ -7,5 +7,7 @@ pub mod Allocates
 pub mod Transfers
 pub mod Monitored
 pub mod InTime
+pub mod PortTypes
+pub mod Told
 pub mod Ears
 pub mod Monitors

@@ -108,6 +108,10 @@ lines_at moment records beats messages =
 abbrev pub last_text : ℕ → List Record → List ℕ
 last_text own past = lines_at (last_moment past) (length past) (beats own past) (messages own past)
 
--- a monitor with this node-ID says nothing before the end of a log
+-- nothing is said before the end of a log
+abbrev pub step_text : Record → List Record → List ℕ
+step_text rec past = []
+
+-- what a monitor with this node-ID says over a log
 abbrev pub monitor_voice : ℕ → Voice
-monitor_voice own = voice bus_names (λ rec past. []) (last_text own)
+monitor_voice own = voice bus_names step_text (last_text own)

@@ -1,13 +1,15 @@
 -- What is kept of heartbeats and of messages of time.
-use Rattle.std.specs.Prelude.{◌≡◌, ◌≤◌, ◌<◌, ℕ, List, [], ◌∷◌, length}
+use Rattle.std.specs.Prelude.{◌≡◌, ℕ, List, length}
+use Rattle.dsdl_types.specs.Views.{sch}
 use Rattle.net_monitor.specs.Beats.{Beat}
 use Rattle.net_monitor.specs.Stands.{Stands}
+use Rattle.std_types.specs.Types.{schema_of}
+use Rattle.std_types.specs.declared.std_name.StdName.TheVariants.{Heartbeat, Synchronization}
 use Rattle.tail_frame.specs.declared.logged.Record.{Record}
 use Rattle.time_sync.specs.Pairs.{Message}
 use Rattle.time_sync.specs.Stands.{Stands as StandsFor}
 use Rattle.node_reach.specs.Ears.{Hears}
 use Rattle.node_reach.specs.Monitored.{latest_beat, latest_message, last_moment, monitor_ears, beats, messages}
-use Rattle.node_reach.specs.Transfers.{Transfer}
 use Rattle.node_reach.specs.declared.monitoring.Monitoring.{Monitoring}
 use Rattle.node_reach.specs.declared.network.Network.{Network}
 
@@ -15,13 +17,10 @@ use Rattle.node_reach.specs.declared.network.Network.{Network}
 pub record Knows (network : Network) (beats : List Beat) (messages : List Message) : Type 0 where
   pub beats_are : Stands beats network.monitor
   pub messages_are : StandsFor messages network.sync
+  pub beat_typed : sch network.beat_type.schema ≡ schema_of Heartbeat
+  pub message_typed : sch network.message_type.schema ≡ schema_of Synchronization
   pub latest_beat_is : network.latest_beat ≡ latest_beat beats
   pub latest_message_is : network.latest_message ≡ latest_message messages
-
--- a transfer has a transfer-ID, and began no later than at this moment
-pub record HasBegun (moment : ℕ) (t : Transfer) : Type 0 where
-  pub tid : t.tid < 32
-  pub early : t.moment ≤ moment
 
 -- a monitor with this node-ID heard these records
 pub record Monitors (own : ℕ) (now : Monitoring) (past : List Record) : Type 0 where

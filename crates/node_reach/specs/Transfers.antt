@@ -1,6 +1,6 @@
 -- The transfers that a node receives of a log, without a plan. Records are a list with the newest first; `past` is what
 -- came before.
-use Rattle.std.specs.Prelude.{ℕ, if◌then◌else◌, List, take, Option, Some, None}
+use Rattle.std.specs.Prelude.{ℕ, ◌<◌, ◌≤◌, if◌then◌else◌, List, take, Option, Some, None, ⊤}
 use Rattle.dsdl_types.specs.Schemas.{Sch}
 use Rattle.can_id.specs.declared.key.Kind.TheVariants.{Message}
 use Rattle.rx_session.specs.Extents.{bytes_of}
@@ -20,6 +20,16 @@ pub record Transfer : Type 0 where
   pub tid : ℕ
   pub moment : ℕ
   pub payload : List ℕ
+
+-- it began no later than at this moment, and its transfer-ID is one
+pub record HasBegun (moment : ℕ) (t : Transfer) : Type 0 where
+  pub tid : t.tid < 32
+  pub early : t.moment ≤ moment
+
+-- the same, if there is a transfer
+abbrev pub HasBegunBy : ℕ → Option Transfer → Type 0
+HasBegunBy moment None = ⊤
+HasBegunBy moment (Some t) = HasBegun moment t
 
 -- what a node listens with: its own node-ID, the silence after which another bus takes over, and its ports
 pub record Ears : Type 0 where

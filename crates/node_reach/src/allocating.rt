@@ -1,14 +1,5 @@
 //! An allocator that hears a log.
-ghost use Rattle.std.specs.Prelude.{◌≡◌, ◌<◌, ◌≤◌, ◌++◌, ◌∷◌, [], List, Some, OnOk, OnErr, IfOk, IfSome, ℕ};
-ghost use Rattle.dsdl_types.specs.Views.{sch};
-ghost use Rattle.line_text.specs.Buffer.{text_of};
-ghost use Rattle.pnp_alloc.specs.Stands.{IsFit};
-ghost use Rattle.pnp_alloc.specs.declared.event.AllocEvent.{AllocEvent as Event};
-ghost use Rattle.std_types.specs.Types.{schema_of};
-ghost use Rattle.std_types.specs.declared.std_name.StdName.TheVariants.{NodeIdAllocation as allocation};
-ghost use Rattle.tail_frame.specs.declared.logged.Record.{Record};
-ghost use Rattle.node_reach.specs.Allocated.{seen_by, wanted, event_of, answer_lines, event_text, step_text, last_text};
-ghost use Rattle.node_reach.specs.Allocates.{Allocates, HasAnswered};
+ghost use Rattle.std.specs.Prelude.{◌≤◌, ◌<◌};
 
 use crate::answer::{MOST, write_answer};
 use crate::lines::{Outgoing, put_end, put_full, put_given, put_transfer};
@@ -20,7 +11,7 @@ use log_loop::Listener;
 use pnp_alloc::{AllocEvent, AllocOut, Allocator};
 use std::alloc::Global;
 use std_types::allocation::NodeIdAllocation;
-use std_types::{Standard, StdName, StdType, std_type};
+use std_types::{Standard, StdName, std_type};
 use tail_frame::{Record, frame_of};
 
 /// The subject of `uavcan.pnp.NodeIDAllocationData.1.0`.
@@ -38,30 +29,33 @@ pub struct Allocating {
     pub tid: u8,
     /// How many records it heard.
     pub records: u64,
-    /// The type of the messages.
-    message: StdType,
     ghost node: { own ≤ 127 },
     ghost cyclic: { tid < 32 },
-    ghost typed: { sch message.schema ≡ schema_of allocation },
 }
 
 impl Allocating {
+    ghost use Rattle.std.specs.Prelude.{◌≡◌, ◌%◌, ◌++◌, ◌∷◌, [], List, Some, OnOk, IfOk, IfSome, ℕ};
+    ghost use Rattle.line_text.specs.Buffer.{text_of};
+    ghost use Rattle.pnp_alloc.specs.Stands.{IsFit};
+    ghost use Rattle.pnp_alloc.specs.declared.event.AllocEvent.{AllocEvent as Event};
+    ghost use Rattle.pnp_alloc.specs.declared.event.AllocEvent.TheVariants.{Wanted};
+    ghost use Rattle.node_reach.specs.Allocated.{seen_by, wanted, event_of, answer_lines, event_text};
+    ghost use Rattle.node_reach.specs.Allocates.{Allocates, HasAnswered};
+
     /// An allocator with this node-ID of its own that heard nothing yet.
-    pub(crate) fn new(alloc: Global, own: u8) -> Result<Allocating, NoMemory>
+    pub(crate) fn new(alloc: Global, own: u8) -> Allocating
         requires { own ≤ 127 }
-        ensures own { IfOk result (λ it. it.own ≡ own) }
-        ensures allocates { IfOk result (λ it. Allocates own it []) }
-        ensures records { IfOk result (λ it. it.records ≡ 0) }
+        ensures own { result.own ≡ own }
+        ensures allocates { Allocates own result [] }
+        ensures records { result.records ≡ 0 }
     {
-        let message = std_type(alloc, StdName::NodeIdAllocation)?;
-        Ok(Allocating {
+        Allocating {
             alloc,
             own,
             allocator: Allocator::new(own),
             tid: 0,
             records: 0,
-            message,
-        })
+        }
     }
 
     /// The event of a record, if it is one.
@@ -103,7 +97,8 @@ impl Allocating {
         ensures event { IfOk result (λ event. event ≡ wanted payload.now) }
         ensures fit { IfOk result (λ event. IfSome event IsFit) }
     {
-        let Some(value) = reading(self.alloc, &self.message, payload)? else {
+        let standard = std_type(self.alloc, StdName::NodeIdAllocation)?;
+        let Some(value) = reading(self.alloc, &standard, payload)? else {
             return Ok(None);
         };
         let message = NodeIdAllocation::of_value(self.alloc, &value)?;
@@ -144,10 +139,10 @@ impl Allocating {
     fn answer(&mut self, moment: u64, uid: u64, gathered: &mut TextBuffer) -> Result<(), NoMemory>
         ensures records { self.new.records ≡ self.old.records }
         ensures answered { OnOk result ((own : ℕ) (past : List Event) → HasAnswered own self.old past
-            → HasAnswered own self.new (Event.Wanted uid ∷ past)) }
+            → HasAnswered own self.new (Wanted uid ∷ past)) }
         ensures text { OnOk result ((own : ℕ) (past : List Event) → HasAnswered own self.old past
             → text_of gathered.new
-            ≡ text_of gathered.old ++ event_text own moment (Some (Event.Wanted uid)) past) }
+            ≡ text_of gathered.old ++ event_text own moment (Some (Wanted uid)) past) }
     {
         match self.allocator.hear(AllocEvent::Wanted { uid }) {
             AllocOut::Noted => Ok(()),
@@ -173,7 +168,7 @@ impl Allocating {
             ≡ text_of gathered.old ++ answer_lines self.now.own moment number uid node) }
     {
         let mut payload = [0; MOST];
-        let size = write_answer(self.alloc, &self.message, uid, node, &mut payload)?;
+        let size = write_answer(self.alloc, uid, node, &mut payload)?;
         let ident = make(Ident::Message {
             priority: 4,
             subject: SUBJECT,
@@ -192,6 +187,9 @@ impl Allocating {
 }
 
 impl Listener for Allocating {
+    ghost use Rattle.node_reach.specs.Allocated.{step_text, last_text};
+    ghost use Rattle.node_reach.specs.Allocates.{Allocates};
+
     ghost heard = { λ first now past. Allocates first.own now past };
 
     ghost broke = { λ first now past. Unit {0} };

@@ -29,8 +29,6 @@ pub fn allocate<L: Source, O: Sink>(alloc: Global, own: u8, input: &mut L, out: 
     ensures kept { result ≡ Ended.Ok
         → (L.faults input.new ≡ L.faults input.old) × (O.faults out.new ≡ O.faults out.old) }
 {
-    let Ok(mut allocating) = Allocating::new(alloc, own) else {
-        return Ended::NoMemory;
-    };
+    let mut allocating = Allocating::new(alloc, own);
     listen(alloc, &mut allocating, bus_names(), input, out)
 }

@@ -2,17 +2,17 @@
 ghost use Rattle.rx_table.specs.Table.{HeardBy};
 ghost use Rattle.node_reach.specs.InTime.{HeardBy-prop};
 ghost use Rattle.rx_table.specs.Views.{states_of};
-ghost use Rattle.node_reach.specs.Ears.{type_schema};
+ghost use Rattle.node_reach.specs.PortTypes.{type_schema};
 
 use crate::frames::frame_for;
-use crate::transfer::Transfer;
-use can_id::{Key, Kind};
+use crate::transfer::{Transfer, transfer_of};
+use can_id::Kind;
 use cy_bits::NoMemory;
-use rx_session::Outcome;
-use rx_table::{Fed, Met, SubscribeError, Table};
+use rx_table::laws::outcome_tells;
+use rx_table::{Met, SubscribeError, Table};
 use std::alloc::Global;
 use std_types::{StdName, StdType, std_type};
-use tail_frame::Record;
+use tail_frame::{Frame, Record};
 
 /// A node that listens on some ports. It stands for the records of a log that it has heard.
 #[derive(Drop)]
@@ -32,13 +32,17 @@ const SOURCES: u16 = 128;
 impl Ear {
     ghost use Rattle.std.specs.Prelude.{◌≡◌, ◌≤◌, ◌<◌, ◌^◌, ◌+◌, ◌++◌, ◌∷◌, [], None, List as ListOf, IfOk, IfSome, OnOk, option_map, length};
     ghost use Rattle.can_id.specs.declared.key.Kind.TheVariants.{Message};
-    ghost use Rattle.rx_session.specs.Extents.{bytes_of};
     ghost use Rattle.rx_table.specs.Ports.{port_at};
     ghost use Rattle.rx_table.specs.Views.{subscriptions};
     ghost use Rattle.std_types.specs.Types.{schema_of};
     ghost use Rattle.tail_frame.specs.declared.logged.Record.{Record as RecordOf};
     ghost use Rattle.node_reach.specs.Transfers.{Ears, subject as subject_port, transfer_at};
-    ghost use Rattle.node_reach.specs.Ears.{Hears, owned, told};
+    ghost use Rattle.can_id.specs.Identifiers.{IsIdent};
+    ghost use Rattle.rx_table.specs.Places.{table_answer};
+    ghost use Rattle.rx_table.specs.Table.{keyed};
+    ghost use Rattle.tail_frame.specs.Frames.{seen};
+    ghost use Rattle.node_reach.specs.Ears.{Hears, states_in, told};
+    ghost use Rattle.node_reach.specs.Told.{owned, answered};
 
     /// A node with this node-ID that listens on no port, and takes a bus as silent after so many microseconds.
     pub(crate) fn new(alloc: Global, own: u8, timeout: u64) -> Result<Ear, NoMemory>
@@ -64,7 +68,6 @@ impl Ear {
         name: StdName,
     ) -> Result<(), NoMemory>
         requires free { port_at Message subject (subscriptions type_schema self.old.table) ≡ None }
-        requires small { bytes_of (schema_of name) ≤ 2 ^ 29 }
         requires room { length self.old.table.ports.items < 2 ^ 16 }
         ensures own { self.new.own ≡ self.old.own }
         ensures latest { self.new.latest ≡ self.old.latest }
@@ -96,6 +99,7 @@ impl Ear {
         ensures told { IfOk result (λ met. (ears : Ears) (past : ListOf RecordOf) → Hears ears self.old past
             → told self.new rec.now met ≡ transfer_at ears rec.now past) }
     {
+        outcome_tells();
         self.latest = rec.moment;
         match frame_for(self.own, rec) {
             Some(frame) => self.table.step(&frame),
@@ -108,19 +112,23 @@ impl Ear {
         ensures told { option_map owned result ≡ told self.now rec.now met }
         ensures source { IfSome result (λ transfer. transfer.source < 128) }
     {
-        let frame = frame_for(self.own, rec)?;
-        let Key { kind, port, source } = frame.ident.key();
-        let source = source?;
-        match self.table.lend(met, &frame) {
-            Fed::Session(Outcome::Delivered(delivery)) => Some(Transfer {
-                kind,
-                port,
-                source,
-                tid: delivery.tid,
-                moment: delivery.moment,
-                payload: delivery.payload,
-            }),
-            _ => None,
+        match frame_for(self.own, rec) {
+            Some(frame) => self.transfer_in(&frame, met),
+            None => None,
+        }
+    }
+
+    /// The transfer that ended at a frame, if one did.
+    fn transfer_in<'a>(&'a self, frame: &Frame<'a>, met: Met) -> Option<Transfer<'a>>
+        requires { IsIdent frame.now.ident }
+        ensures told { let f = seen frame.now in
+            option_map owned result ≡ answered (keyed f) (table_answer (states_in self.now) f.body met) }
+        ensures source { IfSome result (λ transfer. transfer.source < 128) }
+    {
+        let key = frame.ident.key();
+        match key.source {
+            Some(source) => transfer_of(key.kind, key.port, source, self.table.lend(met, frame)),
+            None => None,
         }
     }
 }

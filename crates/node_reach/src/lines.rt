@@ -27,8 +27,8 @@ pub(crate) struct Outgoing<'a> {
 
 /// Appends the lines of a transfer's frames, classic CAN, bus by bus.
 pub(crate) fn put_transfer(text: &mut TextBuffer, sent: Outgoing<'_>) -> Result<(), NoMemory>
-    requires tid { sent.entry.tid < 32 }
-    requires len { length sent.entry.payload.now ≤ 512 }
+    requires tid { sent.tid < 32 }
+    requires len { length sent.payload.now ≤ 512 }
     ensures { let s = sent.entry in OnOk result (text_of text.new ≡ text_of text.old
         ++ tx_lines s.moment s.ident (frames 8 s.payload.now s.tid) bus_names) }
 {
@@ -40,8 +40,8 @@ pub(crate) fn put_transfer(text: &mut TextBuffer, sent: Outgoing<'_>) -> Result<
 /// Appends the lines of a transfer's frames on one bus.
 fn put_on_bus(text: &mut TextBuffer, bus: &[u8], sent: Outgoing<'_>) -> Result<(), NoMemory>
     requires bus { length bus.now ≤ 15 }
-    requires tid { sent.entry.tid < 32 }
-    requires len { length sent.entry.payload.now ≤ 512 }
+    requires tid { sent.tid < 32 }
+    requires len { length sent.payload.now ≤ 512 }
     ensures { let s = sent.entry in OnOk result (text_of text.new ≡ text_of text.old
         ++ tx_on s.moment s.ident bus.now (frames 8 s.payload.now s.tid)) }
 {

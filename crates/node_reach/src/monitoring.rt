@@ -1,11 +1,9 @@
 //! A monitor that hears a log.
-ghost use Rattle.std.specs.Prelude.{◌≡◌, ◌≤◌, ◌++◌, [], IfOk, IfSome, OnOk};
+ghost use Rattle.std.specs.Prelude.{◌≡◌, ◌++◌, [], IfOk, OnOk};
 ghost use Rattle.line_text.specs.Buffer.{text_of};
-ghost use Rattle.net_monitor.specs.declared.node_state.NodeState.{NodeState as State};
 ghost use Rattle.node_reach.specs.Ears.{Hears};
-ghost use Rattle.node_reach.specs.Monitored.{monitor_ears, node_lines, state_in, state_line, last_text};
+ghost use Rattle.node_reach.specs.Monitored.{monitor_ears, node_lines, state_in, state_line, step_text, last_text};
 ghost use Rattle.node_reach.specs.Monitors.{Monitors};
-ghost use Rattle.node_reach.specs.Transfers.{Ears};
 
 use crate::ear::Ear;
 use crate::lines::{put_end, put_estimate, put_node, put_offline};
@@ -64,7 +62,7 @@ impl Listener for Monitoring {
 
     ghost broke = { λ first now past. Unit {0} };
 
-    ghost step_text = { λ first rec past. [] };
+    ghost step_text = { λ first rec past. step_text rec past };
 
     ghost last_text = { λ first past. last_text first.ear.own past };
 
@@ -76,9 +74,8 @@ impl Listener for Monitoring {
         // No number of records passes the line of the last one.
         let _line = rec.line;
         let met = self.ear.hear(rec)?;
-        if let Some(transfer) = self.ear.transfer(rec, met) {
-            self.network.take(rec.moment, transfer)?;
-        }
+        let transfer = self.ear.transfer(rec, met);
+        self.network.hear(rec.moment, transfer)?;
         self.records += 1;
         Ok(())
     }

@@ -17,7 +17,7 @@ pub(crate) fn reading(
     ensures { IfOk result (λ read.
         option_map val read ≡ reading (sch standard.now.schema) payload.now) }
 {
-    let size = payload.len().min(standard.extent_bytes());
+    let size = standard.extent_bytes().min(payload.len());
     match read_as(alloc, &standard.schema, &payload[..size]) {
         Ok(value) => Ok(Some(value)),
         Err(ReadError::Bad { .. }) => Ok(None),
