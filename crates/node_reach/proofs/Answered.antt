@@ -11,7 +11,7 @@ use Rattle.rx_table.specs.Received.{Delivery}
 use Rattle.rx_table.specs.Steps.{delivery_at}
 use Rattle.rx_table.specs.Table.{keyed, port_on, Told, ToldAt}
 use Rattle.node_reach.specs.Told.{of_outcome, of_answer, answered}
-use Rattle.node_reach.specs.Transfers.{Transfer, of_delivery, on_port}
+use Rattle.node_reach.specs.Transfers.{of_delivery, on_port}
 
 -- an outcome tells the transfer of the delivery that it tells
 outcome_tells : (key : SessionKey) (extent : ℕ) (d : Option Delivery) (o : Outcome) → Tells d extent o → of_outcome key o ≡ of_delivery extent key d

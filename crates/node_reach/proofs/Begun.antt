@@ -1,5 +1,5 @@
 -- A transfer began with one of the records, so no later than the last of them, and with a transfer-ID.
-use Rattle.std.proofs.Common.{◌≡◌, ◌∙◌, ℕ, ◌+◌, ◌-◌, ◌*◌, ◌%◌, ◌^◌, ◌<◌, ◌≤◌, ◌==◌, ◌&&◌, cond, Bool, List, [], ◌∷◌, length, take, Option, Some, None, refl, sym, ap, subst, arith}
+use Rattle.std.proofs.Common.{◌≡◌, ℕ, ◌-◌, ◌<◌, ◌≤◌, ◌==◌, ◌&&◌, cond, List, [], ◌∷◌, length, take, Option, Some, None, refl, subst, arith}
 use Rattle.std.specs.Prelude.{⊤}
 use Rattle.std.proofs.lemmas.Bool.{cond_both}
 use Rattle.std.specs.Option.{option_and_then}
@@ -15,7 +15,7 @@ use Rattle.rx_table.specs.Keys.{SessionKey, KeyedFrame, EachFrame, bears_on, his
 use Rattle.rx_table.specs.Ports.{Port, is_admitted}
 use Rattle.rx_table.specs.Received.{Delivery, Run, Got, begins, received, alone, not_begun}
 use Rattle.rx_table.specs.Steps.{delivery_at, of_run}
-use Rattle.rx_table.specs.Table.{keyed, with_source, log_with, port_on}
+use Rattle.rx_table.specs.Table.{with_source, log_with, port_on}
 use Rattle.node_reach.specs.Ears.{AllUpTo}
 use Rattle.node_reach.specs.Transfers.{HasBegunBy, Ears, of_delivery, on_port, of_frame, transfer_at}
 

@@ -9,15 +9,14 @@ use Rattle.rx_table.specs.Heard.{frame_for, with_frame, frames}
 use Rattle.rx_table.specs.Keys.{KeyedFrame}
 use Rattle.rx_table.specs.Laws.{OutcomeTells}
 use Rattle.rx_table.specs.Places.{table_answer}
-use Rattle.rx_table.specs.Ports.{Port, PortState, Answer, ports_of}
-use Rattle.rx_table.specs.Table.{StandsFor, keyed, with_source, logged, port_on, Told}
+use Rattle.rx_table.specs.Ports.{Port, PortState, ports_of}
+use Rattle.rx_table.specs.Table.{StandsFor, keyed, with_source, logged, Told}
 use Rattle.rx_table.specs.Views.{subscriptions}
 use Rattle.rx_table.specs.declared.fed.Met.{Met}
 use Rattle.node_reach.specs.declared.ear.Ear.{Ear}
 use Rattle.node_reach.specs.Ears.{states_in, AllUpTo, Hears, told_of, told}
 use Rattle.node_reach.specs.PortTypes.{type_schema}
-use Rattle.node_reach.specs.Told.{of_answer, answered}
-use Rattle.node_reach.specs.Transfers.{Transfer, Ears, on_port, of_frame, transfer_at}
+use Rattle.node_reach.specs.Transfers.{Ears, of_frame, transfer_at}
 use Rattle.node_reach.proofs.Answered.{told_transfer}
 
 pub up_to_later : (m n : ℕ) (past : List Record) → m ≤ n → AllUpTo m past → AllUpTo n past

@@ -1,5 +1,5 @@
 -- The extent of a schema that keeps the rules.
-use Rattle.std.proofs.Common.{ℕ, ◌≤◌, ◌^◌, arith}
+use Rattle.std.proofs.Common.{◌≤◌, ◌^◌, arith}
 use Rattle.dsdl_types.specs.Rules.{IsSchema}
 use Rattle.dsdl_types.specs.Schemas.{Sch, Simple, Fixed, Var, Struct, Union, extent_of}
 

@@ -1,5 +1,5 @@
 -- What follows of the answer of a call.
-use Rattle.std.proofs.Common.{Result, Ok, Err, OnOk, OnErr, IfOk, Option, Some, None}
+use Rattle.std.proofs.Common.{Result, Ok, Err, OnOk, OnErr, IfOk}
 
 pub on_ok : {T E : Type 0} (P Q : Type 0) (r : Result T E) → (P → Q) → OnOk r P → OnOk r Q
 on_ok P Q (Ok x) f h = f h

@@ -1,5 +1,5 @@
 -- A stamp that was read has 56 bits.
-use Rattle.std.proofs.Common.{◌≡◌, ℕ, ◌+◌, ◌-◌, ◌*◌, ◌%◌, ◌^◌, ◌<◌, List, Option, Some, pos, subst, arith}
+use Rattle.std.proofs.Common.{◌≡◌, ℕ, ◌^◌, ◌<◌, List, Some, pos, subst, arith}
 use Rattle.cy_bits.specs.Bits.{bits, number}
 use Rattle.cy_bits.proofs.BitPlaces.{number_below}
 use Rattle.std.proofs.Common.{take}

@@ -1,4 +1,4 @@
-use Rattle.std.proofs.Common.{ℕ, List, ◌∙◌, subst}
+use Rattle.std.proofs.Common.{ℕ, List, subst}
 use Rattle.log_loop.specs.Gone.{HasGone}
 use Rattle.log_loop.specs.Streamed.{IsStreamed}
 use Rattle.log_loop.specs.Taken.{IsOfTaken}

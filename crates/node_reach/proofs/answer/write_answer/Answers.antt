@@ -1,9 +1,8 @@
-use Rattle.std.proofs.Common.{◌≡◌, ◌∙◌, ℕ, ◌*◌, ◌-◌, ◌^◌, ◌<◌, ◌≤◌, List, [], ◌∷◌, ◌++◌, Err, Some, None, length, take, replicate, sym, ap, subst, refl, arith}
+use Rattle.std.proofs.Common.{◌≡◌, ◌∙◌, ℕ, ◌-◌, ◌^◌, ◌<◌, ◌≤◌, List, [], ◌∷◌, ◌++◌, Err, Some, None, length, take, replicate, sym, ap, subst, refl, arith}
 use Rattle.std.proofs.Math.Seq.{take-append_seam}
 use Rattle.std.proofs.lemmas.List.Elements.{All-cons, All-nil}
-use Rattle.dsdl_types.specs.Fits.{Fits}
 use Rattle.dsdl_types.specs.Greatest.{longest}
-use Rattle.dsdl_types.specs.Laws.{encoding, with_zeros}
+use Rattle.dsdl_types.specs.Laws.{encoding}
 use Rattle.dsdl_types.specs.Schemas.{Sch, extent_of}
 use Rattle.dsdl_types.specs.Stored.{IsStored}
 use Rattle.dsdl_types.specs.Values.{Val}

@@ -1,4 +1,4 @@
-use Rattle.std.proofs.Common.{◌∙◌, refl, ap}
+use Rattle.std.proofs.Common.{ap}
 use Rattle.can_id.specs.declared.key.Kind.TheVariants.{Message}
 use Rattle.rx_table.specs.Ports.{port_at}
 use Rattle.node_reach.proofs.monitoring.listening.Goals as goal

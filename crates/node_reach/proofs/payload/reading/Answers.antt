@@ -1,4 +1,4 @@
-use Rattle.std.proofs.Common.{◌≡◌, ◌∙◌, ℕ, ◌*◌, ◌≤◌, ◌/◌, List, Some, None, Err, length, take, min, sym, ap, subst, arith}
+use Rattle.std.proofs.Common.{◌≡◌, ◌∙◌, ℕ, ◌*◌, List, Some, None, Err, length, take, min, sym, ap, arith}
 use Rattle.std.proofs.lemmas.List.{take_min}
 use Rattle.cy_bits.specs.Bits.{bits}
 use Rattle.dsdl_types.specs.Laws.{Reads, Unreadable}

@@ -1,4 +1,4 @@
-use Rattle.std.proofs.Common.{◌++◌, ◌∙◌, length, ap, codes}
+use Rattle.std.proofs.Common.{◌++◌, ◌∙◌, length, codes}
 use Rattle.line_text.specs.Buffer.{text_of}
 use Rattle.node_reach.specs.Allocated.{events}
 use Rattle.node_reach.specs.Lines.{end_line}

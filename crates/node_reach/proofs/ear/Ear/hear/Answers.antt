@@ -1,4 +1,4 @@
-use Rattle.std.proofs.Common.{◌≡◌, ◌∙◌, refl, ap, arith}
+use Rattle.std.proofs.Common.{refl, arith}
 use Rattle.tail_frame.specs.Frames.{seen}
 use Rattle.rx_table.specs.Views.{states_of}
 use Rattle.rx_table.proofs.Heard.{heard-later}

@@ -1,4 +1,4 @@
-use Rattle.std.proofs.Common.{◌≡◌, ◌∙◌, List, [], ◌∷◌, ◌++◌, refl, sym, ap, subst}
+use Rattle.std.proofs.Common.{◌≡◌, ◌∙◌, List, [], ◌∷◌, ◌++◌, sym, ap, subst}
 use Rattle.can_id.specs.declared.key.Kind.TheVariants.{Message}
 use Rattle.rx_session.specs.Extents.{bytes_of}
 use Rattle.rx_table.specs.Ports.{Port, ports_of}
@@ -9,7 +9,7 @@ use Rattle.rx_session.specs.Extents.{extent_bytes}
 use Rattle.std_types.specs.Types.{schema_of}
 use Rattle.std_types.specs.declared.shape.StdType.{StdType}
 use Rattle.node_reach.specs.PortTypes.{type_schema}
-use Rattle.node_reach.specs.Transfers.{Ears, subject}
+use Rattle.node_reach.specs.Transfers.{subject}
 use Rattle.node_reach.proofs.Ears.{ports-append}
 use Rattle.node_reach.proofs.Results.{either}
 use Rattle.node_reach.proofs.ear.Ear.subscribe.Goals as goal

@@ -1,4 +1,4 @@
-use Rattle.std.proofs.Common.{◌≡◌, ◌∙◌, ◌∷◌, length, Option, option_map, sym, subst, arith}
+use Rattle.std.proofs.Common.{◌≡◌, ◌∙◌, Option, option_map, sym, subst, arith}
 use Rattle.node_reach.specs.Monitored.{monitor_ears, beats, messages, with_beat, with_message}
 use Rattle.node_reach.specs.Monitors.{Knows}
 use Rattle.node_reach.specs.Told.{owned}

@@ -7,11 +7,9 @@ use Rattle.std_types.specs.declared.std_name.StdName.TheVariants.{Synchronizatio
 use Rattle.std_types.specs.declared.time.Synchronization as stored
 use Rattle.time_sync.specs.Pairs.{Message}
 use Rattle.time_sync.specs.Stands.{Stands}
-use Rattle.std_types.specs.Times.{synchronization_of}
 use Rattle.node_reach.specs.Monitored.{latest_message, message_in, add_message}
 use Rattle.node_reach.specs.Readings.{reading}
 use Rattle.node_reach.specs.Told.{owned}
-use Rattle.node_reach.specs.Transfers.{Transfer, HasBegun}
 use Rattle.node_reach.proofs.Stamps.{stamp_of, stamp_low}
 use Rattle.node_reach.proofs.network.Network.take_message.Goals as goal
 
