@@ -5,6 +5,7 @@ mod draft;
 mod line;
 pub mod plan;
 mod read;
+mod types;
 mod words;
 
 pub use plan::{BusPlan, Plan, PlanError, PlanWhy, Sub, SubShape, bound};
