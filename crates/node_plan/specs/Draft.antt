@@ -42,8 +42,8 @@ abbrev pub without_type : Draft → ℕ → PlanWhy → Result Draft PlanWhy
 without_type d port cause = if nat_le 64 (length d.subs) then Err why.Range
     else (if has_subject port d.subs then Err why.Repeated else Err cause)
 
--- a line behind `plan 1`: range comes before repetition, that before an unknown type, and that before a type whose
--- extent is too long
+-- a line behind `plan 1`: range comes before repetition, that before an unknown type, and that
+-- before the range of a type's extent
 abbrev pub with_line : Draft → Said → Result Draft PlanWhy
 with_line d (said.Node n) = once (is_some d.node) (record d { node = Some n })
 with_line d (said.Bus name) = with_bus d name

@@ -160,7 +160,7 @@ impl Draft {
         }
     }
 
-    /// Why a subscription is refused, where its type is one that can't be subscribed to for this cause.
+    /// Why a subscription is refused whose type can't be subscribed to for this cause.
     fn why_no_type(&self, port: u16, cause: PlanWhy) -> PlanWhy
         ensures { Err result ≡ without_type self.now port cause }
     {

@@ -1,4 +1,5 @@
-//! The plan of a node: which node it is, its buses, and the subjects it subscribes to.
+//! The plan of a node: which node it is, its buses, and the subjects it subscribes to
+//! with their types.
 #![tactic(auto)]
 
 mod draft;

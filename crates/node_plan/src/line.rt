@@ -36,7 +36,8 @@ pub enum Said {
     Timeout(u64),
     /// `silent`.
     Silent,
-    /// `sub PORT SOURCES raw N`, or `sub PORT SOURCES TYPE` of a message whose extent is at most 65,536 bytes.
+    /// `sub PORT SOURCES raw N`, or `sub PORT SOURCES TYPE` of a message whose extent is at most
+    /// 65,536 bytes.
     Sub(Sub),
     /// `sub PORT SOURCES TYPE` of no message of the namespace.
     UnknownType { port: u16 },
@@ -213,7 +214,8 @@ fn four_words(
     name: &[u8],
 ) -> Result<Said, NoMemory>
     requires { IsNamespace names.now }
-    ensures value { IfOk result (λ said. said ≡ said_of_four names.now word.now port.now sources.now name.now) }
+    ensures value { IfOk result (λ said.
+        said ≡ said_of_four names.now word.now port.now sources.now name.now) }
     ensures sound { IfOk result IsSaid }
 {
     if word != b"sub".as_slice() {

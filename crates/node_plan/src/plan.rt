@@ -7,7 +7,8 @@ use cy_bits::{BusName, List, NoMemory, ShortList};
 use dsdl_names::TypeId;
 use dsdl_types::Schema;
 
-/// How a node is set up, and what it listens to.
+/// How a node is set up, and what it listens to. It has the types of its subscriptions, so that it
+/// needs no namespace any more.
 #[derive(Drop)]
 pub struct Plan {
     /// The node's ID, below 128.

@@ -10,7 +10,8 @@ use dsdl_names::{NameError, parse_type_id};
 use dsdl_types::{Definition, Namespace, Parts};
 use std::alloc::Global;
 
-/// What a payload is read as where this word is the type, or nothing where it names no message of the namespace.
+/// What a payload is read as where this word is the type, or nothing where it names no message of
+/// the namespace.
 pub fn shape_named(
     alloc: Global,
     names: &Namespace,
@@ -36,7 +37,8 @@ pub fn shape_named(
 /// The message of a definition, or nothing where it is a service.
 fn message_in(alloc: Global, definition: &Definition) -> Result<Option<SubShape>, NoMemory>
     requires { IsDefinition definition.now }
-    ensures value { IfOk result (λ shape. shape ≡ message_with definition.now.id definition.now.parts) }
+    ensures value { IfOk result (λ shape.
+        shape ≡ message_with definition.now.id definition.now.parts) }
     ensures sound { IfOk result (λ shape. IfSome shape IsShape) }
 {
     match &definition.parts {
