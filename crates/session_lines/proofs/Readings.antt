@@ -1,5 +1,5 @@
 -- Each line on a transfer has the reading of its payload.
-use Rattle.std.proofs.Common.{ℕ, true, cond, List, [], ◌∷◌, ◌++◌, Option, Some, None, refl}
+use Rattle.std.proofs.Common.{ℕ, cond, List, [], ◌∷◌, Option, Some, None, refl}
 use Rattle.std.specs.Prelude.{All}
 use Rattle.std.proofs.lemmas.Bool.{cond_both}
 use Rattle.std.proofs.lemmas.List.Elements.{All-nil, All-cons, All-append}

@@ -1,6 +1,6 @@
 -- Lines of a session, and the transfers that they report.
 use Rattle.std.proofs.Common.{◌≡◌, true, List, [], ◌∷◌, ◌++◌, ap, subst, inl, inr}
-use Rattle.std.specs.Prelude.{All, Contains, ⊤}
+use Rattle.std.specs.Prelude.{All, ⊤}
 use Rattle.std.proofs.lemmas.Bool.{cond-true, cond-false, cond_both, cases_Bool}
 use Rattle.std.proofs.lemmas.List.Elements.{All-nil, All-cons, All-contains, Contains-append_right, Contains-append_left, Contains-push}
 use Rattle.rx_table.specs.Keys.{SessionKey}

@@ -1,4 +1,4 @@
--- A port of a plan that keeps its rules has the extent of its type, which keeps the rules of types.
+-- A port has the extent of its type, which keeps the rules.
 use Rattle.std.proofs.Common.{◌≡◌, ◌∙◌, ℕ, ◌/◌, true, ◌&&◌, eqb, List, [], ◌∷◌, map, Some, refl, sym, subst, inl, inr}
 use Rattle.std.proofs.lemmas.Bool.{cond-true, cond-false, cases_Bool}
 use Rattle.std.specs.List.{AllByRecursion}
@@ -12,7 +12,7 @@ use Rattle.rx_session.specs.Extents.{bytes_of}
 use Rattle.rx_table.specs.Keys.{same_kind}
 use Rattle.rx_table.specs.Ports.{Port, port_at}
 use Rattle.node_plan.specs.Bound.{extent_of}
-use Rattle.node_plan.specs.IsPlan.{IsShape, IsSub}
+use Rattle.node_plan.specs.IsPlan.{IsShape}
 use Rattle.node_plan.specs.declared.plan.Sub.{Sub}
 use Rattle.node_plan.specs.declared.plan.SubShape.{SubShape}
 use Rattle.node_plan.specs.declared.plan.SubShape.TheVariants as shape
@@ -28,7 +28,7 @@ of_shape : (t : SubShape) (s : Sch) → type_in t ≡ Some s → IsShape t → H
 of_shape (shape.Raw n) s e h = cc
 of_shape (shape.Named id t) s e h = let is : sch t ≡ s = cc in subst (HasType (S.extent_of (sch t) / 8)) is (record { extent_is = refl; rules = h.0; composite = h.1 })
 
-pub typed_port : (kind : Kind) (port : ℕ) (subs : List Sub) (p : Port) (s : Sch) → port_at kind port (map port_of_sub subs) ≡ Some p → type_among kind port subs ≡ Some s → AllByRecursion IsSub subs → HasType p.extent s
+pub typed_port : (kind : Kind) (port : ℕ) (subs : List Sub) (p : Port) (s : Sch) → port_at kind port (map port_of_sub subs) ≡ Some p → type_among kind port subs ≡ Some s → AllByRecursion (λ sub. IsShape sub.shape) subs → HasType p.extent s
 typed_port kind port [] p s e f h = cc
 typed_port kind port (sub ∷ subs) p s e f h =
     let here = same_kind kind Message && eqb port sub.port in
@@ -38,7 +38,7 @@ typed_port kind port (sub ∷ subs) p s e f h =
           let found : Some (port_of_sub sub) ≡ Some p = sym (cond-true here (Some (port_of_sub sub)) (port_at kind port ports) y) ∙ e in
           let is : port_of_sub sub ≡ p = cc in
           let typed : type_in sub.shape ≡ Some s = sym (cond-true here (type_in sub.shape) (type_among kind port subs) y) ∙ f in
-          subst (λ (q : Port). HasType q.extent s) is (of_shape sub.shape s typed h.0.shape)
+          subst (λ (q : Port). HasType q.extent s) is (of_shape sub.shape s typed h.0)
       | inr n ↦
           typed_port kind port subs p s (sym (cond-false here (Some (port_of_sub sub)) (port_at kind port ports) n) ∙ e)
           (sym (cond-false here (type_in sub.shape) (type_among kind port subs) n) ∙ f) h.1

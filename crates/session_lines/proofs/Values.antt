@@ -1,5 +1,5 @@
 -- What is sent as a value is reported as that value.
-use Rattle.std.proofs.Common.{◌≡◌, ◌∙◌, ℕ, ◌≤◌, ◌<◌, true, ◌&&◌, eqb, List, [], ◌∷◌, ◌++◌, length, take, Option, Some, refl, sym, ap, subst, arith}
+use Rattle.std.proofs.Common.{◌≡◌, ◌∙◌, ◌≤◌, ◌<◌, true, ◌&&◌, eqb, List, [], ◌∷◌, ◌++◌, length, take, Option, Some, refl, sym, ap, subst, arith}
 use Rattle.std.proofs.lemmas.Bool.{and_parts, eqb-true, eq-eqb, ne_eqb, cond-true, cond-false, cond_both}
 use Rattle.std.proofs.lemmas.List.Elements.{All-contains, recursion_from_All}
 use Rattle.dsdl_types.specs.Laws.{RoundTrip, WithinExtent, Evolution}
@@ -13,10 +13,10 @@ use Rattle.frag.specs.Sent.{transfer_at, data_on, size_on, pair_at}
 use Rattle.frag.specs.Wire.{padding}
 use Rattle.frag.specs.declared.sent.Pair.{Pair}
 use Rattle.once.specs.Report.{AnyRx, EachRx, IsSentRx, OnceInReport, DueInReport, pair_on}
-use Rattle.node_plan.specs.IsPlan.{IsSub}
+use Rattle.node_plan.specs.IsPlan.{IsShape}
 use Rattle.node_plan.specs.declared.plan.Plan.{Plan}
 use Rattle.node_core.specs.Readings.{reading_of}
-use Rattle.node_core.specs.Steps.{Step, lines, records}
+use Rattle.node_core.specs.Steps.{lines, records}
 use Rattle.node_core.specs.Types.{type_among, type_on}
 use Rattle.node_core.specs.declared.line.Line.TheVariants.{Rx}
 use Rattle.node_core.specs.declared.line.Rx.{Rx as Received}
@@ -74,7 +74,7 @@ module _ (reported : Reported) (readings : LinesHaveReadings) (once : OnceInRepo
       let each : EachRx (IsSentRx p.extent sent origin recs) (rxs key ls) =
       subst (EachRx (IsSentRx p.extent sent origin recs)) (sym (reported plan key steps p h.session)) selected.sent_ones in
       let mine : IsSentRx p.extent sent origin recs (without_key rx) = at_line key (IsSentRx p.extent sent origin recs) ls rx each line in
-      let type = typed_port key.kind key.port plan.subs p port h.session.port h.typed (recursion_from_All IsSub plan.subs h.rules.subs) in
+      let type = typed_port key.kind key.port plan.subs p port h.session.port h.typed (recursion_from_All (λ sub. IsShape sub.shape) plan.subs h.rules) in
       let read : rx.reading ≡ reading_of (type_on plan rx.key) rx.payload = All-contains (HasReading plan) ls (Rx rx) (readings plan steps) line.stands in
       let is : rx.reading ≡ reading_of (Some port) (take p.extent (data_on sent j rx.bus)) =
       read ∙ (ap (λ (t : Option Sch). reading_of t rx.payload) (line_type plan key rx line.is_of_key ∙ h.typed) ∙ ap (reading_of (Some port)) mine.payload) in

@@ -1,5 +1,5 @@
 -- What a version of a type wrote, with zeros behind it and cut to the extent, is read as that value.
-use Rattle.std.proofs.Common.{◌≡◌, ◌∙◌, ℕ, ◌-◌, ◌/◌, ◌≤◌, min, true, List, ◌++◌, length, take, replicate, Some, refl, sym, ap, subst, arith}
+use Rattle.std.proofs.Common.{◌≡◌, ◌∙◌, ℕ, ◌-◌, ◌/◌, min, true, List, ◌++◌, length, take, replicate, Some, refl, sym, ap, subst, arith}
 use Rattle.std.proofs.lemmas.List.{take-take}
 use Rattle.cy_bits.specs.Bits.{bits}
 use Rattle.dsdl_types.specs.Cast.{cast}

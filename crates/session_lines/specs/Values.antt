@@ -1,6 +1,6 @@
 -- Value to value: what is sent as a value is reported as that value, also where the sender has a newer or an older
 -- version of the type (Cyphal Specification, sections 3.7 and 3.8).
-use Rattle.std.specs.Prelude.{◌≡◌, ℕ, true, List, ◌++◌, Option, Some, Contains}
+use Rattle.std.specs.Prelude.{◌≡◌, ℕ, true, List, Option, Some, Contains}
 use Rattle.dsdl_types.specs.Cast.{cast}
 use Rattle.dsdl_types.specs.Fits.{Fits}
 use Rattle.dsdl_types.specs.Laws.{encoding}
@@ -20,7 +20,7 @@ use Rattle.frag.specs.declared.sent.Sent.{Sent}
 use Rattle.frag.specs.declared.sent.Transfer.{Transfer}
 use Rattle.once.specs.Report.{Explains, IsDue, pair_on}
 use Rattle.value_text.specs.Texts.{value_text}
-use Rattle.node_plan.specs.IsPlan.{IsPlan}
+use Rattle.node_plan.specs.IsPlan.{TypesKeepRules}
 use Rattle.node_plan.specs.declared.plan.Plan.{Plan}
 use Rattle.node_core.specs.Steps.{Step, lines, records}
 use Rattle.node_core.specs.Types.{type_among}
@@ -82,9 +82,9 @@ pub record SaysDueValue (key : SessionKey) (port : Sch) (payload : List ℕ) (q 
   pub last : rx.last ≡ q.line
   pub says : SaysValue port payload rx.reading
 
--- of a plan that keeps its rules, a session on a port of this type, whose records a sent list explains
+-- of a plan whose types keep the rules, a session on a port of this type, whose records a sent list explains
 pub record IsSentTo (plan : Plan) (key : SessionKey) (past : List Record) (p : Port) (port : Sch) (sent : Sent) (origin : List Pair) : Type 0 where
-  pub rules : IsPlan plan
+  pub rules : TypesKeepRules plan
   pub session : IsSession plan key past p
   pub typed : type_of plan key ≡ Some port
   pub log : IsLog (frames plan.node past)
