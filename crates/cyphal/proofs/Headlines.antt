@@ -11,9 +11,8 @@ use Rattle.frag.specs.declared.sent.Sent.{Sent}
 use Rattle.once.specs.Raw.{WireExplainsFields}
 use Rattle.once.specs.Report.{AnyRx, Explains, SelectedRx, OnceInPart, DueInReport}
 use Rattle.once.specs.Report as rx_report
-use Rattle.cy_outside.specs.Files.{Files}
 use Rattle.cy_outside.specs.Written.{behind, Begins}
-use Rattle.node_plan.specs.Plan.{Good, plan_of}
+use Rattle.dsdl_resolve.specs.Laws.{HaveOneAnswer}
 use Rattle.node_plan.specs.declared.plan.Plan.{Plan}
 use Rattle.frame_log.specs.Log.{Log, log_of}
 use Rattle.frame_log.specs.Order.{IsAhead}
@@ -37,6 +36,7 @@ use Rattle.cyphal.specs.Plans.{PlanAt}
 use Rattle.cyphal.specs.jobs.Run.{HasRunAt}
 use Rattle.cyphal.specs.Expected.{job_asked, job_for, WasDone}
 use Rattle.rx_table.specs.Heard.{heard_as}
+use Rattle.cyphal.proofs.Plans.{one_plan}
 use Rattle.cyphal.specs.Headline.{log_in, logged_in, lines_of, report_text, Asked, ExplainsIn, OnceIn, DueIn, HeadlineOf, HasPut, OncePut, DuePut}
 use Rattle.cyphal.proofs.Frames.{frames_are, are_records, in_order}
 
@@ -158,35 +158,28 @@ written_first plan log status.ReadFault r before after x = begins_came plan log 
 written_first plan log status.WriteFault r before after x = x.written
 written_first plan log status.NoMemory r before after x = x.written
 
--- a file has one plan
-one_plan : (path : List ℕ) (tree : Files) (a b : Plan) → PlanAt path (Some tree) a → PlanAt path (Some tree) b → a ≡ b
-one_plan path tree a b x y =
-    let t : Some x.0 ≡ Some y.0 = sym x.1 ∙ y.1 in
-    let text : x.0 ≡ y.0 = cc in
-    let g : Good a ≡ Good b = sym x.2 ∙ (ap plan_of text ∙ y.2) in cc
-
 -- what was done where the words name a run: that run
 pub did_run : (words : List (List ℕ)) (told : Told) (came : Outcome) (plan : Plan) (bytes : List ℕ)
-    → (job_for words).did told came → (a : Asked words told plan bytes) → HasRunAt a.path told came
+    → (job_for words).did told came → (a : Asked words told plan bytes) → HasRunAt a.root a.path told came
 did_run words told came plan bytes d a = subst (λ (o : Option Command). (job_asked o).did told came) a.command d
 
 -- or nothing
 pub run_done : {L : Type 0} (words : List (List ℕ)) (told : Told) (came : Outcome) (old new : Outside L) (plan : Plan) (bytes : List ℕ)
-    → WasDone words told came old new → (a : Asked words told plan bytes) → NotDone told came old new ⊎ HasRunAt a.path told came
+    → WasDone words told came old new → (a : Asked words told plan bytes) → NotDone told came old new ⊎ HasRunAt a.root a.path told came
 run_done words told came old new plan bytes (inl n) a = inl n
 run_done words told came old new plan bytes (inr d) a = inr (did_run words told came plan bytes d a)
 
 -- it was of the plan that is asked for
-pub the_plan : (words : List (List ℕ)) (told : Told) (came : Outcome) (plan : Plan) (bytes : List ℕ) (a : Asked words told plan bytes) (r : HasRunAt a.path told came) → r.plan ≡ plan
-the_plan words told came plan bytes a r = one_plan a.path a.tree r.plan plan (subst (λ f. PlanAt a.path f r.plan) a.is_tree r.is) a.is_plan
+pub the_plan : HaveOneAnswer → (words : List (List ℕ)) (told : Told) (came : Outcome) (plan : Plan) (bytes : List ℕ) (a : Asked words told plan bytes) (r : HasRunAt a.root a.path told came) → r.plan ≡ plan
+the_plan one words told came plan bytes a r = one_plan one a.root a.path a.tree r.plan plan (subst (λ f. PlanAt a.root a.path f r.plan) a.is_tree r.is) a.is_plan
 
 -- a run of a told plan over a told input
-ran : (words : List (List ℕ)) (told : Told) (came : Outcome) (plan : Plan) (bytes : List ℕ) (a : Asked words told plan bytes) → HasRunAt a.path told came
+ran : HaveOneAnswer → (words : List (List ℕ)) (told : Told) (came : Outcome) (plan : Plan) (bytes : List ℕ) (a : Asked words told plan bytes) → HasRunAt a.root a.path told came
     → Ran plan (log_in plan bytes) came.status came.reported told.written came.written
-ran words told came plan bytes a r =
+ran one words told came plan bytes a r =
     let stat = came.status in
     let put = came.reported in
-    let same : r.plan ≡ plan = the_plan words told came plan bytes a r in
+    let same : r.plan ≡ plan = the_plan one words told came plan bytes a r in
     let run : HasRun plan (Some bytes) stat put told.written came.written =
     subst (λ (q : Plan). HasRun q (Some bytes) stat put told.written came.written) same (subst (λ i. HasRun r.plan i stat put told.written came.written) a.is_input r.run) in
     subst (λ (b : List ℕ). Ran plan (log_of (names_of plan) b) stat put told.written came.written) run.is run.ran
@@ -224,20 +217,20 @@ due_in law fields due plan bytes key p sent origin q s x d =
     subst (AnyRx (λ rx. rx.last ≡ q.line)) (sym (session plan bytes key law p s))
     (due plan.timeout p.extent sent key origin (of_key plan key (logged_in plan bytes)) q (by_fields plan bytes key fields sent origin x) d)
 
-module _ {L : Type 0} (words : List (List ℕ)) (told : Told) (came : Outcome) (old new : Outside L) (done : WasDone words told came old new) where
+module _ {L : Type 0} (one : HaveOneAnswer) (words : List (List ℕ)) (told : Told) (came : Outcome) (old new : Outside L) (done : WasDone words told came old new) where
   settled_text : (plan : Plan) (bytes : List ℕ) → Asked words told plan bytes → is_settled came.status ≡ true → came.written ≡ behind told.written (report_text plan bytes)
   settled_text plan bytes a s = by_run (run_done words told came old new plan bytes done a)
     where
-      by_run : NotDone told came old new ⊎ HasRunAt a.path told came → came.written ≡ behind told.written (report_text plan bytes)
+      by_run : NotDone told came old new ⊎ HasRunAt a.root a.path told came → came.written ≡ behind told.written (report_text plan bytes)
       by_run (inl n) = absurd (both_ways (is_settled came.status) n.not_settled s)
-      by_run (inr r) = written_whole plan (log_in plan bytes) came.status came.reported told.written came.written s (ran words told came plan bytes a r)
+      by_run (inr r) = written_whole plan (log_in plan bytes) came.status came.reported told.written came.written s (ran one words told came plan bytes a r)
 
   first_text : (plan : Plan) (bytes : List ℕ) → Asked words told plan bytes → Begins (report_text plan bytes) told.written came.written
   first_text plan bytes a = by_run (run_done words told came old new plan bytes done a)
     where
-      by_run : NotDone told came old new ⊎ HasRunAt a.path told came → Begins (report_text plan bytes) told.written came.written
+      by_run : NotDone told came old new ⊎ HasRunAt a.root a.path told came → Begins (report_text plan bytes) told.written came.written
       by_run (inl n) = subst (λ w. Begins (report_text plan bytes) told.written w) (sym n.written) (begins_none (report_text plan bytes) told.written)
-      by_run (inr r) = written_first plan (log_in plan bytes) came.status came.reported told.written came.written (ran words told came plan bytes a r)
+      by_run (inr r) = written_first plan (log_in plan bytes) came.status came.reported told.written came.written (ran one words told came plan bytes a r)
 
   pub headline_of : SessionLines → WireExplainsFields → OnceInPart → DueInReport → InOrder → HeadlineOf words told came
   headline_of law fields once due order plan bytes a = record {
@@ -257,21 +250,21 @@ module _ {L : Type 0} (words : List (List ℕ)) (told : Told) (came : Outcome) (
   front_put : (plan : Plan) (bytes : List ℕ) (mine : List Line) → Asked words told plan bytes → HasPut came.reported mine → (rest : List Line) × (lines_of plan bytes ≡ mine ++ rest)
   front_put plan bytes mine a h = by_run (run_done words told came old new plan bytes done a)
     where
-      by_run : NotDone told came old new ⊎ HasRunAt a.path told came → (rest : List Line) × (lines_of plan bytes ≡ mine ++ rest)
+      by_run : NotDone told came old new ⊎ HasRunAt a.root a.path told came → (rest : List Line) × (lines_of plan bytes ≡ mine ++ rest)
       by_run (inl n) =
           let none : [] ≡ mine = same_put mine [] h (n.empty.lines ∙ (h.1 ∙ (ap Some (sym (append-nil h.0)) ∙ ap (λ o. put_behind o []) (sym h.1)))) in
           (lines_of plan bytes, ap (λ m. m ++ lines_of plan bytes) none)
       by_run (inr r) =
-          let f = front plan (log_in plan bytes) came.status came.reported told.written came.written (ran words told came plan bytes a r) in
+          let f = front plan (log_in plan bytes) came.status came.reported told.written came.written (ran one words told came plan bytes a r) in
           (f.rest, f.whole ∙ ap (λ m. m ++ f.rest) (same_put mine f.mine h f.put))
 
   -- where all that counts was run, they are all
   whole_put : (plan : Plan) (bytes : List ℕ) (mine : List Line) → Asked words told plan bytes → HasPut came.reported mine → is_settled came.status ≡ true → lines_of plan bytes ≡ mine
   whole_put plan bytes mine a h s = by_run (run_done words told came old new plan bytes done a)
     where
-      by_run : NotDone told came old new ⊎ HasRunAt a.path told came → lines_of plan bytes ≡ mine
+      by_run : NotDone told came old new ⊎ HasRunAt a.root a.path told came → lines_of plan bytes ≡ mine
       by_run (inl n) = absurd (both_ways (is_settled came.status) n.not_settled s)
-      by_run (inr r) = same_put mine (lines_of plan bytes) h (whole plan (log_in plan bytes) came.status came.reported told.written came.written s (ran words told came plan bytes a r))
+      by_run (inr r) = same_put mine (lines_of plan bytes) h (whole plan (log_in plan bytes) came.status came.reported told.written came.written s (ran one words told came plan bytes a r))
 
   pub once_of : HeadlineOf words told came → OncePut words told came
   once_of head mine h plan bytes a = let f = front_put plan bytes mine a h in (head plan bytes a).once mine f.0 f.1

@@ -24,13 +24,14 @@ use Rattle.cyphal.specs.Words.{Run, command_of}
 use Rattle.cyphal.specs.Job.{Told, Outcome, is_settled}
 use Rattle.cyphal.specs.Plans.{PlanAt}
 
--- the words name a file of this plan, and the input has these bytes
+-- the words name a root, in whose namespace a file gives this plan, and the input has these bytes
 pub record Asked (words : List (List ℕ)) (told : Told) (plan : Plan) (bytes : List ℕ) : Type 0 where
+  pub root : List ℕ
   pub path : List ℕ
-  pub command : command_of words ≡ Some (Run path)
+  pub command : command_of words ≡ Some (Run root path)
   pub tree : Files
   pub is_tree : told.files ≡ Some tree
-  pub is_plan : PlanAt path (Some tree) plan
+  pub is_plan : PlanAt root path (Some tree) plan
   pub is_input : told.input ≡ Some bytes
 
 -- the records of the input that count, the newest first

@@ -26,23 +26,23 @@ returns-clause-line g c = begins_either c.put_error.result _ _ _ c.put_error.ens
 
 pub returns-clause-headline : goal.returns-clause-headline
 returns-clause-headline g c =
-    headline_of _ _ _ _ _ c.work-status.ensures.ran
+    headline_of c.one_answer.ensures _ _ _ _ _ c.work-status.ensures.ran
     c.reported.ensures c.wire_explains_fields.ensures c.once_in_part.ensures c.due_in_report.ensures c.ordered.ensures.order
 
 pub returns-clause-once : goal.returns-clause-once
 returns-clause-once g c =
-    once_of _ _ _ _ _ c.work-status.ensures.ran
-    (headline_of _ _ _ _ _ c.work-status.ensures.ran
+    once_of c.one_answer.ensures _ _ _ _ _ c.work-status.ensures.ran
+    (headline_of c.one_answer.ensures _ _ _ _ _ c.work-status.ensures.ran
     c.reported.ensures c.wire_explains_fields.ensures c.once_in_part.ensures c.due_in_report.ensures c.ordered.ensures.order)
 
 pub returns-clause-due : goal.returns-clause-due
 returns-clause-due g c =
-    due_of _ _ _ _ _ c.work-status.ensures.ran
-    (headline_of _ _ _ _ _ c.work-status.ensures.ran
+    due_of c.one_answer.ensures _ _ _ _ _ c.work-status.ensures.ran
+    (headline_of c.one_answer.ensures _ _ _ _ _ c.work-status.ensures.ran
     c.reported.ensures c.wire_explains_fields.ensures c.once_in_part.ensures c.due_in_report.ensures c.ordered.ensures.order)
 
 pub returns-clause-taken : goal.returns-clause-taken
-returns-clause-taken g c = taken_of _ _ _ _ _ c.work-status.ensures.ran
+returns-clause-taken g c = taken_of c.one_answer.ensures _ _ _ _ _ c.work-status.ensures.ran
 
 pub returns-clause-streamed : goal.returns-clause-streamed
-returns-clause-streamed g c = streamed_of _ _ _ _ _ c.work-status.ensures.ran
+returns-clause-streamed g c = streamed_of c.one_answer.ensures _ _ _ _ _ c.work-status.ensures.ran
