@@ -12,9 +12,8 @@ pub record HasAnswered {R : Type 0} (v : Voice R) (lines : List (List ℕ)) (bef
   pub answered : AreAnswered v 1 lines text
   pub written : after ≡ behind before (text ++ more)
 
--- However it ended: one read takes 65,536 bytes at most, and before it each line whose newline was
--- taken is answered, and the answer is written. So it is with the lines of each front of the bytes
--- that were taken, behind which more were taken.
+-- However it ended: of each front of the bytes that were taken, behind which more than 65,536 bytes
+-- were taken, the whole lines are answered, and the answers are written.
 pub record IsStreamed {R : Type 0} (v : Voice R) (left new before after : Option (List ℕ)) : Type 0 where
   pub taken : List ℕ
   pub rest : List ℕ

@@ -16,8 +16,8 @@ use cy_outside::{Sink, Source};
 use line_text::TextBuffer;
 use std::alloc::Global;
 
-/// Lets a listener answer the lines of an input, and writes what it says to each before the input
-/// is read again.
+/// Lets a listener answer the lines of an input, and writes what it says. However it ends, of each front
+/// of the bytes that were taken, behind which more than 65,536 bytes were taken, the answers are written.
 ///
 /// Lines end with a newline, which the last may lack; a newline at the end begins none. A line with
 /// more bytes than `bounds.line` is refused. Where the input has more than `bounds.all` bytes, the

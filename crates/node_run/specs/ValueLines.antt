@@ -70,7 +70,8 @@ pub record AnsweredUntil (answers : Answering) (message : Option Sch) (ended : L
 abbrev pub AreTaken : Answering → Option Sch → Flow → Type 0
 AreTaken answers message told = AnsweredUntil answers message end.ReadFault told
 
--- however it ended: before each read of the input all lines that were taken whole are answered, and the answers written
+-- however it ended: of each front of the bytes that were taken, behind which more than 65,536 bytes were taken, the whole
+-- lines are answered, and the answers are written
 abbrev pub AreStreamed : Answering → Option Sch → Flow → Type 0
 AreStreamed answers message told = (schema : Sch) → message ≡ Some schema
     → IsStreamed (values_voice answers schema) told.left told.new told.before told.after
