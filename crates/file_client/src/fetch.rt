@@ -92,8 +92,9 @@ impl Fetch {
 
     /// The bytes of the file so far.
     pub fn bytes(&self) -> &[u8]
-        ensures { (limit : ℕ) (past : List Event)
+        ensures file { (limit : ℕ) (past : List Event)
             → Stands limit past self.now → result.now ≡ (fetched limit past).file }
+        ensures few { length result.now < 2 ^ 32 }
     {
         &self.buffer.as_slice()[..self.count]
     }
