@@ -1,18 +1,17 @@
 //! What is written of a fetch: the payload of a request, and lines.
 ghost use Rattle.std.specs.Prelude.{◌≡◌, ◌≤◌, ◌<◌, ◌^◌, ◌++◌, ◌∷◌, [], IfOk, OnOk, decimal, length, take};
-ghost use Rattle.dsdl_types.specs.Views.{sch};
 ghost use Rattle.line_text.specs.Buffer.{text_of};
-ghost use Rattle.std_types.specs.Types.{schema_of};
-ghost use Rattle.std_types.specs.declared.std_name.StdName.TheVariants.{ReadRequest as read_request};
 ghost use Rattle.node_reach.specs.Fetched.{request_payload, ask_line, file_line, end_text};
 
-use cy_bits::{Bytes, NoMemory, TryCopy};
+use cy_bits::{Bytes, NoMemory};
+use dsdl_types::laws::readings_stored;
 use file_client::FetchOut;
 use line_text::TextBuffer;
+use serdes::laws::{extent_has_room, fits_or_misfit};
 use serdes::{WriteError, write_as};
 use std::alloc::Global;
 use std_types::file::ReadRequest;
-use std_types::{Standard, StdType};
+use std_types::{Standard, StdName, std_type};
 
 /// The most bytes that a request to read has, which is its extent.
 pub(crate) const MOST: usize = 300;
@@ -20,19 +19,21 @@ pub(crate) const MOST: usize = 300;
 /// Writes the payload of a request for the bytes of a file from an offset on, and answers its length.
 pub(crate) fn write_request(
     alloc: Global,
-    standard: &StdType,
     offset: u64,
-    path: &Bytes,
+    path: &[u8],
     out: &mut [u8; MOST],
 ) -> Result<usize, NoMemory>
-    requires schema { sch standard.now.schema ≡ schema_of read_request }
-    requires path { length path.now ≤ 255 }
+    requires { length path.now ≤ 255 }
     ensures size { IfOk result (λ size. size ≤ 300) }
     ensures payload { IfOk result (λ size. take size out.new ≡ request_payload offset path.now) }
 {
+    extent_has_room();
+    fits_or_misfit();
+    readings_stored();
+    let standard = std_type(alloc, StdName::ReadRequest)?;
     let request = ReadRequest {
         offset,
-        path: path.copy(alloc)?,
+        path: Bytes::from_slice(alloc, path)?,
     };
     let value = request.to_value(alloc)?;
     match write_as(alloc, &standard.schema, &value, out) {

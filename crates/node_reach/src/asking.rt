@@ -1,8 +1,5 @@
 //! A client of a file server and what it says.
-ghost use Rattle.std.specs.Prelude.{◌≡◌, ◌<◌};
-ghost use Rattle.dsdl_types.specs.Views.{sch};
-ghost use Rattle.std_types.specs.Types.{schema_of};
-ghost use Rattle.std_types.specs.declared.std_name.StdName.TheVariants.{ReadRequest as read_request};
+ghost use Rattle.node_reach.specs.Clients.{IsClient};
 
 use crate::ask::put_outcome;
 use crate::client::Client;
@@ -10,7 +7,6 @@ use cy_bits::NoMemory;
 use file_client::{Fetch, FetchEvent, FetchOut, fetch_laws};
 use line_text::TextBuffer;
 use std::alloc::Global;
-use std_types::{StdName, StdType, std_type};
 
 /// The most bytes that a file may have.
 const LIMIT: u32 = 0x10_0000;
@@ -26,13 +22,11 @@ pub struct Asking {
     pub client: Client,
     /// How far it is.
     pub fetch: Fetch,
-    /// The type of its requests.
-    request: StdType,
-    ghost typed: { sch request.schema ≡ schema_of read_request },
+    ghost fits: { IsClient client },
 }
 
 impl Asking {
-    ghost use Rattle.std.specs.Prelude.{◌++◌, ◌∷◌, ◌-◌, ◌^◌, [], List, IfOk, OnOk, is_some};
+    ghost use Rattle.std.specs.Prelude.{◌≡◌, ◌<◌, ◌++◌, ◌∷◌, ◌-◌, ◌^◌, [], List, IfOk, OnOk, is_some};
     ghost use Rattle.file_client.specs.Fetch.{Event};
     ghost use Rattle.file_client.specs.Laws.{end_after};
     ghost use Rattle.file_client.specs.Stands.{event_of, IsShort};
@@ -43,16 +37,15 @@ impl Asking {
 
     /// To such a client no event came yet.
     pub(crate) fn new(alloc: Global, client: Client) -> Result<Asking, NoMemory>
+        requires { IsClient client }
         ensures client { IfOk result (λ it. it.client ≡ client) }
         ensures asked { IfOk result (λ it. HasAsked [] it) }
     {
         let fetch = Fetch::open(alloc, LIMIT)?;
-        let request = std_type(alloc, StdName::ReadRequest)?;
         Ok(Asking {
             alloc,
             client,
             fetch,
-            request,
         })
     }
 
@@ -77,7 +70,7 @@ impl Asking {
             ≡ text_of gathered.old ++ request_text self.now.client moment tid offset) }
     {
         self.client
-            .put_request(self.alloc, &self.request, moment, tid, offset, gathered)
+            .put_request(self.alloc, moment, tid, offset, gathered)
     }
 
     /// Takes an event, and gathers what is said on it.
@@ -110,7 +103,7 @@ impl Asking {
         last: u64,
         gathered: &mut TextBuffer,
     ) -> Result<(), NoMemory>
-        requires { tick_moment first last < 2 ^ 64 }
+        requires { tick < last → tick_moment first last < 2 ^ 64 }
         ensures client { self.new.client ≡ self.old.client }
         ensures asked { OnOk result ((past : List Event) → HasAsked past self.old
             → HasAsked (lates (last - tick) past) self.new) }

@@ -1,12 +1,9 @@
-ghost use Rattle.std.specs.Prelude.{◌≢◌, ◌≤◌, length};
-
 use crate::ask::{MOST, put_ask, write_request};
 use crate::lines::{Outgoing, put_transfer};
 use can_id::{Ident, make};
 use cy_bits::{Bytes, NoMemory};
 use line_text::TextBuffer;
 use std::alloc::Global;
-use std_types::StdType;
 
 /// The service `uavcan.file.Read`.
 const READ: u16 = 408;
@@ -20,37 +17,30 @@ pub struct Client {
     pub server: u8,
     /// The path of the file on the server, of at most 255 bytes.
     pub path: Bytes,
-    ghost here: { own ≤ 127 },
-    ghost there: { server ≤ 127 },
-    ghost apart: { server ≢ own },
-    ghost short: { length path ≤ 255 },
 }
 
 impl Client {
     ghost use Rattle.std.specs.Prelude.{◌≡◌, ◌<◌, ◌++◌, OnOk};
-    ghost use Rattle.dsdl_types.specs.Views.{sch};
     ghost use Rattle.line_text.specs.Buffer.{text_of};
-    ghost use Rattle.std_types.specs.Types.{schema_of};
-    ghost use Rattle.std_types.specs.declared.std_name.StdName.TheVariants.{ReadRequest as read_request};
+    ghost use Rattle.node_reach.specs.Clients.{IsClient};
     ghost use Rattle.node_reach.specs.Fetched.{request_text};
 
     /// Gathers the line of a request for the bytes from an offset on, and the lines of its frames.
     pub(crate) fn put_request(
         &self,
         alloc: Global,
-        standard: &StdType,
         moment: u64,
         tid: u8,
         offset: u64,
         gathered: &mut TextBuffer,
     ) -> Result<(), NoMemory>
+        requires client { IsClient self.now }
         requires tid { tid < 32 }
-        requires schema { sch standard.now.schema ≡ schema_of read_request }
         ensures { OnOk result (text_of gathered.new
             ≡ text_of gathered.old ++ request_text self.now moment tid offset) }
     {
         let mut payload = [0; MOST];
-        let size = write_request(alloc, standard, offset, &self.path, &mut payload)?;
+        let size = write_request(alloc, offset, self.path.as_slice(), &mut payload)?;
         put_ask(gathered, moment, tid, offset)?;
         let ident = make(Ident::Service {
             priority: 4,

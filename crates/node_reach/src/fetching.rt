@@ -3,6 +3,7 @@ use crate::asking::{Asking, SECOND};
 use crate::client::Client;
 use crate::responses::Responses;
 use cy_bits::NoMemory;
+use file_client::fetch_laws;
 use line_text::TextBuffer;
 use log_loop::Listener;
 use std::alloc::Global;
@@ -22,14 +23,16 @@ pub struct Fetching {
 }
 
 impl Fetching {
-    ghost use Rattle.std.specs.Prelude.{◌≡◌, ◌++◌, ◌∷◌, [], List, IfOk, OnOk};
+    ghost use Rattle.std.specs.Prelude.{◌≡◌, ◌<◌, ◌^◌, ◌++◌, ◌∷◌, [], List, IfOk, OnOk};
     ghost use Rattle.line_text.specs.Buffer.{text_of};
     ghost use Rattle.tail_frame.specs.declared.logged.Record.{Record as RecordOf};
+    ghost use Rattle.node_reach.specs.Clients.{IsClient};
     ghost use Rattle.node_reach.specs.Fetched.{ticks_text, events, events_before};
     ghost use Rattle.node_reach.specs.Fetches.{HasAsked, HasTicked, Fetches};
 
     /// A client that heard nothing yet.
     pub(crate) fn new(alloc: Global, client: Client) -> Result<Fetching, NoMemory>
+        requires { IsClient client }
         ensures client { IfOk result (λ it. it.asking.client ≡ client) }
         ensures fetches { IfOk result (λ it. Fetches client it []) }
         ensures latest { IfOk result (λ it. it.responses.ear.latest ≡ 0) }
@@ -46,6 +49,7 @@ impl Fetching {
 
     /// Goes through the ticks before a record. Tick 0 is at the first record, and request 0 is made.
     fn wait(&mut self, rec: &Record, gathered: &mut TextBuffer) -> Result<(), NoMemory>
+        requires { rec.now.moment < 10 ^ 18 }
         ensures client { self.new.asking.client ≡ self.old.asking.client }
         ensures responses { self.new.responses ≡ self.old.responses }
         ensures ticks { OnOk result ((past : List RecordOf) → HasTicked self.old past
@@ -85,6 +89,7 @@ impl Listener for Fetching {
     ghost line = { λ now. 0 };
 
     fn hear(&mut self, rec: &Record, gathered: &mut TextBuffer) -> Result<(), NoMemory> {
+        fetch_laws();
         if self.asking.has_ended() {
             return Ok(());
         }

@@ -13,6 +13,7 @@ use crate::client::Client;
 use crate::fetching::Fetching;
 use cy_bits::Bytes;
 use cy_outside::{Sink, Source};
+use file_client::fetch_laws;
 use log_loop::{Ended, listen};
 use std::alloc::Global;
 
@@ -46,6 +47,7 @@ pub fn fetch<L: Source, O: Sink>(
     ensures kept { result ≡ Ended.Ok
         → (L.faults input.new ≡ L.faults input.old) × (O.faults out.new ≡ O.faults out.old) }
 {
+    fetch_laws();
     let Ok(path) = Bytes::from_slice(alloc, path) else {
         return Ended::NoMemory;
     };

@@ -1,18 +1,16 @@
 //! The responses of a file server that a node hears.
-ghost use Rattle.std.specs.Prelude.{◌≡◌, ◌≤◌, length};
-ghost use Rattle.dsdl_types.specs.Views.{sch};
-ghost use Rattle.std_types.specs.Types.{schema_of};
-ghost use Rattle.std_types.specs.declared.std_name.StdName.TheVariants.{ReadReply as read_reply};
+ghost use Rattle.std.specs.Prelude.{◌≤◌, length};
 
 use crate::ear::Ear;
 use crate::payload::reading;
 use crate::transfer::Transfer;
 use can_id::Kind;
 use cy_bits::NoMemory;
+use dsdl_types::laws::{readings_stored, rules_suffice};
 use file_client::FetchEvent;
 use std::alloc::Global;
 use std_types::file::ReadReply;
-use std_types::{Standard, StdName, StdType, std_type};
+use std_types::{Standard, StdName, std_type};
 use tail_frame::Record;
 
 /// A response to a request to read.
@@ -31,9 +29,6 @@ pub struct Responses {
     alloc: Global,
     /// The node.
     pub ear: Ear,
-    /// The type of the responses.
-    standard: StdType,
-    ghost typed: { sch standard.schema ≡ schema_of read_reply },
 }
 
 /// The silence of a bus, in microseconds, after which another takes over.
@@ -43,6 +38,7 @@ const TIMEOUT: u64 = 2_000_000;
 const READ: u16 = 408;
 
 impl Response {
+    ghost use Rattle.std.specs.Prelude.{◌≡◌};
     ghost use Rattle.file_client.specs.Stands.{event_of, IsShort};
     ghost use Rattle.node_reach.specs.Fetches.{event_in};
 
@@ -60,7 +56,7 @@ impl Response {
 }
 
 impl Responses {
-    ghost use Rattle.std.specs.Prelude.{◌∷◌, [], List, IfOk, OnOk, option_map};
+    ghost use Rattle.std.specs.Prelude.{◌≡◌, ◌∷◌, [], ℕ, List, IfOk, OnOk, option_map};
     ghost use Rattle.tail_frame.specs.declared.logged.Record.{Record as RecordOf};
     ghost use Rattle.node_reach.specs.Ears.{Hears};
     ghost use Rattle.node_reach.specs.Fetched.{file_ears, reply_of, reply_at};
@@ -74,12 +70,7 @@ impl Responses {
     {
         let mut ear = Ear::new(alloc, own, TIMEOUT)?;
         ear.subscribe(alloc, Kind::Response, READ, StdName::ReadReply)?;
-        let standard = std_type(alloc, StdName::ReadReply)?;
-        Ok(Responses {
-            alloc,
-            ear,
-            standard,
-        })
+        Ok(Responses { alloc, ear })
     }
 
     /// Takes the next record of a log, at a moment not before the last one, and answers the response of a server that
@@ -108,7 +99,10 @@ impl Responses {
         ensures { let t = transfer.entry in IfOk result (λ response.
             option_map event_in response ≡ reply_of t.tid t.payload.now) }
     {
-        let Some(value) = reading(self.alloc, &self.standard, transfer.payload)? else {
+        rules_suffice();
+        readings_stored();
+        let standard = std_type(self.alloc, StdName::ReadReply)?;
+        let Some(value) = reading(self.alloc, &standard, transfer.payload)? else {
             return Ok(None);
         };
         let reply = ReadReply::of_value(self.alloc, &value)?;
