@@ -1,5 +1,5 @@
 -- One more record for a client that waits.
-use Rattle.std.proofs.Common.{◌≡◌, ◌∙◌, ℕ, List, [], ◌∷◌, ◌++◌, Option, Some, None, append_assoc, append-nil, sym, ap, subst}
+use Rattle.std.proofs.Common.{◌≡◌, ◌∙◌, ℕ, List, ◌∷◌, ◌++◌, Option, Some, None, append_assoc, append-nil, sym, ap, subst}
 use Rattle.tail_frame.specs.declared.logged.Record.{Record}
 use Rattle.file_client.specs.Fetch.{Event}
 use Rattle.node_reach.specs.Ears.{Hears}

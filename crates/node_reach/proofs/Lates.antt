@@ -5,7 +5,7 @@ use Rattle.file_client.specs.Fetch.{Event, late, State, step_after, fetched, ans
 use Rattle.file_client.specs.Laws.{FetchLaws, end_after, end_of}
 use Rattle.file_client.specs.declared.event.FetchOut.{FetchOut}
 use Rattle.file_client.specs.declared.event.FetchOut.TheVariants.{Ask, Wait, Done, Refused, GaveUp, TooLong}
-use Rattle.node_reach.specs.Fetched.{file_limit, lates, with_reply, reply_at, events, events_before, answer_text, event_text, lates_text, ticks_text, reply_text, step_text}
+use Rattle.node_reach.specs.Fetched.{file_limit, lates, with_reply, reply_at, events, answer_text, event_text, lates_text, ticks_text, reply_text, step_text}
 use Rattle.node_reach.specs.Ticks.{first_moment, tick_moment, last_tick, ticks_before}
 use Rattle.node_reach.specs.declared.client.Client.{Client}
 

@@ -15,7 +15,6 @@ use Rattle.std_types.specs.FileLaws.{read_reply_forth}
 use Rattle.std_types.specs.Files.{read_reply_of}
 use Rattle.std_types.specs.Types.{schema_of}
 use Rattle.std_types.specs.declared.std_name.StdName.TheVariants.{ReadReply as read_reply}
-use Rattle.file_client.specs.Fetch.{Event}
 use Rattle.node_reach.specs.Fetched.{reply_of, reply_in}
 use Rattle.node_reach.specs.Readings.{value_in, reading}
 use Rattle.node_reach.specs.Transfers.{Transfer}

@@ -1,5 +1,5 @@
 -- A client that hears a log.
-use Rattle.std.specs.Prelude.{◌≡◌, ℕ, List, None}
+use Rattle.std.specs.Prelude.{◌≡◌, List, None}
 use Rattle.file_client.specs.Fetch.{Event}
 use Rattle.file_client.specs.Laws.{end_after}
 use Rattle.file_client.specs.Stands.{Stands}

@@ -1,9 +1,9 @@
-use Rattle.std.proofs.Common.{◌≡◌, ◌∙◌, ℕ, ◌*◌, ◌-◌, ◌^◌, ◌<◌, ◌≤◌, List, ◌++◌, Err, Some, None, Fits, w8, length, get_or, take, replicate, sym, ap, subst, refl, arith}
+use Rattle.std.proofs.Common.{◌≡◌, ◌∙◌, ℕ, ◌-◌, ◌^◌, ◌<◌, ◌≤◌, List, ◌++◌, Err, Some, None, Fits, w8, length, get_or, take, replicate, sym, ap, subst, refl, arith}
 use Rattle.std.specs.List.{All}
 use Rattle.std.proofs.Math.Seq.{take-append_seam}
 use Rattle.std.proofs.lemmas.List.Elements.{All-from_get_or}
 use Rattle.dsdl_types.specs.Greatest.{longest}
-use Rattle.dsdl_types.specs.Laws.{encoding, with_zeros}
+use Rattle.dsdl_types.specs.Laws.{encoding}
 use Rattle.dsdl_types.specs.Schemas.{Sch, extent_of}
 use Rattle.dsdl_types.specs.Stored.{IsStored}
 use Rattle.dsdl_types.specs.Values.{Val}

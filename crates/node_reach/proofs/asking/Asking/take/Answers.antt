@@ -1,7 +1,6 @@
 use Rattle.std.proofs.Common.{◌≡◌, ◌∙◌, ℕ, List, [], ◌++◌, append-nil, refl, sym, ap}
 use Rattle.line_text.specs.Buffer.{text_of}
-use Rattle.file_client.specs.Stands.{event_of}
-use Rattle.node_reach.specs.Fetched.{file_limit, answer_text, event_text}
+use Rattle.node_reach.specs.Fetched.{file_limit, answer_text}
 use Rattle.node_reach.proofs.Lates.{said_nothing}
 use Rattle.node_reach.proofs.asking.Asking.take.Goals as goal
 

@@ -1,4 +1,4 @@
-use Rattle.std.proofs.Common.{◌≡◌, ◌∙◌, ℕ, suc, ◌+◌, ◌-◌, List, ◌++◌, append_assoc, add-one, refl, sym, ap, subst, arith}
+use Rattle.std.proofs.Common.{◌≡◌, ◌∙◌, ℕ, ◌+◌, ◌-◌, List, ◌++◌, append_assoc, add-one, sym, ap, subst, arith}
 use Rattle.line_text.specs.Buffer.{text_of}
 use Rattle.file_client.specs.Fetch.{late, State, fetched}
 use Rattle.file_client.specs.Laws.{end_after}

@@ -1,6 +1,5 @@
-use Rattle.std.proofs.Common.{◌≡◌, ◌∙◌, ℕ, List, ◌∷◌, ◌++◌, Option, Some, None, option_map, append-nil, sym, ap, subst}
+use Rattle.std.proofs.Common.{◌≡◌, ◌∙◌, ℕ, List, ◌∷◌, ◌++◌, Some, None, option_map, append-nil, sym, ap, subst}
 use Rattle.line_text.specs.Buffer.{text_of}
-use Rattle.tail_frame.specs.declared.logged.Record.{Record}
 use Rattle.file_client.specs.Fetch.{Event, State}
 use Rattle.file_client.specs.Laws.{end_after}
 use Rattle.file_client.specs.Stands.{Keeps, event_of}
@@ -45,11 +44,11 @@ returns-in-None-clause-heard c = λ first past h.
       tick = c.wait.new.self.tick;
     } in
     let next : Fetches a now past → Fetches a new (rec ∷ past) = λ k.
-        let waits = k.waits (not_ended (end_after file_limit (events a past)) (c.if-has_ended.ensures (events a past) k.asked)) in
-        let ear = subst (λ (r : Responses). Hears (file_ears a.own) r.ear past) (sym c.wait.ensures.responses) waits.hears in
-        let ticked = (c.in_ok-wait.ensures {u = tt}).ticks past waits.ticked in
-        let is = reply_is a c.wait.new.self.asking.client rec past _ None c.wait.ensures.client ((c.in_ok-response.ensures {u = tt}).reply a.own past ear) (ap (option_map event_in) c.in-None.is) in
-        fetches_next a rec past None is new c.wait.ensures.client ((c.in_ok-wait.ensures {u = tt}).asked past waits.ticked k.asked) (record { first = ticked.first; tick = ticked.tick }) ((c.in_ok-response.ensures {u = tt}).hears a.own past ear) in
+    let waits = k.waits (not_ended (end_after file_limit (events a past)) (c.if-has_ended.ensures (events a past) k.asked)) in
+    let ear = subst (λ (r : Responses). Hears (file_ears a.own) r.ear past) (sym c.wait.ensures.responses) waits.hears in
+    let ticked = (c.in_ok-wait.ensures {u = tt}).ticks past waits.ticked in
+    let is = reply_is a c.wait.new.self.asking.client rec past _ None c.wait.ensures.client ((c.in_ok-response.ensures {u = tt}).reply a.own past ear) (ap (option_map event_in) c.in-None.is) in
+    fetches_next a rec past None is new c.wait.ensures.client ((c.in_ok-wait.ensures {u = tt}).asked past waits.ticked k.asked) (record { first = ticked.first; tick = ticked.tick }) ((c.in_ok-response.ensures {u = tt}).hears a.own past ear) in
     subst (λ (b : Client). Fetches b now past → Fetches b new (rec ∷ past)) h.same next h
 
 pub returns-in-None-clause-text : goal.returns-in-None-clause-text
@@ -60,10 +59,10 @@ returns-in-None-clause-text c = λ first past h.
     let old = text_of c.args.gathered.now in
     let new = text_of c.wait.new.gathered in
     let next : Fetches a now past → new ≡ old ++ step_text a rec past = λ k.
-        let waits = k.waits (not_ended (end_after file_limit (events a past)) (c.if-has_ended.ensures (events a past) k.asked)) in
-        let ear = subst (λ (r : Responses). Hears (file_ears a.own) r.ear past) (sym c.wait.ensures.responses) waits.hears in
-        let is = reply_is a c.wait.new.self.asking.client rec past _ None c.wait.ensures.client ((c.in_ok-response.ensures {u = tt}).reply a.own past ear) (ap (option_map event_in) c.in-None.is) in
-        said_none a rec past old new is ((c.in_ok-wait.ensures {u = tt}).text past waits.ticked k.asked) in
+    let waits = k.waits (not_ended (end_after file_limit (events a past)) (c.if-has_ended.ensures (events a past) k.asked)) in
+    let ear = subst (λ (r : Responses). Hears (file_ears a.own) r.ear past) (sym c.wait.ensures.responses) waits.hears in
+    let is = reply_is a c.wait.new.self.asking.client rec past _ None c.wait.ensures.client ((c.in_ok-response.ensures {u = tt}).reply a.own past ear) (ap (option_map event_in) c.in-None.is) in
+    said_none a rec past old new is ((c.in_ok-wait.ensures {u = tt}).text past waits.ticked k.asked) in
     subst (λ (b : Client). Fetches b now past → new ≡ old ++ step_text b rec past) h.same next h
 
 pub returns-in-Some-clause-heard : goal.returns-in-Some-clause-heard
@@ -78,17 +77,17 @@ returns-in-Some-clause-heard c = on_ok _ _ c.take.result (λ taken first past h.
       tick = c.wait.new.self.tick;
     } in
     let next : Fetches a now past → Fetches a new (rec ∷ past) = λ k.
-        let before = events_before a rec past in
-        let waits = k.waits (not_ended (end_after file_limit (events a past)) (c.if-has_ended.ensures (events a past) k.asked)) in
-        let ear = subst (λ (r : Responses). Hears (file_ears a.own) r.ear past) (sym c.wait.ensures.responses) waits.hears in
-        let ticked = (c.in_ok-wait.ensures {u = tt}).ticks past waits.ticked in
-        let e = event_in c.in-Some.response in
-        let is = reply_is a c.wait.new.self.asking.client rec past _ (Some e) c.wait.ensures.client ((c.in_ok-response.ensures {u = tt}).reply a.own past ear) (ap (option_map event_in) c.in-Some.is) in
-        let asked = taken before ((c.in_ok-wait.ensures {u = tt}).asked past waits.ticked k.asked) in
-        fetches_next a rec past (Some e) is new (c.take.ensures.client ∙ c.wait.ensures.client)
-        (subst (λ (f : Event). HasAsked (f ∷ before) c.take.new.self) c.event.ensures.event asked)
-        (record { first = ticked.first; tick = ticked.tick })
-        ((c.in_ok-response.ensures {u = tt}).hears a.own past ear) in
+    let before = events_before a rec past in
+    let waits = k.waits (not_ended (end_after file_limit (events a past)) (c.if-has_ended.ensures (events a past) k.asked)) in
+    let ear = subst (λ (r : Responses). Hears (file_ears a.own) r.ear past) (sym c.wait.ensures.responses) waits.hears in
+    let ticked = (c.in_ok-wait.ensures {u = tt}).ticks past waits.ticked in
+    let e = event_in c.in-Some.response in
+    let is = reply_is a c.wait.new.self.asking.client rec past _ (Some e) c.wait.ensures.client ((c.in_ok-response.ensures {u = tt}).reply a.own past ear) (ap (option_map event_in) c.in-Some.is) in
+    let asked = taken before ((c.in_ok-wait.ensures {u = tt}).asked past waits.ticked k.asked) in
+    fetches_next a rec past (Some e) is new (c.take.ensures.client ∙ c.wait.ensures.client)
+    (subst (λ (f : Event). HasAsked (f ∷ before) c.take.new.self) c.event.ensures.event asked)
+    (record { first = ticked.first; tick = ticked.tick })
+    ((c.in_ok-response.ensures {u = tt}).hears a.own past ear) in
     subst (λ (b : Client). Fetches b now past → Fetches b new (rec ∷ past)) h.same next h) c.take.ensures.asked
 
 pub returns-in-Some-clause-text : goal.returns-in-Some-clause-text
@@ -99,12 +98,12 @@ returns-in-Some-clause-text c = on_ok _ _ c.take.result (λ taken first past h.
     let old = text_of c.args.gathered.now in
     let new = text_of c.take.new.gathered in
     let next : Fetches a now past → new ≡ old ++ step_text a rec past = λ k.
-        let before = events_before a rec past in
-        let waits = k.waits (not_ended (end_after file_limit (events a past)) (c.if-has_ended.ensures (events a past) k.asked)) in
-        let ear = subst (λ (r : Responses). Hears (file_ears a.own) r.ear past) (sym c.wait.ensures.responses) waits.hears in
-        let e = event_in c.in-Some.response in
-        let is = reply_is a c.wait.new.self.asking.client rec past _ (Some e) c.wait.ensures.client ((c.in_ok-response.ensures {u = tt}).reply a.own past ear) (ap (option_map event_in) c.in-Some.is) in
-        said_some a c.wait.new.self.asking.client rec past old (text_of c.wait.new.gathered) new e (event_of c.event.result) c.wait.ensures.client c.event.ensures.event is
-        ((c.in_ok-wait.ensures {u = tt}).text past waits.ticked k.asked)
-        (taken before ((c.in_ok-wait.ensures {u = tt}).asked past waits.ticked k.asked)) in
+    let before = events_before a rec past in
+    let waits = k.waits (not_ended (end_after file_limit (events a past)) (c.if-has_ended.ensures (events a past) k.asked)) in
+    let ear = subst (λ (r : Responses). Hears (file_ears a.own) r.ear past) (sym c.wait.ensures.responses) waits.hears in
+    let e = event_in c.in-Some.response in
+    let is = reply_is a c.wait.new.self.asking.client rec past _ (Some e) c.wait.ensures.client ((c.in_ok-response.ensures {u = tt}).reply a.own past ear) (ap (option_map event_in) c.in-Some.is) in
+    said_some a c.wait.new.self.asking.client rec past old (text_of c.wait.new.gathered) new e (event_of c.event.result) c.wait.ensures.client c.event.ensures.event is
+    ((c.in_ok-wait.ensures {u = tt}).text past waits.ticked k.asked)
+    (taken before ((c.in_ok-wait.ensures {u = tt}).asked past waits.ticked k.asked)) in
     subst (λ (b : Client). Fetches b now past → new ≡ old ++ step_text b rec past) h.same next h) c.take.ensures.text
