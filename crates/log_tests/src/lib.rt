@@ -11,4 +11,6 @@ mod outside_tests;
 #[cfg(test)]
 mod plan_tests;
 #[cfg(test)]
+mod plan_types;
+#[cfg(test)]
 mod text_tests;

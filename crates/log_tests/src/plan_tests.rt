@@ -1,6 +1,8 @@
 //! Plans that are read, and plans that are refused.
-use node_plan::{MAX_TEXT, PlanError, PlanWhy, bound, read_plan};
+use crate::plan_types::{demo_types, no_types};
+use node_plan::{MAX_TEXT, PlanError, PlanWhy, SubShape, bound, read_plan};
 use std::alloc::{AllocError, Global};
+use std::test::Fail;
 
 const HEAD: &[u8] = b"plan 1\nnode 10\nbus can0\nbus can1\nsilent\n";
 
@@ -11,7 +13,7 @@ fn text_of(alloc: Global, rest: &[u8]) -> Result<Vec<u8>, AllocError> {
     Ok(text)
 }
 
-/// Plans that are refused, with the line and the reason.
+/// Plans that are refused without types, with the line and the reason.
 const REFUSED: [(&[u8], u32, PlanWhy); 33] = [
     (b"", 1, PlanWhy::Line),
     (b"# nothing\n\n", 3, PlanWhy::Line),
@@ -56,10 +58,41 @@ const REFUSED: [(&[u8], u32, PlanWhy); 33] = [
     ),
 ];
 
+/// Subscriptions that are refused in the namespace of the tests, with the line and the reason.
+const REFUSED_TYPES: [(&[u8], u32, PlanWhy); 14] = [
+    (b"sub 100 2 demo.Small.1.2\n", 6, PlanWhy::UnknownType),
+    (b"sub 100 2 demo.Small\n", 6, PlanWhy::UnknownType),
+    (b"sub 100 2 demo.small.1.0\n", 6, PlanWhy::UnknownType),
+    (b"sub 100 2 demo.Ask.1.0\n", 6, PlanWhy::UnknownType),
+    (b"sub 100 2 demo.Ask.1.0.Request\n", 6, PlanWhy::UnknownType),
+    (b"sub 100 2 \xff\n", 6, PlanWhy::UnknownType),
+    (b"sub 100 x demo.Small.1.0\n", 6, PlanWhy::Line),
+    (b"sub 8192 1 demo.Small.1.0\n", 6, PlanWhy::Range),
+    (b"sub 8192 1 demo.Ask.1.0\n", 6, PlanWhy::Range),
+    (b"sub 100 2 demo.Long.1.0\n", 6, PlanWhy::Range),
+    (
+        b"sub 9 2 demo.Small.1.0\nsub 9 2 demo.Small.1.1\n",
+        7,
+        PlanWhy::Repeated,
+    ),
+    (
+        b"sub 9 2 demo.Small.1.0\nsub 9 2 demo.Small.1.2\n",
+        7,
+        PlanWhy::Repeated,
+    ),
+    (
+        b"sub 9 2 raw 4\nsub 9 2 demo.Long.1.0\n",
+        7,
+        PlanWhy::Repeated,
+    ),
+    (b"sub 9 2 demo.Long.1.0\nsub 9 2 raw 4\n", 6, PlanWhy::Range),
+];
+
 #[test]
 fn the_first_refused_line(rt: HostRuntime) {
+    let names = no_types(rt.alloc());
     for (text, n, why) in REFUSED {
-        match read_plan(rt.alloc(), text) {
+        match read_plan(rt.alloc(), text, &names) {
             Ok(_) => panic!(rt; "line {n} isn't refused"),
             Err(error) => assert_eq!(rt; error, PlanError::Refused { n, why }),
         }
@@ -67,7 +100,41 @@ fn the_first_refused_line(rt: HostRuntime) {
 }
 
 #[test]
+fn types_that_are_refused(rt: HostRuntime) -> Result<(), Fail> {
+    let names = demo_types(rt.alloc())?;
+    for (rest, n, why) in REFUSED_TYPES {
+        let text = text_of(rt.alloc(), rest)?;
+        match read_plan(rt.alloc(), text.as_slice(), &names) {
+            Ok(_) => panic!(rt; "line {n} isn't refused"),
+            Err(error) => assert_eq!(rt; error, PlanError::Refused { n, why }),
+        }
+    }
+    Ok(())
+}
+
+#[test]
+fn types_that_are_read(rt: HostRuntime) -> Result<(), Fail> {
+    let names = demo_types(rt.alloc())?;
+    let rest = b"sub 7509 4 demo.Small.1.1\nsub 100 2 demo.Great.1.0\nsub 7 1 raw 3\n";
+    let text = text_of(rt.alloc(), rest)?;
+    let plan = read_plan(rt.alloc(), text.as_slice(), &names)?;
+    assert_eq!(rt; bound(&plan), 131_203);
+    let [small, great, raw] = plan.subs.as_slice() else {
+        panic!(rt; "there are {} subscriptions", plan.subs.len());
+    };
+    let SubShape::Named { id, .. } = &small.shape else {
+        panic!(rt; "a type is read as bytes");
+    };
+    assert!(rt; id.name.as_bytes() == b"demo.Small".as_slice());
+    assert_eq!(rt; (id.major, id.minor), (1, 1));
+    assert_eq!(rt; great.shape.extent(), 65_536);
+    assert!(rt; matches!(raw.shape, SubShape::Raw(3)));
+    Ok(())
+}
+
+#[test]
 fn plans_that_are_read(rt: HostRuntime) -> Result<(), AllocError> {
+    let names = no_types(rt.alloc());
     for (rest, timeout, most) in [
         (b"sub 7509 4 raw 12".as_slice(), 2_000_000, 48),
         (b"sub 100 2 raw 64\n".as_slice(), 2_000_000, 128),
@@ -79,7 +146,7 @@ fn plans_that_are_read(rt: HostRuntime) -> Result<(), AllocError> {
         ),
     ] {
         let text = text_of(rt.alloc(), rest)?;
-        match read_plan(rt.alloc(), text.as_slice()) {
+        match read_plan(rt.alloc(), text.as_slice(), &names) {
             Err(error) => panic!(rt; "{error:?}"),
             Ok(plan) => {
                 assert_eq!(rt; plan.node, 10);
@@ -94,13 +161,14 @@ fn plans_that_are_read(rt: HostRuntime) -> Result<(), AllocError> {
 
 #[test]
 fn no_more_than_64_subscriptions(rt: HostRuntime) -> Result<(), AllocError> {
+    let names = no_types(rt.alloc());
     let mut text = text_of(rt.alloc(), b"")?;
     for port in 0..65 {
-        assert!(rt; port == 0 || read_plan(rt.alloc(), text.as_slice()).is_ok());
+        assert!(rt; port == 0 || read_plan(rt.alloc(), text.as_slice(), &names).is_ok());
         let line = format!(in rt.alloc(); "sub {port} 1 raw 8\n")?;
         text.extend_from_slice(line.as_bytes())?;
     }
-    let refused = read_plan(rt.alloc(), text.as_slice()).err();
+    let refused = read_plan(rt.alloc(), text.as_slice(), &names).err();
     assert_eq!(rt;
         refused,
         Some(PlanError::Refused {
@@ -113,10 +181,11 @@ fn no_more_than_64_subscriptions(rt: HostRuntime) -> Result<(), AllocError> {
 
 #[test]
 fn no_more_than_a_mebibyte(rt: HostRuntime) -> Result<(), AllocError> {
+    let names = no_types(rt.alloc());
     let comment = vec![in rt.alloc(); b'#'; MAX_TEXT + 1]?;
     for (len, n) in [(MAX_TEXT, 2), (MAX_TEXT + 1, 1)] {
         assert!(rt; len <= comment.len());
-        let refused = read_plan(rt.alloc(), &comment[..len]).err();
+        let refused = read_plan(rt.alloc(), &comment[..len], &names).err();
         assert_eq!(rt;
             refused,
             Some(PlanError::Refused {

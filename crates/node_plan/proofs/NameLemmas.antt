@@ -10,15 +10,19 @@ use Rattle.std.proofs.lemmas.List.Sums.{AllPass-from_list_all}
 use Rattle.std.proofs.lemmas.Str.{IsUtf8-from_ascii}
 use Rattle.node_plan.specs.Names.{is_name_byte}
 
+-- bytes that pass such a test are a text
+pub IsUtf8-from_bytes : (p : ℕ → Bool) → ((b : ℕ) → p b ≡ true → b < 128) → (s : List ℕ) → list_all p s ≡ true → IsUtf8 s
+IsUtf8-from_bytes p low s h = IsUtf8-from_ascii s (λ i. ⊎_elim
+    (λ (within : i < length s). low (get_or s i 0) (AllPass-from_list_all p s h i 0 within))
+    (λ (past : length s ≤ i). subst (λ n. n < 128) (sym (get_or_past s i 0 past)) (omega arith))
+    (cases_lt i (length s)))
+
 is_name_byte-ascii : (b : ℕ) → is_name_byte b ≡ true → b < 128
 is_name_byte-ascii b h = grind (arith, nat_tests)
 
 -- a name's bytes are a text
 pub IsUtf8-from_name : (name : List ℕ) → list_all is_name_byte name ≡ true → IsUtf8 name
-IsUtf8-from_name name h = IsUtf8-from_ascii name (λ i. ⊎_elim
-    (λ (within : i < length name). is_name_byte-ascii (get_or name i 0) (AllPass-from_list_all is_name_byte name h i 0 within))
-    (λ (past : length name ≤ i). subst (λ n. n < 128) (sym (get_or_past name i 0 past)) (omega arith))
-    (cases_lt i (length name)))
+IsUtf8-from_name name h = IsUtf8-from_bytes is_name_byte is_name_byte-ascii name h
 
 pub differ : (b : Bool) → b ≡ true → b ≡ false → ⊥
 differ b t f = cc

@@ -3,6 +3,7 @@ use Rattle.std.proofs.Common.{◌≡◌, ◌∙◌, ◌+◌, ℕ, List, [], ◌�
 use Rattle.std.specs.Prelude.{Result, Ok, Err, IfOk, IsErrAnd, if◌then◌else◌, nat_lt}
 use Rattle.std.proofs.lemmas.Bool.Decides.{nat_tests}
 use Rattle.std.proofs.lemmas.Grind.{common_steps}
+use Rattle.dsdl_types.specs.declared.namespace.Namespace.{Namespace}
 use Rattle.node_plan.specs.declared.draft.Draft.{Draft}
 use Rattle.node_plan.specs.declared.line.Said.{Said}
 use Rattle.node_plan.specs.declared.plan.Plan.{Plan}
@@ -17,26 +18,26 @@ use Rattle.node_plan.specs.Plan.{PlanIs, Good, Bad, followed, long_line, last_li
 use Rattle.node_plan.proofs.PartsLemmas.{with_front, with_front-none}
 
 -- a line and then others
-plan_of_parts-line : (last : Draft → ℕ → List ℕ → PlanIs) (d : Draft) (n : ℕ) (line s : List ℕ)
-    → plan_of_parts last d n (line ∷ parts_of 10 s) ≡ followed (step d (said_of line)) n (λ new. plan_of_parts last new (n + 1) (parts_of 10 s))
-plan_of_parts-line last d n line s = of_parts (parts_of 10 s) (with_front-none 10 s)
+plan_of_parts-line : (names : Namespace) (last : Draft → ℕ → List ℕ → PlanIs) (d : Draft) (n : ℕ) (line s : List ℕ)
+    → plan_of_parts names last d n (line ∷ parts_of 10 s) ≡ followed (step d (said_of names line)) n (λ new. plan_of_parts names last new (n + 1) (parts_of 10 s))
+plan_of_parts-line names last d n line s = of_parts (parts_of 10 s) (with_front-none 10 s)
   where
     of_parts : (ps : List (List ℕ)) → ps ≡ with_front [] ps
-        → plan_of_parts last d n (line ∷ ps) ≡ followed (step d (said_of line)) n (λ new. plan_of_parts last new (n + 1) ps)
+        → plan_of_parts names last d n (line ∷ ps) ≡ followed (step d (said_of names line)) n (λ new. plan_of_parts names last new (n + 1) ps)
     of_parts [] h = absurd cc
     of_parts (p ∷ ps) h = refl
 
 -- a line that the draft takes
-pub plan_of_parts-next : (last : Draft → ℕ → List ℕ → PlanIs) (d new : Draft) (n : ℕ) (line s : List ℕ) (says : Said) → says ≡ said_of line → step d says ≡ Ok new
-    → plan_of_parts last d n (line ∷ parts_of 10 s) ≡ plan_of_parts last new (n + 1) (parts_of 10 s)
-plan_of_parts-next last d new n line s says e h =
-    plan_of_parts-line last d n line s ∙ ap (λ r. followed r n (λ new. plan_of_parts last new (n + 1) (parts_of 10 s))) (ap (step d) (sym e) ∙ h)
+pub plan_of_parts-next : (names : Namespace) (last : Draft → ℕ → List ℕ → PlanIs) (d new : Draft) (n : ℕ) (line s : List ℕ) (says : Said) → says ≡ said_of names line → step d says ≡ Ok new
+    → plan_of_parts names last d n (line ∷ parts_of 10 s) ≡ plan_of_parts names last new (n + 1) (parts_of 10 s)
+plan_of_parts-next names last d new n line s says e h =
+    plan_of_parts-line names last d n line s ∙ ap (λ r. followed r n (λ new. plan_of_parts names last new (n + 1) (parts_of 10 s))) (ap (step d) (sym e) ∙ h)
 
 -- a line that is refused
-pub plan_of_parts-refused : (last : Draft → ℕ → List ℕ → PlanIs) (d : Draft) (n : ℕ) (why : PlanWhy) (line s : List ℕ) (says : Said) → says ≡ said_of line → step d says ≡ Err why
-    → plan_of_parts last d n (line ∷ parts_of 10 s) ≡ Bad n why
-plan_of_parts-refused last d n why line s says e h =
-    plan_of_parts-line last d n line s ∙ ap (λ r. followed r n (λ new. plan_of_parts last new (n + 1) (parts_of 10 s))) (ap (step d) (sym e) ∙ h)
+pub plan_of_parts-refused : (names : Namespace) (last : Draft → ℕ → List ℕ → PlanIs) (d : Draft) (n : ℕ) (why : PlanWhy) (line s : List ℕ) (says : Said) → says ≡ said_of names line → step d says ≡ Err why
+    → plan_of_parts names last d n (line ∷ parts_of 10 s) ≡ Bad n why
+plan_of_parts-refused names last d n why line s says e h =
+    plan_of_parts-line names last d n line s ∙ ap (λ r. followed r n (λ new. plan_of_parts names last new (n + 1) (parts_of 10 s))) (ap (step d) (sym e) ∙ h)
 
 -- the answer where a line wasn't taken
 pub answer_of_error : (is : PlanIs) (next : Result Draft PlanWhy) (n : ℕ) (new : Draft) (r : Result (Unit {0}) PlanError) (e : PlanError) → IsStep next n new r → r ≡ Err e
@@ -68,13 +69,13 @@ length-take-more : (most : ℕ) (s : List ℕ) → nat_lt most (length (take (mo
 length-take-more most s = grind (arith, common_steps, nat_tests)
 
 -- a byte more than count says that there are more
-pub plan_within-take : (most : ℕ) (s : List ℕ) → plan_within most (take (most + 1) s) ≡ plan_within most s
-plan_within-take most s =
-    ap (λ t. plan_of_parts (if t then long_line else last_line) start 1 (parts_of 10 (take most (take (most + 1) s)))) (length-take-more most s)
-    ∙ ap (λ t. plan_of_parts (if nat_lt most (length s) then long_line else last_line) start 1 (parts_of 10 t)) (take-take-more most s)
+pub plan_within-take : (names : Namespace) (most : ℕ) (s : List ℕ) → plan_within names most (take (most + 1) s) ≡ plan_within names most s
+plan_within-take names most s =
+    ap (λ t. plan_of_parts names (if t then long_line else last_line names) start 1 (parts_of 10 (take most (take (most + 1) s)))) (length-take-more most s)
+    ∙ ap (λ t. plan_of_parts names (if nat_lt most (length s) then long_line else last_line names) start 1 (parts_of 10 t)) (take-take-more most s)
 
 -- the answer of the bytes that count is that of the text
-pub plan_within-answer : (most k : ℕ) (s : List ℕ) (r : Result Plan PlanError) → k ≡ min (length s) most
-    → IsPlanAnswer (plan_of_parts (if nat_lt most (length s) then long_line else last_line) start 1 (parts_of 10 (take k s))) r → IsPlanAnswer (plan_within most s) r
-plan_within-answer most k s r h =
-    subst (λ t. IsPlanAnswer (plan_of_parts (if nat_lt most (length s) then long_line else last_line) start 1 (parts_of 10 t)) r) (take-min most k s h)
+pub plan_within-answer : (names : Namespace) (most k : ℕ) (s : List ℕ) (r : Result Plan PlanError) → k ≡ min (length s) most
+    → IsPlanAnswer (plan_of_parts names (if nat_lt most (length s) then long_line else last_line names) start 1 (parts_of 10 (take k s))) r → IsPlanAnswer (plan_within names most s) r
+plan_within-answer names most k s r h =
+    subst (λ t. IsPlanAnswer (plan_of_parts names (if nat_lt most (length s) then long_line else last_line names) start 1 (parts_of 10 t)) r) (take-min most k s h)

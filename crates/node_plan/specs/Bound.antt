@@ -1,5 +1,7 @@
 -- The memory bound of a plan.
-use Rattle.std.specs.Prelude.{ℕ, ◌*◌, sum_by}
+use Rattle.std.specs.Prelude.{ℕ, ◌*◌, ◌/◌, sum_by}
+use Rattle.dsdl_types.specs.Schemas as S
+use Rattle.dsdl_types.specs.Views.{sch}
 use Rattle.node_plan.specs.declared.plan.Plan.{Plan}
 use Rattle.node_plan.specs.declared.plan.Sub.{Sub}
 use Rattle.node_plan.specs.declared.plan.SubShape.{SubShape}
@@ -8,6 +10,7 @@ use Rattle.node_plan.specs.declared.plan.SubShape.TheVariants as shape
 -- the extent of a subject in bytes
 abbrev pub extent_of : SubShape → ℕ
 extent_of (shape.Raw n) = n
+extent_of (shape.Named id s) = S.extent_of (sch s) / 8
 
 -- what a subscription may hold at most, in bytes
 abbrev pub sub_bound : Sub → ℕ

@@ -37,19 +37,21 @@ abbrev pub with_sub : Draft → Sub → Result Draft PlanWhy
 with_sub d s = if nat_le 64 (length d.subs) then Err why.Range
     else once (has_subject s.port d.subs) (record d { subs = d.subs ++ s ∷ [] })
 
--- a subscription to a type that isn't there
-abbrev pub without_type : Draft → ℕ → Result Draft PlanWhy
-without_type d port = if nat_le 64 (length d.subs) then Err why.Range
-    else (if has_subject port d.subs then Err why.Repeated else Err why.UnknownType)
+-- a subscription to a type that can't be subscribed to for this cause
+abbrev pub without_type : Draft → ℕ → PlanWhy → Result Draft PlanWhy
+without_type d port cause = if nat_le 64 (length d.subs) then Err why.Range
+    else (if has_subject port d.subs then Err why.Repeated else Err cause)
 
--- a line behind `plan 1`: range comes before repetition, and that before an unknown type
+-- a line behind `plan 1`: range comes before repetition, that before an unknown type, and that
+-- before the range of a type's extent
 abbrev pub with_line : Draft → Said → Result Draft PlanWhy
 with_line d (said.Node n) = once (is_some d.node) (record d { node = Some n })
 with_line d (said.Bus name) = with_bus d name
 with_line d (said.Timeout t) = once (is_some d.timeout) (record d { timeout = Some t })
 with_line d said.Silent = once d.silent (record d { silent = true })
 with_line d (said.Sub s) = with_sub d s
-with_line d (said.UnknownType port) = without_type d port
+with_line d (said.UnknownType port) = without_type d port why.UnknownType
+with_line d (said.LongType port) = without_type d port why.Range
 with_line d other = Err why.Range
 
 -- a line: `plan 1` is the first that says something

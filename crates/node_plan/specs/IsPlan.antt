@@ -1,10 +1,13 @@
 -- What holds of each plan that a text gives.
 use Rattle.std.specs.Prelude.{◌≡◌, ◌≢◌, ◌≤◌, ◌<◌, true, length, All, AllPairs, IsTrue}
 use Rattle.std.specs.Option.{ForSome}
+use Rattle.dsdl_types.specs.Definitions.{IsType}
 use Rattle.node_plan.specs.declared.draft.Draft.{Draft}
 use Rattle.node_plan.specs.declared.plan.BusPlan.{BusPlan}
 use Rattle.node_plan.specs.declared.plan.Plan.{Plan}
 use Rattle.node_plan.specs.declared.plan.Sub.{Sub}
+use Rattle.node_plan.specs.declared.plan.SubShape.{SubShape}
+use Rattle.node_plan.specs.declared.plan.SubShape.TheVariants as shape
 use Rattle.node_plan.specs.Bound.{extent_of}
 use Rattle.node_plan.specs.Names.{is_bus_name}
 
@@ -15,11 +18,17 @@ pub record IsBus (bus : BusPlan) : Type 0 where
   pub mtu : bus.mtu ≡ 8
   pub rate : bus.rate ≡ 4096
 
+-- a type is a composite that keeps the rules
+abbrev pub IsShape : SubShape → Type 0
+IsShape (shape.Raw n) = Unit {0}
+IsShape (shape.Named id s) = IsType s
+
 -- a subscription in its ranges
 pub record IsSub (sub : Sub) : Type 0 where
   pub port : sub.port < 8192
   pub some_source : 1 ≤ sub.sources
   pub few_sources : sub.sources ≤ 128
+  pub shape : IsShape sub.shape
   pub extent : extent_of sub.shape ≤ 65536
 
 -- a plan in its ranges, which names no bus and no subject twice

@@ -1,5 +1,6 @@
 pub mod Words
 pub mod Names
+pub mod Types
 pub mod Line
 pub mod Draft
 pub mod Plan

@@ -1,5 +1,6 @@
 -- The plan of a text.
 use Rattle.std.specs.Prelude.{ℕ, List, [], ◌∷◌, ◌+◌, ◌^◌, Option, None, Some, Result, Ok, Err, if◌then◌else◌, length, nat_lt, take}
+use Rattle.dsdl_types.specs.declared.namespace.Namespace.{Namespace}
 use Rattle.node_plan.specs.declared.draft.Draft.{Draft}
 use Rattle.node_plan.specs.declared.plan.Plan.{Plan}
 use Rattle.node_plan.specs.declared.plan.PlanWhy.{PlanWhy}
@@ -27,26 +28,30 @@ followed (Err e) n others = Bad n e
 followed (Ok d) n others = others d
 
 -- what stands behind the last newline is a line where it isn't empty
-abbrev pub last_line : Draft → ℕ → List ℕ → PlanIs
-last_line d n [] = finished d n
-last_line d n (b ∷ s) = followed (step d (said_of (b ∷ s))) n (λ new. finished new (n + 1))
+abbrev pub last_line : Namespace → Draft → ℕ → List ℕ → PlanIs
+last_line names d n [] = finished d n
+last_line names d n (b ∷ s) =
+    followed (step d (said_of names (b ∷ s))) n (λ new. finished new (n + 1))
 
 -- a line that reaches past the greatest number of bytes
 abbrev pub long_line : Draft → ℕ → List ℕ → PlanIs
 long_line d n part = Bad n why.Line
 
 -- the parts between newlines are lines from the number n on, and `last` says what is made of the part behind them
-abbrev pub plan_of_parts : (Draft → ℕ → List ℕ → PlanIs) → Draft → ℕ → List (List ℕ) → PlanIs
-plan_of_parts last d n [] = last d n []
-plan_of_parts last d n (part ∷ []) = last d n part
-plan_of_parts last d n (line ∷ part ∷ parts) =
-    followed (step d (said_of line)) n (λ new. plan_of_parts last new (n + 1) (part ∷ parts))
+abbrev pub plan_of_parts : Namespace → (Draft → ℕ → List ℕ → PlanIs) → Draft → ℕ
+    → List (List ℕ) → PlanIs
+plan_of_parts names last d n [] = last d n []
+plan_of_parts names last d n (part ∷ []) = last d n part
+plan_of_parts names last d n (line ∷ part ∷ parts) =
+    followed (step d (said_of names line)) n
+    (λ new. plan_of_parts names last new (n + 1) (part ∷ parts))
 
 -- the plan of a text of which so many bytes count
-abbrev pub plan_within : ℕ → List ℕ → PlanIs
-plan_within most text =
-    plan_of_parts (if nat_lt most (length text) then long_line else last_line) start 1 (parts_of 10 (take most text))
+abbrev pub plan_within : Namespace → ℕ → List ℕ → PlanIs
+plan_within names most text =
+    plan_of_parts names (if nat_lt most (length text) then long_line else last_line names) start 1
+    (parts_of 10 (take most text))
 
--- the plan of a text
-abbrev pub plan_of : List ℕ → PlanIs
-plan_of text = plan_within (2 ^ 20) text
+-- the plan of a text, with the types of a namespace
+abbrev pub plan_of : Namespace → List ℕ → PlanIs
+plan_of names text = plan_within names (2 ^ 20) text

@@ -160,16 +160,16 @@ impl Draft {
         }
     }
 
-    /// Why a subscription to an unknown type is refused.
-    fn why_no_type(&self, port: u16) -> PlanWhy
-        ensures { Err result ≡ without_type self.now port }
+    /// Why a subscription is refused whose type can't be subscribed to for this cause.
+    fn why_no_type(&self, port: u16, cause: PlanWhy) -> PlanWhy
+        ensures { Err result ≡ without_type self.now port cause }
     {
         if self.subs.len() >= MAX_SUBS {
             PlanWhy::Range
         } else if has_subject(self.subs.as_slice(), port) {
             PlanWhy::Repeated
         } else {
-            PlanWhy::UnknownType
+            cause
         }
     }
 
@@ -188,7 +188,11 @@ impl Draft {
             Said::Sub(sub) => self.add_sub(n, sub),
             Said::UnknownType { port } => Err(PlanError::Refused {
                 n,
-                why: self.why_no_type(port),
+                why: self.why_no_type(port, PlanWhy::UnknownType),
+            }),
+            Said::LongType { port } => Err(PlanError::Refused {
+                n,
+                why: self.why_no_type(port, PlanWhy::Range),
             }),
             _ => Err(PlanError::Refused {
                 n,

@@ -1,10 +1,12 @@
-//! The plan of a node: which node it is, its buses, and the subjects it subscribes to.
+//! The plan of a node: which node it is, its buses, and the subjects it subscribes to
+//! with their types.
 #![tactic(auto)]
 
 mod draft;
 mod line;
 pub mod plan;
 mod read;
+mod types;
 mod words;
 
 pub use plan::{BusPlan, Plan, PlanError, PlanWhy, Sub, SubShape, bound};

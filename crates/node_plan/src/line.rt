@@ -1,13 +1,21 @@
 //! What a line of a plan says.
-ghost use Rattle.std.specs.Prelude.{◌≡◌, ◌↔◌, IsTrue, MatchOption, true, false};
+ghost use Rattle.std.specs.Prelude.{◌≡◌, ◌≤◌, ◌↔◌, IsTrue, IfOk, IfSome, MatchOption, true, false};
 ghost use Rattle.std.specs.List.{list_all};
-ghost use Rattle.node_plan.specs.Line.{said_of, said_of_one, said_of_two, said_of_four, said_of_five, said_of_version, said_of_node, said_of_bus, said_of_timeout, said_of_sub, said_of_raw, said_of_words, IsSaid};
+ghost use Rattle.dsdl_types.specs.Definitions.{IsNamespace};
+ghost use Rattle.node_plan.specs.IsPlan.{IsShape};
+ghost use Rattle.node_plan.specs.Line.{said_of, said_of_one, said_of_two, said_of_four, said_of_five, said_of_version, said_of_node, said_of_bus, said_of_timeout, said_of_shape, said_of_sub, said_of_raw, said_of_words, IsSaid};
 ghost use Rattle.node_plan.specs.Names.{is_bus_name, is_name_byte};
 ghost use Rattle.node_plan.specs.Words.{IsWithin, words_of};
 
 use crate::plan::{Sub, SubShape};
+use crate::types::shape_named;
 use crate::words::{Number, cut, number_in};
-use cy_bits::BusName;
+use cy_bits::{BusName, NoMemory};
+use dsdl_types::Namespace;
+use std::alloc::Global;
+
+/// The greatest extent of a subscription, in bytes.
+const MAX_EXTENT: u32 = 65_536;
 
 /// What a line of a plan says.
 #[derive(Drop)]
@@ -28,10 +36,13 @@ pub enum Said {
     Timeout(u64),
     /// `silent`.
     Silent,
-    /// `sub PORT SOURCES raw N`.
+    /// `sub PORT SOURCES raw N`, or `sub PORT SOURCES TYPE` of a message whose extent is at most
+    /// 65,536 bytes.
     Sub(Sub),
-    /// `sub PORT SOURCES TYPE`; there are no types yet.
+    /// `sub PORT SOURCES TYPE` of no message of the namespace.
     UnknownType { port: u16 },
+    /// `sub PORT SOURCES TYPE` of a message whose extent is above 65,536 bytes.
+    LongType { port: u16 },
 }
 
 fn version(word: &[u8]) -> Said
@@ -109,14 +120,39 @@ fn timeout(number: Number) -> Said
     }
 }
 
-fn sub_of_type(port: Number, sources: Number) -> Said
-    requires { IsWithin 0 8191 port }
-    ensures value { result ≡ said_of_sub port sources }
+fn sub_of_shape(port: u16, sources: u16, shape: Option<SubShape>) -> Said
+    requires port { port ≤ 8191 }
+    requires some_source { 1 ≤ sources }
+    requires few_sources { sources ≤ 128 }
+    requires shape { IfSome shape IsShape }
+    ensures value { result ≡ said_of_shape port sources shape }
+    ensures sound { IsSaid result }
+{
+    let Some(shape) = shape else {
+        return Said::UnknownType { port };
+    };
+    if shape.extent() > MAX_EXTENT {
+        return Said::LongType { port };
+    }
+    Said::Sub(Sub {
+        port,
+        sources,
+        shape,
+    })
+}
+
+fn sub_of_type(port: Number, sources: Number, shape: Option<SubShape>) -> Said
+    requires port { IsWithin 0 8191 port }
+    requires sources { IsWithin 1 128 sources }
+    requires shape { IfSome shape IsShape }
+    ensures value { result ≡ said_of_sub port sources shape }
     ensures sound { IsSaid result }
 {
     match (port, sources) {
         (Number::NoNumber, _) | (_, Number::NoNumber) => Said::NoForm,
-        (Number::Within(port), Number::Within(_)) => Said::UnknownType { port: port as u16 },
+        (Number::Within(port), Number::Within(sources)) => {
+            sub_of_shape(port as u16, sources as u16, shape)
+        }
         _ => Said::Outside,
     }
 }
@@ -169,17 +205,27 @@ fn two_words(word: &[u8], value: &[u8]) -> Said
     }
 }
 
-fn four_words(word: &[u8], port: &[u8], sources: &[u8], name: &[u8]) -> Said
-    ensures value { result ≡ said_of_four word.now port.now sources.now name.now }
-    ensures sound { IsSaid result }
+fn four_words(
+    alloc: Global,
+    names: &Namespace,
+    word: &[u8],
+    port: &[u8],
+    sources: &[u8],
+    name: &[u8],
+) -> Result<Said, NoMemory>
+    requires { IsNamespace names.now }
+    ensures value { IfOk result (λ said.
+        said ≡ said_of_four names.now word.now port.now sources.now name.now) }
+    ensures sound { IfOk result IsSaid }
 {
     if word != b"sub".as_slice() {
-        return Said::NoForm;
+        return Ok(Said::NoForm);
     }
     if name.is_empty() {
-        return Said::NoForm;
+        return Ok(Said::NoForm);
     }
-    sub_of_type(number_in(0, 8191, port), number_in(1, 128, sources))
+    let shape = shape_named(alloc, names, name)?;
+    Ok(sub_of_type(number_in(0, 8191, port), number_in(1, 128, sources), shape))
 }
 
 fn five_words(word: &[u8], port: &[u8], sources: &[u8], raw: &[u8], extent: &[u8]) -> Said
@@ -195,40 +241,42 @@ fn five_words(word: &[u8], port: &[u8], sources: &[u8], raw: &[u8], extent: &[u8
     raw_sub(
         number_in(0, 8191, port),
         number_in(1, 128, sources),
-        number_in(0, 65_536, extent),
+        number_in(0, MAX_EXTENT, extent),
     )
 }
 
-fn words(line: &[u8]) -> Said
-    ensures value { result ≡ said_of_words (words_of line.now) }
-    ensures sound { IsSaid result }
+fn words(alloc: Global, names: &Namespace, line: &[u8]) -> Result<Said, NoMemory>
+    requires { IsNamespace names.now }
+    ensures value { IfOk result (λ said. said ≡ said_of_words names.now (words_of line.now)) }
+    ensures sound { IfOk result IsSaid }
 {
     let Some((word, behind)) = cut(b' ', line) else {
-        return one_word(line);
+        return Ok(one_word(line));
     };
     let Some((second, behind)) = cut(b' ', behind) else {
-        return two_words(word, behind);
+        return Ok(two_words(word, behind));
     };
     let Some((third, behind)) = cut(b' ', behind) else {
-        return Said::NoForm;
+        return Ok(Said::NoForm);
     };
     let Some((fourth, behind)) = cut(b' ', behind) else {
-        return four_words(word, second, third, behind);
+        return four_words(alloc, names, word, second, third, behind);
     };
     match cut(b' ', behind) {
-        Some(_) => Said::NoForm,
-        None => five_words(word, second, third, fourth, behind),
+        Some(_) => Ok(Said::NoForm),
+        None => Ok(five_words(word, second, third, fourth, behind)),
     }
 }
 
 /// What a line says.
-pub fn read_line(line: &[u8]) -> Said
-    ensures value { result ≡ said_of line.now }
-    ensures sound { IsSaid result }
+pub fn read_line(alloc: Global, names: &Namespace, line: &[u8]) -> Result<Said, NoMemory>
+    requires { IsNamespace names.now }
+    ensures value { IfOk result (λ said. said ≡ said_of names.now line.now) }
+    ensures sound { IfOk result IsSaid }
 {
     match line {
-        [] => Said::Nothing,
-        [b'#', ..] => Said::Nothing,
-        _ => words(line),
+        [] => Ok(Said::Nothing),
+        [b'#', ..] => Ok(Said::Nothing),
+        _ => words(alloc, names, line),
     }
 }

@@ -1,11 +1,14 @@
 //! What a plan has.
 ghost use Rattle.std.specs.Prelude.{◌≡◌, ◌≤◌, ◌^◌};
-ghost use Rattle.node_plan.specs.Bound.{bound_of, sub_bound};
-ghost use Rattle.node_plan.specs.IsPlan.{IsPlan, IsSub};
+ghost use Rattle.node_plan.specs.Bound.{bound_of, extent_of, sub_bound};
+ghost use Rattle.node_plan.specs.IsPlan.{IsPlan, IsShape, IsSub};
 
-use cy_bits::{BusName, List, ShortList};
+use cy_bits::{BusName, List, NoMemory, ShortList};
+use dsdl_names::TypeId;
+use dsdl_types::Schema;
 
-/// How a node is set up, and what it listens to.
+/// How a node is set up, and what it listens to. It has the types of its subscriptions, so that it
+/// needs no namespace any more.
 #[derive(Drop)]
 pub struct Plan {
     /// The node's ID, below 128.
@@ -47,6 +50,26 @@ pub struct Sub {
 pub enum SubShape {
     /// Bytes, of which this many at most are kept: the extent, up to 65,536.
     Raw(u32),
+    /// A message type of the namespace; its extent is at most 65,536 bytes.
+    Named {
+        /// The type's full name and version.
+        id: TypeId,
+        /// Its schema, a composite that keeps the rules.
+        schema: Schema,
+    },
+}
+
+impl SubShape {
+    /// The extent in bytes, to which a longer payload is cut. Takes no memory.
+    pub fn extent(&self) -> u32
+        requires { IsShape self.now }
+        ensures { result ≡ extent_of self.now }
+    {
+        match self {
+            SubShape::Raw(extent) => *extent,
+            SubShape::Named { schema, .. } => schema.extent_bytes() as u32,
+        }
+    }
 }
 
 /// Why a line of a plan is refused.
@@ -54,7 +77,7 @@ pub enum SubShape {
 pub enum PlanWhy {
     /// It is no line of a plan, or a line that must stand here is missing.
     Line,
-    /// It names a type that isn't there.
+    /// It names a type that is no message of the namespace.
     UnknownType,
     /// It says again what may be said once.
     Repeated,
@@ -71,14 +94,24 @@ pub enum PlanError {
     NoMemory,
 }
 
+impl From<NoMemory> for PlanError {
+    ghost use Rattle.std.specs.Prelude.{◌≡◌};
+    ghost use Rattle.node_plan.specs.declared.plan.PlanError.TheVariants as error;
+
+    ghost from_gives = { λ _ e. e ≡ error.NoMemory };
+
+    fn from(_: NoMemory) -> PlanError {
+        PlanError::NoMemory
+    }
+}
+
 /// The greatest number of payload bytes that a subscription may hold at a time.
 fn sub_bound(sub: &Sub) -> u64
     requires { IsSub sub.now }
     ensures value { result ≡ sub_bound sub.now }
     ensures most { result ≤ 2 ^ 23 }
 {
-    let SubShape::Raw(extent) = &sub.shape;
-    sub.sources as u64 * *extent as u64
+    sub.sources as u64 * sub.shape.extent() as u64
 }
 
 /// The greatest number of payload bytes that the subscriptions may hold at a time: the sum of their sources times

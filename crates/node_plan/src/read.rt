@@ -1,5 +1,7 @@
 //! A plan from its text.
 ghost use Rattle.std.specs.Prelude.{◌≡◌, ◌<◌, ◌≤◌, ◌+◌, ◌^◌, ℕ, List, Err, IfOk, if◌then◌else◌, length, take};
+ghost use Rattle.dsdl_types.specs.Definitions.{IsNamespace};
+ghost use Rattle.dsdl_types.specs.declared.namespace.Namespace.{Namespace as Names};
 ghost use Rattle.node_plan.specs.Answers.{IsPlanAnswer};
 ghost use Rattle.node_plan.specs.Draft.{start};
 ghost use Rattle.node_plan.specs.IsPlan.{IsDraft, IsPlan};
@@ -11,6 +13,7 @@ use crate::draft::Draft;
 use crate::line::read_line;
 use crate::plan::{Plan, PlanError, PlanWhy};
 use crate::words::cut;
+use dsdl_types::Namespace;
 use std::alloc::Global;
 
 /// The greatest number of bytes of a plan's text. The line with the first byte behind them is refused.
@@ -29,30 +32,46 @@ fn finished(draft: Draft, n: u32) -> Result<Plan, PlanError>
 }
 
 /// The plan, once what stands behind the last newline was read as line `n`, if it is one.
-fn read_last(mut draft: Draft, n: u32, line: &[u8]) -> Result<Plan, PlanError>
+fn read_last(
+    alloc: Global,
+    names: &Namespace,
+    mut draft: Draft,
+    n: u32,
+    line: &[u8],
+) -> Result<Plan, PlanError>
+    requires types { IsNamespace names.now }
     requires sound { IsDraft draft }
     requires few { n < 2 ^ 31 }
-    ensures value { IsPlanAnswer (last_line draft n line.now) result }
+    ensures value { IsPlanAnswer (last_line names.now draft n line.now) result }
     ensures sound { IfOk result IsPlan }
 {
     if line.is_empty() {
         return finished(draft, n);
     }
-    draft.take(n, read_line(line))?;
+    let said = read_line(alloc, names, line)?;
+    draft.take(n, said)?;
     finished(draft, n + 1)
 }
 
 /// The plan of lines, with what stands behind the last newline, which is refused where it is long.
-fn read_lines(alloc: Global, text: &[u8], is_long: bool) -> Result<Plan, PlanError>
-    requires { length text.now ≤ 2 ^ 20 }
-    ensures value { IsPlanAnswer (plan_of_parts (if is_long then long_line else last_line) start 1 (parts_of 10 text.now)) result }
+fn read_lines(
+    alloc: Global,
+    names: &Namespace,
+    text: &[u8],
+    is_long: bool,
+) -> Result<Plan, PlanError>
+    requires types { IsNamespace names.now }
+    requires few { length text.now ≤ 2 ^ 20 }
+    ensures value { let last = (if is_long then long_line else last_line names.now) in
+        IsPlanAnswer (plan_of_parts names.now last start 1 (parts_of 10 text.now)) result }
     ensures sound { IfOk result IsPlan }
 {
     let mut behind = text;
     let mut draft = Draft::new(alloc);
     let mut n = 1;
     while let Some((line, rest)) = cut(b'\n', behind) {
-        draft.take(n, read_line(line))?;
+        let said = read_line(alloc, names, line)?;
+        draft.take(n, said)?;
         n += 1;
         behind = rest;
     }
@@ -62,24 +81,28 @@ fn read_lines(alloc: Global, text: &[u8], is_long: bool) -> Result<Plan, PlanErr
             why: PlanWhy::Line,
         });
     }
-    read_last(draft, n, behind)
+    read_last(alloc, names, draft, n, behind)
 }
 
-/// Reads a plan. Line `n` is refused as
+/// Reads a plan, whose types are messages of a namespace. Line `n` is refused as
 /// `Line` where it is no line of a plan, where it reaches past the first `MAX_TEXT` bytes, or where it would stand
 /// behind the last line of a text that lacks `plan 1`, `node`, `bus` or `silent`;
 /// `Range` where a number or a name is outside its range, or for a fourth bus and a 65th subscription;
 /// `Repeated` where it says again what may be said once, or names a bus or a subject again;
-/// `UnknownType` where it subscribes to a type that isn't there.
+/// `UnknownType` where it subscribes to a type that is no message of the namespace;
+/// `Range` where it subscribes to a type whose extent is above 65,536 bytes.
 /// The first line that is refused is told, and the first of these that holds of it.
 ///
 /// The first `MAX_TEXT + 1` bytes of a text give the same answer as all of it.
-pub fn read_plan(alloc: Global, text: &[u8]) -> Result<Plan, PlanError>
-    ensures plan { IfOk result (λ p. plan_of text.now ≡ Good p) }
-    ensures refused { (n : ℕ) → (why : Why) → result ≡ Err (PlanError.Refused n why) → plan_of text.now ≡ Bad n why }
+pub fn read_plan(alloc: Global, text: &[u8], names: &Namespace) -> Result<Plan, PlanError>
+    requires { IsNamespace names.now }
+    ensures plan { IfOk result (λ p. plan_of names.now text.now ≡ Good p) }
+    ensures refused { (n : ℕ) → (why : Why) → result ≡ Err (PlanError.Refused n why)
+        → plan_of names.now text.now ≡ Bad n why }
     ensures sound { IfOk result IsPlan }
-    ensures enough { (all : List ℕ) → plan_of (take (MAX_TEXT + 1) all) ≡ plan_of all }
+    ensures enough { (names : Names) (all : List ℕ)
+        → plan_of names (take (MAX_TEXT + 1) all) ≡ plan_of names all }
 {
     let first = &text[..text.len().min(MAX_TEXT)];
-    read_lines(alloc, first, text.len() > MAX_TEXT)
+    read_lines(alloc, names, first, text.len() > MAX_TEXT)
 }

@@ -9,9 +9,9 @@ returns-in-Some-cut-4-clause-value c =
     let b = c.in-Some-cut.second.now in
     let d = c.in-Some-cut-2.third.now in
     let e = c.in-Some-cut-3.fourth.now in
-    sym (ap said_of_words (c.in-Some.ensures.parts
+    sym (ap (said_of_words c.args.names.now) (c.in-Some.ensures.parts
     ∙ ap (λ t. a ∷ t) (c.in-Some-cut.ensures.parts
     ∙ ap (λ t. b ∷ t) (c.in-Some-cut-2.ensures.parts
     ∙ ap (λ t. d ∷ t) (c.in-Some-cut-3.ensures.parts
     ∙ ap (λ t. e ∷ t) c.in-Some-cut-4.ensures.parts))))
-    ∙ said_of_words-many a b d e c.in-Some-cut-4.field-0.0.now c.in-Some-cut-4.field-0.1.now)
+    ∙ said_of_words-many c.args.names.now a b d e c.in-Some-cut-4.field-0.0.now c.in-Some-cut-4.field-0.1.now)

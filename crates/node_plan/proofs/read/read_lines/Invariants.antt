@@ -9,7 +9,7 @@ use Rattle.node_plan.proofs.read.read_lines.Given as goal
 -- the lines that are left make of the draft what all lines make of none
 abbrev pub invariant-loop-line : goal.invariant-loop-line
 invariant-loop-line l = record {
-  plan : (last : Draft → ℕ → List ℕ → PlanIs) → plan_of_parts last start 1 (parts_of 10 l.text) ≡ plan_of_parts last l.draft l.n (parts_of 10 l.behind);
+  plan : (last : Draft → ℕ → List ℕ → PlanIs) → plan_of_parts l.names last start 1 (parts_of 10 l.text) ≡ plan_of_parts l.names last l.draft l.n (parts_of 10 l.behind);
   sound : IsDraft l.draft;
   few : l.n + length l.behind ≤ 2 ^ 20 + 1;
 }
