@@ -20,6 +20,7 @@ module _ (node : Node) (rec : Record) (out : IsElsewhere (subscriptions port_sch
   stands_with (Some f) e = record {
     timeout = s.timeout;
     ports = s.ports;
+    types = s.types;
     sessions = stands-none node.plan.timeout f (key_of f.ident) refl (states_of port_schema node.table) (frames node.plan.node past) (out node.plan.node f e) s.sessions;
   }
 
@@ -31,7 +32,7 @@ module _ (node : Node) (rec : Record) (out : IsElsewhere (subscriptions port_sch
 
   lines_with : (o : Option FrameOf) → frame_for node.plan.node rec ≡ o → of_frame node.plan (frames node.plan.node past) o ≡ []
   lines_with None e = refl
-  lines_with (Some f) e = ap (on_port node.plan.timeout f (frames node.plan.node past)) (nowhere f e)
+  lines_with (Some f) e = ap (on_port node.plan f (frames node.plan.node past)) (nowhere f e)
 
   bad_with : (o : Option FrameOf) → frame_for node.plan.node rec ≡ o → bad_of_frame node.plan (frames node.plan.node past) o ≡ false
   bad_with None e = refl

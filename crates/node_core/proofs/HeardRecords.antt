@@ -9,12 +9,11 @@ use Rattle.tail_frame.specs.declared.logged.Record.{Record}
 use Rattle.rx_table.specs.Keys.{KeyedFrame}
 use Rattle.rx_table.specs.Table.{port_on}
 use Rattle.rx_table.specs.declared.fed.Met.{Met}
-use Rattle.node_core.specs.Came.{frame_with, answer_in, came_lines}
+use Rattle.node_core.specs.Came.{frame_with, met_lines, came_lines}
 use Rattle.rx_table.specs.Heard.{is_for, if_for, frame_for, frames}
 use Rattle.node_core.specs.Heard.{ports_of}
 use Rattle.node_core.specs.Stands.{StandsAt, Stands}
 use Rattle.node_core.specs.Steps.{on_port, of_frame, got}
-use Rattle.node_core.specs.Told.{answer_lines}
 use Rattle.node_core.specs.declared.node.Node.{Node}
 
 -- a frame is its record with its identifier and its tail
@@ -45,12 +44,12 @@ is_of node rec f e = of_node node rec (frame_of rec) f (λ g. of_ident rec (iden
 
 -- what a frame came to gives the lines of its record
 pub heard_got : (old new : Node) (rec : Record) (f : FrameOf) (met : Met) (badcrc : Bool) → Some f ≡ frame_for old.plan.node rec
-    → ((log : List KeyedFrame) → StandsAt old log → answer_lines f (answer_in new f.body met) ≡ on_port old.plan.timeout f log (port_on (ports_of old.plan) f))
+    → ((log : List KeyedFrame) → StandsAt old log → met_lines new f met ≡ on_port old.plan f log (port_on (ports_of old.plan) f))
     → (past : List Record) → Stands old past
     → came_lines new rec (record { badcrc = badcrc; heard = Some (record { ident = f.ident; tail = f.tail; met = met }) }) ≡ got old.plan rec past
 unfolding came_lines
 heard_got old new rec f met badcrc frame_is h past s =
-    ap (λ (g : FrameOf). answer_lines g (answer_in new g.body met)) (is_of old.plan.node rec f (sym frame_is)).whole
+    ap (λ (g : FrameOf). met_lines new g met) (is_of old.plan.node rec f (sym frame_is)).whole
     ∙ (h (frames old.plan.node past) s ∙ ap (of_frame old.plan (frames old.plan.node past)) frame_is)
 
 pub none_got : (node : Node) (rec : Record) (badcrc : Bool) → None ≡ frame_for node.plan.node rec

@@ -1,18 +1,27 @@
 -- One step of a node.
 use Rattle.std.proofs.Common.{◌≡◌, ◌∙◌, ℕ, List, ◌∷◌, Option, Some, Result, Ok, Err, OnErr, sym, ap, subst}
+use Rattle.can_id.specs.Identifiers.{key_of}
+use Rattle.dsdl_types.specs.Schemas.{Sch}
+use Rattle.node_core.specs.Heard.{ports_of}
 use Rattle.tail_frame.specs.Frames.{FrameOf}
 use Rattle.tail_frame.specs.declared.logged.Record.{Record}
 use Rattle.rx_table.specs.Keys.{KeyedFrame}
 use Rattle.rx_table.specs.Laws.{OutcomeTells}
 use Rattle.rx_table.specs.Ports.{Port, PortState, Answer}
 use Rattle.rx_table.specs.Table.{StandsFor, logged, port_on, Told}
+use Rattle.rx_table.specs.Views.{Keeps, Answers}
+use Rattle.rx_table.specs.declared.table.Table.{Table}
 use Rattle.node_plan.specs.declared.plan.Plan.{Plan}
 use Rattle.node_core.specs.declared.node.Node.{Node}
 use Rattle.rx_table.specs.Heard.{frame_for, with_frame, frames}
 use Rattle.node_core.specs.Stands.{StandsAt, Stands}
 use Rattle.node_core.specs.Steps.{on_port, bad_on_port}
+use Rattle.node_core.specs.Shapes.{port_schema}
 use Rattle.node_core.specs.Told.{answer_lines, answer_is_bad}
+use Rattle.node_core.specs.Types.{type_at}
+use Rattle.node_core.specs.declared.port_shape.PortShape.{PortShape}
 use Rattle.node_core.proofs.Told.{told_lines, told_bad}
+use Rattle.node_core.proofs.Types.{first_type, types_stay}
 
 -- what holds holds where a call answers Err
 pub on_err : {A E : Type 0} (P : Type 0) (r : Result A E) → P → OnErr r P
@@ -23,20 +32,29 @@ on_err P (Err e) h = h
 pub stands_again : (waits timeout : ℕ) (old new : List KeyedFrame) (ps qs : List PortState) → waits ≡ timeout → (StandsFor waits old ps → StandsFor waits new qs) → StandsFor timeout old ps → StandsFor timeout new qs
 stands_again waits timeout old new ps qs e f s = subst (λ t. StandsFor t new qs) e (f (subst (λ t. StandsFor t old ps) (sym e) s))
 
--- and the plan's ports tells the lines of a frame
-pub hear_lines : OutcomeTells → (waits timeout : ℕ) (ports of_plan : List Port) (f : FrameOf) (log : List KeyedFrame) (ps : List PortState) (answer : Answer)
+-- where it has the plan's ports too, what it tells is of these
+planned : (waits timeout : ℕ) (ports of_plan : List Port) (f : FrameOf) (log : List KeyedFrame) (ps : List PortState) (answer : Answer)
     → waits ≡ timeout → ports ≡ of_plan → (StandsFor waits log ps → Told waits ports f log answer) → StandsFor timeout log ps
-    → answer_lines f answer ≡ on_port timeout f log (port_on of_plan f)
-hear_lines tells waits timeout ports of_plan f log ps answer e q told s =
-    told_lines tells waits ports f log answer (told (subst (λ t. StandsFor t log ps) (sym e) s))
-    ∙ (ap (λ (t : List Port). on_port waits f log (port_on t f)) q ∙ ap (λ t. on_port t f log (port_on of_plan f)) e)
+    → Told timeout of_plan f log answer
+planned waits timeout ports of_plan f log ps answer e q told s =
+    subst (λ t. Told t of_plan f log answer) e
+    (subst (λ (t : List Port). Told waits t f log answer) q (told (subst (λ t. StandsFor t log ps) (sym e) s)))
 
-pub hear_bad : OutcomeTells → (waits timeout : ℕ) (ports of_plan : List Port) (f : FrameOf) (log : List KeyedFrame) (ps : List PortState) (answer : Answer)
-    → waits ≡ timeout → ports ≡ of_plan → (StandsFor waits log ps → Told waits ports f log answer) → StandsFor timeout log ps
-    → answer_is_bad answer ≡ bad_on_port timeout f log (port_on of_plan f)
-hear_bad tells waits timeout ports of_plan f log ps answer e q told s =
-    told_bad tells waits ports f log answer (told (subst (λ t. StandsFor t log ps) (sym e) s))
-    ∙ (ap (λ (t : List Port). bad_on_port waits f log (port_on t f)) q ∙ ap (λ t. bad_on_port t f log (port_on of_plan f)) e)
+-- a table tells the lines of a frame, also where its sessions changed since
+pub hear_lines : OutcomeTells → (node : Node) (table : Table PortShape) (f : FrameOf) (log : List KeyedFrame) (answer : Answer)
+    → Keeps port_schema node.table table → StandsAt node log → Answers port_schema node.table f answer
+    → answer_lines (type_at table (key_of f.ident)) f answer ≡ on_port node.plan f log (port_on (ports_of node.plan) f)
+hear_lines tells node table f log answer keeps s told =
+    let key = key_of f.ident in
+    let type_is = first_type key.kind key.port table.ports.items node.plan.subs (keeps.ports ∙ s.ports) (types_stay node.plan.subs node.table.ports.items table.ports.items keeps.shapes s.types) in
+    ap (λ (t : Option Sch). answer_lines t f answer) type_is
+    ∙ told_lines tells node.plan (ports_of node.plan) f log answer (planned _ _ _ _ f log _ answer s.timeout s.ports (told log) s.sessions)
+
+pub hear_bad : OutcomeTells → (node : Node) (f : FrameOf) (log : List KeyedFrame) (answer : Answer)
+    → StandsAt node log → Answers port_schema node.table f answer
+    → answer_is_bad answer ≡ bad_on_port node.plan.timeout f log (port_on (ports_of node.plan) f)
+hear_bad tells node f log answer s told =
+    told_bad tells node.plan (ports_of node.plan) f log answer (planned _ _ _ _ f log _ answer s.timeout s.ports (told log) s.sessions)
 
 -- a record that is a frame for the node
 pub frame_stands : (old new : Node) (rec : Record) (f : FrameOf) → new.plan ≡ old.plan → Some f ≡ frame_for old.plan.node rec

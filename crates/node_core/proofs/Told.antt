@@ -17,7 +17,9 @@ use Rattle.rx_table.specs.Steps.{delivery_at, is_bad}
 use Rattle.rx_table.specs.Table.{keyed, with_source, port_on, Told, ToldAt}
 use Rattle.node_core.specs.declared.line.Line.{Line}
 use Rattle.node_core.specs.declared.line.Line.TheVariants.{Rx}
-use Rattle.node_core.specs.declared.line.Reading.TheVariants.{Raw}
+use Rattle.node_core.specs.Readings.{reading_of}
+use Rattle.node_core.specs.Types.{type_on}
+use Rattle.node_plan.specs.declared.plan.Plan.{Plan}
 use Rattle.node_core.specs.Steps.{of_delivery, refused_line, of_session, of_source, on_port, bad_of_source, bad_on_port}
 use Rattle.node_core.specs.Told.{outcome_lines, answer_lines, outcome_is_bad, answer_is_bad}
 
@@ -27,13 +29,13 @@ rec_is kind port None f k e = cc
 rec_is kind port (Some s) f k e = let it : record { key = record { kind = kind; port = port; source = s }; rec = key_record f } ≡ k = cc in ap (λ (t : KeyedFrame). t.rec) it
 
 -- an outcome gives the line of the delivery that it tells
-outcome_tells : (key : Key) (extent : ℕ) (d : Option Delivery) (o : Outcome) → Tells d extent o → outcome_lines key o ≡ of_delivery extent key d
-outcome_tells key extent d Ignored t = ap (of_delivery extent key) (sym t)
-outcome_tells key extent d Held t = ap (of_delivery extent key) (sym t)
-outcome_tells key extent d BadCrc t = ap (of_delivery extent key) (sym t)
-outcome_tells key extent d (Delivered bus priority tid first last moment payload) (delivery, is, a, b, c, e, f, g, h) =
-    (λ i. Rx (record { moment = g i; bus = a i; key = key; priority = b i; tid = c i; first = e i; last = f i; payload = h i; reading = Raw }) ∷ [])
-    ∙ ap (of_delivery extent key) (sym is)
+outcome_tells : (plan : Plan) (key : Key) (extent : ℕ) (d : Option Delivery) (o : Outcome) → Tells d extent o → outcome_lines (type_on plan key) key o ≡ of_delivery plan extent key d
+outcome_tells plan key extent d Ignored t = ap (of_delivery plan extent key) (sym t)
+outcome_tells plan key extent d Held t = ap (of_delivery plan extent key) (sym t)
+outcome_tells plan key extent d BadCrc t = ap (of_delivery plan extent key) (sym t)
+outcome_tells plan key extent d (Delivered bus priority tid first last moment payload) (delivery, is, a, b, c, e, f, g, h) =
+    (λ i. Rx (record { moment = g i; bus = a i; key = key; priority = b i; tid = c i; first = e i; last = f i; payload = h i; reading = reading_of (type_on plan key) (h i) }) ∷ [])
+    ∙ ap (of_delivery plan extent key) (sym is)
 
 outcome_bad : (timeout extent : ℕ) (r : KeyRecord) (past : List KeyRecord) (o : Outcome) → OutcomeIs crc_of timeout extent r past o → outcome_is_bad o ≡ is_bad crc_of timeout r past
 outcome_bad timeout extent r past Ignored t = sym t.1
@@ -42,38 +44,36 @@ outcome_bad timeout extent r past BadCrc t = sym t.1
 outcome_bad timeout extent r past (Delivered bus priority tid first last moment payload) t = sym t.2
 
 -- a frame of a session
-module _ (tells : OutcomeTells) (timeout : ℕ) (p : Port) (f : FrameOf) (k : KeyedFrame) (log : List KeyedFrame) (answer : Answer) (t : AnswerIs crc_of timeout p k log answer) (own : key_record f ≡ k.rec) where
-  key : Key
-  key = key_of f.ident
-
-  session_lines : answer_lines f answer ≡ of_session timeout p (key_of f.ident) k log
+module _ (tells : OutcomeTells) (plan : Plan) (p : Port) (f : FrameOf) (k : KeyedFrame) (log : List KeyedFrame) (answer : Answer) (t : AnswerIs crc_of plan.timeout p k log answer) (own : key_record f ≡ k.rec) where
+  session_lines : answer_lines (type_on plan (key_of f.ident)) f answer ≡ of_session plan p (key_of f.ident) k log
   session_lines =
-      let d = delivery_at crc_of timeout k.rec (history k.key log) in
-      let delivered = of_delivery p.extent (key_of f.ident) d in
+      let told = answer_lines (type_on plan (key_of f.ident)) f in
+      let d = delivery_at crc_of plan.timeout k.rec (history k.key log) in
+      let delivered = of_delivery plan p.extent (key_of f.ident) d in
       let refusal : List Line = cond k.rec.start (refused_line (key_of f.ident) k.rec ∷ []) [] in
       elim (cases_Bool (is_admitted p k log)) [
         | inl y ↦
             let s = t.session y in
-            ap (answer_lines f) s.1 ∙ (outcome_tells (key_of f.ident) p.extent d s.0 (tells crc_of timeout p.extent k.rec (history k.key log) s.0 s.2) ∙ sym (cond-true (is_admitted p k log) delivered refusal y))
+            ap told s.1 ∙ (outcome_tells plan (key_of f.ident) p.extent d s.0 (tells crc_of plan.timeout p.extent k.rec (history k.key log) s.0 s.2) ∙ sym (cond-true (is_admitted p k log) delivered refusal y))
         | inr n ↦
             elim (cases_Bool k.rec.start) [
               | inl y ↦
-                  ap (answer_lines f) (t.refused n y)
+                  ap told (t.refused n y)
                   ∙ (ap (λ (r : KeyRecord). refused_line (key_of f.ident) r ∷ []) own
                   ∙ (sym (cond-true k.rec.start (refused_line (key_of f.ident) k.rec ∷ []) [] y) ∙ sym (cond-false (is_admitted p k log) delivered refusal n)))
               | inr m ↦
-                  ap (answer_lines f) (t.ignored n m)
+                  ap told (t.ignored n m)
                   ∙ (sym (cond-false k.rec.start (refused_line (key_of f.ident) k.rec ∷ []) [] m) ∙ sym (cond-false (is_admitted p k log) delivered refusal n))
             ]
       ]
 
-  session_bad : answer_is_bad answer ≡ (is_admitted p k log && is_bad crc_of timeout k.rec (history k.key log))
+  session_bad : answer_is_bad answer ≡ (is_admitted p k log && is_bad crc_of plan.timeout k.rec (history k.key log))
   session_bad =
-      let bad = is_bad crc_of timeout k.rec (history k.key log) in
+      let bad = is_bad crc_of plan.timeout k.rec (history k.key log) in
       elim (cases_Bool (is_admitted p k log)) [
         | inl y ↦
             let s = t.session y in
-            ap answer_is_bad s.1 ∙ (outcome_bad timeout p.extent k.rec (history k.key log) s.0 s.2 ∙ ap (λ b. b && bad) (sym y))
+            ap answer_is_bad s.1 ∙ (outcome_bad plan.timeout p.extent k.rec (history k.key log) s.0 s.2 ∙ ap (λ b. b && bad) (sym y))
         | inr n ↦
             elim (cases_Bool k.rec.start) [
               | inl y ↦ ap answer_is_bad (t.refused n y) ∙ ap (λ b. b && bad) (sym n)
@@ -81,27 +81,32 @@ module _ (tells : OutcomeTells) (timeout : ℕ) (p : Port) (f : FrameOf) (k : Ke
             ]
       ]
 
-module _ (tells : OutcomeTells) (timeout : ℕ) (f : FrameOf) (log : List KeyedFrame) (answer : Answer) where
-  lines_on : (o : Option Port) (m : Option KeyedFrame) → keyed f ≡ m → ToldAt timeout o f m log answer → answer_lines f answer ≡ on_port timeout f log o
-  lines_on None None e t = ap (answer_lines f) t
-  lines_on None (Some k) e t = ap (answer_lines f) t
-  lines_on (Some p) None e t = ap (answer_lines f) t ∙ ap (of_source timeout p f log) (sym e)
+module _ (tells : OutcomeTells) (plan : Plan) (f : FrameOf) (log : List KeyedFrame) (answer : Answer) where
+  told : Answer → List Line
+  told = answer_lines (type_on plan (key_of f.ident)) f
+
+  lines_on : (o : Option Port) (m : Option KeyedFrame) → keyed f ≡ m → ToldAt plan.timeout o f m log answer → answer_lines (type_on plan (key_of f.ident)) f answer ≡ on_port plan f log o
+  unfolding told
+  lines_on None None e t = ap told t
+  lines_on None (Some k) e t = ap told t
+  lines_on (Some p) None e t = ap told t ∙ ap (of_source plan p f log) (sym e)
   lines_on (Some p) (Some k) e t =
       let own = rec_is (key_of f.ident).kind (key_of f.ident).port (key_of f.ident).source f k e in
-      session_lines tells timeout p f k log answer t own ∙ ap (of_source timeout p f log) (sym e)
+      session_lines tells plan p f k log answer t own ∙ ap (of_source plan p f log) (sym e)
 
-  bad_on : (o : Option Port) (m : Option KeyedFrame) → keyed f ≡ m → ToldAt timeout o f m log answer → answer_is_bad answer ≡ bad_on_port timeout f log o
+  bad_on : (o : Option Port) (m : Option KeyedFrame) → keyed f ≡ m → ToldAt plan.timeout o f m log answer → answer_is_bad answer ≡ bad_on_port plan.timeout f log o
   bad_on None None e t = ap answer_is_bad t
   bad_on None (Some k) e t = ap answer_is_bad t
-  bad_on (Some p) None e t = ap answer_is_bad t ∙ ap (bad_of_source timeout p log) (sym e)
+  bad_on (Some p) None e t = ap answer_is_bad t ∙ ap (bad_of_source plan.timeout p log) (sym e)
   bad_on (Some p) (Some k) e t =
       let own = rec_is (key_of f.ident).kind (key_of f.ident).port (key_of f.ident).source f k e in
-      session_bad tells timeout p f k log answer t own ∙ ap (bad_of_source timeout p log) (sym e)
+      session_bad tells plan p f k log answer t own ∙ ap (bad_of_source plan.timeout p log) (sym e)
 
 -- the lines of a frame
-pub told_lines : OutcomeTells → (timeout : ℕ) (ports : List Port) (f : FrameOf) (log : List KeyedFrame) (answer : Answer) → Told timeout ports f log answer → answer_lines f answer ≡ on_port timeout f log (port_on ports f)
-told_lines tells timeout ports f log answer t = lines_on tells timeout f log answer (port_on ports f) (keyed f) refl t
+pub told_lines : OutcomeTells → (plan : Plan) (ports : List Port) (f : FrameOf) (log : List KeyedFrame) (answer : Answer) → Told plan.timeout ports f log answer
+    → answer_lines (type_on plan (key_of f.ident)) f answer ≡ on_port plan f log (port_on ports f)
+told_lines tells plan ports f log answer t = lines_on tells plan f log answer (port_on ports f) (keyed f) refl t
 
 -- and whether it ends a transfer with a bad CRC
-pub told_bad : OutcomeTells → (timeout : ℕ) (ports : List Port) (f : FrameOf) (log : List KeyedFrame) (answer : Answer) → Told timeout ports f log answer → answer_is_bad answer ≡ bad_on_port timeout f log (port_on ports f)
-told_bad tells timeout ports f log answer t = bad_on tells timeout f log answer (port_on ports f) (keyed f) refl t
+pub told_bad : OutcomeTells → (plan : Plan) (ports : List Port) (f : FrameOf) (log : List KeyedFrame) (answer : Answer) → Told plan.timeout ports f log answer → answer_is_bad answer ≡ bad_on_port plan.timeout f log (port_on ports f)
+told_bad tells plan ports f log answer t = bad_on tells plan f log answer (port_on ports f) (keyed f) refl t

@@ -1,5 +1,6 @@
 -- What a record came to at a node, and the lines on it.
 use Rattle.std.specs.Prelude.{ℕ, ◌-◌, Bool, List, [], length, take, Option, Some, None}
+use Rattle.can_id.specs.Identifiers.{key_of}
 use Rattle.can_id.specs.declared.ident.Ident.{Ident}
 use Rattle.tail_frame.specs.Frames.{FrameOf}
 use Rattle.tail_frame.specs.declared.logged.Record.{Record}
@@ -14,6 +15,7 @@ use Rattle.node_core.specs.declared.line.Line.{Line}
 use Rattle.node_core.specs.declared.node.Node.{Node}
 use Rattle.node_core.specs.Shapes.{shape_extent}
 use Rattle.node_core.specs.Told.{answer_lines, answer_is_bad}
+use Rattle.node_core.specs.Types.{type_at}
 
 -- the frame that a record with this identifier and this tail is
 abbrev pub frame_with : Record → Ident → Tail → FrameOf
@@ -30,11 +32,13 @@ frame_with rec ident tail = record {
 abbrev pub answer_in : Node → List ℕ → Met → Answer
 answer_in node body met = table_answer (states shape_extent node.table.ports.items) body met
 
+-- the lines on what a frame met
+abbrev pub met_lines : Node → FrameOf → Met → List Line
+met_lines node f met = answer_lines (type_at node.table (key_of f.ident)) f (answer_in node f.body met)
+
 abbrev pub heard_lines : Node → Record → Option Heard → List Line
 heard_lines node rec None = []
-heard_lines node rec (Some heard) =
-    let f = frame_with rec heard.ident heard.tail in
-    answer_lines f (answer_in node f.body heard.met)
+heard_lines node rec (Some heard) = met_lines node (frame_with rec heard.ident heard.tail) heard.met
 
 -- whether a frame that was heard ends a transfer whose bytes don't fit their CRC
 abbrev pub heard_is_bad : Node → Record → Heard → Bool

@@ -5,6 +5,7 @@ pub mod InTime
 pub mod LineSinks
 pub mod Puts
 pub mod Raw
+pub mod Readings
 pub mod Seconds
 pub mod Shapes
 pub mod Stands
@@ -12,5 +13,6 @@ pub mod Steps
 pub mod Tables
 pub mod Text
 pub mod Told
+pub mod Types
 pub mod Words
 pub mod Writer

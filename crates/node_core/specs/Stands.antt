@@ -11,12 +11,14 @@ use Rattle.rx_table.specs.Heard.{frames}
 use Rattle.node_core.specs.Heard.{ports_of}
 use Rattle.node_core.specs.Shapes.{shape_extent}
 use Rattle.node_core.specs.Steps.{got, is_bad_at, on_port, bad_on_port, held_at}
+use Rattle.node_core.specs.Types.{HasTypes}
 use Rattle.node_core.specs.declared.line.Line.{Line}
 
--- its sessions are those of its plan's ports after these frames, the newest first
+-- its sessions are those of its plan's ports after these frames, the newest first, and its ports have the plan's types
 pub record StandsAt (node : Node) (log : List KeyedFrame) : Type 0 where
   pub timeout : node.table.timeout ≡ node.plan.timeout
   pub ports : ports_in (states shape_extent node.table.ports.items) ≡ ports_of node.plan
+  pub types : HasTypes node.plan.subs node.table
   pub sessions : StandsFor node.plan.timeout log (states shape_extent node.table.ports.items)
 
 -- and after these records
@@ -63,7 +65,7 @@ KeepsSessions old new = (log : List KeyedFrame) → StandsAt old log → StandsA
 abbrev pub FrameGives : Node → FrameOf → List Line → Type 0
 FrameGives node f lines =
     (log : List KeyedFrame) → StandsAt node log
-    → lines ≡ on_port node.plan.timeout f log (port_on (ports_of node.plan) f)
+    → lines ≡ on_port node.plan f log (port_on (ports_of node.plan) f)
 
 -- this is whether the frame ends a transfer whose bytes don't fit their CRC
 abbrev pub FrameTellsBadCrc : Node → FrameOf → Bool → Type 0

@@ -15,14 +15,15 @@ use Rattle.node_plan.specs.Bound.{bound_of}
 use Rattle.node_plan.specs.declared.plan.Plan.{Plan}
 use Rattle.rx_table.specs.Heard.{frame_for, frames}
 use Rattle.node_core.specs.Heard.{ports_of}
+use Rattle.node_core.specs.Readings.{reading_of}
+use Rattle.node_core.specs.Types.{type_on}
 use Rattle.node_core.specs.declared.line.Line.{Line}
 use Rattle.node_core.specs.declared.line.Line.TheVariants.{Rx, NoSession}
-use Rattle.node_core.specs.declared.line.Reading.TheVariants.{Raw}
 use Rattle.node_core.specs.declared.numbers.Numbers.{Numbers}
 
--- the line of a delivery
-abbrev pub rx_line : ℕ → Key → Delivery → Line
-rx_line extent key d = Rx (record {
+-- the line of a delivery on a port of a plan with this extent
+abbrev pub rx_line : Plan → ℕ → Key → Delivery → Line
+rx_line plan extent key d = Rx (record {
   moment = d.first.moment;
   bus = d.first.bus;
   key = key;
@@ -31,16 +32,16 @@ rx_line extent key d = Rx (record {
   first = d.first.line;
   last = d.last.line;
   payload = take extent d.content;
-  reading = Raw;
+  reading = reading_of (type_on plan key) (take extent d.content);
 })
 
-abbrev pub of_delivery : ℕ → Key → Option Delivery → List Line
-of_delivery extent key None = []
-of_delivery extent key (Some d) = rx_line extent key d ∷ []
+abbrev pub of_delivery : Plan → ℕ → Key → Option Delivery → List Line
+of_delivery plan extent key None = []
+of_delivery plan extent key (Some d) = rx_line plan extent key d ∷ []
 
 -- the line of an anonymous message, which is one frame
-abbrev pub anonymous_line : ℕ → FrameOf → Line
-anonymous_line extent f = Rx (record {
+abbrev pub anonymous_line : Plan → ℕ → FrameOf → Line
+anonymous_line plan extent f = Rx (record {
   moment = f.moment;
   bus = f.bus;
   key = key_of f.ident;
@@ -49,7 +50,7 @@ anonymous_line extent f = Rx (record {
   first = f.line;
   last = f.line;
   payload = take extent f.body;
-  reading = Raw;
+  reading = reading_of (type_on plan (key_of f.ident)) (take extent f.body);
 })
 
 -- the line of a start frame whose source has no session
@@ -57,24 +58,24 @@ abbrev pub refused_line : Key → KeyRecord → Line
 refused_line key rec = NoSession (record { moment = rec.moment; bus = rec.bus; key = key; line = rec.line })
 
 -- what a frame with a source gives on a port, after these: what its session delivers, or that there is none for it
-abbrev pub of_session : ℕ → Port → Key → KeyedFrame → List KeyedFrame → List Line
-of_session timeout p key k log =
+abbrev pub of_session : Plan → Port → Key → KeyedFrame → List KeyedFrame → List Line
+of_session plan p key k log =
     if is_admitted p k log
-    then of_delivery p.extent key (delivery_at crc_of timeout k.rec (history k.key log))
+    then of_delivery plan p.extent key (delivery_at crc_of plan.timeout k.rec (history k.key log))
     else (if k.rec.start then refused_line key k.rec ∷ [] else [])
 
 -- an anonymous message is delivered at once
-abbrev pub of_source : ℕ → Port → FrameOf → List KeyedFrame → Option KeyedFrame → List Line
-of_source timeout p f log None = anonymous_line p.extent f ∷ []
-of_source timeout p f log (Some k) = of_session timeout p (key_of f.ident) k log
+abbrev pub of_source : Plan → Port → FrameOf → List KeyedFrame → Option KeyedFrame → List Line
+of_source plan p f log None = anonymous_line plan p.extent f ∷ []
+of_source plan p f log (Some k) = of_session plan p (key_of f.ident) k log
 
-abbrev pub on_port : ℕ → FrameOf → List KeyedFrame → Option Port → List Line
-on_port timeout f log None = []
-on_port timeout f log (Some p) = of_source timeout p f log (keyed f)
+abbrev pub on_port : Plan → FrameOf → List KeyedFrame → Option Port → List Line
+on_port plan f log None = []
+on_port plan f log (Some p) = of_source plan p f log (keyed f)
 
 abbrev pub of_frame : Plan → List KeyedFrame → Option FrameOf → List Line
 of_frame plan log None = []
-of_frame plan log (Some f) = on_port plan.timeout f log (port_on (ports_of plan) f)
+of_frame plan log (Some f) = on_port plan f log (port_on (ports_of plan) f)
 
 -- the lines on what a record gives, where these came before it, the newest first
 abbrev pub got : Plan → Record → List Record → List Line

@@ -5,12 +5,13 @@ pub use Rattle.line_text.specs.Text.{moment_text, line_of, spaced}
 use Rattle.can_id.specs.declared.key.Key.{Key}
 use Rattle.can_id.specs.declared.key.Kind.{Kind}
 use Rattle.can_id.specs.declared.key.Kind.TheVariants.{Message, Request, Response}
+use Rattle.value_text.specs.Unreadable.{unreadable_text}
 use Rattle.node_plan.specs.declared.plan.BusPlan.{BusPlan}
 use Rattle.node_core.specs.declared.line.Line.{Line}
 use Rattle.node_core.specs.declared.line.Line.TheVariants.{Rx, NoSession}
 use Rattle.node_core.specs.declared.line.Rx.{Rx as Received}
 use Rattle.node_core.specs.declared.line.Reading.{Reading}
-use Rattle.node_core.specs.declared.line.Reading.TheVariants.{Raw}
+use Rattle.node_core.specs.declared.line.Reading.TheVariants.{Raw, Good, Bad}
 use Rattle.node_core.specs.declared.numbers.Numbers.{Numbers}
 
 abbrev pub name_of : Option BusPlan → List ℕ
@@ -40,8 +41,11 @@ abbrev pub payload_text : List ℕ → List ℕ
 payload_text [] = codes "-"
 payload_text (b ∷ bs) = encode_upper (b ∷ bs)
 
+-- the text of a value, or a mark and why the payload can't be read; bytes are `raw`
 abbrev pub reading_text : Reading → List ℕ
 reading_text Raw = codes "raw"
+reading_text (Good value text) = text
+reading_text (Bad path why) = codes "!" ++ unreadable_text path why
 
 -- the name of a bus and a kind, with a space on each side of each
 abbrev pub bus_and_kind : List BusPlan → ℕ → Kind → List ℕ

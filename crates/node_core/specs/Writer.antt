@@ -1,16 +1,23 @@
 -- What a writer of lines writes.
-use Rattle.std.specs.Prelude.{◌≡◌, ◌++◌, List}
+use Rattle.std.specs.Prelude.{◌≡◌, ℕ, ◌++◌, List, ◌∷◌, codes}
 use Rattle.line_text.specs.Buffer.{text_of}
 use Rattle.line_text.specs.declared.text_buffer.TextBuffer.{TextBuffer}
 use Rattle.node_plan.specs.declared.plan.BusPlan.{BusPlan}
 use Rattle.node_core.specs.declared.line_ref.LineRef.{LineRef}
 use Rattle.node_core.specs.declared.line_writer.LineWriter.{LineWriter}
-use Rattle.node_core.specs.Text.{line_text}
+use Rattle.node_core.specs.declared.line_ref.RxRef.{RxRef}
+use Rattle.node_core.specs.Text.{line_text, payload_text, place_words, spaced, transfer_words}
 use Rattle.node_core.specs.Told.{owned}
 
 -- the buses whose names its lines have
 unfoldable pub writes_for : LineWriter → List BusPlan
 writes_for writer = writer.names.buses
+
+-- the text of a transfer up to its payload
+abbrev pub front_text : List BusPlan → RxRef → List ℕ
+front_text buses rx =
+    spaced ((codes "rx" ∷ place_words buses rx.moment rx.bus rx.key) ++ transfer_words rx.priority rx.tid rx.first rx.last)
+    ++ payload_text rx.payload.now
 
 -- it puts the text of a line behind a text
 abbrev pub Writes : LineWriter → LineRef → TextBuffer → TextBuffer → Type 0

@@ -1,30 +1,35 @@
 //! The line on what the table told of a frame.
-ghost use Rattle.std.specs.Prelude.{◌≡◌, ◌∷◌, []};
+ghost use Rattle.std.specs.Prelude.{◌≡◌, ◌∷◌, [], option_map};
 ghost use Rattle.can_id.specs.Identifiers.{key_of};
 ghost use Rattle.tail_frame.specs.Frames.{key_record, seen};
+ghost use Rattle.dsdl_types.specs.Views.{sch};
 ghost use Rattle.rx_session.specs.Session.{Delivered};
 ghost use Rattle.rx_table.specs.Table.{answer_of};
 ghost use Rattle.node_core.specs.Steps.{refused_line};
 ghost use Rattle.node_core.specs.Told.{owned, outcome_lines, answer_lines, answer_is_bad, told_lines};
+ghost use Rattle.node_core.specs.Types.{type_at};
 
-use crate::line::{Reading, Refused};
+use crate::compiled_shape::CompiledShape;
+use crate::line::Refused;
 use crate::line_ref::{LineRef, RxRef};
+use crate::port_shape::PortShape;
 use can_id::Key;
 use rx_session::{Delivery, Outcome};
-use rx_table::Fed;
+use rx_table::{Fed, Table};
 use tail_frame::Frame;
 
 /// The line on what the table told of a frame, if there is one.
 #[inline(always)]
-pub fn line_on<'a>(frame: &Frame, fed: Fed<'a>) -> Option<LineRef<'a>>
-    ensures { told_lines result ≡ answer_lines (seen frame.now) (answer_of fed.entry) }
+pub fn line_on<'a>(table: &'a Table<PortShape>, frame: &Frame, fed: Fed<'a>) -> Option<LineRef<'a>>
+    ensures { let port_type = type_at table.now (key_of frame.now.ident) in
+        told_lines result ≡ answer_lines port_type (seen frame.now) (answer_of fed.entry) }
 {
     match fed {
         Fed::NoPort => None,
         Fed::NoSession => Some(refused(frame)),
-        Fed::Anonymous(delivery) => Some(received(frame.ident.key(), delivery)),
+        Fed::Anonymous(delivery) => Some(received(table, frame.ident.key(), delivery)),
         Fed::Session(Outcome::Delivered(delivery)) => {
-            Some(received(frame.ident.key(), delivery))
+            Some(received(table, frame.ident.key(), delivery))
         }
         Fed::Session(Outcome::BadCrc) => None,
         Fed::Session(Outcome::Ignored) => None,
@@ -34,8 +39,8 @@ pub fn line_on<'a>(frame: &Frame, fed: Fed<'a>) -> Option<LineRef<'a>>
 
 /// The line of a transfer that was received.
 #[inline(always)]
-fn received(key: Key, delivery: Delivery<'_>) -> LineRef<'_>
-    ensures { let d = delivery.entry in owned result ∷ [] ≡ outcome_lines key
+fn received<'a>(table: &'a Table<PortShape>, key: Key, delivery: Delivery<'a>) -> LineRef<'a>
+    ensures { let d = delivery.entry in owned result ∷ [] ≡ outcome_lines (type_at table.now key) key
         (Delivered d.bus d.priority d.tid d.first d.last d.moment d.payload.now) }
 {
     LineRef::Rx(RxRef {
@@ -44,11 +49,19 @@ fn received(key: Key, delivery: Delivery<'_>) -> LineRef<'_>
         key,
         priority: delivery.priority,
         tid: delivery.tid,
-        reading: Reading::Raw,
+        port_type: type_at(table, key),
         first: delivery.first,
         last: delivery.last,
         payload: delivery.payload,
     })
+}
+
+/// The type of the port that a transfer came on, or `None` where it has none.
+#[inline(always)]
+fn type_at(table: &Table<PortShape>, key: Key) -> Option<&CompiledShape>
+    ensures { option_map (λ shape. sch shape.now.schema) result ≡ type_at table.now key }
+{
+    table.shape(key.kind, key.port)?.compiled()
 }
 
 /// The line of a start frame for whose source its port has no session left.

@@ -3,6 +3,7 @@
 
 mod bus_words;
 pub mod came;
+mod compiled_shape;
 mod fed;
 mod heard;
 pub mod laws;
@@ -21,6 +22,7 @@ mod word;
 mod words;
 
 pub use came::Came;
+pub use compiled_shape::CompiledShape;
 pub use line::{Line, Reading, Refused, Rx};
 pub use line_ref::{LineRef, RxRef};
 pub use line_sink::{KeptLines, LineSink, NoLines};

@@ -1,5 +1,6 @@
 use can_id::Key;
-use cy_bits::Bytes;
+use cy_bits::{Bytes, Text};
+use dsdl_types::{ReadWhy, Value};
 
 /// One line of the report.
 #[derive(Drop)]
@@ -33,11 +34,26 @@ pub struct Rx {
     pub payload: Bytes,
 }
 
-/// What a payload says.
-#[derive(Clone, Copy, Debug, PartialEq, Eq)]
+/// What a payload says (Cyphal Specification, section 3.7).
+#[derive(Drop)]
 pub enum Reading {
     /// Bytes: the port has no type.
     Raw,
+    /// A value of the port's type.
+    Good {
+        /// The value.
+        value: Value,
+        /// Its text.
+        text: Text,
+    },
+    /// No value of the port's type: the bytes can't be read.
+    Bad {
+        /// The path to the part that is refused first in reading order: names with `.` between,
+        /// `[i]` for an item, `.` alone for the whole.
+        path: Text,
+        /// Why it is refused, with the number that was read.
+        why: ReadWhy,
+    },
 }
 
 /// A start frame for whose source its port has no session left.

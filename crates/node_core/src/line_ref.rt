@@ -1,14 +1,15 @@
 //! A line of the report whose payload is lent.
 ghost use Rattle.std.specs.Prelude.{◌≡◌, IfOk};
-ghost use Rattle.node_core.specs.Told.{owned};
+ghost use Rattle.node_core.specs.Told.{owned, reading_in};
 
+use crate::compiled_shape::CompiledShape;
 use crate::line::{Line, Reading, Refused, Rx};
 use can_id::Key;
 use cy_bits::{Bytes, NoMemory};
 use std::alloc::Global;
 
 /// One line of the report, with its payload lent.
-#[derive(Clone, Copy, Debug)]
+#[derive(Clone, Copy)]
 pub enum LineRef<'a> {
     /// A transfer was received.
     Rx(RxRef<'a>),
@@ -16,8 +17,8 @@ pub enum LineRef<'a> {
     NoSession(Refused),
 }
 
-/// A transfer that was received, with its payload lent.
-#[derive(Clone, Copy, Debug)]
+/// A transfer that was received, with its payload lent. What that says isn't read before it is asked for.
+#[derive(Clone, Copy)]
 pub struct RxRef<'a> {
     /// When its first frame was received, in microseconds.
     pub moment: u64,
@@ -29,8 +30,8 @@ pub struct RxRef<'a> {
     pub priority: u8,
     /// The transfer-ID, 0 to 31.
     pub tid: u8,
-    /// What the payload says.
-    pub reading: Reading,
+    /// The type of the port, or `None` where the payload is bytes.
+    pub port_type: Option<&'a CompiledShape>,
     /// The line of the log with its first frame, counted from 1.
     pub first: u64,
     /// The line of the log with its last frame.
@@ -39,8 +40,20 @@ pub struct RxRef<'a> {
     pub payload: &'a [u8],
 }
 
+impl RxRef<'_> {
+    /// What the payload says. Takes no memory where the port has no type.
+    pub fn reading(&self, alloc: Global) -> Result<Reading, NoMemory>
+        ensures { IfOk result (λ reading. reading ≡ reading_in self.now) }
+    {
+        match self.port_type {
+            None => Ok(Reading::Raw),
+            Some(shape) => shape.reading(alloc, self.payload),
+        }
+    }
+}
+
 impl<'a> LineRef<'a> {
-    /// The same line, with a copy of the payload.
+    /// The same line, with a copy of the payload, and with what that says.
     pub fn copy(&self, alloc: Global) -> Result<Line, NoMemory>
         ensures { IfOk result (λ line. line ≡ owned self.now) }
     {
@@ -51,7 +64,7 @@ impl<'a> LineRef<'a> {
                 key: rx.key,
                 priority: rx.priority,
                 tid: rx.tid,
-                reading: rx.reading,
+                reading: rx.reading(alloc)?,
                 first: rx.first,
                 last: rx.last,
                 payload: Bytes::from_slice(alloc, rx.payload)?,

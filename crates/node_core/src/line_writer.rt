@@ -1,6 +1,6 @@
 //! The text of a report's lines.
-ghost use Rattle.std.specs.Prelude.{◌≡◌, [], OnOk, OnErr};
-ghost use Rattle.line_text.specs.Buffer.{text_of};
+ghost use Rattle.std.specs.Prelude.{◌≡◌, ◌≤◌, ◌+◌, ◌*◌, [], None, OnOk, OnErr, length};
+ghost use Rattle.line_text.specs.Buffer.{room_of, text_of};
 ghost use Rattle.node_core.specs.Puts.{Puts};
 ghost use Rattle.node_core.specs.Text.{end_text};
 
@@ -11,15 +11,19 @@ use crate::numbers::Numbers;
 use crate::port_word::PortWord;
 use crate::second::Second;
 use crate::words::{
-    LINE, put_key, put_label, put_payload, put_reading, put_received, put_transfer, reserve_for,
+    LINE, put_key, put_label, put_payload, put_raw, put_reading, put_received, put_transfer,
+    reserve_for, reserve_with,
 };
 use cy_bits::{NoMemory, ShortList};
 use line_text::TextBuffer;
 use node_plan::BusPlan;
+use std::alloc::Global;
 
 /// Puts the lines of a report together. It keeps the words that lines have in common.
 #[derive(Drop)]
 pub struct LineWriter {
+    /// Where the memory for a reading comes from.
+    alloc: Global,
     /// The second of the last `rx` line.
     second: Second,
     /// The names of the buses.
@@ -30,20 +34,22 @@ pub struct LineWriter {
 
 #[tactic(auto, unfolding(crate::specs::Writer::writes_for))]
 impl LineWriter {
-    ghost use Rattle.node_core.specs.Writer.{writes_for, Writes};
+    ghost use Rattle.node_core.specs.Writer.{front_text, writes_for, Writes};
 
-    /// A writer of lines with the names of these buses.
-    pub fn new(buses: &ShortList<BusPlan, 3>) -> LineWriter
+    /// A writer of lines with the names of these buses. Takes no memory.
+    pub fn new(alloc: Global, buses: &ShortList<BusPlan, 3>) -> LineWriter
         ensures { writes_for result ≡ buses.now }
     {
         LineWriter {
+            alloc,
             second: Second::of(0),
             names: BusWords::new(buses),
             port: PortWord::of(0),
         }
     }
 
-    /// Appends the text of a line. Want of memory leaves the text as it was.
+    /// Appends the text of a line. Memory is taken for the text, and for what the payload says where the port has a
+    /// type; want of it leaves the text as it was.
     #[inline(always)]
     pub fn push(&mut self, text: &mut TextBuffer, line: &LineRef<'_>) -> Result<(), NoMemory>
         ensures buses { writes_for self.new ≡ writes_for self.old }
@@ -79,13 +85,53 @@ impl LineWriter {
         ensures ok { OnOk result (Writes self.old (LineRef.Rx rx.now) text.old text.new) }
         ensures err { OnErr result (text_of text.new ≡ text_of text.old) }
     {
+        match rx.port_type {
+            None => self.push_raw(text, rx),
+            Some(_) => self.push_typed(text, rx),
+        }
+    }
+
+    /// Appends the text of a transfer on a port without a type.
+    #[inline(always)]
+    fn push_raw(&mut self, text: &mut TextBuffer, rx: &RxRef<'_>) -> Result<(), NoMemory>
+        requires { rx.now.port_type ≡ None }
+        ensures buses { writes_for self.new ≡ writes_for self.old }
+        ensures ok { OnOk result (Writes self.old (LineRef.Rx rx.now) text.old text.new) }
+        ensures err { OnErr result (text_of text.new ≡ text_of text.old) }
+    {
         reserve_for(text, rx.payload)?;
+        self.put_front(text, rx);
+        put_raw(text);
+        Ok(())
+    }
+
+    /// Appends the text of a transfer on a port that may have a type.
+    #[inline(never)]
+    fn push_typed(&mut self, text: &mut TextBuffer, rx: &RxRef<'_>) -> Result<(), NoMemory>
+        ensures buses { writes_for self.new ≡ writes_for self.old }
+        ensures ok { OnOk result (Writes self.old (LineRef.Rx rx.now) text.old text.new) }
+        ensures err { OnErr result (text_of text.new ≡ text_of text.old) }
+    {
+        let reading = rx.reading(self.alloc)?;
+        reserve_with(text, rx.payload, &reading)?;
+        self.put_front(text, rx);
+        put_reading(text, &reading);
+        Ok(())
+    }
+
+    /// Appends the words of a transfer up to its payload.
+    #[inline(always)]
+    fn put_front(&mut self, text: &mut TextBuffer, rx: &RxRef<'_>)
+        requires { 512 + 2 * length rx.now.payload.now ≤ room_of text.old }
+        ensures buses { writes_for self.new ≡ writes_for self.old }
+        ensures text { Puts (front_text (writes_for self.old) rx.now) text.old text.new }
+        ensures room { let digits = 2 * length rx.now.payload.now in
+            room_of text.old ≤ room_of text.new + digits + 200 }
+    {
         self.second.put(text, rx.moment);
         put_key(&self.names, &mut self.port, text, rx.bus, &rx.key);
         put_transfer(text, rx);
         put_payload(text, rx.payload);
-        put_reading(text, rx.reading);
-        Ok(())
     }
 
     /// Appends the text of a start frame that had no session.

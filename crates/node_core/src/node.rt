@@ -46,11 +46,11 @@ impl Node {
     ghost use Rattle.rx_table.specs.Views.{subscriptions};
     ghost use Rattle.node_core.specs.Heard.{IsElsewhere};
     ghost use Rattle.node_core.specs.Shapes.{port_schema};
-    ghost use Rattle.node_core.specs.Came.{answer_in, heard_is_bad, came_lines};
+    ghost use Rattle.node_core.specs.Came.{answer_in, heard_is_bad, came_lines, met_lines};
     ghost use Rattle.node_core.specs.Stands.{Stands, Takes, StandsAsBefore, Gives, Appends, TellsBadCrc};
     ghost use Rattle.node_core.specs.Stands.{TakesFrame, KeepsSessions, FrameGives, FrameTellsBadCrc};
     ghost use Rattle.node_core.specs.Stands.{Holds, IsWithinBound};
-    ghost use Rattle.node_core.specs.Told.{answer_lines, answer_is_bad, told_lines};
+    ghost use Rattle.node_core.specs.Told.{answer_is_bad, told_lines};
 
     /// A node that runs by a plan of `read_plan`. It has heard nothing.
     pub fn open(alloc: Global, plan: Plan) -> Result<Node, NoMemory>
@@ -135,7 +135,7 @@ impl Node {
     {
         let heard = came.heard?;
         let frame = heard.frame(rec);
-        line_on(&frame, self.table.lend(heard.met, &frame))
+        line_on(&self.table, &frame, self.table.lend(heard.met, &frame))
     }
 
     /// Whether a record is of a message on no port of the plan. Its identifier says so, before it is read
@@ -158,7 +158,7 @@ impl Node {
         ensures latest { self.new.latest ≤ frame.now.moment }
         ensures stands { OnOk result (TakesFrame (seen frame.now) self.old self.new) }
         ensures lines { let f = seen frame.now in
-            IfOk result (λ met. FrameGives self.old f (answer_lines f (answer_in self.new f.body met))) }
+            IfOk result (λ met. FrameGives self.old f (met_lines self.new f met)) }
         ensures badcrc { let f = seen frame.now in
             IfOk result (λ met. FrameTellsBadCrc self.old f (answer_is_bad (answer_in self.new f.body met))) }
         ensures err { OnErr result (KeepsSessions self.old self.new) }

@@ -1,10 +1,13 @@
 //! The words of a line.
-ghost use Rattle.std.specs.Prelude.{◌≡◌, ◌≤◌, ◌+◌, ◌*◌, ◌++◌, ◌∷◌, [], OnOk, decimal, length};
+ghost use Rattle.std.specs.Prelude.{◌≡◌, ◌≤◌, ◌+◌, ◌*◌, ◌++◌, ◌∷◌, [], OnOk, codes, decimal, length};
 ghost use Rattle.line_text.specs.Buffer.{text_of, room_of};
 ghost use Rattle.line_text.specs.Text.{spaced};
 ghost use Rattle.node_core.specs.Puts.{Puts};
 ghost use Rattle.node_core.specs.Text.{kind_text, source_text, payload_text, reading_text};
 ghost use Rattle.node_core.specs.Text.{key_words, transfer_words, received_words};
+ghost use Rattle.node_core.specs.Words.{long_part};
+ghost use Rattle.node_core.specs.declared.line.Reading.TheVariants.{Raw};
+ghost use Rattle.value_text.specs.Unreadable.{unreadable_text};
 
 use crate::bus_words::BusWords;
 use crate::line::Reading;
@@ -14,9 +17,12 @@ use crate::port_word::PortWord;
 use crate::word::Word;
 use can_id::{Key, Kind};
 use cy_bits::NoMemory;
+use dsdl_types::ReadWhy;
 use line_text::TextBuffer;
+use value_text::{read_why_number, read_why_word};
 
-/// The most bytes of a line besides those of its payload, and of those behind them that are written too.
+/// The most bytes of a line besides those of its payload and of what that says, and of those behind them that are
+/// written too.
 pub const LINE: usize = 512;
 
 /// Takes memory for a line with this payload.
@@ -29,6 +35,39 @@ pub fn reserve_for(text: &mut TextBuffer, payload: &[u8]) -> Result<(), NoMemory
         return Err(NoMemory);
     }
     text.reserve(LINE + 2 * payload.len())
+}
+
+/// Takes memory for a line with this payload and this reading.
+pub fn reserve_with(
+    text: &mut TextBuffer,
+    payload: &[u8],
+    reading: &Reading,
+) -> Result<(), NoMemory>
+    ensures text { text_of text.new ≡ text_of text.old }
+    ensures room { let long = length (long_part reading.now) in
+        OnOk result (512 + 2 * length payload.now + long ≤ room_of text.new) }
+{
+    let Some(digits) = payload.len().checked_mul(2) else {
+        return Err(NoMemory);
+    };
+    let Some(bytes) = digits.checked_add(long_part(reading).len()) else {
+        return Err(NoMemory);
+    };
+    let Some(room) = bytes.checked_add(LINE) else {
+        return Err(NoMemory);
+    };
+    text.reserve(room)
+}
+
+/// What of a reading's text may be of any length: the text of a value, or a path.
+fn long_part(reading: &Reading) -> &[u8]
+    ensures { result.now ≡ long_part reading.now }
+{
+    match reading {
+        Reading::Raw => &[],
+        Reading::Good { text, .. } => text.as_str().as_bytes(),
+        Reading::Bad { path, .. } => path.as_str().as_bytes(),
+    }
 }
 
 /// Appends on which bus, at which port and from whom, with a space in front and one behind each word.
@@ -75,15 +114,48 @@ pub fn put_payload(text: &mut TextBuffer, payload: &[u8])
     }
 }
 
-/// Appends what the payload says, and a newline.
+/// Appends that the payload is bytes, and a newline.
 #[inline(always)]
-pub fn put_reading(text: &mut TextBuffer, reading: Reading)
+pub fn put_raw(text: &mut TextBuffer)
     requires { 5 ≤ room_of text.old }
-    ensures { Puts (32 ∷ reading_text reading ++ 10 ∷ []) text.old text.new }
+    ensures { Puts (32 ∷ reading_text Raw ++ 10 ∷ []) text.old text.new }
+{
+    text.put_slice(b" raw\n");
+}
+
+/// Appends what the payload says, and a newline.
+pub fn put_reading(text: &mut TextBuffer, reading: &Reading)
+    requires { 64 + length (long_part reading.now) ≤ room_of text.old }
+    ensures { Puts (32 ∷ reading_text reading.now ++ 10 ∷ []) text.old text.new }
 {
     match reading {
-        Reading::Raw => text.put_slice(b" raw\n"),
+        Reading::Raw => put_raw(text),
+        Reading::Good { text: value, .. } => put_value(text, value.as_str()),
+        Reading::Bad { path, why } => put_unreadable(text, path.as_str(), *why),
     }
+}
+
+/// Appends the text of a value, and a newline.
+fn put_value(text: &mut TextBuffer, value: &str)
+    requires { 64 + length value.now ≤ room_of text.old }
+    ensures { Puts (32 ∷ value.now ++ 10 ∷ []) text.old text.new }
+{
+    text.put_slice(b" ");
+    text.put_slice(value.as_bytes());
+    text.put_slice(b"\n");
+}
+
+/// Appends why a payload can't be read, and a newline.
+fn put_unreadable(text: &mut TextBuffer, path: &str, why: ReadWhy)
+    requires { 64 + length path.now ≤ room_of text.old }
+    ensures { Puts (codes " !" ++ (unreadable_text path.now why ++ 10 ∷ [])) text.old text.new }
+{
+    text.put_slice(b" !");
+    text.put_slice(read_why_word(why));
+    text.put_number(read_why_number(why));
+    text.put_slice(b" at ");
+    text.put_slice(path.as_bytes());
+    text.put_slice(b"\n");
 }
 
 /// Appends the sender and a space.

@@ -3,11 +3,13 @@ use Rattle.std.specs.Prelude.{◌≡◌, ℕ, ◌-◌, List, length, Some, Resul
 use Rattle.dsdl_types.specs.Fits.{Fits}
 use Rattle.dsdl_types.specs.Laws.{Unreadable, encoding, with_zeros}
 use Rattle.dsdl_types.specs.Paths.{path_text}
-use Rattle.dsdl_types.specs.Reading.{Step}
+use Rattle.dsdl_types.specs.Reading.{Step, Why}
+use Rattle.dsdl_types.specs.Reading as cause
 use Rattle.dsdl_types.specs.Schemas.{Sch}
 use Rattle.dsdl_types.specs.Values.{Val}
 use Rattle.dsdl_types.specs.Views.{why_of}
 use Rattle.dsdl_types.specs.declared.read_why.ReadWhy.{ReadWhy}
+use Rattle.dsdl_types.specs.declared.read_why.ReadWhy.TheVariants as why
 use Rattle.dsdl_types.specs.declared.value.Value.{Value}
 use Rattle.serdes.specs.Misfits.{misfit}
 use Rattle.serdes.specs.declared.error.ReadError.{ReadError}
@@ -24,6 +26,12 @@ pub record IsWritten (s : Sch) (v : Val) (n : ℕ) (out : List ℕ) : Type 0 whe
 -- the path leads to the first part in writing order that isn't one of the schema
 abbrev pub IsMisfit : Sch → Val → List ℕ → Type 0
 IsMisfit s v path = (steps : List Step) × (misfit s v ≡ Some steps) × (path ≡ path_text steps)
+
+-- a cause of the definitions as one of the code
+abbrev pub read_why : Why → ReadWhy
+read_why (cause.BadTag n) = why.BadTag n
+read_why (cause.BadLength n) = why.BadLength n
+read_why (cause.BadDelimiter n) = why.BadDelimiter n
 
 -- the path and the cause are the first in reading order that refuse the bytes
 abbrev pub IsRefused : Sch → List ℕ → List ℕ → ReadWhy → Type 0

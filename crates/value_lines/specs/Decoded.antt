@@ -5,12 +5,10 @@ use Rattle.cy_bits.specs.Bits.{bits}
 use Rattle.hex.specs.Hex.{decode_of}
 use Rattle.hex.specs.declared.error.FromHexError.{FromHexError}
 use Rattle.dsdl_types.specs.Paths.{path_text}
-use Rattle.dsdl_types.specs.Reading.{Read, Got, Bad, Why, own}
-use Rattle.dsdl_types.specs.Reading as cause
+use Rattle.dsdl_types.specs.Reading.{Read, Got, Bad, own}
 use Rattle.dsdl_types.specs.Schemas.{Sch}
 use Rattle.dsdl_types.specs.Values.{Val}
-use Rattle.dsdl_types.specs.declared.read_why.ReadWhy.{ReadWhy}
-use Rattle.dsdl_types.specs.declared.read_why.ReadWhy.TheVariants as why
+use Rattle.serdes.specs.Results.{read_why}
 use Rattle.value_text.specs.Texts.{value_text}
 use Rattle.value_lines.specs.LongLines.{is_long}
 use Rattle.value_lines.specs.declared.refusal.Refusal.{Refusal}
@@ -19,12 +17,6 @@ use Rattle.value_lines.specs.declared.refusal.Refusal.TheVariants as refusal
 -- the line of a value: its text
 abbrev pub value_line : Sch → Val → List ℕ
 value_line s v = value_text s v ++ 10 ∷ []
-
--- a cause of the definitions as one of the code
-abbrev pub read_why : Why → ReadWhy
-read_why (cause.BadTag n) = why.BadTag n
-read_why (cause.BadLength n) = why.BadLength n
-read_why (cause.BadDelimiter n) = why.BadDelimiter n
 
 -- the answer to a line whose bytes read so: the value's line, or the first path and cause, in reading order, that
 -- refuse them

@@ -2,3 +2,4 @@ pub mod Words
 pub mod Texts
 pub mod Ends
 pub mod Loose
+pub mod Unreadable

@@ -1,6 +1,9 @@
-use Rattle.std.proofs.Common.{◌∙◌}
-use Rattle.node_core.proofs.Steps.{stands_again, hear_lines, hear_bad}
+use Rattle.std.proofs.Common.{◌∙◌, List, sym, subst}
+use Rattle.rx_table.specs.Ports.{PortState}
+use Rattle.rx_table.specs.Table.{StandsFor}
+use Rattle.node_core.proofs.Steps.{stands_again, hear_lines, hear_bad, on_err}
 use Rattle.node_core.proofs.Tables.{heard_later}
+use Rattle.node_core.proofs.Types.{types_stay}
 use Rattle.node_core.proofs.node.Node.hear.Goals as goal
 
 pub step-requires : goal.step-requires
@@ -10,13 +13,22 @@ pub returns-clause-stands : goal.returns-clause-stands
 returns-clause-stands c = λ log s. record {
   timeout = c.in_ok-met.ensures.keeps.timeout ∙ s.timeout;
   ports = c.in_ok-met.ensures.keeps.ports ∙ s.ports;
+  types = types_stay _ _ _ c.in_ok-met.ensures.keeps.shapes s.types;
   sessions = stands_again _ _ _ _ _ _ s.timeout (c.in_ok-met.ensures.stands log) s.sessions;
 }
 
 pub returns-clause-lines : goal.returns-clause-lines
 returns-clause-lines c = λ log s.
-    hear_lines c.outcome_tells.ensures _ _ _ _ _ log _ _ s.timeout s.ports (c.in_ok-met.ensures.told log) s.sessions
+    hear_lines c.outcome_tells.ensures c.args.self.now _ _ log _ c.in_ok-met.ensures.keeps s c.in_ok-met.ensures.told
 
 pub returns-clause-badcrc : goal.returns-clause-badcrc
 returns-clause-badcrc c = λ log s.
-    hear_bad c.outcome_tells.ensures _ _ _ _ _ log _ _ s.timeout s.ports (c.in_ok-met.ensures.told log) s.sessions
+    hear_bad c.outcome_tells.ensures c.args.self.now _ log _ s c.in_ok-met.ensures.told
+
+pub returns-in_err-met-clause-err : goal.returns-in_err-met-clause-err
+returns-in_err-met-clause-err c = on_err _ c.from_residual.result (λ log s. record {
+  timeout = c.in_err-met.ensures.keeps.timeout ∙ s.timeout;
+  ports = c.in_err-met.ensures.keeps.ports ∙ s.ports;
+  types = types_stay _ _ _ c.in_err-met.ensures.keeps.shapes s.types;
+  sessions = subst (λ (ps : List PortState). StandsFor c.args.self.now.plan.timeout log ps) (sym c.in_err-met.ensures.err) s.sessions;
+})

@@ -1,7 +1,9 @@
 use Rattle.std.proofs.Common.{◌∙◌, ap, sym}
+use Rattle.can_id.specs.Identifiers.{key_of}
 use Rattle.tail_frame.specs.Frames.{FrameOf, seen}
-use Rattle.node_core.specs.Came.{answer_in, heard_lines, came_lines}
+use Rattle.node_core.specs.Came.{heard_lines, came_lines, met_lines}
 use Rattle.node_core.specs.Told.{answer_lines, told_lines}
+use Rattle.node_core.specs.Types.{type_at}
 use Rattle.node_core.proofs.node.Node.told.Goals as goal
 
 pub returns-in_err-heard : goal.returns-in_err-heard
@@ -14,7 +16,8 @@ unfolding came_lines
 returns c =
     let node = c.args.self.now in
     let met = c.in_ok-heard.heard.met in
+    let f = seen c.frame-frame.result in
     c.line_on.ensures
-    ∙ (ap (answer_lines (seen c.frame-frame.result)) c.lend.ensures
-    ∙ (ap (λ (f : FrameOf). answer_lines f (answer_in node f.body met)) c.frame-frame.ensures
+    ∙ (ap (answer_lines (type_at node.table (key_of f.ident)) f) c.lend.ensures
+    ∙ (ap (λ (f : FrameOf). met_lines node f met) c.frame-frame.ensures
     ∙ ap (heard_lines node c.args.rec.now) (sym c.in_ok-heard.was)))
