@@ -55,3 +55,7 @@ pub record IsDraft (draft : Draft) : Type 0 where
   pub few_subs : length draft.subs ≤ 64
   pub subs : All IsSub draft.subs
   pub subjects : AllPairs (λ a b. a.port ≢ b.port) draft.subs
+
+-- the types of a plan's subscriptions keep the rules
+abbrev pub TypesKeepRules : Plan → Type 0
+TypesKeepRules plan = All (λ sub. IsShape sub.shape) plan.subs

@@ -7,3 +7,4 @@ pub mod Plan
 pub mod Answers
 pub mod IsPlan
 pub mod Bound
+pub mod Laws

@@ -3,6 +3,7 @@
 #![tactic(auto)]
 
 mod draft;
+pub mod laws;
 mod line;
 pub mod plan;
 mod read;

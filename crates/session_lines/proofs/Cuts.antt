@@ -1,5 +1,5 @@
 -- Texts that are cut where a byte ends a word.
-use Rattle.std.proofs.Common.{◌≡◌, ◌∙◌, ◌⊎◌, inl, inr, ℕ, ◌<◌, ◌^◌, List, [], ◌∷◌, ◌++◌, refl, sym, subst, append_assoc, arith}
+use Rattle.std.proofs.Common.{◌≡◌, ◌∙◌, ◌⊎◌, inl, inr, ℕ, ◌<◌, ◌^◌, List, [], ◌∷◌, ◌++◌, length, refl, sym, ap, subst, append_assoc, arith}
 use Rattle.std.specs.Prelude.{⊤, decimal, codes}
 use Rattle.std.specs.Char.{digit_value}
 use Rattle.std.specs.Str.Parse.{AllDigits}
@@ -60,6 +60,23 @@ one_line w v (u ∷ ws) [] x y p q e =
 one_line w v (u ∷ ws) (z ∷ vs) x y p q e =
     let s = cut IsEnd w v 32 32 (line_of (u ∷ ws) ++ x) (line_of (z ∷ vs) ++ y) p.0 q.0 (inl refl) (inl refl) (sym (append_assoc w (32 ∷ line_of (u ∷ ws)) x) ∙ (e ∙ append_assoc v (32 ∷ line_of (z ∷ vs)) y)) in
     let r = one_line u z ws vs x y p.1 q.1 s.rest in record { words = λ k. s.front k ∷ r.words k; rest = r.rest }
+
+line_more : (w : List ℕ) (ws : List (List ℕ)) (t : List ℕ) → line_of (w ∷ (ws ++ t ∷ [])) ≡ w ++ 32 ∷ line_of (ws ++ t ∷ [])
+line_more w [] t = refl
+line_more w (u ∷ ws) t = refl
+
+-- the same where the last text of a line is of any kind: as many words before it, and what stands from it on
+pub one_front : (ws vs : List (List ℕ)) (t u x y : List ℕ) → length ws ≡ length vs → AreWords ws → AreWords vs → line_of (ws ++ t ∷ []) ++ x ≡ line_of (vs ++ u ∷ []) ++ y
+    → SameLine ws vs ((t ++ 10 ∷ []) ++ x) ((u ++ 10 ∷ []) ++ y)
+one_front [] [] t u x y n p q e = record { words = refl; rest = e }
+one_front [] (v ∷ vs) t u x y n p q e = absurd (omega arith)
+one_front (w ∷ ws) [] t u x y n p q e = absurd (omega arith)
+one_front (w ∷ ws) (v ∷ vs) t u x y n p q e =
+    let a = ap (λ (l : List ℕ). l ++ x) (line_more w ws t) ∙ append_assoc w (32 ∷ line_of (ws ++ t ∷ [])) x in
+    let b = ap (λ (l : List ℕ). l ++ y) (line_more v vs u) ∙ append_assoc v (32 ∷ line_of (vs ++ u ∷ [])) y in
+    let s = cut IsEnd w v 32 32 (line_of (ws ++ t ∷ []) ++ x) (line_of (vs ++ u ∷ []) ++ y) p.0 q.0 (inl refl) (inl refl) (sym a ∙ (e ∙ b)) in
+    let m : length ws ≡ length vs = omega (arith, n) in
+    let r = one_front ws vs t u x y m p.1 q.1 s.rest in record { words = λ k. s.front k ∷ r.words k; rest = r.rest }
 
 -- digits are free of what is no digit
 pub free_digits : (End : ℕ → Type 0) → ((c : ℕ) → digit_value c < 10 → End c → ⊥) → (ds : List ℕ) → AllDigits 10 ds → Free End ds

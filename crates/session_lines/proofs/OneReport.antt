@@ -5,6 +5,7 @@ use Rattle.std.specs.List.{list_all}
 use Rattle.std.specs.Option.{ForSome}
 use Rattle.std.proofs.lemmas.Bool.{and_parts, true≢false, cases_order}
 use Rattle.std.proofs.lemmas.Fmt.{decimal_injective}
+use Rattle.std.proofs.lemmas.List.{append_cancel_left}
 use Rattle.std.proofs.lemmas.Option.{slice_get-get_or}
 use Rattle.hex.specs.Hex.{IsBytes, decode_of, encode_with, upper_digits}
 use Rattle.hex.proofs.HexLemmas.{length-encode_with, decode_of-encode_upper}
@@ -13,14 +14,17 @@ use Rattle.can_id.specs.declared.key.Kind.{Kind}
 use Rattle.can_id.specs.declared.key.Kind.TheVariants.{Message, Request, Response}
 use Rattle.line_text.specs.Text.{digit, six_digits, moment_text}
 use Rattle.node_plan.specs.declared.plan.BusPlan.{BusPlan}
+use Rattle.node_plan.specs.declared.plan.Plan.{Plan}
 use Rattle.node_plan.specs.Names.{is_name_byte}
 use Rattle.node_core.specs.declared.line.Line.{Line}
 use Rattle.node_core.specs.declared.line.Line.TheVariants.{Rx, NoSession}
-use Rattle.node_core.specs.declared.line.Reading.{Reading}
-use Rattle.node_core.specs.declared.line.Reading.TheVariants.{Raw}
-use Rattle.node_core.specs.Text.{name_of, bus_text, kind_text, source_text, payload_text, reading_text, words_of, line_text, text}
-use Rattle.session_lines.specs.OneReport.{AreNamed, IsKey, IsLineOn, AreLinesOn, TextTellsLines}
-use Rattle.session_lines.proofs.Cuts.{unlike, Free, cut, free_append, IsEnd, AreWords, one_line, decimal_word, decimal_pointless, decimal_no_hyphen}
+use Rattle.node_core.specs.declared.line.Refused.{Refused}
+use Rattle.node_core.specs.declared.line.Rx.{Rx as Received}
+use Rattle.node_core.specs.Readings.{reading_of}
+use Rattle.node_core.specs.Text.{name_of, bus_text, kind_text, source_text, payload_text, reading_text, front_words, words_of, line_text, text}
+use Rattle.node_core.specs.Types.{type_on}
+use Rattle.session_lines.specs.OneReport.{AreNamed, IsKey, IsReceived, IsRefused, IsLineOn, AreLinesOn, TextTellsLines}
+use Rattle.session_lines.proofs.Cuts.{unlike, Free, cut, free_append, IsEnd, AreWords, one_line, one_front, decimal_word, decimal_pointless, decimal_no_hyphen}
 
 -- ---- moments
 
@@ -166,12 +170,6 @@ one_payload (x ∷ a) [] p q e = let bad : 2 * suc (length a) ≡ 1 = sym (lengt
 one_payload (x ∷ a) (y ∷ b) p q e =
     let same : Ok (x ∷ a) ≡ Ok (y ∷ b) = sym (decode_of-encode_upper (x ∷ a) p) ∙ (ap decode_of e ∙ decode_of-encode_upper (y ∷ b) q) in cc
 
-one_reading : (a b : Reading) → a ≡ b
-one_reading Raw Raw = refl
-
-reading_word : (a : Reading) → Free IsEnd (reading_text a)
-reading_word Raw = (free_codes 114 (omega arith), (free_codes 97 (omega arith), (free_codes 119 (omega arith), tt)))
-
 one_key : (a b : Key) → IsKey a → IsKey b → kind_text a.kind ≡ kind_text b.kind → decimal a.port ≡ decimal b.port → source_text a.source ≡ source_text b.source → a ≡ b
 one_key a b p q e f g =
     let kind = one_kind a.kind b.kind e in
@@ -182,7 +180,11 @@ one_key a b p q e f g =
 
 -- ---- lines
 
-module _ (buses : List BusPlan) (named : AreNamed buses) where
+-- the words of a transfer before what its payload says
+abbrev front_of : List BusPlan → Received → List (List ℕ)
+front_of buses rx = front_words buses rx ++ (payload_text rx.payload ∷ [])
+
+module _ (plan : Plan) (named : AreNamed plan.buses) where
   small : (n : ℕ) → n < 256 → n < 2 ^ 64
   small n h = omega arith
 
@@ -195,13 +197,13 @@ module _ (buses : List BusPlan) (named : AreNamed buses) where
   nosession_word : Free IsEnd (codes "nosession")
   nosession_word = free_above (codes "nosession") refl
 
-  are_words : (line : Line) → IsLineOn buses line → AreWords (words_of buses line)
-  are_words (Rx rx) h = (
+  front_are_words : (rx : Received) → IsReceived plan rx → AreWords (front_of plan.buses rx)
+  front_are_words rx h = (
     rx_word,
     (
       moment_word rx.moment h.moment,
       (
-        bus_word buses rx.bus named h.bus,
+        bus_word plan.buses rx.bus named h.bus,
         (
           kind_word rx.key.kind,
           (
@@ -216,7 +218,7 @@ module _ (buses : List BusPlan) (named : AreNamed buses) where
                     decimal_word rx.first h.first,
                     (
                       decimal_word rx.last h.last,
-                      (payload_word rx.payload, (reading_word rx.reading, tt)),
+                      (payload_word rx.payload, tt),
                     ),
                   ),
                 ),
@@ -227,12 +229,14 @@ module _ (buses : List BusPlan) (named : AreNamed buses) where
       ),
     ),
   )
-  are_words (NoSession r) h = (
+
+  refused_are_words : (r : Refused) → IsRefused plan r → AreWords (words_of plan.buses (NoSession r))
+  refused_are_words r h = (
     nosession_word,
     (
       moment_word r.moment h.moment,
       (
-        bus_word buses r.bus named h.bus,
+        bus_word plan.buses r.bus named h.bus,
         (
           kind_word r.key.kind,
           (
@@ -250,49 +254,61 @@ module _ (buses : List BusPlan) (named : AreNamed buses) where
   abbrev word_at : List (List ℕ) → ℕ → List ℕ
   word_at ws i = get_or ws i []
 
-  same_line : (a b : Line) → IsLineOn buses a → IsLineOn buses b → words_of buses a ≡ words_of buses b → a ≡ b
-  same_line (Rx a) (Rx b) p q e =
+  -- key and payload tell what the payload says
+  same_rx : (a b : Received) → IsReceived plan a → IsReceived plan b → front_of plan.buses a ≡ front_of plan.buses b → a ≡ b
+  same_rx a b p q e =
       let moment = one_moment a.moment b.moment p.moment q.moment (ap (λ (ws : List (List ℕ)). word_at ws 1) e) in
-      let bus = one_bus buses a.bus b.bus named p.bus q.bus (ap (λ (ws : List (List ℕ)). word_at ws 2) e) in
+      let bus = one_bus plan.buses a.bus b.bus named p.bus q.bus (ap (λ (ws : List (List ℕ)). word_at ws 2) e) in
       let key = one_key a.key b.key p.key q.key (ap (λ (ws : List (List ℕ)). word_at ws 3) e) (ap (λ (ws : List (List ℕ)). word_at ws 4) e) (ap (λ (ws : List (List ℕ)). word_at ws 5) e) in
       let priority = decimal_injective a.priority b.priority (small a.priority p.priority) (small b.priority q.priority) (ap (λ (ws : List (List ℕ)). word_at ws 6) e) in
       let tid = decimal_injective a.tid b.tid (small a.tid p.tid) (small b.tid q.tid) (ap (λ (ws : List (List ℕ)). word_at ws 7) e) in
       let first = decimal_injective a.first b.first p.first q.first (ap (λ (ws : List (List ℕ)). word_at ws 8) e) in
       let last = decimal_injective a.last b.last p.last q.last (ap (λ (ws : List (List ℕ)). word_at ws 9) e) in
       let payload = one_payload a.payload b.payload p.payload q.payload (ap (λ (ws : List (List ℕ)). word_at ws 10) e) in
-      let reading = one_reading a.reading b.reading in
-      λ i. Rx (record { moment = moment i; bus = bus i; key = key i; priority = priority i; tid = tid i; reading = reading i; first = first i; last = last i; payload = payload i })
-  same_line (Rx a) (NoSession b) p q e = absurd (unlike 114 110 (inr (omega arith)) (ap (λ (ws : List (List ℕ)). slice_index (word_at ws 0) 0) e))
-  same_line (NoSession a) (Rx b) p q e = absurd (unlike 110 114 (inl (omega arith)) (ap (λ (ws : List (List ℕ)). slice_index (word_at ws 0) 0) e))
-  same_line (NoSession a) (NoSession b) p q e =
+      let reading : a.reading ≡ b.reading = p.reading ∙ ((λ i. reading_of (type_on plan (key i)) (payload i)) ∙ sym q.reading) in
+      λ i. record { moment = moment i; bus = bus i; key = key i; priority = priority i; tid = tid i; reading = reading i; first = first i; last = last i; payload = payload i }
+
+  same_refused : (a b : Refused) → IsRefused plan a → IsRefused plan b → words_of plan.buses (NoSession a) ≡ words_of plan.buses (NoSession b) → a ≡ b
+  same_refused a b p q e =
       let moment = one_moment a.moment b.moment p.moment q.moment (ap (λ (ws : List (List ℕ)). word_at ws 1) e) in
-      let bus = one_bus buses a.bus b.bus named p.bus q.bus (ap (λ (ws : List (List ℕ)). word_at ws 2) e) in
+      let bus = one_bus plan.buses a.bus b.bus named p.bus q.bus (ap (λ (ws : List (List ℕ)). word_at ws 2) e) in
       let key = one_key a.key b.key p.key q.key (ap (λ (ws : List (List ℕ)). word_at ws 3) e) (ap (λ (ws : List (List ℕ)). word_at ws 4) e) (ap (λ (ws : List (List ℕ)). word_at ws 5) e) in
       let line = decimal_injective a.line b.line p.line q.line (ap (λ (ws : List (List ℕ)). word_at ws 6) e) in
-      λ i. NoSession (record { moment = moment i; bus = bus i; key = key i; line = line i })
+      λ i. record { moment = moment i; bus = bus i; key = key i; line = line i }
 
   -- of two lines with texts in front of other texts
   pub record SameFront (a b : Line) (x y : List ℕ) : Type 0 where
     pub line : a ≡ b
     pub rest : x ≡ y
 
-  same_front : (a b : Line) (x y : List ℕ) → IsLineOn buses a → IsLineOn buses b → line_text buses a ++ x ≡ line_text buses b ++ y → SameFront a b x y
-  same_front (Rx a) (Rx b) x y p q e = let s = one_line _ _ _ _ x y (are_words (Rx a) p) (are_words (Rx b) q) e in record { line = same_line (Rx a) (Rx b) p q s.words; rest = s.rest }
-  same_front (Rx a) (NoSession b) x y p q e = let s = one_line _ _ _ _ x y (are_words (Rx a) p) (are_words (NoSession b) q) e in record { line = same_line (Rx a) (NoSession b) p q s.words; rest = s.rest }
-  same_front (NoSession a) (Rx b) x y p q e = let s = one_line _ _ _ _ x y (are_words (NoSession a) p) (are_words (Rx b) q) e in record { line = same_line (NoSession a) (Rx b) p q s.words; rest = s.rest }
-  same_front (NoSession a) (NoSession b) x y p q e = let s = one_line _ _ _ _ x y (are_words (NoSession a) p) (are_words (NoSession b) q) e in record { line = same_line (NoSession a) (NoSession b) p q s.words; rest = s.rest }
+  abbrev first_of_text : List ℕ → ℕ
+  first_of_text t = slice_index t 0
 
-  some_text : (line : Line) (x : List ℕ) → line_text buses line ++ x ≡ [] → ⊥
-  some_text (Rx rx) x e = absurd (unlike 114 0 (inr (omega arith)) (ap (λ (t : List ℕ). slice_index t 0) e))
-  some_text (NoSession r) x e = absurd (unlike 110 0 (inr (omega arith)) (ap (λ (t : List ℕ). slice_index t 0) e))
+  same_front : (a b : Line) (x y : List ℕ) → IsLineOn plan a → IsLineOn plan b → line_text plan.buses a ++ x ≡ line_text plan.buses b ++ y → SameFront a b x y
+  same_front (Rx a) (Rx b) x y p q e =
+      let s = one_front (front_of plan.buses a) (front_of plan.buses b) (reading_text a.reading) (reading_text b.reading) x y refl (front_are_words a p) (front_are_words b q) e in
+      let is = same_rx a b p q s.words in
+      let behind : reading_text b.reading ++ 10 ∷ [] ≡ reading_text a.reading ++ 10 ∷ [] = ap (λ (rx : Received). reading_text rx.reading ++ 10 ∷ []) (sym is) in
+      record {
+        line = ap Rx is;
+        rest = append_cancel_left (reading_text a.reading ++ 10 ∷ []) x y (s.rest ∙ ap (λ (t : List ℕ). t ++ y) behind);
+      }
+  same_front (Rx a) (NoSession b) x y p q e = absurd (unlike 114 110 (inr (omega arith)) (ap first_of_text e))
+  same_front (NoSession a) (Rx b) x y p q e = absurd (unlike 110 114 (inl (omega arith)) (ap first_of_text e))
+  same_front (NoSession a) (NoSession b) x y p q e =
+      let s = one_line _ _ _ _ x y (refused_are_words a p) (refused_are_words b q) e in record { line = ap NoSession (same_refused a b p q s.words); rest = s.rest }
 
-  same_lines : (a b : List Line) → AreLinesOn buses a → AreLinesOn buses b → text buses a ≡ text buses b → a ≡ b
+  some_text : (line : Line) (x : List ℕ) → line_text plan.buses line ++ x ≡ [] → ⊥
+  some_text (Rx rx) x e = absurd (unlike 114 0 (inr (omega arith)) (ap first_of_text e))
+  some_text (NoSession r) x e = absurd (unlike 110 0 (inr (omega arith)) (ap first_of_text e))
+
+  same_lines : (a b : List Line) → AreLinesOn plan a → AreLinesOn plan b → text plan.buses a ≡ text plan.buses b → a ≡ b
   same_lines [] [] p q e = refl
-  same_lines [] (y ∷ b) p q e = absurd (some_text y (text buses b) (sym e))
-  same_lines (x ∷ a) [] p q e = absurd (some_text x (text buses a) e)
+  same_lines [] (y ∷ b) p q e = absurd (some_text y (text plan.buses b) (sym e))
+  same_lines (x ∷ a) [] p q e = absurd (some_text x (text plan.buses a) e)
   same_lines (x ∷ a) (y ∷ b) p q e =
-      let s = same_front x y (text buses a) (text buses b) p.0 q.0 e in
+      let s = same_front x y (text plan.buses a) (text plan.buses b) p.0 q.0 e in
       let t = same_lines a b p.1 q.1 s.rest in λ i. s.line i ∷ t i
 
 pub text_tells_lines : TextTellsLines
-text_tells_lines buses a b named p q e = same_lines buses named a b p q e
+text_tells_lines plan a b named p q e = same_lines plan named a b p q e

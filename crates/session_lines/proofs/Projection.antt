@@ -42,7 +42,7 @@ has_more s zero xs ys h = absurd (true≢false (sym h))
 has_more s (suc n) [] ys h = absurd (true≢false (sym h))
 has_more s (suc n) (x ∷ xs) ys h = elim (or_cases (eqb x s) (has s (take n xs)) h) [ inl e ↦ or_left (eqb x s) (has s (take n (xs ++ ys))) e | inr t ↦ or_right (eqb x s) (has s (take n (xs ++ ys))) (has_more s n xs ys t) ]
 
-same_kind-true : (a b : Kind) → same_kind a b ≡ true → a ≡ b
+pub same_kind-true : (a b : Kind) → same_kind a b ≡ true → a ≡ b
 same_kind-true kind.Message kind.Message h = refl
 same_kind-true kind.Message kind.Request h = cc
 same_kind-true kind.Message kind.Response h = cc
@@ -80,32 +80,32 @@ rx_add extent None ds = sym (append-nil (map (rx_of extent) (reverse ds)))
 rx_add extent (Some d) ds = ap (map (rx_of extent)) (reverse_onto ds d []) ∙ map-append (rx_of extent) (reverse ds) (d ∷ [])
 
 -- a delivery on a line is of the line's key
-rxs_delivery : (extent : ℕ) (k : Key) (key : SessionKey) (o : Option Delivery) → is_key key k ≡ true → rxs key (of_delivery extent k o) ≡ opt extent o
+rxs_delivery : (plan : Plan) (extent : ℕ) (k : Key) (key : SessionKey) (o : Option Delivery) → is_key key k ≡ true → rxs key (of_delivery plan extent k o) ≡ opt extent o
 unfolding opt
-rxs_delivery extent k key None e = refl
-rxs_delivery extent k key (Some d) e = ap (λ h. h ++ []) (cond-true (is_key key k) (rx_of extent d ∷ []) [] e)
+rxs_delivery plan extent k key None e = refl
+rxs_delivery plan extent k key (Some d) e = ap (λ h. h ++ []) (cond-true (is_key key k) (rx_of extent d ∷ []) [] e)
 
-no_delivery : (extent : ℕ) (k : Key) (key : SessionKey) (o : Option Delivery) → is_key key k ≡ false → rxs key (of_delivery extent k o) ≡ []
-no_delivery extent k key None e = refl
-no_delivery extent k key (Some d) e = ap (λ h. h ++ []) (cond-false (is_key key k) (rx_of extent d ∷ []) [] e)
+no_delivery : (plan : Plan) (extent : ℕ) (k : Key) (key : SessionKey) (o : Option Delivery) → is_key key k ≡ false → rxs key (of_delivery plan extent k o) ≡ []
+no_delivery plan extent k key None e = refl
+no_delivery plan extent k key (Some d) e = ap (λ h. h ++ []) (cond-false (is_key key k) (rx_of extent d ∷ []) [] e)
 
 refused : (b : Bool) (key : SessionKey) (k : Key) (r : KeyRecord) → rxs key (cond b (refused_line k r ∷ []) []) ≡ []
 refused true key k r = refl
 refused false key k r = refl
 
 -- a frame of another key gives no line of this one
-other : (timeout : ℕ) (key : SessionKey) (q : Port) (k : Key) (f : KeyedFrame) (log : List KeyedFrame) → is_key key k ≡ false → rxs key (of_session timeout q k f log) ≡ []
-other timeout key q k f log e =
-    let d = delivery_at crc_of timeout f.rec (history f.key log) in
-    cond_both (is_admitted q f log) (of_delivery q.extent k d) (cond f.rec.start (refused_line k f.rec ∷ []) []) (λ ls. rxs key ls ≡ []) (λ _. no_delivery q.extent k key d e) (λ _. refused f.rec.start key k f.rec)
+other : (plan : Plan) (key : SessionKey) (q : Port) (k : Key) (f : KeyedFrame) (log : List KeyedFrame) → is_key key k ≡ false → rxs key (of_session plan q k f log) ≡ []
+other plan key q k f log e =
+    let d = delivery_at crc_of plan.timeout f.rec (history f.key log) in
+    cond_both (is_admitted q f log) (of_delivery plan q.extent k d) (cond f.rec.start (refused_line k f.rec ∷ []) []) (λ ls. rxs key ls ≡ []) (λ _. no_delivery plan q.extent k key d e) (λ _. refused f.rec.start key k f.rec)
 
-module _ (step : DeliveredStep) (quiet : Quiet) (timeout : ℕ) (p : Port) (source : ℕ) where
+module _ (step : DeliveredStep) (quiet : Quiet) (plan : Plan) (p : Port) (source : ℕ) where
   -- the key of a source on the port
   abbrev mine : SessionKey
   mine = key_of p.kind p.port source
 
   abbrev rep : List KeyedFrame → List RxOf
-  rep log = reported timeout p.extent (history mine log)
+  rep log = reported plan.timeout p.extent (history mine log)
 
   abbrev adm : List KeyedFrame → Bool
   adm log = has_session p source log
@@ -128,7 +128,7 @@ module _ (step : DeliveredStep) (quiet : Quiet) (timeout : ℕ) (p : Port) (sour
       let on = and_parts (same_kind f.key.kind p.kind) (eqb f.key.port p.port) (and_parts (is_on p.kind p.port f) (f.rec.start && not (has f.key.source (ss log))) y).0 in
       let diff : eqb f.key.source source ≡ false = ne_eqb f.key.source source (λ q. both_ways (bears_on mine f) e (and_from (same_kind f.key.kind p.kind) (eqb f.key.port p.port && eqb f.key.source source) on.0 (and_from (eqb f.key.port p.port) (eqb f.key.source source) on.1 (eq-eqb f.key.source source q)))) in
       has_other source f.key.source p.sources (ss log) diff) (λ _. refl) in
-      ap (λ b. cond b (rep (f ∷ log)) []) a ∙ ap (λ (t : List KeyRecord). cond (adm log) (reported timeout p.extent t) []) h
+      ap (λ b. cond b (rep (f ∷ log)) []) a ∙ ap (λ (t : List KeyRecord). cond (adm log) (reported plan.timeout p.extent t) []) h
 
   -- a frame of this key
   module _ (f : KeyedFrame) (log : List KeyedFrame) (here : bears_on mine f ≡ true) where
@@ -153,7 +153,7 @@ module _ (step : DeliveredStep) (quiet : Quiet) (timeout : ℕ) (p : Port) (sour
         elim (cases_Bool grows) [
           | inl g ↦
               let fresh : has f.key.source (ss log) ≡ false = not_true (has f.key.source (ss log)) (and_parts f.rec.start (not (has f.key.source (ss log))) (and_parts (is_on p.kind p.port f) (f.rec.start && not (has f.key.source (ss log))) g).1).1 in
-              ap (λ (ds : List Delivery). map (rx_of p.extent) (reverse ds)) (quiet crc_of timeout p.kind p.port source log (subst (λ s. has s (ss log) ≡ false) source_is fresh))
+              ap (λ (ds : List Delivery). map (rx_of p.extent) (reverse ds)) (quiet crc_of plan.timeout p.kind p.port source log (subst (λ s. has s (ss log) ≡ false) source_is fresh))
           | inr g ↦ absurd (both_ways (adm log) n (ap (λ (t : List ℕ). has source (take p.sources t)) (sym (cond-false grows (ss log ++ f.key.source ∷ []) (ss log) g)) ∙ y))
         ]
       where
@@ -171,38 +171,38 @@ module _ (step : DeliveredStep) (quiet : Quiet) (timeout : ℕ) (p : Port) (sour
     whole : (l : List RxOf) → l ≡ shown log → adm (f ∷ log) ≡ true → l ≡ rep log
     whole l e y = elim (cases_Bool (adm log)) [ inl a ↦ e ∙ cond-true (adm log) (rep log) [] a | inr a ↦ e ∙ (cond-false (adm log) (rep log) [] a ∙ sym (none_before a y)) ]
 
-    own : (k : Key) (l : List RxOf) → is_key mine k ≡ true → l ≡ shown log → l ++ rxs mine (of_session timeout p k f log) ≡ shown (f ∷ log)
+    own : (k : Key) (l : List RxOf) → is_key mine k ≡ true → l ≡ shown log → l ++ rxs mine (of_session plan p k f log) ≡ shown (f ∷ log)
     own k l of_it e =
-        let o = delivery_at crc_of timeout f.rec (history f.key log) in
-        let o' = delivery_at crc_of timeout f.rec (history mine log) in
-        let oe : o ≡ o' = ap (λ (t : SessionKey). delivery_at crc_of timeout f.rec (history t log)) key_is in
+        let o = delivery_at crc_of plan.timeout f.rec (history f.key log) in
+        let o' = delivery_at crc_of plan.timeout f.rec (history mine log) in
+        let oe : o ≡ o' = ap (λ (t : SessionKey). delivery_at crc_of plan.timeout f.rec (history t log)) key_is in
         let ad : is_admitted p f log ≡ adm (f ∷ log) = ap (λ s. has_session p s (f ∷ log)) source_is in
         let h : history mine (f ∷ log) ≡ f.rec ∷ history mine log = cond-true (bears_on mine f) (f.rec ∷ history mine log) (history mine log) here in
-        cond_both (is_admitted p f log) (of_delivery p.extent k o) (cond f.rec.start (refused_line k f.rec ∷ []) []) (λ ls. l ++ rxs mine ls ≡ shown (f ∷ log))
+        cond_both (is_admitted p f log) (of_delivery plan p.extent k o) (cond f.rec.start (refused_line k f.rec ∷ []) []) (λ ls. l ++ rxs mine ls ≡ shown (f ∷ log))
         (λ y.
         let y' = sym ad ∙ y in
-        let one = rxs_delivery p.extent k mine o of_it ∙ ap (opt p.extent) oe in
+        let one = rxs_delivery plan p.extent k mine o of_it ∙ ap (opt p.extent) oe in
         let left = ap (λ t. l ++ t) one ∙ ap (λ t. t ++ opt p.extent o') (whole l e y') in
-        let right = cond-true (adm (f ∷ log)) (rep (f ∷ log)) [] y' ∙ (ap (reported timeout p.extent) h ∙ (ap (λ (ds : List Delivery). map (rx_of p.extent) (reverse ds)) (step crc_of timeout f.rec (history mine log)) ∙ rx_add p.extent o' (received crc_of timeout (history mine log)).delivered)) in
+        let right = cond-true (adm (f ∷ log)) (rep (f ∷ log)) [] y' ∙ (ap (reported plan.timeout p.extent) h ∙ (ap (λ (ds : List Delivery). map (rx_of p.extent) (reverse ds)) (step crc_of plan.timeout f.rec (history mine log)) ∙ rx_add p.extent o' (received crc_of plan.timeout (history mine log)).delivered)) in
         left ∙ sym right)
         (λ m.
         let m' = sym ad ∙ m in
         ap (λ t. l ++ t) (refused f.rec.start mine k f.rec) ∙ (append-nil l ∙ (e ∙ (cond-false (adm log) (rep log) [] (grown m') ∙ sym (cond-false (adm (f ∷ log)) (rep (f ∷ log)) [] m')))))
 
 -- what a frame with a source gives on a port, or on none
-over : ℕ → Option Port → Key → KeyedFrame → List KeyedFrame → List Line
-over timeout None k f log = []
-over timeout (Some q) k f log = of_session timeout q k f log
+over : Plan → Option Port → Key → KeyedFrame → List KeyedFrame → List Line
+over plan None k f log = []
+over plan (Some q) k f log = of_session plan q k f log
 
-over_port : (timeout : ℕ) (f : FrameOf) (k : KeyedFrame) (log : List KeyedFrame) (o : Option Port) → keyed f ≡ Some k → on_port timeout f log o ≡ over timeout o (key_of_ident f.ident) k log
+over_port : (plan : Plan) (f : FrameOf) (k : KeyedFrame) (log : List KeyedFrame) (o : Option Port) → keyed f ≡ Some k → on_port plan f log o ≡ over plan o (key_of_ident f.ident) k log
 unfolding over
-over_port timeout f k log None e = refl
-over_port timeout f k log (Some q) e = ap (of_source timeout q f log) e
+over_port plan f k log None e = refl
+over_port plan f k log (Some q) e = ap (of_source plan q f log) e
 
-over_other : (timeout : ℕ) (key : SessionKey) (o : Option Port) (k : Key) (f : KeyedFrame) (log : List KeyedFrame) → is_key key k ≡ false → rxs key (over timeout o k f log) ≡ []
+over_other : (plan : Plan) (key : SessionKey) (o : Option Port) (k : Key) (f : KeyedFrame) (log : List KeyedFrame) → is_key key k ≡ false → rxs key (over plan o k f log) ≡ []
 unfolding over
-over_other timeout key None k f log e = refl
-over_other timeout key (Some q) k f log e = other timeout key q k f log e
+over_other plan key None k f log e = refl
+over_other plan key (Some q) k f log e = other plan key q k f log e
 
 and_no : (a b : Bool) → (a && (b && false)) ≡ false
 and_no true true = refl
@@ -210,10 +210,10 @@ and_no true false = refl
 and_no false b = refl
 
 -- an anonymous message gives no line of a session
-anonymous : (timeout : ℕ) (key : SessionKey) (f : FrameOf) (log : List KeyedFrame) (o : Option Port) → keyed f ≡ None → is_key key (key_of_ident f.ident) ≡ false → rxs key (on_port timeout f log o) ≡ []
-anonymous timeout key f log None e n = refl
-anonymous timeout key f log (Some q) e n =
-    ap (λ (k : Option KeyedFrame). rxs key (of_source timeout q f log k)) e
+anonymous : (plan : Plan) (key : SessionKey) (f : FrameOf) (log : List KeyedFrame) (o : Option Port) → keyed f ≡ None → is_key key (key_of_ident f.ident) ≡ false → rxs key (on_port plan f log o) ≡ []
+anonymous plan key f log None e n = refl
+anonymous plan key f log (Some q) e n =
+    ap (λ (k : Option KeyedFrame). rxs key (of_source plan q f log k)) e
     ∙ ap (λ (ls : List RxOf). ls ++ []) (cond-false (is_key key (key_of_ident f.ident)) (record { moment = f.moment; bus = f.bus; priority = priority_of f.ident; tid = f.tail.tid; first = f.line; last = f.line; payload = take q.extent f.body } ∷ []) [] n)
 
 module _ (step : DeliveredStep) (quiet : Quiet) (plan : Plan) (p : Port) (source : ℕ) (there : port_at p.kind p.port (ports_of plan) ≡ Some p) where
@@ -221,40 +221,40 @@ module _ (step : DeliveredStep) (quiet : Quiet) (plan : Plan) (p : Port) (source
   me = key_of p.kind p.port source
 
   abbrev seen : List KeyedFrame → List RxOf
-  seen log = shown step quiet plan.timeout p source log
+  seen log = shown step quiet plan p source log
 
   -- a frame with a source, whose lines have this key
   keyed_step : (k : Key) (f : KeyedFrame) (log : List KeyedFrame) (l : List RxOf) → k ≡ record { kind = f.key.kind; port = f.key.port; source = Some f.key.source }
-      → l ≡ seen log → l ++ rxs me (over plan.timeout (port_at f.key.kind f.key.port (ports_of plan)) k f log) ≡ seen (f ∷ log)
+      → l ≡ seen log → l ++ rxs me (over plan (port_at f.key.kind f.key.port (ports_of plan)) k f log) ≡ seen (f ∷ log)
   unfolding over
   keyed_step k f log l is e =
       let same_key : is_key me k ≡ bears_on me f = ap (is_key me) is in
       elim (cases_Bool (bears_on me f)) [
         | inl y ↦
-            let at : port_at f.key.kind f.key.port (ports_of plan) ≡ Some p = ap (λ (t : SessionKey). port_at t.kind t.port (ports_of plan)) (key_is step quiet plan.timeout p source f log y) ∙ there in
-            ap (λ (o : Option Port). l ++ rxs me (over plan.timeout o k f log)) at ∙ own step quiet plan.timeout p source f log y k l (same_key ∙ y) e
+            let at : port_at f.key.kind f.key.port (ports_of plan) ≡ Some p = ap (λ (t : SessionKey). port_at t.kind t.port (ports_of plan)) (key_is step quiet plan p source f log y) ∙ there in
+            ap (λ (o : Option Port). l ++ rxs me (over plan o k f log)) at ∙ own step quiet plan p source f log y k l (same_key ∙ y) e
         | inr n ↦
-            ap (λ t. l ++ t) (over_other plan.timeout me (port_at f.key.kind f.key.port (ports_of plan)) k f log (same_key ∙ n))
-            ∙ (append-nil l ∙ (e ∙ sym (same step quiet plan.timeout p source f log n)))
+            ap (λ t. l ++ t) (over_other plan me (port_at f.key.kind f.key.port (ports_of plan)) k f log (same_key ∙ n))
+            ∙ (append-nil l ∙ (e ∙ sym (same step quiet plan p source f log n)))
       ]
 
   session_step : (f : FrameOf) (k : KeyedFrame) (log : List KeyedFrame) (l : List RxOf) → keyed f ≡ Some k
       → key_of_ident f.ident ≡ record { kind = k.key.kind; port = k.key.port; source = Some k.key.source }
-      → l ≡ seen log → l ++ rxs me (on_port plan.timeout f log (port_on (ports_of plan) f)) ≡ seen (log_with (keyed f) log)
+      → l ≡ seen log → l ++ rxs me (on_port plan f log (port_on (ports_of plan) f)) ≡ seen (log_with (keyed f) log)
   session_step f k log l e is h =
       let at : port_on (ports_of plan) f ≡ port_at k.key.kind k.key.port (ports_of plan) = ap (λ (t : Key). port_at t.kind t.port (ports_of plan)) is in
-      ap (λ (o : Option Port). l ++ rxs me (on_port plan.timeout f log o)) at
-      ∙ (ap (λ (ls : List Line). l ++ rxs me ls) (over_port plan.timeout f k log (port_at k.key.kind k.key.port (ports_of plan)) e)
+      ap (λ (o : Option Port). l ++ rxs me (on_port plan f log o)) at
+      ∙ (ap (λ (ls : List Line). l ++ rxs me ls) (over_port plan f k log (port_at k.key.kind k.key.port (ports_of plan)) e)
       ∙ (keyed_step (key_of_ident f.ident) k log l is h ∙ ap (λ (o : Option KeyedFrame). seen (log_with o log)) (sym e)))
 
   ident_step : (ident : Ident) (line moment bus : ℕ) (tail : Tail) (body : List ℕ) (log : List KeyedFrame) (l : List RxOf) → l ≡ seen log
       → let f : FrameOf = record { line = line; moment = moment; bus = bus; ident = ident; tail = tail; body = body } in
-      l ++ rxs me (on_port plan.timeout f log (port_on (ports_of plan) f)) ≡ seen (log_with (keyed f) log)
+      l ++ rxs me (on_port plan f log (port_on (ports_of plan) f)) ≡ seen (log_with (keyed f) log)
   ident_step (Message priority subject s) line moment bus tail body log l h =
       session_step (record { line = line; moment = moment; bus = bus; ident = Message priority subject s; tail = tail; body = body }) _ log l refl refl h
   ident_step (Anonymous priority subject pseudo) line moment bus tail body log l h =
       let f : FrameOf = record { line = line; moment = moment; bus = bus; ident = Anonymous priority subject pseudo; tail = tail; body = body } in
-      ap (λ t. l ++ t) (anonymous plan.timeout me f log (port_on (ports_of plan) f) refl (and_no (same_kind kind.Message p.kind) (eqb subject p.port))) ∙ (append-nil l ∙ h)
+      ap (λ t. l ++ t) (anonymous plan me f log (port_on (ports_of plan) f) refl (and_no (same_kind kind.Message p.kind) (eqb subject p.port))) ∙ (append-nil l ∙ h)
   ident_step (Service priority is_request service destination s) line moment bus tail body log l h =
       session_step (record { line = line; moment = moment; bus = bus; ident = Service priority is_request service destination s; tail = tail; body = body }) _ log l refl refl h
 

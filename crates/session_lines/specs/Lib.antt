@@ -1,2 +1,4 @@
 pub mod Reported
+pub mod Readings
+pub mod Values
 pub mod OneReport

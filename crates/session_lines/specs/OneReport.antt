@@ -4,12 +4,14 @@ use Rattle.std.specs.Option.{ForSome}
 use Rattle.hex.specs.Hex.{IsBytes}
 use Rattle.can_id.specs.declared.key.Key.{Key}
 use Rattle.node_plan.specs.declared.plan.BusPlan.{BusPlan}
+use Rattle.node_plan.specs.declared.plan.Plan.{Plan}
 use Rattle.node_plan.specs.Names.{is_bus_name}
 use Rattle.node_core.specs.declared.line.Line.{Line}
 use Rattle.node_core.specs.declared.line.Line.TheVariants.{Rx, NoSession}
 use Rattle.node_core.specs.declared.line.Rx.{Rx as Received}
 use Rattle.node_core.specs.declared.line.Refused.{Refused}
 use Rattle.node_core.specs.Text.{text}
+use Rattle.session_lines.specs.Readings.{HasReading}
 
 -- buses with names of letters, digits and `_`, of which no two are the same
 pub record AreNamed (buses : List BusPlan) : Type 0 where
@@ -21,34 +23,36 @@ pub record IsKey (key : Key) : Type 0 where
   pub port : key.port < 2 ^ 16
   pub source : ForSome key.source (λ s. s < 256)
 
--- a transfer on one of these buses, with numbers of the widths that its fields have
-pub record IsReceived (buses : List BusPlan) (rx : Received) : Type 0 where
+-- a transfer on a bus of the plan, with numbers of the widths that its fields have; what it says is the reading of its
+-- payload by the type of its port
+pub record IsReceived (plan : Plan) (rx : Received) : Type 0 where
   pub moment : rx.moment < 2 ^ 64
-  pub bus : rx.bus < length buses
+  pub bus : rx.bus < length plan.buses
   pub key : IsKey rx.key
   pub priority : rx.priority < 256
   pub tid : rx.tid < 256
   pub first : rx.first < 2 ^ 64
   pub last : rx.last < 2 ^ 64
   pub payload : IsBytes rx.payload
+  pub reading : HasReading plan (Rx rx)
 
 -- the same of a start frame that has no session
-pub record IsRefused (buses : List BusPlan) (refused : Refused) : Type 0 where
+pub record IsRefused (plan : Plan) (refused : Refused) : Type 0 where
   pub moment : refused.moment < 2 ^ 64
-  pub bus : refused.bus < length buses
+  pub bus : refused.bus < length plan.buses
   pub key : IsKey refused.key
   pub line : refused.line < 2 ^ 64
 
-abbrev pub IsLineOn : List BusPlan → Line → Type 0
-IsLineOn buses (Rx rx) = IsReceived buses rx
-IsLineOn buses (NoSession refused) = IsRefused buses refused
+abbrev pub IsLineOn : Plan → Line → Type 0
+IsLineOn plan (Rx rx) = IsReceived plan rx
+IsLineOn plan (NoSession refused) = IsRefused plan refused
 
-abbrev pub AreLinesOn : List BusPlan → List Line → Type 0
-AreLinesOn buses [] = ⊤
-AreLinesOn buses (line ∷ lines) = IsLineOn buses line × AreLinesOn buses lines
+abbrev pub AreLinesOn : Plan → List Line → Type 0
+AreLinesOn plan [] = ⊤
+AreLinesOn plan (line ∷ lines) = IsLineOn plan line × AreLinesOn plan lines
 
 -- no two lists of lines have one text
 abbrev pub TextTellsLines : Type 0
 TextTellsLines =
-    (buses : List BusPlan) (a b : List Line) → AreNamed buses → AreLinesOn buses a → AreLinesOn buses b
-    → text buses a ≡ text buses b → a ≡ b
+    (plan : Plan) (a b : List Line) → AreNamed plan.buses → AreLinesOn plan a → AreLinesOn plan b
+    → text plan.buses a ≡ text plan.buses b → a ≡ b

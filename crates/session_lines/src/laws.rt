@@ -1,7 +1,9 @@
 //! Laws of the lines of a session, each the contract of a call that does nothing.
 
 ghost use Rattle.session_lines.specs.OneReport.{TextTellsLines};
+ghost use Rattle.session_lines.specs.Readings.{LinesHaveReadings};
 ghost use Rattle.session_lines.specs.Reported.{Reported};
+ghost use Rattle.session_lines.specs.Values.{DueValuesInReport, ValuesInReport};
 
 /// The lines of each session are what its records deliver, in order.
 pub fn reported()
@@ -9,6 +11,34 @@ pub fn reported()
 {
     rx_table::laws::delivered_steps();
     rx_table::laws::quiet();
+}
+
+/// Each line on a transfer has the reading of its payload by the type of its port.
+pub fn readings()
+    ensures { LinesHaveReadings }
+{}
+
+/// What is sent as a value is reported as that value, also where the sender has a newer or an older
+/// version of the port's type (Cyphal Specification, sections 3.7 and 3.8).
+pub fn values()
+    ensures { ValuesInReport }
+{
+    reported();
+    readings();
+    once::once_in_report();
+    dsdl_types::laws::rules_suffice();
+    dsdl_types::laws::round_trip();
+    dsdl_types::laws::within_extent();
+    dsdl_types::laws::evolution();
+}
+
+/// Each due transfer that is sent as a value is reported as that value.
+pub fn due_values()
+    ensures { DueValuesInReport }
+{
+    reported();
+    values();
+    once::due_in_report();
 }
 
 /// No two lists of lines have one text.

@@ -1,0 +1,59 @@
+-- Each line on a transfer has the reading of its payload.
+use Rattle.std.proofs.Common.{ℕ, cond, List, [], ◌∷◌, Option, Some, None, refl}
+use Rattle.std.specs.Prelude.{All}
+use Rattle.std.proofs.lemmas.Bool.{cond_both}
+use Rattle.std.proofs.lemmas.List.Elements.{All-nil, All-cons, All-append}
+use Rattle.can_id.specs.Identifiers.{key_of}
+use Rattle.can_id.specs.declared.key.Key.{Key}
+use Rattle.tail_frame.specs.Frames.{FrameOf}
+use Rattle.transfer_crc.specs.Crc.{crc_of}
+use Rattle.rx_table.specs.Heard.{frame_for, frames}
+use Rattle.rx_table.specs.Keys.{KeyedFrame, history}
+use Rattle.rx_table.specs.Ports.{Port, is_admitted}
+use Rattle.rx_table.specs.Received.{Delivery}
+use Rattle.rx_table.specs.Steps.{delivery_at}
+use Rattle.rx_table.specs.Table.{keyed, port_on}
+use Rattle.node_plan.specs.declared.plan.Plan.{Plan}
+use Rattle.node_core.specs.Heard.{ports_of}
+use Rattle.node_core.specs.Steps.{rx_line, of_delivery, anonymous_line, refused_line, of_session, of_source, on_port, of_frame, got, Step, Heard, records, lines}
+use Rattle.node_core.specs.declared.line.Line.{Line}
+use Rattle.session_lines.specs.Readings.{HasReading, LinesHaveReadings}
+
+module _ (plan : Plan) where
+  abbrev Have : List Line → Type 0
+  Have ls = All (HasReading plan) ls
+
+  one : (line : Line) → HasReading plan line → Have (line ∷ [])
+  one line h = All-cons (HasReading plan) line [] h (All-nil (HasReading plan))
+
+  delivered : (extent : ℕ) (key : Key) (o : Option Delivery) → Have (of_delivery plan extent key o)
+  delivered extent key None = All-nil (HasReading plan)
+  delivered extent key (Some d) = one (rx_line plan extent key d) refl
+
+  in_session : (p : Port) (key : Key) (k : KeyedFrame) (log : List KeyedFrame) → Have (of_session plan p key k log)
+  in_session p key k log =
+      let o = delivery_at crc_of plan.timeout k.rec (history k.key log) in
+      cond_both (is_admitted p k log) (of_delivery plan p.extent key o) (cond k.rec.start (refused_line key k.rec ∷ []) []) Have
+      (λ _. delivered p.extent key o)
+      (λ _. cond_both k.rec.start (refused_line key k.rec ∷ []) [] Have (λ _. one (refused_line key k.rec) tt) (λ _. All-nil (HasReading plan)))
+
+  from_source : (p : Port) (f : FrameOf) (log : List KeyedFrame) (o : Option KeyedFrame) → Have (of_source plan p f log o)
+  from_source p f log None = one (anonymous_line plan p.extent f) refl
+  from_source p f log (Some k) = in_session p (key_of f.ident) k log
+
+  at_port : (f : FrameOf) (log : List KeyedFrame) (o : Option Port) → Have (on_port plan f log o)
+  at_port f log None = All-nil (HasReading plan)
+  at_port f log (Some p) = from_source p f log (keyed f)
+
+  from_frame : (log : List KeyedFrame) (o : Option FrameOf) → Have (of_frame plan log o)
+  from_frame log None = All-nil (HasReading plan)
+  from_frame log (Some f) = at_port f log (port_on (ports_of plan) f)
+
+  all : (steps : List Step) → Have (lines plan steps)
+  all [] = All-nil (HasReading plan)
+  all (Heard rec ∷ past) =
+      All-append (HasReading plan) (lines plan past) (got plan rec (records past)) (all past)
+      (from_frame (frames plan.node (records past)) (frame_for plan.node rec))
+
+pub lines_have_readings : LinesHaveReadings
+lines_have_readings plan steps = all plan steps
