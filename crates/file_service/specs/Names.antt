@@ -1,12 +1,11 @@
 -- The names that a folder lists.
-use Rattle.std.specs.Prelude.{◌≡◌, ℕ, Bool, ◌&&◌, List, [], length, nat_le, Option, Some, None, slice_index_or}
+use Rattle.std.specs.Prelude.{◌≡◌, ℕ, Bool, ◌&&◌, List, [], length, nat_le, map as each, Option, Some, None, slice_index_or}
 use Rattle.std.specs.List.{list_all, filter, filter_map}
 use Rattle.std.specs.Option.{option_map}
 use Rattle.std.specs.Ordering.{nat_cmp}
 use Rattle.std.specs.declared.cmp.Ordering.{Ordering}
 use Rattle.std.specs.Cmp.Lexicographic.{slice_cmp}
 use Rattle.std.specs.FinMap as map
-use Rattle.std.specs.FinSet as set
 use Rattle.cy_outside.specs.Files.{Files, member_of}
 use Rattle.file_service.specs.Paths.{is_printable}
 
@@ -18,9 +17,17 @@ by_bytes = slice_cmp nat_cmp
 abbrev pub is_listed : List ℕ → Bool
 is_listed name = nat_le (length name) 255 && list_all is_printable name
 
+-- a name with nothing beside it
+abbrev pub alone : List ℕ → List ℕ × Unit {0}
+alone name = (name, tt)
+
+-- these names in their order, each once
+abbrev pub ascending : List (List ℕ) → List (List ℕ)
+ascending names = map.keys (map.from_entries {R = by_bytes} (each alone names))
+
 -- those of some names that are listed, each once and in their order
 abbrev pub listed : List (List ℕ) → List (List ℕ)
-listed names = set.items (set.from_list {R = by_bytes} (filter is_listed names))
+listed names = ascending (filter is_listed names)
 
 -- the names of the direct members of a folder at or below which some file stands
 abbrev pub member_names : Files → List ℕ → List (List ℕ)
