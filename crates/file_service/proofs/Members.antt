@@ -1,18 +1,21 @@
 -- The names of a folder's members.
 use Rattle.std.proofs.Common.{◌≡◌, ◌≢◌, ◌∙◌, ◌⊎◌, inl, inr, ℕ, ◌<◌, ◌≤◌, Bool, true, false, cond, ◌&&◌, ◌||◌, List, [], ◌∷◌, Option, Some, None, refl, sym, ap, subst, length, get_or, map, arith}
-use Rattle.std.specs.Prelude.{is_some, unwrap_or, option_map}
-use Rattle.std.specs.List.{list_any, filter, filter_map, cons_option, Contains, All}
+use Rattle.std.specs.Prelude.{◌^◌, nat_le, is_some, unwrap_or, option_map}
+use Rattle.std.specs.List.{list_all, list_any, filter, filter_map, cons_option, Contains, All}
 use Rattle.std.specs.Ordering.{eq_by_cmp}
 use Rattle.std.specs.FinMap as finite
-use Rattle.std.proofs.lemmas.Bool.{true≢false}
+use Rattle.std.proofs.lemmas.Bool.{true≢false, cases_lt}
+use Rattle.std.proofs.lemmas.Grind.{common_steps}
 use Rattle.std.proofs.lemmas.List.{get_or_default, get_or_past}
 use Rattle.std.proofs.lemmas.List.Folds.{Any-from_list_any, list_any_at}
-use Rattle.std.proofs.lemmas.List.Elements.{All-contains}
+use Rattle.std.proofs.lemmas.List.Elements.{All-contains, All-nil}
 use Rattle.cy_outside.specs.Files.{Files, rest_in, is_folder, is_file, first_name, member_of, IsMember, ListsMembers}
 use Rattle.cy_outside.specs.declared.tree.Entry.{Entry}
 use Rattle.file_service.specs.Names.{by_bytes, ascending, is_listed, listed, member_names, names_of, name_at}
+use Rattle.std_types.specs.Held.{HoldsBytes}
+use Rattle.file_service.specs.Paths.{is_printable}
 use Rattle.file_service.specs.Laws.{IsListedName, ListLaws}
-use Rattle.file_service.proofs.Places.{true_or_false, not_both, and_left, and_right, and_both}
+use Rattle.file_service.proofs.Places.{true_or_false, not_both, and_left, and_right, and_both, all_of, printable_bounds}
 use Rattle.file_service.proofs.Sorted.{Has, same_name, name_itself, same_ascending, has_filtered, has_listed, ascending_rises, no_names}
 
 same_bool : (a b : Bool) → (a ≡ true → b ≡ true) → (b ≡ true → a ≡ true) → a ≡ b
@@ -162,3 +165,26 @@ list_laws files folder = record {
   past = λ i l. get_or_past (names_of files folder) i [] l;
   no_folder = no_folder files folder;
 }
+
+-- ---- a name that is listed fits its type
+
+le_of : (a b : ℕ) → nat_le a b ≡ true → a ≤ b
+le_of a b e = grind (arith, common_steps)
+
+small : (b : ℕ) → is_printable b ≡ true → b < 2 ^ 8
+small b e = let h = (printable_bounds b e).1 in omega (arith, h)
+
+short_name : (name : List ℕ) → is_listed name ≡ true → HoldsBytes 255 name
+short_name name e = (
+  le_of (length name) 255 (and_left (nat_le (length name) 255) (list_all is_printable name) e),
+  all_of is_printable (λ b. b < 2 ^ 8) (λ b p. small b p) name (and_right (nat_le (length name) 255) (list_all is_printable name) e),
+)
+
+pub name_fits : (names : List (List ℕ)) (i : ℕ) → HoldsBytes 255 (name_at (listed names) i)
+name_fits names i = elim (cases_lt i (length (listed names))) [
+  | inl l ↦
+      let q = get_or (listed names) i [] in
+      short_name q (and_left (is_listed q) (Has names q)
+      (sym (has_listed names q) ∙ list_any_at (eq_by_cmp by_bytes q) (listed names) i [] l (name_itself q q refl)))
+  | inr g ↦ subst (HoldsBytes 255) (sym (get_or_past (listed names) i [] g)) (omega arith, All-nil (λ b. b < 2 ^ 8))
+]

@@ -56,7 +56,7 @@ no_slash_false b e s = true≢false (sym e ∙ ap not (eq-eqb b 47 s))
 not_slash : (b : ℕ) → b ≢ 47 → is_slash b ≡ false
 not_slash b n = elim (true_or_false (is_slash b)) as (λ _. is_slash b ≡ false) [ inl e ↦ absurd (n (eqb-true b 47 e)) | inr e ↦ e ]
 
-printable_bounds : (b : ℕ) → is_printable b ≡ true → (32 ≤ b) × (b ≤ 126)
+pub printable_bounds : (b : ℕ) → is_printable b ≡ true → (32 ≤ b) × (b ≤ 126)
 printable_bounds b e = grind (arith, common_steps)
 
 bounds_printable : (b : ℕ) → 32 ≤ b → b ≤ 126 → is_printable b ≡ true

@@ -12,12 +12,12 @@ use Rattle.std.specs.Cmp.Lexicographic.{nat_list_cmp_total, bytes_decides}
 use Rattle.std.specs.FinMap.{FinMap, IsAntisymmetric, nat_cmp-IsAntisymmetric, slice_cmp-IsAntisymmetric, same_map, keys, entries, entries_sorted, entries-insert, from_entries, insert, get, get-insert, get-from_entries, contains_key-keys}
 use Rattle.std.specs.FinMap.Entries.{find, put, by_order, is_sorted, below_all, is_some-find}
 use Rattle.std.proofs.lemmas.Bool.{true≢false}
-use Rattle.std.proofs.lemmas.List.{append-nil}
+use Rattle.std.proofs.lemmas.List.{append-nil, get_or_past}
 use Rattle.std.proofs.lemmas.List.Folds.{list_any-append}
 use Rattle.std.proofs.lemmas.List.Elements.{filter-append}
 use Rattle.std.proofs.lemmas.Map.Text.{is_eq-slice_cmp}
 use Rattle.std.proofs.lemmas.Map.Views.{any-filter_same}
-use Rattle.file_service.specs.Names.{by_bytes, alone, ascending, is_listed, listed}
+use Rattle.file_service.specs.Names.{by_bytes, alone, ascending, is_listed, listed, name_at}
 
 -- a name is among these
 abbrev pub Has : List (List ℕ) → List ℕ → Bool
@@ -178,3 +178,6 @@ second_none false b h e = true≢false (sym e)
 
 pub no_names : (names : List (List ℕ)) → ((q : List ℕ) → Has names q ≡ true → ⊥) → listed names ≡ []
 no_names names h = nothing_has (listed names) (λ q e. second_none (is_listed q) (Has names q) (h q) (sym (has_listed names q) ∙ e))
+
+pub no_name : (index : ℕ) → [] ≡ name_at (listed []) index
+no_name index = sym (get_or_past (listed []) index [] (omega (arith, ap length none_listed)))

@@ -3,9 +3,7 @@ use Rattle.std.proofs.Common.{◌≡◌, ◌≢◌, ◌∙◌, ◌⊎◌, inl, i
 use Rattle.std.specs.Prelude.{min, unwrap_or}
 use Rattle.std.specs.FinMap as finite
 use Rattle.std.proofs.lemmas.Grind.{common_steps}
-use Rattle.std.proofs.lemmas.List.{get_or_past}
 use Rattle.cy_outside.specs.Files.{Files, is_folder, bytes_at, got_of, Reads, size_of, Sizes, Lists}
-use Rattle.cy_outside.specs.declared.tree.Entry.{Entry}
 use Rattle.cy_outside.specs.declared.tree.Got.{Got}
 use Rattle.cy_outside.specs.declared.tree.Got.TheVariants as got
 use Rattle.cy_outside.specs.declared.tree.Size.{Size}
@@ -15,7 +13,7 @@ use Rattle.cy_outside.specs.declared.tree.Listing.TheVariants as listing
 use Rattle.file_service.specs.declared.place.Place.{Place}
 use Rattle.file_service.specs.declared.place.Place.TheVariants.{Invalid, Root, At}
 use Rattle.file_service.specs.Standing.{Standing, File, Folder, Nothing, standing_of, Stands}
-use Rattle.file_service.specs.Names.{listed, name_at, HasNames}
+use Rattle.file_service.specs.Names.{found, listed, name_at, HasNames}
 use Rattle.file_service.specs.Replies.{no_bytes, read_reply, read_of, IsRead, info, no_info, info_reply, IsInfo, ListsFolder, io_error}
 use Rattle.file_service.proofs.Pieces.{take_short}
 use Rattle.file_service.proofs.Sorted.{none_listed}
@@ -130,22 +128,22 @@ info_nothing (Some files) path r = inr (Nothing, told_size_nothing (finite.get f
 
 -- ---- listings
 
-pub folder_lists : (told : Option Files) (folder : List ℕ) (entries : List Entry) (index : ℕ) → Lists told folder (listing.Entries entries)
-    → ListsFolder told folder index (record { name = name_at (listed (map (λ (e : Entry). e.name) entries)) index; failed = false })
-folder_lists None folder entries index lists = inr (listed (map (λ (e : Entry). e.name) entries), (map (λ (e : Entry). e.name) entries, refl), refl)
-folder_lists (Some files) folder entries index lists = inr (listed (map (λ (e : Entry). e.name) entries), listed_members files folder entries lists.1, refl)
+pub told_names : (told : Option Files) (folder : List ℕ) (found_there : Listing) → Lists told folder found_there → HasNames told folder (listed (found found_there))
+told_names None folder l lists = (found l, refl)
+told_names (Some files) folder (listing.Entries entries) lists = listed_members files folder entries lists.1
+told_names (Some files) folder listing.NotFolder lists = none_listed ∙ sym (no_folder files folder lists.0)
+told_names (Some files) folder listing.Absent lists = none_listed ∙ sym (no_folder files folder lists.0)
 
-no_name : (names : List (List ℕ)) (index : ℕ) → names ≡ [] → [] ≡ name_at names index
-no_name names index e = sym (get_or_past names index [] (omega (arith, ap length e)))
+pub folder_lists : (told : Option Files) (folder : List ℕ) (l : Listing) (index : ℕ) → Lists told folder l
+    → ListsFolder told folder index (record { name = name_at (listed (found l)) index; failed = false })
+folder_lists told folder l index lists = inr (listed (found l), told_names told folder l lists, refl)
 
-none_of : (told : Option Files) (folder : List ℕ) (index : ℕ) (names : List (List ℕ)) → HasNames told folder names → names ≡ []
-    → ListsFolder told folder index (record { name = []; failed = false })
-none_of told folder index names has e = inr (names, has, λ i. record { name = no_name names index e i; failed = false })
+-- the tree failed
+pub read_failed : (told : Option Files) (path : List ℕ) (offset : ℕ) → IsRead told (At path) offset (no_bytes 5)
+read_failed told path offset = inl refl
 
-pub nothing_lists : (told : Option Files) (folder : List ℕ) (index : ℕ) → Lists told folder listing.Absent → ListsFolder told folder index (record { name = []; failed = false })
-nothing_lists None folder index lists = none_of None folder index (listed []) ([], refl) none_listed
-nothing_lists (Some files) folder index lists = none_of (Some files) folder index _ refl (no_folder files folder lists.0)
+pub info_failed : (told : Option Files) (path : List ℕ) → IsInfo told (At path) (no_info 5)
+info_failed told path = inl refl
 
-pub file_lists : (told : Option Files) (folder : List ℕ) (index : ℕ) → Lists told folder listing.NotFolder → ListsFolder told folder index (record { name = []; failed = false })
-file_lists None folder index lists = none_of None folder index (listed []) ([], refl) none_listed
-file_lists (Some files) folder index lists = none_of (Some files) folder index _ refl (no_folder files folder lists.0)
+pub lists_failed : (told : Option Files) (folder : List ℕ) (index : ℕ) → ListsFolder told folder index (record { name = []; failed = true })
+lists_failed told folder index = inl refl

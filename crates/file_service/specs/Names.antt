@@ -7,6 +7,9 @@ use Rattle.std.specs.declared.cmp.Ordering.{Ordering}
 use Rattle.std.specs.Cmp.Lexicographic.{slice_cmp}
 use Rattle.std.specs.FinMap as map
 use Rattle.cy_outside.specs.Files.{Files, member_of}
+use Rattle.cy_outside.specs.declared.tree.Entry.{Entry}
+use Rattle.cy_outside.specs.declared.tree.Listing.{Listing}
+use Rattle.cy_outside.specs.declared.tree.Listing.TheVariants.{Entries, NotFolder, Absent}
 use Rattle.file_service.specs.Paths.{is_printable}
 
 -- the order of names: by their bytes, a front before what it begins
@@ -29,6 +32,12 @@ ascending names = map.keys (map.from_entries {R = by_bytes} (each alone names))
 abbrev pub listed : List (List ℕ) → List (List ℕ)
 listed names = ascending (filter is_listed names)
 
+-- the names that a listing tells: none where there is no folder
+abbrev pub found : Listing → List (List ℕ)
+found (Entries entries) = each (λ (e : Entry). e.name) entries
+found NotFolder = []
+found Absent = []
+
 -- the names of the direct members of a folder at or below which some file stands
 abbrev pub member_names : Files → List ℕ → List (List ℕ)
 member_names files folder = filter_map (λ file. option_map (λ member. member.name) (member_of folder file)) (map.keys files)
@@ -43,5 +52,5 @@ name_at names index = slice_index_or names index []
 
 -- names that a tree has in a folder, where its files are told; else some that can be listed
 abbrev pub HasNames : Option Files → List ℕ → List (List ℕ) → Type 0
-HasNames None folder names = (found : List (List ℕ)) × (names ≡ listed found)
+HasNames None folder names = (some : List (List ℕ)) × (names ≡ listed some)
 HasNames (Some files) folder names = names ≡ names_of files folder

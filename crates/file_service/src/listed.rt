@@ -1,10 +1,10 @@
 //! The names that a folder lists.
 ghost use Rattle.std.specs.Prelude.{◌≡◌, map, string_bytes, IfOk};
-ghost use Rattle.file_service.specs.Names.{is_listed, listed, name_at};
+ghost use Rattle.file_service.specs.Names.{found, is_listed, listed, name_at};
 
 use crate::place::is_printable;
 use cy_bits::{List, NoMemory, Text};
-use cy_outside::Entry;
+use cy_outside::{Entry, Listing};
 use std::alloc::Global;
 use std::collections::BTreeSet;
 
@@ -30,7 +30,7 @@ fn names_of(alloc: Global, entries: List<Entry>) -> Result<BTreeSet<String>, NoM
 
 /// Of the names of these entries that are listed, in byte order, the one with this number; the
 /// empty one past the last.
-pub fn name_at(alloc: Global, entries: List<Entry>, index: u32) -> Result<Text, NoMemory>
+fn name_at(alloc: Global, entries: List<Entry>, index: u32) -> Result<Text, NoMemory>
     ensures { IfOk result (λ name. name ≡ name_at (listed (map (λ e. e.name) entries)) index) }
 {
     let names = names_of(alloc, entries)?;
@@ -38,4 +38,15 @@ pub fn name_at(alloc: Global, entries: List<Entry>, index: u32) -> Result<Text, 
         Some(name) => Text::new(name),
         None => Text::new(String::new(alloc)),
     })
+}
+
+/// The same of a listing; the empty name where there is no folder.
+#[tactic(auto, using(crate::proofs::Sorted::no_name))]
+pub fn name_in(alloc: Global, listing: Listing, index: u32) -> Result<Text, NoMemory>
+    ensures { IfOk result (λ name. name ≡ name_at (listed (found listing)) index) }
+{
+    match listing {
+        Listing::Entries(entries) => name_at(alloc, entries, index),
+        Listing::Absent | Listing::NotFolder => Ok(Text::new(String::new(alloc))),
+    }
 }

@@ -7,10 +7,10 @@ ghost use Rattle.file_service.specs.Replies.{IsInfo, IsListing, IsRead, ListsFol
 
 use crate::codes::{INVALID, IO_ERROR, IS_DIRECTORY, NOT_FOUND, OK};
 use crate::done::{ListDone, ReadDone};
-use crate::listed::name_at;
+use crate::listed::name_in;
 use crate::place::{Place, place_of};
 use cy_bits::{NoMemory, Text};
-use cy_outside::{Got, Listing, Size, Tree, TreeError};
+use cy_outside::{Got, Size, Tree, TreeError};
 use std::alloc::Global;
 use std_types::file::{FileError, InfoReply};
 
@@ -131,16 +131,14 @@ const GREATEST_SIZE: u64 = (1 << 40) - 1;
 
 /// No bytes, for a reason.
 fn no_bytes(code: u16) -> ReadDone
-    ensures code { result.code ≡ code }
-    ensures count { result.count ≡ 0 }
+    ensures { result ≡ record { code = code; count = 0 } }
 {
     ReadDone { code, count: 0 }
 }
 
 /// No name, and whether the tree failed.
 fn no_name(alloc: Global, failed: bool) -> ListDone
-    ensures name { result.name ≡ [] }
-    ensures failed { result.failed ≡ failed }
+    ensures { result ≡ record { name = []; failed = failed } }
 {
     let name = Text::new(String::new(alloc));
     ListDone { name, failed }
@@ -176,14 +174,13 @@ fn list_folder<T: Tree>(
     ensures count { T.faults tree.old ≤ T.faults tree.new }
 {
     match tree.list(alloc, folder) {
-        Ok(Listing::Entries(entries)) => {
-            let name = name_at(alloc, entries, index)?;
+        Ok(listing) => {
+            let name = name_in(alloc, listing, index)?;
             Ok(ListDone {
                 name,
                 failed: false,
             })
         }
-        Ok(Listing::Absent | Listing::NotFolder) => Ok(no_name(alloc, false)),
         Err(TreeError::Failed) => Ok(no_name(alloc, true)),
         Err(TreeError::NoMemory) => Err(NoMemory),
     }
