@@ -1,0 +1,5 @@
+pub mod Places
+pub mod Pieces
+pub mod Sorted
+pub mod Members
+pub mod Told
