@@ -1,5 +1,5 @@
 -- The ports of a table have the types of a plan's subscriptions.
-use Rattle.std.proofs.Common.{◌≡◌, ◌∙◌, ℕ, ◌+◌, ◌<◌, eqb, ◌&&◌, List, [], ◌∷◌, ◌++◌, length, take, map, get_or, Option, Some, None, refl, sym, ap, inl, inr}
+use Rattle.std.proofs.Common.{◌≡◌, ◌∙◌, ℕ, ◌+◌, ◌<◌, eqb, ◌&&◌, List, [], ◌∷◌, ◌++◌, length, take, map, get_or, Option, Some, refl, sym, ap, inl, inr}
 use Rattle.std.specs.Option.{option_and_then}
 use Rattle.std.proofs.lemmas.Bool.{cond-true, cond-false, cases_Bool}
 use Rattle.std.proofs.lemmas.List.{map-append, take_more}
@@ -11,10 +11,9 @@ use Rattle.rx_table.specs.Keys.{same_kind}
 use Rattle.rx_table.specs.Ports.{Port, ports_of as ports_in}
 use Rattle.rx_table.specs.Table.{port_of, states, shape_at}
 use Rattle.rx_table.specs.declared.port.Port as code_port
-use Rattle.rx_table.specs.declared.table.Table.{Table}
 use Rattle.node_core.specs.Heard.{port_of_sub}
 use Rattle.node_core.specs.Shapes.{port_type, shape_extent}
-use Rattle.node_core.specs.Types.{type_in, type_among, HasTypes}
+use Rattle.node_core.specs.Types.{type_in, type_among}
 use Rattle.node_core.specs.declared.port_shape.PortShape.{PortShape}
 
 abbrev Ports : Type 0
@@ -52,19 +51,20 @@ map_types [] = refl
 map_types (p ∷ ports) = ap (λ (t : List (Option Sch)). port_type p.shape ∷ t) (map_types ports)
 
 -- a table that keeps its shapes keeps its types
-pub types_stay : (subs : List Sub) (old new : Table PortShape)
-    → map (λ p. p.shape) new.ports.items ≡ map (λ p. p.shape) old.ports.items → HasTypes subs old → HasTypes subs new
-types_stay subs old new e h = map_types new.ports.items ∙ (ap (map port_type) e ∙ (sym (map_types old.ports.items) ∙ h))
+pub types_stay : (subs : List Sub) (old new : Ports) → map (λ p. p.shape) new ≡ map (λ p. p.shape) old
+    → map (λ p. port_type p.shape) old ≡ map (λ s. type_in s.shape) subs → map (λ p. port_type p.shape) new ≡ map (λ s. type_in s.shape) subs
+types_stay subs old new e h = map_types new ∙ (ap (map port_type) e ∙ (sym (map_types old) ∙ h))
 
 -- a subscription's port that is put behind the others has its type
-pub types_more : (subs : List Sub) (n : ℕ) (d : Sub) (old new : Table PortShape) (shape : PortShape)
-    → HasTypes (take n subs) old → map (λ p. p.shape) new.ports.items ≡ map (λ p. p.shape) old.ports.items ++ shape ∷ []
-    → port_type shape ≡ type_in (get_or subs n d).shape → n < length subs → HasTypes (take (n + 1) subs) new
-types_more subs n d old new shape h e type_is within =
-    map_types new.ports.items
+pub types_more : (subs : List Sub) (n : ℕ) (sub : Sub) (old new : Ports) (shape : PortShape)
+    → map (λ p. port_type p.shape) old ≡ map (λ s. type_in s.shape) (take n subs) → map (λ p. p.shape) new ≡ map (λ p. p.shape) old ++ shape ∷ []
+    → port_type shape ≡ type_in sub.shape → sub ≡ get_or subs n sub → n < length subs
+    → map (λ p. port_type p.shape) new ≡ map (λ s. type_in s.shape) (take (n + 1) subs)
+types_more subs n sub old new shape h e type_is is within =
+    map_types new
     ∙ (ap (map port_type) e
-    ∙ (map-append port_type (map (λ p. p.shape) old.ports.items) (shape ∷ [])
-    ∙ (ap (λ (t : List (Option Sch)). t ++ port_type shape ∷ []) (sym (map_types old.ports.items) ∙ h)
-    ∙ (ap (λ (t : Option Sch). map (λ s. type_in s.shape) (take n subs) ++ t ∷ []) type_is
-    ∙ (sym (map-append (λ s. type_in s.shape) (take n subs) (get_or subs n d ∷ []))
-    ∙ ap (map (λ s. type_in s.shape)) (sym (take_more subs n d within)))))))
+    ∙ (map-append port_type (map (λ p. p.shape) old) (shape ∷ [])
+    ∙ (ap (λ (t : List (Option Sch)). t ++ port_type shape ∷ []) (sym (map_types old) ∙ h)
+    ∙ (ap (λ (t : Option Sch). map (λ s. type_in s.shape) (take n subs) ++ t ∷ []) (type_is ∙ ap (λ (t : Sub). type_in t.shape) is)
+    ∙ (sym (map-append (λ s. type_in s.shape) (take n subs) (get_or subs n sub ∷ []))
+    ∙ ap (map (λ s. type_in s.shape)) (sym (take_more subs n sub within)))))))

@@ -40,8 +40,9 @@ fn shape_of(alloc: Global, shape: &SubShape) -> Result<PortShape, NoMemory>
 {
     match shape {
         SubShape::Raw(extent) => Ok(PortShape::Raw(RawShape::new(alloc, *extent)?)),
-        SubShape::Named { schema, .. } => Ok(PortShape::Compiled(CompiledShape {
-            schema: schema.copy(alloc)?,
-        })),
+        SubShape::Named { schema, .. } => {
+            let schema = schema.copy(alloc)?;
+            Ok(PortShape::Compiled(CompiledShape { schema }))
+        }
     }
 }

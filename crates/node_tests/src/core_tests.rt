@@ -1,16 +1,10 @@
+use crate::node_log::{Logged, no_types, record, text_of};
 use can_id::{Key, Kind};
 use cy_bits::{BusName, List, NoMemory, ShortList};
 use dsdl_types::{Schema, Shape};
 use line_text::TextBuffer;
-use node_core::{
-    KeptLines, LineRef, LineSink, LineWriter, NoLines, Node, Numbers, PortShape, RawShape, Reading,
-    Refused, RxRef,
-};
+use node_core::{LineRef, LineWriter, Node, Numbers, PortShape, RawShape, Refused, RxRef};
 use node_plan::{BusPlan, read_plan};
-use std::alloc::Global;
-use std::process::Abort;
-use std::str::from_utf8;
-use tail_frame::{FrameData, Record};
 
 /// The buses `can0` and `can1`.
 fn two_buses() -> ShortList<BusPlan, 3> {
@@ -40,7 +34,7 @@ fn received<'a>(
         key: Key { kind, port, source },
         priority: 4,
         tid,
-        reading: Reading::Raw,
+        port_type: None,
         first,
         last,
         payload,
@@ -85,7 +79,7 @@ fn lines_have_their_text(rt: HostRuntime) -> Result<(), NoMemory> {
         ),
     ];
     let buses = two_buses();
-    let mut writer = LineWriter::new(&buses);
+    let mut writer = LineWriter::new(alloc, &buses);
     for (line, want) in &rows {
         let mut text = TextBuffer::new(alloc);
         writer.push(&mut text, line)?;
@@ -126,71 +120,13 @@ fn raw_bytes_are_a_data_type(rt: HostRuntime) -> Result<(), NoMemory> {
     Ok(())
 }
 
-/// A frame of a log: its moment, its bus, its identifier and its data.
-type Logged<'a> = (u64, u8, u32, &'a [u8]);
-
-/// The text of the lines that a node gives on a log, then their number, whether a CRC was bad, and the bytes
-/// held.
-fn run(
-    rt: &impl Abort,
-    alloc: Global,
-    extent: &str,
-    log: &[Logged<'_>],
-) -> Result<String, NoMemory> {
-    let plan = format!(in alloc;
-        "plan 1\nnode 10\nbus can0\nbus can1\nsilent\nsub 100 2 raw {extent}\n"
-    )?;
-    let Ok(plan) = read_plan(alloc, plan.as_bytes()) else {
-        panic!(rt; "no plan");
-    };
-    let mut writer = LineWriter::new(&plan.buses);
-    let mut node = Node::open(alloc, plan)?;
-    let mut kept = KeptLines::new(alloc, List::empty(alloc));
-    let mut text = TextBuffer::new(alloc);
-    let mut line = 0;
-    let mut badcrc = false;
-    for (moment, bus, ident, data) in log {
-        assert!(rt; line < 100);
-        line += 1;
-        let rec = record(rt, line, (*moment, *bus, *ident, data));
-        assert!(rt; node.latest <= rec.moment);
-        let came = node.step(&rec)?;
-        badcrc |= came.badcrc;
-        if let Some(line) = node.told(&rec, came) {
-            kept.put(&line)?;
-            NoLines.put(&line)?;
-            writer.push(&mut text, &line)?;
-        }
-    }
-    let Ok(lines) = String::from_str(alloc, from_utf8(text.as_slice()).unwrap_or("no text")) else {
-        return Err(NoMemory);
-    };
-    let count = kept.into_list().len();
-    Ok(format!(in alloc; "{lines}lines {count} badcrc {badcrc} held {}", node.held())?)
-}
-
-/// The record of a frame of a log.
-fn record(rt: &impl Abort, line: u64, (moment, bus, ident, data): Logged<'_>) -> Record {
-    let mut bytes = FrameData::new();
-    for byte in data.iter().take(64) {
-        assert!(rt; bytes.as_slice().len() < 64);
-        bytes.push(*byte);
-    }
-    Record {
-        line,
-        moment,
-        bus,
-        ident,
-        bytes,
-    }
-}
-
 #[test]
 fn a_frame_gives_its_line(rt: HostRuntime) -> Result<(), NoMemory> {
     let alloc = rt.alloc();
     let Ok(plan) = read_plan(
         alloc,
         b"plan 1\nnode 10\nbus can0\nsilent\nsub 7509 2 raw 7\n",
+        &no_types(alloc),
     ) else {
         panic!(&rt; "no plan");
     };
@@ -268,8 +204,11 @@ fn records_give_their_lines(rt: HostRuntime) -> Result<(), NoMemory> {
             "lines 0 badcrc false held 0",
         ),
     ];
+    let alloc = rt.alloc();
+    let names = no_types(alloc);
     for (extent, log, want) in rows {
-        let got = run(&rt, rt.alloc(), extent, log)?;
+        let sub = format!(in alloc; "sub 100 2 raw {extent}\n")?;
+        let got = text_of(&rt, alloc, &names, sub.as_str(), log)?;
         assert_eq!(rt; got.as_str(), want);
     }
     Ok(())

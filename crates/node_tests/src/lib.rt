@@ -9,8 +9,12 @@ mod generator_tests;
 #[cfg(test)]
 mod loop_tests;
 #[cfg(test)]
+mod node_log;
+#[cfg(test)]
 mod queue_tests;
 #[cfg(test)]
 mod session_tests;
 #[cfg(test)]
 mod table_tests;
+#[cfg(test)]
+mod typed_tests;

@@ -1,5 +1,7 @@
-use Rattle.std.proofs.Common.{◌∙◌}
-use Rattle.node_core.proofs.Steps.{stands_again, hear_lines, hear_bad}
+use Rattle.std.proofs.Common.{◌∙◌, List, sym, subst}
+use Rattle.rx_table.specs.Ports.{PortState}
+use Rattle.rx_table.specs.Table.{StandsFor}
+use Rattle.node_core.proofs.Steps.{stands_again, hear_lines, hear_bad, on_err}
 use Rattle.node_core.proofs.Tables.{heard_later}
 use Rattle.node_core.proofs.Types.{types_stay}
 use Rattle.node_core.proofs.node.Node.hear.Goals as goal
@@ -22,3 +24,11 @@ returns-clause-lines c = λ log s.
 pub returns-clause-badcrc : goal.returns-clause-badcrc
 returns-clause-badcrc c = λ log s.
     hear_bad c.outcome_tells.ensures c.args.self.now _ log _ s c.in_ok-met.ensures.told
+
+pub returns-in_err-met-clause-err : goal.returns-in_err-met-clause-err
+returns-in_err-met-clause-err c = on_err _ c.from_residual.result (λ log s. record {
+  timeout = c.in_err-met.ensures.keeps.timeout ∙ s.timeout;
+  ports = c.in_err-met.ensures.keeps.ports ∙ s.ports;
+  types = types_stay _ _ _ c.in_err-met.ensures.keeps.shapes s.types;
+  sessions = subst (λ (ps : List PortState). StandsFor c.args.self.now.plan.timeout log ps) (sym c.in_err-met.ensures.err) s.sessions;
+})
