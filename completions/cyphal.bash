@@ -9,16 +9,13 @@ _cyphal()
         return
     fi
     case $command:$COMP_CWORD in
-        run:2 | bound:2)
-            mapfile -t COMPREPLY < <(compgen -W 'none' -- "$word")
+        run:2 | bound:2 | compile:2 | compat:2 | encode:2 | decode:2)
+            compopt -o filenames
+            mapfile -t COMPREPLY < <(compgen -d -W 'none' -- "$word")
             ;;
         run:3 | bound:3)
             compopt -o filenames
             mapfile -t COMPREPLY < <(compgen -f -- "$word")
-            ;;
-        compile:2 | compat:2 | encode:2 | decode:2)
-            compopt -o filenames
-            mapfile -t COMPREPLY < <(compgen -d -- "$word")
             ;;
         compat:3 | compat:4 | encode:3 | decode:3)
             mapfile -t COMPREPLY < <(compgen -W "$(_cyphal_types "${COMP_WORDS[2]}")" -- "$word")

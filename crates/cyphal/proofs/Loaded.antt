@@ -10,7 +10,7 @@ use Rattle.dsdl_resolve.specs.Laws.{HaveOneAnswer}
 use Rattle.dsdl_resolve.specs.Passes.{Compiled, FirstRefusal}
 use Rattle.dsdl_resolve.specs.declared.why.DsdlWhy.{DsdlWhy}
 use Rattle.dsdl_resolve.specs.declared.why.DsdlWhy.TheVariants as why
-use Rattle.node_run.specs.Loaded.{is_none, AreFiles, IsNotLoaded}
+use Rattle.node_run.specs.Loaded.{is_none, AreFiles, IsLoaded, IsNotLoaded}
 use Rattle.node_run.specs.declared.status.Status.{Status}
 use Rattle.node_run.specs.declared.status.Status.TheVariants as status
 use Rattle.cyphal.specs.Job.{is_fault}
@@ -68,6 +68,10 @@ module _ (law : HaveOneAnswer) where
 
   same_names : (found : Result (List DsdlFile) FolderError) (a b : List DsdlFile) (n m : Namespace) → found ≡ Ok a → found ≡ Ok b → Compiled a n → Compiled b m → n ≡ m
   same_names found a b n m e f c d = law.one_namespace a n m c (rw (sym (same_files found a b e f)) at d)
+
+  -- a root has one namespace
+  pub one_names : (root : List ℕ) (told : Option Files) → Found root told → (a b : Namespace) → IsLoaded root told a → IsLoaded root told b → a ≡ b
+  one_names root told f a b x y = same_names f.found x.files y.files a b (f.are x.files x.are) (f.are y.files y.are) x.compiled y.compiled
 
   -- in a namespace it comes to one status
   abbrev pub IsOne : (Namespace → Status → Type 0) → Type 0

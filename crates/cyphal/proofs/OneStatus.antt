@@ -20,8 +20,8 @@ module _ (law : HaveOneAnswer) (encodes : HasOneStatus Encodes) (decodes : HasOn
   single (Compat root new old) = compat.single law root new old
   single (Encode root name) = values.single law Encodes encodes root name
   single (Decode root name) = values.single law Decodes decodes root name
-  single (Run path) = run.single path
-  single (Bound path) = bound.single path
+  single (Run root path) = run.single law root path
+  single (Bound root path) = bound.single law root path
   single (Gen number) = gen.single number
 
   pub one_status : (command : Option Command) → IsSingle (job_asked command)

@@ -1,88 +1,140 @@
--- What was asked for of a plan, from what was found at its path.
-use Rattle.std.proofs.Common.{◌≡◌, ◌∙◌, ◌⊎◌, inl, inr, ℕ, true, false, List, Option, Some, None, IfSome, option_map, take, refl, sym, ap, subst}
+-- How a command of a plan ends, from what was found at its path.
+use Rattle.std.proofs.Common.{◌≡◌, ◌∙◌, ◌⊎◌, inl, inr, ℕ, true, false, ◌||◌, List, Option, Some, None, IfSome, is_some, option_map, take, refl, sym, ap, subst}
 use Rattle.std.specs.FinMap as map
 use Rattle.cy_outside.specs.Files.{Files, ReadsFront}
+use Rattle.dsdl_types.specs.declared.namespace.Namespace.{Namespace}
+use Rattle.dsdl_resolve.specs.Laws.{HaveOneAnswer}
 use Rattle.node_plan.specs.Plan.{PlanIs, Good, Bad, plan_of}
 use Rattle.node_plan.specs.declared.plan.Plan.{Plan}
 use Rattle.node_plan.specs.declared.plan.PlanError.{PlanError}
 use Rattle.node_plan.specs.declared.plan.PlanError.TheVariants as plan_error
 use Rattle.node_plan.specs.declared.plan.PlanWhy.{PlanWhy}
+use Rattle.node_run.specs.Loaded.{is_none, IsLoaded}
 use Rattle.node_run.specs.declared.status.Status.{Status}
 use Rattle.node_run.specs.declared.status.Status.TheVariants as status
 use Rattle.cyphal.specs.Job.{is_fault}
-use Rattle.cyphal.specs.Plans.{on_plan, on_file, on_path, PlanAt}
-use Rattle.std.proofs.Common.{is_some}
+use Rattle.cyphal.specs.Plans.{PlanEnds, EndsOnText, EndsOnFile, EndsIn, EndsInRoot, EndsAt, without_plan, GivesPlan, PlanAt}
+use Rattle.cyphal.proofs.Loaded.{Comes, loaded, Found, found_told, one_names, not_loaded, one}
 
--- the file at the path, where the files are told
-pub record Found (fs : Files) (path text : List ℕ) : Type 0 where
-  pub all : List ℕ
-  pub is : map.get fs path ≡ Some all
-  pub plan : plan_of text ≡ plan_of all
+-- the first bytes of a text that count give the plan of all
+abbrev pub AreEnough : Namespace → ℕ → Type 0
+AreEnough names most = (all : List ℕ) → plan_of names (take most all) ≡ plan_of names all
 
-found : (fs : Files) (path : List ℕ) (most : ℕ) (text : List ℕ) → ReadsFront (Some fs) path most (Some text) → ((all : List ℕ) → plan_of (take most all) ≡ plan_of all) → Found fs path text
-found fs path most text r enough = by_file (map.get fs path) refl
+module _ (names : Namespace) (path : List ℕ) (most : ℕ) where
+  -- the file at the path, where the files are told
+  record FileFound (fs : Files) (text : List ℕ) : Type 0 where
+    all : List ℕ
+    is : map.get fs path ≡ Some all
+    plan : plan_of names text ≡ plan_of names all
+
+  file_found : (fs : Files) (text : List ℕ) → ReadsFront (Some fs) path most (Some text) → AreEnough names most → FileFound fs text
+  file_found fs text r enough = by_file (map.get fs path) refl
+    where
+      by_file : (file : Option (List ℕ)) → map.get fs path ≡ file → FileFound fs text
+      by_file None e = let bad : Some text ≡ None = r ∙ ap (option_map (take most)) e in absurd cc
+      by_file (Some all) e =
+          let front : Some text ≡ Some (take most all) = r ∙ ap (option_map (take most)) e in
+          let same : text ≡ take most all = cc in record { all = all; is = e; plan = ap (plan_of names) same ∙ enough all }
+
+  none_there : (fs : Files) → ReadsFront (Some fs) path most None → map.get fs path ≡ None
+  none_there fs r = by_file (map.get fs path) refl
+    where
+      by_file : (file : Option (List ℕ)) → map.get fs path ≡ file → map.get fs path ≡ None
+      by_file None e = e
+      by_file (Some all) e = let bad : None ≡ Some (take most all) = r ∙ ap (option_map (take most)) e in absurd cc
+
+  -- the path has no file
+  pub missing_ends : (files : Option Files) (stat : Status) → ReadsFront files path most None → (stat ≡ status.NoFile path) ⊎ (stat ≡ status.NoMemory) → is_fault stat ≡ false → EndsIn without_plan names path files stat
+  missing_ends None stat r s h = tt
+  missing_ends (Some fs) stat r (inl s) h = subst (λ o. EndsOnFile without_plan names path o stat) (sym (none_there fs r)) s
+  missing_ends (Some fs) stat r (inr s) h = let bad : true ≡ false = sym (ap is_fault s) ∙ h in absurd cc
+
+  -- the plan is refused
+  refused_ends : (files : Option Files) (text : List ℕ) (stat : Status) (n : ℕ) (w : PlanWhy) → ReadsFront files path most (Some text) → AreEnough names most
+      → plan_of names text ≡ Bad n w → stat ≡ status.Plan n w → EndsIn without_plan names path files stat
+  refused_ends None text stat n w r enough e s = tt
+  refused_ends (Some fs) text stat n w r enough e s =
+      let f = file_found fs text r enough in
+      subst (λ o. EndsOnFile without_plan names path o stat) (sym f.is)
+      (subst (λ (p : PlanIs). EndsOnText without_plan p stat) (sym e ∙ f.plan) s)
+
+  pub error_ends : (files : Option Files) (text : List ℕ) (stat : Status) (error : PlanError) → ReadsFront files path most (Some text) → AreEnough names most
+      → ((n : ℕ) (w : PlanWhy) → error ≡ plan_error.Refused n w → plan_of names text ≡ Bad n w) → (error ≡ plan_error.NoMemory → stat ≡ status.NoMemory) → ((n : ℕ) (w : PlanWhy) → error ≡ plan_error.Refused n w → stat ≡ status.Plan n w)
+      → is_fault stat ≡ false → EndsIn without_plan names path files stat
+  error_ends files text stat (plan_error.Refused n w) r enough e m s h = refused_ends files text stat n w r enough (e n w refl) (s n w refl)
+  error_ends files text stat plan_error.NoMemory r enough e m s h = let bad : true ≡ false = sym (ap is_fault (m refl)) ∙ h in absurd cc
+
+  -- the file at the path is a plan
+  pub gives_plan : (files : Option Files) (text : List ℕ) (plan : Plan) → ReadsFront files path most (Some text) → AreEnough names most → plan_of names text ≡ Good plan → GivesPlan names path files plan
+  gives_plan None text plan r enough e = tt
+  gives_plan (Some fs) text plan r enough e = let f = file_found fs text r enough in (f.all, f.is, sym f.plan ∙ e)
+
+-- a command that has no plan ends so whatever is done with one
+text_ends : (ends : PlanEnds) (plan : PlanIs) (stat : Status) → EndsOnText without_plan plan stat → EndsOnText ends plan stat
+text_ends ends (Bad n w) stat e = e
+text_ends ends (Good plan) stat e = absurd e
+
+file_ends : (ends : PlanEnds) (names : Namespace) (path : List ℕ) (file : Option (List ℕ)) (stat : Status) → EndsOnFile without_plan names path file stat → EndsOnFile ends names path file stat
+file_ends ends names path None stat e = e
+file_ends ends names path (Some text) stat e = text_ends ends (plan_of names text) stat e
+
+names_ends : (ends : PlanEnds) (names : Namespace) (path : List ℕ) (files : Option Files) (stat : Status) → EndsIn without_plan names path files stat → EndsIn ends names path files stat
+names_ends ends names path None stat e = tt
+names_ends ends names path (Some fs) stat e = file_ends ends names path (map.get fs path) stat e
+
+pub refused_at : (ends : PlanEnds) (root path : List ℕ) (files : Option Files) (stat : Status) → EndsAt without_plan root path files stat → EndsAt ends root path files stat
+refused_at ends root path files stat (h, inl n) = (h, inl n)
+refused_at ends root path files stat (h, inr e) = (h, inr (record { names = e.names; is = e.is; ends = names_ends ends e.names path files stat e.ends }))
+
+-- a command that has a plan ends as over that plan
+good_in : (ends : PlanEnds) (names : Namespace) (path : List ℕ) (files : Option Files) (stat : Status) (plan : Plan) → GivesPlan names path files plan → ends plan stat → EndsIn ends names path files stat
+good_in ends names path None stat plan gives e = tt
+good_in ends names path (Some fs) stat plan gives e =
+    subst (λ o. EndsOnFile ends names path o stat) (sym gives.1) (subst (λ (p : PlanIs). EndsOnText ends p stat) (sym gives.2) e)
+
+pub good_at : (ends : PlanEnds) (root path : List ℕ) (files : Option Files) (stat : Status) (plan : Plan) → PlanAt root path files plan → ends plan stat → is_fault stat ≡ false → EndsAt ends root path files stat
+good_at ends root path files stat plan at e h =
+    (h, inr (record { names = at.names; is = at.is; ends = good_in ends at.names path files stat plan at.gives e }))
+
+-- where the files are told, nothing more has to be for a root
+told_root : (root : List ℕ) (files : Option Files) → is_some files ≡ true → (is_none root || is_some files) ≡ true
+told_root root files h = either_way (is_none root) h
   where
-    by_file : (file : Option (List ℕ)) → map.get fs path ≡ file → Found fs path text
-    by_file None e = let bad : Some text ≡ None = r ∙ ap (option_map (take most)) e in absurd cc
-    by_file (Some all) e =
-        let front : Some text ≡ Some (take most all) = r ∙ ap (option_map (take most)) e in
-        let same : text ≡ take most all = cc in record { all = all; is = e; plan = ap plan_of same ∙ enough all }
+    either_way : (b : Bool) → is_some files ≡ true → (b || is_some files) ≡ true
+    either_way true h = refl
+    either_way false h = h
 
-none_there : (fs : Files) (path : List ℕ) (most : ℕ) → ReadsFront (Some fs) path most None → map.get fs path ≡ None
-none_there fs path most r = by_file (map.get fs path) refl
-  where
-    by_file : (file : Option (List ℕ)) → map.get fs path ≡ file → map.get fs path ≡ None
-    by_file None e = e
-    by_file (Some all) e = let bad : None ≡ Some (take most all) = r ∙ ap (option_map (take most)) e in absurd cc
+-- over a plan there is one status
+abbrev pub IsOneOver : PlanEnds → Type 0
+IsOneOver ends = (plan : Plan) (s t : Status) → ends plan s → ends plan t → s ≡ t
 
--- the path has no file
-pub missing_answer : (files : Option Files) (path : List ℕ) (most : ℕ) (rest : Plan → Option Status) (stat : Status) → ReadsFront files path most None → (stat ≡ status.NoFile path) ⊎ (stat ≡ status.NoMemory) → is_fault stat ≡ false
-    → IfSome (on_path path files rest) (λ s. stat ≡ s)
-missing_answer None path most rest stat r s h = tt
-missing_answer (Some fs) path most rest stat r (inl s) h = subst (λ o. IfSome (on_file path o rest) (λ t. stat ≡ t)) (sym (none_there fs path most r)) s
-missing_answer (Some fs) path most rest stat r (inr s) h = let bad : true ≡ false = sym (ap is_fault s) ∙ h in absurd cc
+one_on_text : (ends : PlanEnds) → IsOneOver ends → (plan : PlanIs) (s t : Status) → EndsOnText ends plan s → EndsOnText ends plan t → s ≡ t
+one_on_text ends single (Bad n w) s t a b = a ∙ sym b
+one_on_text ends single (Good plan) s t a b = single plan s t a b
 
--- the text of the path's file is a plan or not
-file_answer : (fs : Files) (path text : List ℕ) (rest : Plan → Option Status) (stat : Status) (plan : PlanIs) → Found fs path text → plan_of text ≡ plan → IfSome (on_plan plan rest) (λ s. stat ≡ s) → IfSome (on_path path (Some fs) rest) (λ s. stat ≡ s)
-file_answer fs path text rest stat plan f e a =
-    subst (λ o. IfSome (on_file path o rest) (λ s. stat ≡ s)) (sym f.is) (subst (λ (p : PlanIs). IfSome (on_plan p rest) (λ s. stat ≡ s)) (sym e ∙ f.plan) a)
+one_on_file : (ends : PlanEnds) → IsOneOver ends → (names : Namespace) (path : List ℕ) (file : Option (List ℕ)) (s t : Status) → EndsOnFile ends names path file s → EndsOnFile ends names path file t → s ≡ t
+one_on_file ends single names path None s t a b = a ∙ sym b
+one_on_file ends single names path (Some text) s t a b = one_on_text ends single (plan_of names text) s t a b
 
--- the plan is refused
-refused_answer : (files : Option Files) (path : List ℕ) (most : ℕ) (text : List ℕ) (rest : Plan → Option Status) (stat : Status) (n : ℕ) (w : PlanWhy) → ReadsFront files path most (Some text) → ((all : List ℕ) → plan_of (take most all) ≡ plan_of all)
-    → plan_of text ≡ Bad n w → stat ≡ status.Plan n w → IfSome (on_path path files rest) (λ s. stat ≡ s)
-refused_answer None path most text rest stat n w r enough e s = tt
-refused_answer (Some fs) path most text rest stat n w r enough e s = file_answer fs path text rest stat (Bad n w) (found fs path most text r enough) e s
+one_in : (ends : PlanEnds) → IsOneOver ends → (path : List ℕ) (files : Option Files) → is_some files ≡ true → (names : Namespace) (s t : Status) → EndsIn ends names path files s → EndsIn ends names path files t → s ≡ t
+one_in ends single path None h names s t a b = absurd cc
+one_in ends single path (Some fs) h names s t a b = one_on_file ends single names path (map.get fs path) s t a b
 
-pub error_answer : (files : Option Files) (path : List ℕ) (most : ℕ) (text : List ℕ) (rest : Plan → Option Status) (stat : Status) (error : PlanError) → ReadsFront files path most (Some text) → ((all : List ℕ) → plan_of (take most all) ≡ plan_of all)
-    → ((n : ℕ) (w : PlanWhy) → error ≡ plan_error.Refused n w → plan_of text ≡ Bad n w) → (error ≡ plan_error.NoMemory → stat ≡ status.NoMemory) → ((n : ℕ) (w : PlanWhy) → error ≡ plan_error.Refused n w → stat ≡ status.Plan n w)
-    → is_fault stat ≡ false → IfSome (on_path path files rest) (λ s. stat ≡ s)
-error_answer files path most text rest stat (plan_error.Refused n w) r enough e m s h = refused_answer files path most text rest stat n w r enough (e n w refl) (s n w refl)
-error_answer files path most text rest stat plan_error.NoMemory r enough e m s h = let bad : true ≡ false = sym (ap is_fault (m refl)) ∙ h in absurd cc
+module _ (law : HaveOneAnswer) (root path : List ℕ) where
+  -- a file has one plan
+  pub one_plan : (tree : Files) (a b : Plan) → PlanAt root path (Some tree) a → PlanAt root path (Some tree) b → a ≡ b
+  one_plan tree a b x y =
+      let same : x.names ≡ y.names = one_names law root (Some tree) (found_told (is_none root) root (Some tree) refl (told_root root (Some tree) refl)) x.names y.names x.is y.is in
+      let text : Some x.gives.0 ≡ Some y.gives.0 = sym x.gives.1 ∙ y.gives.1 in
+      let read : x.gives.0 ≡ y.gives.0 = cc in
+      let good : Good a ≡ Good b = sym x.gives.2 ∙ (ap (λ (n : Namespace). plan_of n x.gives.0) same ∙ (ap (plan_of y.names) read ∙ y.gives.2)) in cc
 
--- the file at the path is a plan
-pub plan_there : (files : Option Files) (path : List ℕ) (most : ℕ) (text : List ℕ) (plan : Plan) → ReadsFront files path most (Some text) → ((all : List ℕ) → plan_of (take most all) ≡ plan_of all) → plan_of text ≡ Good plan → PlanAt path files plan
-plan_there None path most text plan r enough e = tt
-plan_there (Some fs) path most text plan r enough e = let f = found fs path most text r enough in (f.all, f.is, sym f.plan ∙ e)
+  comes_at : (ends : PlanEnds) (files : Option Files) (f : Found root files) (stat : Status) → EndsAt ends root path files stat → Comes root (λ names s. EndsIn ends names path files s) f.found stat
+  comes_at ends files f stat (h, inl n) = not_loaded root (λ names s. EndsIn ends names path files s) files f stat h n
+  comes_at ends files f stat (h, inr e) = loaded e.is.files e.names (f.are e.is.files e.is.are) e.is.compiled e.ends
 
--- so what is asked for is asked of that plan
-pub good_answer : (files : Option Files) (path : List ℕ) (rest : Plan → Option Status) (stat : Status) (plan : Plan) → PlanAt path files plan → IfSome (rest plan) (λ s. stat ≡ s) → IfSome (on_path path files rest) (λ s. stat ≡ s)
-good_answer None path rest stat plan at a = tt
-good_answer (Some fs) path rest stat plan at a =
-    subst (λ o. IfSome (on_file path o rest) (λ s. stat ≡ s)) (sym at.1) (subst (λ (p : PlanIs). IfSome (on_plan p rest) (λ s. stat ≡ s)) (sym at.2) a)
-
--- a status that is asked for is the only one
-pub same_asked : (asked : Option Status) (s t : Status) → is_some asked ≡ true → IfSome asked (λ x. s ≡ x) → IfSome asked (λ x. t ≡ x) → s ≡ t
-same_asked None s t h a b = absurd cc
-same_asked (Some x) s t h a b = a ∙ sym b
-
--- where the files are told, a command of a plan has a status
-plan_told : (plan : PlanIs) (rest : Plan → Option Status) → ((p : Plan) → is_some (rest p) ≡ true) → is_some (on_plan plan rest) ≡ true
-plan_told (Bad n w) rest h = refl
-plan_told (Good p) rest h = h p
-
-file_told : (path : List ℕ) (file : Option (List ℕ)) (rest : Plan → Option Status) → ((p : Plan) → is_some (rest p) ≡ true) → is_some (on_file path file rest) ≡ true
-file_told path None rest h = refl
-file_told path (Some text) rest h = plan_told (plan_of text) rest h
-
-pub path_told : (path : List ℕ) (tree : Files) (rest : Plan → Option Status) → ((p : Plan) → is_some (rest p) ≡ true) → is_some (on_path path (Some tree) rest) ≡ true
-path_told path tree rest h = file_told path (map.get tree path) rest h
+  -- so there is one status where the files are told
+  pub one_end : (ends : PlanEnds) → IsOneOver ends → (files : Option Files) → is_some files ≡ true → (s t : Status) → EndsAt ends root path files s → EndsAt ends root path files t → s ≡ t
+  one_end ends single files h s t a b =
+      let f = found_told (is_none root) root files refl (told_root root files h) in
+      one law root (λ names s. EndsIn ends names path files s) (one_in ends single path files h) f.found s t (comes_at ends files f s a) (comes_at ends files f t b)

@@ -22,6 +22,10 @@ use Rattle.frag.proofs.Follows.{follows_parts}
 use Rattle.node_plan.specs.declared.plan.Plan.{Plan}
 use Rattle.node_plan.specs.declared.plan.SubShape.TheVariants.{Raw}
 use Rattle.node_plan.specs.Plan.{Good, plan_of}
+use Rattle.node_plan.specs.Types.{none}
+use Rattle.node_run.specs.Loaded.{IsLoaded}
+use Rattle.dsdl_resolve.specs.Passes.{Compiled}
+use Rattle.dsdl_links.specs.Order.{begin}
 use Rattle.session_lines.specs.Reported.{of_key, IsSession}
 use Rattle.cyphal.specs.Job.{told_by}
 use Rattle.rx_table.specs.Heard.{heard_as}
@@ -37,8 +41,31 @@ plan = record {
   subs = record { port = 100; sources = 4; shape = Raw 16 } ∷ [];
 }
 
-is_plan : plan_of plan_text ≡ Good plan
+is_plan : plan_of none plan_text ≡ Good plan
 is_plan = refl
+
+-- no files are compiled to the namespace without types
+nothing_compiled : Compiled [] none
+nothing_compiled = record {
+  done = [];
+  valued_all = record {
+    reads = [];
+    order = [];
+    ordered = record {
+      links = [];
+      linked = record { passed = record { within = refl; read = tt }; linked = tt };
+      ordered = record { valued = begin; all = refl };
+    };
+    valued_all = refl;
+  };
+  versions = refl;
+  ports = refl;
+  definitions = refl;
+  prints = refl;
+}
+
+no_root : IsLoaded (codes "none") (Some files) none
+no_root = record { files = []; are = refl; compiled = nothing_compiled }
 
 abbrev key : SessionKey
 key = record { kind = Message; port = 100; source = 1 }
@@ -234,7 +261,15 @@ is_there : map.get files (codes "plan") ≡ Some plan_text
 is_there = map.get-from_sorted (slice_cmp nat_cmp) ((codes "plan", plan_text) ∷ []) (codes "plan") tt
 
 asked : Asked (codes "run" ∷ codes "none" ∷ codes "plan" ∷ []) (told_by (Some files) (Some log_text) (Some [])) plan log_text
-asked = record { path = codes "plan"; command = refl; tree = files; is_tree = refl; is_plan = (plan_text, is_there, is_plan); is_input = refl }
+asked = record {
+  root = codes "none";
+  path = codes "plan";
+  command = refl;
+  tree = files;
+  is_tree = refl;
+  is_plan = record { names = none; is = no_root; gives = (plan_text, is_there, is_plan) };
+  is_input = refl;
+}
 
 pub premises : PremisesCanBeMet
 premises = record {

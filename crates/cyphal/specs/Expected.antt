@@ -19,8 +19,8 @@ job_of (Compile root) = compile_job root
 job_of (Compat root new old) = compat_job root new old
 job_of (Encode root name) = values_job Encodes root name
 job_of (Decode root name) = values_job Decodes root name
-job_of (Run path) = run_job path
-job_of (Bound path) = bound_job path
+job_of (Run root path) = run_job root path
+job_of (Bound root path) = bound_job root path
 job_of (Gen number) = gen_job number
 
 -- words that are no command ask for their refusal alone

@@ -7,6 +7,7 @@ pub mod Job
 pub mod Plans
 pub mod jobs
 pub mod Expected
+pub mod Laws
 pub mod Headline
 pub mod Streaming
 pub mod Answered

@@ -1,32 +1,58 @@
--- What the file of a plan comes to.
-use Rattle.std.specs.Prelude.{◌≡◌, ℕ, List, Option, Some, None, IfSome, ⊤}
+-- What a command of a plan comes to: why the root has no namespace, or in it what the file at the plan's path gives.
+use Rattle.std.specs.Prelude.{◌≡◌, ◌⊎◌, ℕ, false, List, Option, Some, None, IfSome}
 use Rattle.std.specs.FinMap as map
 use Rattle.cy_outside.specs.Files.{Files}
+use Rattle.dsdl_types.specs.declared.namespace.Namespace.{Namespace}
 use Rattle.node_plan.specs.Plan.{PlanIs, Good, Bad, plan_of}
 use Rattle.node_plan.specs.declared.plan.Plan.{Plan}
+use Rattle.node_run.specs.Loaded.{IsLoaded, IsNotLoaded}
 use Rattle.node_run.specs.declared.status.Status.{Status}
 use Rattle.node_run.specs.declared.status.Status.TheVariants as status
+use Rattle.cyphal.specs.Job.{is_fault}
 
--- what is asked for where a text is a plan, of which the rest is asked
-abbrev pub on_plan : PlanIs → (Plan → Option Status) → Option Status
-on_plan (Bad n why) rest = Some (status.Plan n why)
-on_plan (Good plan) rest = rest plan
+-- with which status a command ends over a plan
+abbrev pub PlanEnds : Type 1
+PlanEnds = Plan → Status → Type 0
 
-abbrev pub on_file : List ℕ → Option (List ℕ) → (Plan → Option Status) → Option Status
-on_file path None rest = Some (status.NoFile path)
-on_file path (Some text) rest = on_plan (plan_of text) rest
+-- over a text: as its refused line says, or as over the plan
+abbrev pub EndsOnText : PlanEnds → PlanIs → Status → Type 0
+EndsOnText ends (Bad n why) stat = stat ≡ status.Plan n why
+EndsOnText ends (Good plan) stat = ends plan stat
 
-abbrev pub on_path : List ℕ → Option Files → (Plan → Option Status) → Option Status
-on_path path None rest = None
-on_path path (Some files) rest = on_file path (map.get files path) rest
+-- over what is at a path: no file, or a text that is read in a namespace
+abbrev pub EndsOnFile : PlanEnds → Namespace → List ℕ → Option (List ℕ) → Status → Type 0
+EndsOnFile ends names path None stat = stat ≡ status.NoFile path
+EndsOnFile ends names path (Some text) stat = EndsOnText ends (plan_of names text) stat
 
--- the plan is that of the file at a path
-abbrev pub PlanAt : List ℕ → Option Files → Plan → Type 0
-PlanAt path None plan = ⊤
-PlanAt path (Some files) plan =
-    (text : List ℕ) × (map.get files path ≡ Some text) × (plan_of text ≡ Good plan)
+-- in a namespace, where the files are told
+abbrev pub EndsIn : PlanEnds → Namespace → List ℕ → Option Files → Status → Type 0
+EndsIn ends names path files stat =
+    IfSome files (λ tree. EndsOnFile ends names path (map.get tree path) stat)
 
--- whatever is asked of the plan at a path, this status is what is asked for
-abbrev pub RefusesAt : List ℕ → Option Files → Status → Type 0
-RefusesAt path files stat =
-    (rest : Plan → Option Status) → IfSome (on_path path files rest) (λ s. stat ≡ s)
+-- the root has a namespace, and in it the command ends so
+pub record EndsInRoot (ends : PlanEnds) (root path : List ℕ) (files : Option Files)
+    (stat : Status) : Type 0 where
+  pub names : Namespace
+  pub is : IsLoaded root files names
+  pub ends : EndsIn ends names path files stat
+
+-- how a command of a plan ends: as the root says that has no namespace, before any of the plan is read, or as in its
+-- namespace
+abbrev pub EndsAt : PlanEnds → List ℕ → List ℕ → Option Files → Status → Type 0
+EndsAt ends root path files stat = (is_fault stat ≡ false)
+    × (IsNotLoaded root files stat ⊎ EndsInRoot ends root path files stat)
+
+-- over no plan: so ends a command that has none
+abbrev pub without_plan : PlanEnds
+without_plan plan stat = ⊥
+
+-- in a namespace, where the files are told, the file at a path gives this plan
+abbrev pub GivesPlan : Namespace → List ℕ → Option Files → Plan → Type 0
+GivesPlan names path files plan = IfSome files (λ tree.
+    (text : List ℕ) × (map.get tree path ≡ Some text) × (plan_of names text ≡ Good plan))
+
+-- the plan is that of the file at a path, read in the namespace of a root
+pub record PlanAt (root path : List ℕ) (files : Option Files) (plan : Plan) : Type 0 where
+  pub names : Namespace
+  pub is : IsLoaded root files names
+  pub gives : GivesPlan names path files plan

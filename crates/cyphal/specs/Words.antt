@@ -6,15 +6,15 @@ use Rattle.cyphal.specs.declared.words.Accepted.{Accepted}
 use Rattle.cyphal.specs.declared.words.Accepted.TheVariants as accepted
 
 -- what the words ask for: the layouts of the types below this root, whether one of them is newer than another, values of
--- one of them as bytes, bytes as values of it, a run of the plan at this path, its memory bound, or the run of the log that
--- is made of this number
+-- one of them as bytes, bytes as values of it, a run of the plan at this path, which is read in the namespace of the root,
+-- its memory bound, or the run of the log that is made of this number
 pub data Command : Type 0 where
   Compile : List ℕ → Command
   Compat : List ℕ → List ℕ → List ℕ → Command
   Encode : List ℕ → List ℕ → Command
   Decode : List ℕ → List ℕ → Command
-  Run : List ℕ → Command
-  Bound : List ℕ → Command
+  Run : List ℕ → List ℕ → Command
+  Bound : List ℕ → List ℕ → Command
   Gen : ℕ → Command
 
 -- the command of accepted words
@@ -23,8 +23,8 @@ asked_by (accepted.Compile root) = Compile root.now
 asked_by (accepted.Compat root new old) = Compat root.now new.now old.now
 asked_by (accepted.Encode root name) = Encode root.now name.now
 asked_by (accepted.Decode root name) = Decode root.now name.now
-asked_by (accepted.Run plan) = Run plan.now
-asked_by (accepted.Bound plan) = Bound plan.now
+asked_by (accepted.Run root plan) = Run root.now plan.now
+asked_by (accepted.Bound root plan) = Bound root.now plan.now
 asked_by (accepted.Gen number) = Gen number
 
 -- an argument isn't empty and begins with no hyphen
@@ -67,18 +67,18 @@ named_of_one word argument =
     if bytes_eq word (codes "compile") then Some (Compile argument)
     else (if bytes_eq word (codes "gen") then option_map Gen (number_given argument) else None)
 
--- the command that a word names, of a plan
-abbrev pub named_of_plan : List ℕ → List ℕ → Option Command
-named_of_plan word plan =
-    if bytes_eq word (codes "run") then Some (Run plan)
-    else (if bytes_eq word (codes "bound") then Some (Bound plan) else None)
+-- the command that a word names, of a root and a plan
+abbrev pub named_of_plan : List ℕ → List ℕ → List ℕ → Option Command
+named_of_plan word root plan =
+    if bytes_eq word (codes "run") then Some (Run root plan)
+    else (if bytes_eq word (codes "bound") then Some (Bound root plan) else None)
 
--- the command that a word names, of a root and another argument; the one root of a plan is `none`, the empty namespace
+-- the command that a word names, of a root and another argument
 abbrev pub named_of_two : List ℕ → List ℕ → List ℕ → Option Command
 named_of_two word root argument =
     if bytes_eq word (codes "encode") then Some (Encode root argument)
     else (if bytes_eq word (codes "decode") then Some (Decode root argument)
-    else (if bytes_eq root (codes "none") then named_of_plan word argument else None))
+    else named_of_plan word root argument)
 
 -- the command that a word names, of two types of a root
 abbrev pub named_of_types : List ℕ → List ℕ → List ℕ → List ℕ → Option Command

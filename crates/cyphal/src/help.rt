@@ -23,11 +23,11 @@ cyphal decode ROOT TYPE
     writes for each line of standard input, the hex of bytes, the text of the
     value of TYPE that they read as
 
-cyphal run none PLAN
+cyphal run ROOT PLAN
     runs a node by the plan in the file PLAN over the log on standard input,
-    and writes its report
+    and writes its report; the types that the plan names are those of ROOT
 
-cyphal bound none PLAN
+cyphal bound ROOT PLAN
     writes how many bytes the plan's sessions hold at most
 
 cyphal gen NUMBER

@@ -17,6 +17,8 @@ mod run_words;
 mod tests;
 mod top;
 #[cfg(test)]
+mod typed_run_tests;
+#[cfg(test)]
 mod value_line_tests;
 mod words;
 mod work;

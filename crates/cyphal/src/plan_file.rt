@@ -1,24 +1,58 @@
-//! The file of a plan.
+//! The file of a plan, read in the namespace of a root.
 ghost use Rattle.std.specs.Prelude.{◌≡◌, ◌⊎◌, ℕ, false, IfOk, IfErr, OnOk};
 ghost use Rattle.cy_outside.specs.Outside.{Rose};
+ghost use Rattle.dsdl_types.specs.Definitions.{IsNamespace};
 ghost use Rattle.node_plan.specs.IsPlan.{IsPlan};
 ghost use Rattle.node_plan.specs.declared.plan.PlanWhy.{PlanWhy as Why};
 ghost use Rattle.cyphal.specs.Job.{is_fault, is_settled};
-ghost use Rattle.cyphal.specs.Plans.{RefusesAt, PlanAt};
+ghost use Rattle.cyphal.specs.Plans.{EndsAt, EndsIn, without_plan, GivesPlan, PlanAt};
 
 use cy_bits::Text;
 use cy_outside::{Tree, TreeError, read_file};
+use dsdl_types::Namespace;
 use node_plan::{MAX_TEXT, Plan, PlanError, read_plan};
-use node_run::Status;
+use node_run::{Status, load};
 use std::alloc::Global;
 
-/// The plan at a path, or how a command ends for want of it.
-pub fn plan_at<T: Tree>(alloc: Global, path: &str, tree: &mut T) -> Result<Plan, Status>
-    ensures plan { IfOk result (λ plan. PlanAt path.now (T.files tree.old) plan) }
+/// The plan at a path, read in the namespace of a root, or how a command ends for want of it. The root comes first: where
+/// it has no namespace, nothing of the plan is read.
+pub fn plan_at<T: Tree>(
+    alloc: Global,
+    root: &str,
+    path: &str,
+    tree: &mut T,
+) -> Result<Plan, Status>
+    ensures plan { IfOk result (PlanAt root.now path.now (T.files tree.old)) }
     ensures sound { IfOk result IsPlan }
     ensures kept { OnOk result (T.faults tree.new ≡ T.faults tree.old) }
     ensures answer { IfErr result (λ stat. is_fault stat ≡ false
-        → RefusesAt path.now (T.files tree.old) stat) }
+        → EndsAt without_plan root.now path.now (T.files tree.old) stat) }
+    ensures usage { IfErr result (λ stat. ¬ (stat ≡ Status.Usage)) }
+    ensures read { IfErr result (λ stat. stat ≡ Status.ReadFault
+        → Rose (T.faults tree.old) (T.faults tree.new)) }
+    ensures write { IfErr result (λ stat. ¬ (stat ≡ Status.WriteFault)) }
+    ensures early { IfErr result (λ stat. is_settled stat ≡ false) }
+{
+    let names = match load(alloc, tree, root) {
+        Ok(names) => names,
+        Err(status) => return Err(status),
+    };
+    plan_in(alloc, &names, path, tree)
+}
+
+/// The plan at a path, read in a namespace.
+fn plan_in<T: Tree>(
+    alloc: Global,
+    names: &Namespace,
+    path: &str,
+    tree: &mut T,
+) -> Result<Plan, Status>
+    requires { IsNamespace names.now }
+    ensures plan { IfOk result (GivesPlan names.now path.now (T.files tree.old)) }
+    ensures sound { IfOk result IsPlan }
+    ensures kept { OnOk result (T.faults tree.new ≡ T.faults tree.old) }
+    ensures answer { IfErr result (λ stat. is_fault stat ≡ false
+        → EndsIn without_plan names.now path.now (T.files tree.old) stat) }
     ensures usage { IfErr result (λ stat. ¬ (stat ≡ Status.Usage)) }
     ensures read { IfErr result (λ stat. stat ≡ Status.ReadFault
         → Rose (T.faults tree.old) (T.faults tree.new)) }
@@ -31,7 +65,7 @@ pub fn plan_at<T: Tree>(alloc: Global, path: &str, tree: &mut T) -> Result<Plan,
         Err(TreeError::Failed) => return Err(Status::ReadFault),
         Err(TreeError::NoMemory) => return Err(Status::NoMemory),
     };
-    match read_plan(alloc, text.as_slice()) {
+    match read_plan(alloc, text.as_slice(), names) {
         Ok(plan) => Ok(plan),
         Err(error) => Err(plan_refused(error)),
     }

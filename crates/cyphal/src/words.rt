@@ -33,12 +33,14 @@ pub enum Accepted<'a> {
         root: &'a str,
         name: &'a str,
     },
-    /// Runs the plan at a path over a log.
+    /// Runs the plan at a path, which is read in the namespace of a root, over a log.
     Run {
+        root: &'a str,
         plan: &'a str,
     },
-    /// Writes the memory bound of the plan at a path.
+    /// Writes the memory bound of such a plan.
     Bound {
+        root: &'a str,
         plan: &'a str,
     },
     /// Runs the log that is made of a number.
@@ -48,7 +50,7 @@ pub enum Accepted<'a> {
 }
 
 /// The command that the words are, so `compile ROOT`, `compat ROOT NEW OLD`, `encode ROOT TYPE`, `decode ROOT TYPE`,
-/// `run none PLAN`, `bound none PLAN` or `gen NUMBER`; none where they aren't accepted. It wants memory where they are.
+/// `run ROOT PLAN`, `bound ROOT PLAN` or `gen NUMBER`; none where they aren't accepted. It wants memory where they are.
 pub fn command_of<'a>(alloc: Global, words: &'a [String]) -> Result<Option<Accepted<'a>>, NoMemory>
     ensures is { let asked = command_of (map string_bytes words.entry.now) in
         IfOk result (λ given. option_map asked_by given ≡ asked) }
@@ -149,21 +151,20 @@ fn of_two<'a>(word: &str, root: &'a str, argument: &'a str) -> Option<Accepted<'
             root,
             name: argument,
         })
-    } else if root == "none" {
-        of_plan(word, argument)
     } else {
-        None
+        of_plan(word, root, argument)
     }
 }
 
-/// The command of a plan that a word names.
-fn of_plan<'a>(word: &str, plan: &'a str) -> Option<Accepted<'a>>
-    ensures { option_map asked_by result ≡ named_of_plan word.now plan.entry.now }
+/// The command of a root and a plan that a word names.
+fn of_plan<'a>(word: &str, root: &'a str, plan: &'a str) -> Option<Accepted<'a>>
+    ensures { option_map asked_by result
+        ≡ named_of_plan word.now root.entry.now plan.entry.now }
 {
     if word == "run" {
-        Some(Accepted::Run { plan })
+        Some(Accepted::Run { root, plan })
     } else if word == "bound" {
-        Some(Accepted::Bound { plan })
+        Some(Accepted::Bound { root, plan })
     } else {
         None
     }

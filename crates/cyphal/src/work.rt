@@ -88,8 +88,10 @@ fn carry_out<T: Tree, L: Source, O: Sink, K: LineSink>(
         Accepted::Compat { root, new, old } => compat_types(alloc, root, new, old, tree, out),
         Accepted::Encode { root, name } => encode_lines(alloc, root, name, tree, input, out),
         Accepted::Decode { root, name } => decode_lines(alloc, root, name, tree, input, out),
-        Accepted::Run { plan } => run_plan(alloc, plan, tree, input, out, lines, numbers),
-        Accepted::Bound { plan } => bound_plan(alloc, plan, tree, out),
+        Accepted::Run { root, plan } => {
+            run_plan(alloc, root, plan, tree, input, out, lines, numbers)
+        }
+        Accepted::Bound { root, plan } => bound_plan(alloc, root, plan, tree, out),
         Accepted::Gen { number } => generated(alloc, number, out),
     }
 }

@@ -24,6 +24,7 @@ pub mod Filing
 pub mod Wholes
 pub mod Adding
 pub mod Placement
+pub mod NamespaceRules
 pub mod Progresses
 pub mod Reading
 pub mod Rereading

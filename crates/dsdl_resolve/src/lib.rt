@@ -49,5 +49,5 @@ mod width;
 pub use error::DsdlError;
 pub use laws::one_answer;
 pub use namespace::resolve;
-pub use soundness::definitions_keep_rules;
+pub use soundness::{definitions_keep_rules, namespaces_keep_rules};
 pub use why::{DsdlWhy, ExprWhy};

@@ -6,6 +6,7 @@ use Rattle.frame_log.specs.Log.{Log, log_of}
 use Rattle.frame_log.specs.declared.error.LogError.{LogError}
 use Rattle.log_gen.specs.Rules.{log_text, plan_text}
 use Rattle.log_gen.specs.Laws.{records_by, IsRead}
+use Rattle.dsdl_types.specs.declared.namespace.Namespace.{Namespace}
 use Rattle.node_plan.specs.Plan.{Good, plan_of}
 use Rattle.node_plan.specs.declared.plan.Plan.{Plan}
 use Rattle.node_core.specs.Steps.{steps, numbers}
@@ -14,9 +15,9 @@ use Rattle.node_run.specs.Ran.{Reported, Ran, HasRun, names_of}
 use Rattle.node_run.specs.declared.status.Status.{Status}
 use Rattle.node_run.specs.declared.status.Status.TheVariants as status
 
--- the plan's text is the plan's
-pub is_plan : plan_of plan_text ≡ Good generated_plan
-is_plan = refl
+-- in every namespace the plan's text is the plan's
+pub is_plan : (names : Namespace) → plan_of names plan_text ≡ Good generated_plan
+is_plan names = refl
 
 pub good_is : (p q : Plan) → Good p ≡ Good q → p ≡ q
 good_is p q e = cc

@@ -1,6 +1,7 @@
 -- A run has one status, that of its log's end.
-use Rattle.std.proofs.Common.{◌≡◌, ◌∙◌, ℕ, true, false, List, Option, Some, None, IfSome, refl, sym, ap, is_some, ◌&&◌}
-use Rattle.cy_outside.specs.Files.{Files}
+use Rattle.std.proofs.Common.{◌≡◌, ◌∙◌, ℕ, true, false, List, Option, Some, None, refl, sym, ap, is_some}
+use Rattle.clap.proofs.WalkLemmas.{both}
+use Rattle.dsdl_resolve.specs.Laws.{HaveOneAnswer}
 use Rattle.node_plan.specs.declared.plan.Plan.{Plan}
 use Rattle.frame_log.specs.Log.{Log, log_of}
 use Rattle.node_run.specs.Ran.{Reported, Ran, HasRun, names_of, refused, refusal_of}
@@ -10,8 +11,8 @@ use Rattle.node_run.specs.declared.status.Status.{Status}
 use Rattle.node_run.specs.declared.status.Status.TheVariants as status
 use Rattle.cyphal.specs.Cause.{is_refused}
 use Rattle.cyphal.specs.Job.{is_fault}
-use Rattle.cyphal.specs.jobs.Run.{ending, over, on_run, run_job}
-use Rattle.cyphal.proofs.Plans.{same_asked, path_told}
+use Rattle.cyphal.specs.jobs.Run.{ending, over, run_job}
+use Rattle.cyphal.proofs.Plans.{one_end}
 use Rattle.cyphal.proofs.statuses.Single.{IsSingle}
 
 named : (n : ℕ) (w : LogWhy) → refused (refusal_of n w) ≡ status.Log n w
@@ -37,7 +38,7 @@ ended_so plan log status.WriteFault put before after h r = absurd cc
 ended_so plan log status.NoMemory put before after h r = absurd cc
 
 -- a run's status is the one that is asked for
-pub plan_answer : (plan : Plan) (input : Option (List ℕ)) (stat : Status) (put : Reported) (before after : Option (List ℕ)) → is_fault stat ≡ false → HasRun plan input stat put before after → IfSome (over input plan) (λ s. stat ≡ s)
+pub plan_answer : (plan : Plan) (input : Option (List ℕ)) (stat : Status) (put : Reported) (before after : Option (List ℕ)) → is_fault stat ≡ false → HasRun plan input stat put before after → over input plan stat
 plan_answer plan None stat put before after h r = tt
 plan_answer plan (Some bytes) stat put before after h r =
     ended_so plan (log_of (names_of plan) r.bytes) stat put before after h r.ran ∙ ap (λ b. ending (log_of (names_of plan) b).refusal) r.is
@@ -61,10 +62,12 @@ no_refusal plan log status.NoMemory put before after h r = absurd cc
 pub run_not_refused : (plan : Plan) (input : Option (List ℕ)) (stat : Status) (put : Reported) (before after : Option (List ℕ)) → is_refused stat ≡ true → HasRun plan input stat put before after → ⊥
 run_not_refused plan input stat put before after h r = no_refusal plan (log_of (names_of plan) r.bytes) stat put before after h r.ran
 
-by_told : (path : List ℕ) (files : Option Files) (input : Option (List ℕ)) (s t : Status) → (is_some files && is_some input) ≡ true → IfSome (on_run path files input) (λ x. s ≡ x) → IfSome (on_run path files input) (λ x. t ≡ x) → s ≡ t
-by_told path None input s t h a b = absurd cc
-by_told path (Some tree) None s t h a b = absurd cc
-by_told path (Some tree) (Some bytes) s t h a b = same_asked (on_run path (Some tree) (Some bytes)) s t (path_told path tree (over (Some bytes)) (λ plan. refl)) a b
+-- where the input is told, a log has one end
+one_over : (input : Option (List ℕ)) → is_some input ≡ true → (plan : Plan) (s t : Status) → over input plan s → over input plan t → s ≡ t
+one_over None h plan s t a b = absurd cc
+one_over (Some bytes) h plan s t a b = a ∙ sym b
 
-pub single : (path : List ℕ) → IsSingle (run_job path)
-single path told s t h a b = by_told path told.files told.input s t h a b
+pub single : HaveOneAnswer → (root path : List ℕ) → IsSingle (run_job root path)
+single law root path told s t h a b =
+    let all = both (is_some told.files) (is_some told.input) h in
+    one_end law root path (over told.input) (one_over told.input all.1) told.files all.0 s t a b

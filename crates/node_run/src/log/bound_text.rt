@@ -1,14 +1,14 @@
 //! The memory bound of a plan, port by port.
 ghost use Rattle.std.specs.Prelude.{◌≡◌, ◌++◌, OnOk, IfOk};
 ghost use Rattle.cy_outside.specs.Outside.{Rose};
-ghost use Rattle.node_plan.specs.IsPlan.{IsPlan};
+ghost use Rattle.node_plan.specs.IsPlan.{IsPlan, IsSub};
 ghost use Rattle.node_run.specs.BoundText.{port_line, bound_line, bound_text, HasBound};
 
 use crate::log::labelled::push_labelled;
 use crate::status::Status;
 use cy_bits::NoMemory;
 use cy_outside::{Sink, put_all};
-use node_plan::{Plan, Sub, SubShape, bound as bound_of};
+use node_plan::{Plan, Sub, bound as bound_of};
 use std::alloc::Global;
 
 /// Writes how many bytes each port of a plan may hold at most, a line a port in the order of the plan, and then
@@ -43,13 +43,14 @@ fn text_of(alloc: Global, plan: &Plan) -> Result<Vec<u8>, NoMemory>
 
 /// Appends the line of a port.
 fn push_port(text: &mut Vec<u8>, sub: &Sub) -> Result<(), NoMemory>
+    requires { IsSub sub.now }
     ensures { OnOk result (text.new.items ≡ text.old.items ++ port_line sub.now) }
 {
-    let SubShape::Raw(extent) = &sub.shape;
-    let bytes = sub.sources as u64 * *extent as u64;
+    let extent = sub.shape.extent() as u64;
+    let bytes = sub.sources as u64 * extent;
     push_labelled(text, b"port msg ", sub.port as u64)?;
     push_labelled(text, b" sources ", sub.sources as u64)?;
-    push_labelled(text, b" extent ", *extent as u64)?;
+    push_labelled(text, b" extent ", extent)?;
     push_labelled(text, b" bytes ", bytes)?;
     text.push(b'\n')?;
     Ok(())

@@ -8,8 +8,9 @@ use crate::log::labelled::push_labelled;
 use crate::log::run::run_over;
 use crate::log::tally::Tally;
 use crate::status::Status;
-use cy_bits::NoMemory;
+use cy_bits::{List, NoMemory};
 use cy_outside::{NeverSink, NeverSource, Sink, put_all};
+use dsdl_types::Namespace;
 use log_gen::laws::explained_and_read;
 use log_gen::transfers::transfers;
 use log_gen::{PLAN, log_bytes};
@@ -59,12 +60,16 @@ fn numbers_of(alloc: Global, number: u32) -> Result<Numbers, NoMemory>
     }
 }
 
-/// The plan of every log.
+/// The plan of every log, which names no types.
 fn plan_of_all(alloc: Global) -> Result<Plan, NoMemory>
     ensures plan { IfOk result (λ plan. plan ≡ generated_plan) }
     ensures sound { IfOk result IsPlan }
 {
-    match read_plan(alloc, PLAN) {
+    let names = Namespace {
+        definitions: List::empty(alloc),
+        prints: List::empty(alloc),
+    };
+    match read_plan(alloc, PLAN, &names) {
         Ok(plan) => Ok(plan),
         Err(PlanError::NoMemory) => Err(NoMemory),
         Err(PlanError::Refused { .. }) => unreachable!(),

@@ -1,13 +1,16 @@
 use Rattle.std.proofs.Common.{inr}
 use Rattle.node_run.specs.Ran.{reported}
-use Rattle.cyphal.proofs.Plans.{good_answer}
+use Rattle.cyphal.specs.jobs.Run.{over}
+use Rattle.cyphal.proofs.Plans.{good_at}
 use Rattle.cyphal.proofs.statuses.Run.{plan_answer, run_not_refused}
 use Rattle.cyphal.proofs.jobs.run.run_plan.Goals as goal
 
 pub returns-clause-answer : goal.returns-clause-answer
 returns-clause-answer g c h =
-    good_answer (g.T.Tree.files c.args.tree.now) c.args.path.now _ c.run_over.result c.in-Ok.plan c.in-Ok.ensures.plan
-    (plan_answer c.in-Ok.plan (g.L.Source.left c.args.input.now) c.run_over.result (reported (g.K.LineSink.lines c.args.lines.now) (g.K.LineSink.lines c.run_over.new.lines) c.run_over.new.numbers) (g.O.Sink.written c.args.out.now) (g.O.Sink.written c.run_over.new.out) h c.run_over.ensures.ran)
+    let input = g.L.Source.left c.args.input.now in
+    good_at (over input) c.args.root.now c.args.path.now (g.T.Tree.files c.args.tree.now) c.run_over.result c.in-Ok.plan c.in-Ok.ensures.plan
+    (plan_answer c.in-Ok.plan input c.run_over.result (reported (g.K.LineSink.lines c.args.lines.now) (g.K.LineSink.lines c.run_over.new.lines) c.run_over.new.numbers) (g.O.Sink.written c.args.out.now) (g.O.Sink.written c.run_over.new.out) h c.run_over.ensures.ran)
+    h
 
 pub returns-clause-cause : goal.returns-clause-cause
 returns-clause-cause g c = record {
