@@ -1,7 +1,7 @@
 -- The names of a folder's members.
-use Rattle.std.proofs.Common.{◌≡◌, ◌≢◌, ◌∙◌, ◌⊎◌, inl, inr, ℕ, ◌<◌, ◌≤◌, Bool, true, false, cond, ◌&&◌, ◌||◌, List, [], ◌∷◌, Option, Some, None, refl, sym, ap, subst, length, get_or, map, arith}
-use Rattle.std.specs.Prelude.{◌^◌, nat_le, is_some, unwrap_or, option_map}
-use Rattle.std.specs.List.{list_all, list_any, filter, filter_map, cons_option, Contains, All}
+use Rattle.std.proofs.Common.{◌≡◌, ◌∙◌, inl, inr, ℕ, ◌<◌, ◌≤◌, Bool, true, false, ◌&&◌, ◌||◌, List, [], ◌∷◌, Option, Some, None, refl, sym, ap, subst, length, get_or, map, arith}
+use Rattle.std.specs.Prelude.{◌^◌, nat_le, is_some, option_map}
+use Rattle.std.specs.List.{list_all, list_any, filter, filter_map, cons_option}
 use Rattle.std.specs.Ordering.{eq_by_cmp}
 use Rattle.std.specs.FinMap as finite
 use Rattle.std.proofs.lemmas.Bool.{true≢false, cases_lt}
@@ -11,11 +11,11 @@ use Rattle.std.proofs.lemmas.List.Folds.{Any-from_list_any, list_any_at}
 use Rattle.std.proofs.lemmas.List.Elements.{All-contains, All-nil}
 use Rattle.cy_outside.specs.Files.{Files, rest_in, is_folder, is_file, first_name, member_of, IsMember, ListsMembers}
 use Rattle.cy_outside.specs.declared.tree.Entry.{Entry}
-use Rattle.file_service.specs.Names.{by_bytes, ascending, is_listed, listed, member_names, names_of, name_at}
+use Rattle.file_service.specs.Names.{by_bytes, is_listed, listed, member_names, names_of, name_at}
 use Rattle.std_types.specs.Held.{HoldsBytes}
 use Rattle.file_service.specs.Paths.{is_printable}
 use Rattle.file_service.specs.Laws.{IsListedName, ListLaws}
-use Rattle.file_service.proofs.Places.{true_or_false, not_both, and_left, and_right, and_both, all_of, printable_bounds}
+use Rattle.file_service.proofs.Places.{not_both, and_left, and_right, and_both, all_of, printable_bounds}
 use Rattle.file_service.proofs.Sorted.{Has, same_name, name_itself, same_ascending, has_filtered, has_listed, ascending_rises, no_names}
 
 same_bool : (a b : Bool) → (a ≡ true → b ≡ true) → (b ≡ true → a ≡ true) → a ≡ b
