@@ -10,7 +10,7 @@ use Rattle.file_service.specs.declared.done.ListDone.{ListDone}
 use Rattle.file_service.specs.declared.place.Place.{Place}
 use Rattle.file_service.specs.declared.place.Place.TheVariants.{Invalid, Root, At}
 use Rattle.file_service.specs.Paths.{place_of}
-use Rattle.file_service.specs.Names.{by_bytes, is_listed, name_at, names_of}
+use Rattle.file_service.specs.Names.{by_bytes, is_listed, listed, member_names, name_at, names_of}
 use Rattle.file_service.specs.Standing.{Standing, File}
 use Rattle.file_service.specs.Replies.{IsInfo, IsListing, IsRead, info_answer, info_reply, io_error, list_answer, read_answer, read_reply}
 
@@ -68,15 +68,20 @@ pub record IsListedName (files : Files) (folder name : List ℕ) : Type 0 where
   pub stands : IsMember files folder member
   pub named : member.name ≡ name
 
--- the names that a folder lists, by their numbers
-pub record ListLaws (files : Files) (folder : List ℕ) : Type 0 where
-  -- each name is below those behind it, so none stands twice
-  pub rises : (i j : ℕ) → i < j → j < length (names_of files folder)
-      → by_bytes (name_at (names_of files folder) i) (name_at (names_of files folder) j) ≡ Less
+-- names that are listed, by their numbers
+pub record NameLaws (names : List (List ℕ)) : Type 0 where
+  -- each is below those behind it, so none stands twice
+  pub rises : (i j : ℕ) → i < j → j < length (listed names) → by_bytes (name_at (listed names) i) (name_at (listed names) j) ≡ Less
+  -- each has at most 255 bytes 20 to 7E hex
+  pub each : (i : ℕ) → i < length (listed names) → is_listed (name_at (listed names) i) ≡ true
+  pub past : (i : ℕ) → length (listed names) ≤ i → name_at (listed names) i ≡ []
+
+-- the names that a folder lists: those of its members, and no others
+pub record FolderLaws (files : Files) (folder : List ℕ) : Type 0 where
+  pub in_order : NameLaws (member_names files folder)
   pub sound : (i : ℕ) → i < length (names_of files folder) → IsListedName files folder (name_at (names_of files folder) i)
   pub complete : (name : List ℕ) → IsListedName files folder name
       → (i : ℕ) × (i < length (names_of files folder)) × (name_at (names_of files folder) i ≡ name)
-  pub past : (i : ℕ) → length (names_of files folder) ≤ i → name_at (names_of files folder) i ≡ []
   pub no_folder : is_folder files folder ≡ false → names_of files folder ≡ []
 
 -- over a tree that tells its files, what is answered is what the files and whether the tree failed give
@@ -96,5 +101,6 @@ pub record AnswerLaws (files : Files) : Type 0 where
 pub record FileLaws : Type 0 where
   pub places : (root : List ℕ) → PlaceLaws root
   pub reads : ReadLaws
-  pub lists : (files : Files) (folder : List ℕ) → ListLaws files folder
+  pub names : (names : List (List ℕ)) → NameLaws names
+  pub folders : (files : Files) (folder : List ℕ) → FolderLaws files folder
   pub answers : (files : Files) → AnswerLaws files
