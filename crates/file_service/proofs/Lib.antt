@@ -3,3 +3,4 @@ pub mod Pieces
 pub mod Sorted
 pub mod Members
 pub mod Told
+pub mod AnswerFacts

@@ -1,7 +1,7 @@
 -- The names of a folder's members.
-use Rattle.std.proofs.Common.{◌≡◌, ◌≢◌, ◌∙◌, ◌⊎◌, inl, inr, ℕ, ◌<◌, ◌≤◌, Bool, true, false, cond, ◌&&◌, ◌||◌, List, [], ◌∷◌, Option, Some, None, refl, sym, ap, subst, length, get_or, map, arith}
-use Rattle.std.specs.Prelude.{◌^◌, nat_le, is_some, unwrap_or, option_map}
-use Rattle.std.specs.List.{list_all, list_any, filter, filter_map, cons_option, Contains, All}
+use Rattle.std.proofs.Common.{◌≡◌, ◌∙◌, inl, inr, ℕ, ◌<◌, ◌≤◌, Bool, true, false, ◌&&◌, ◌||◌, List, [], ◌∷◌, Option, Some, None, refl, sym, ap, subst, length, get_or, map, arith}
+use Rattle.std.specs.Prelude.{◌^◌, nat_le, is_some, option_map}
+use Rattle.std.specs.List.{list_all, list_any, filter, filter_map, cons_option}
 use Rattle.std.specs.Ordering.{eq_by_cmp}
 use Rattle.std.specs.FinMap as finite
 use Rattle.std.proofs.lemmas.Bool.{true≢false, cases_lt}
@@ -11,11 +11,11 @@ use Rattle.std.proofs.lemmas.List.Folds.{Any-from_list_any, list_any_at}
 use Rattle.std.proofs.lemmas.List.Elements.{All-contains, All-nil}
 use Rattle.cy_outside.specs.Files.{Files, rest_in, is_folder, is_file, first_name, member_of, IsMember, ListsMembers}
 use Rattle.cy_outside.specs.declared.tree.Entry.{Entry}
-use Rattle.file_service.specs.Names.{by_bytes, ascending, is_listed, listed, member_names, names_of, name_at}
+use Rattle.file_service.specs.Names.{by_bytes, is_listed, listed, member_names, names_of, name_at}
 use Rattle.std_types.specs.Held.{HoldsBytes}
 use Rattle.file_service.specs.Paths.{is_printable}
-use Rattle.file_service.specs.Laws.{IsListedName, ListLaws}
-use Rattle.file_service.proofs.Places.{true_or_false, not_both, and_left, and_right, and_both, all_of, printable_bounds}
+use Rattle.file_service.specs.Laws.{IsListedName, FolderLaws, NameLaws}
+use Rattle.file_service.proofs.Places.{not_both, and_left, and_right, and_both, all_of, printable_bounds}
 use Rattle.file_service.proofs.Sorted.{Has, same_name, name_itself, same_ascending, has_filtered, has_listed, ascending_rises, no_names}
 
 same_bool : (a b : Bool) → (a ≡ true → b ≡ true) → (b ≡ true → a ≡ true) → a ≡ b
@@ -157,12 +157,24 @@ at_name files folder name s =
     let found = Any-from_list_any (eq_by_cmp by_bytes name) names (has_listed (member_names files folder) name ∙ and_both (is_listed name) (Has (member_names files folder) name) s.listed has) in
     (found.0, found.2, get_or_default names found.0 [] found.1 found.2 ∙ found.3 ∙ sym (same_name name found.1 found.4))
 
-pub list_laws : (files : Files) (folder : List ℕ) → ListLaws files folder
-list_laws files folder = record {
-  rises = λ i j h l. ascending_rises (filter is_listed (member_names files folder)) i j h l;
+is_listed_at : (names : List (List ℕ)) (i : ℕ) → i < length (listed names) → is_listed (name_at (listed names) i) ≡ true
+is_listed_at names i l =
+    let q = get_or (listed names) i [] in
+    and_left (is_listed q) (Has names q)
+    (sym (has_listed names q) ∙ list_any_at (eq_by_cmp by_bytes q) (listed names) i [] l (name_itself q q refl))
+
+pub name_laws : (names : List (List ℕ)) → NameLaws names
+name_laws names = record {
+  rises = λ i j h l. ascending_rises (filter is_listed names) i j h l;
+  each = is_listed_at names;
+  past = λ i l. get_or_past (listed names) i [] l;
+}
+
+pub folder_laws : (files : Files) (folder : List ℕ) → FolderLaws files folder
+folder_laws files folder = record {
+  in_order = name_laws (member_names files folder);
   sound = named_at files folder;
   complete = at_name files folder;
-  past = λ i l. get_or_past (names_of files folder) i [] l;
   no_folder = no_folder files folder;
 }
 
@@ -182,9 +194,6 @@ short_name name e = (
 
 pub name_fits : (names : List (List ℕ)) (i : ℕ) → HoldsBytes 255 (name_at (listed names) i)
 name_fits names i = elim (cases_lt i (length (listed names))) [
-  | inl l ↦
-      let q = get_or (listed names) i [] in
-      short_name q (and_left (is_listed q) (Has names q)
-      (sym (has_listed names q) ∙ list_any_at (eq_by_cmp by_bytes q) (listed names) i [] l (name_itself q q refl)))
+  | inl l ↦ short_name (get_or (listed names) i []) (is_listed_at names i l)
   | inr g ↦ subst (HoldsBytes 255) (sym (get_or_past (listed names) i [] g)) (omega arith, All-nil (λ b. b < 2 ^ 8))
 ]

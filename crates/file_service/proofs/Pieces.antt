@@ -1,6 +1,5 @@
 -- The bytes of a file, piece by piece.
-use Rattle.std.proofs.Common.{◌≡◌, ◌≢◌, ◌∙◌, ◌⊎◌, inl, inr, ℕ, zero, suc, ◌<◌, ◌≤◌, ◌+◌, ◌*◌, ◌-◌, List, [], ◌∷◌, ◌++◌, refl, sym, ap, subst, length, take, drop, replicate, arith}
-use Rattle.std.specs.Prelude.{◌↔◌, min}
+use Rattle.std.proofs.Common.{◌≡◌, ◌≢◌, ◌∙◌, ℕ, zero, suc, ◌≤◌, ◌+◌, ◌*◌, List, [], ◌++◌, refl, sym, ap, length, take, drop, arith}
 use Rattle.std.proofs.lemmas.Grind.{common_steps}
 use Rattle.std.proofs.Math.Seq.{take-add}
 use Rattle.file_service.specs.Standing.{Standing, File, Folder, Nothing}

@@ -1,7 +1,7 @@
 -- Where paths stand below a root.
-use Rattle.std.proofs.Common.{◌≡◌, ◌≢◌, ◌∙◌, ◌⊎◌, inl, inr, ℕ, ◌<◌, ◌≤◌, ◌==◌, Bool, true, false, cond, not, ◌&&◌, ◌||◌, List, [], ◌∷◌, ◌++◌, refl, sym, ap, subst, length, arith}
-use Rattle.std.specs.Prelude.{codes, nat_le, ◌↔◌}
-use Rattle.std.specs.List.{All, list_all, slice_split, onto_first, join_with_byte}
+use Rattle.std.proofs.Common.{◌≡◌, ◌≢◌, ◌∙◌, ◌⊎◌, inl, inr, ℕ, ◌≤◌, Bool, true, false, cond, not, ◌&&◌, ◌||◌, List, [], ◌∷◌, ◌++◌, refl, sym, ap, subst, length, arith}
+use Rattle.std.specs.Prelude.{codes}
+use Rattle.std.specs.List.{All, list_all, onto_first, join_with_byte}
 use Rattle.std.specs.Str.{bytes_eq, IsAscii}
 use Rattle.std.specs.Cmp.Lexicographic.{bytes_decides}
 use Rattle.std.proofs.lemmas.Bool.{true≢false, eqb-true, eq-eqb}
@@ -10,7 +10,6 @@ use Rattle.std.proofs.lemmas.List.Elements.{All-cons, All-head, All-tail, All-ni
 use Rattle.std.proofs.lemmas.List.Folds.{list_all-append}
 use Rattle.std.proofs.lemmas.List.Splits.{join_with_byte-slice_split, length-slice_split, slice_split_none, slice_split_at}
 use Rattle.std.proofs.lemmas.Str.Ascii.{IsAscii-nil, IsAscii-cons}
-use Rattle.file_service.specs.declared.place.Place.{Place}
 use Rattle.file_service.specs.declared.place.Place.TheVariants.{Invalid, Root, At}
 use Rattle.file_service.specs.Paths.{is_printable, is_slash, parts_of, is_name, is_legal, without_slash, place_below, place_of}
 use Rattle.file_service.specs.Laws.{IsNameByte, NamesMember, IsBelow, PlaceLaws}

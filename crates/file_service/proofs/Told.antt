@@ -1,20 +1,19 @@
 -- What is answered, where the tree tells its files and where it doesn't.
-use Rattle.std.proofs.Common.{◌≡◌, ◌≢◌, ◌∙◌, ◌⊎◌, inl, inr, ℕ, zero, suc, ◌<◌, ◌≤◌, ◌+◌, ◌-◌, ◌^◌, Bool, true, false, cond, List, [], ◌∷◌, ◌++◌, Option, Some, None, refl, sym, ap, subst, length, take, drop, replicate, map, arith}
+use Rattle.std.proofs.Common.{◌≡◌, ◌∙◌, inl, inr, ℕ, ◌≤◌, ◌-◌, ◌^◌, Bool, true, false, List, [], ◌++◌, Option, Some, None, refl, sym, ap, length, take, drop, replicate, arith}
 use Rattle.std.specs.Prelude.{min, unwrap_or}
 use Rattle.std.specs.FinMap as finite
 use Rattle.std.proofs.lemmas.Grind.{common_steps}
-use Rattle.cy_outside.specs.Files.{Files, is_folder, bytes_at, got_of, Reads, size_of, Sizes, Lists}
+use Rattle.cy_outside.specs.Files.{Files, is_folder, got_of, Reads, size_of, Sizes, Lists}
 use Rattle.cy_outside.specs.declared.tree.Got.{Got}
 use Rattle.cy_outside.specs.declared.tree.Got.TheVariants as got
 use Rattle.cy_outside.specs.declared.tree.Size.{Size}
 use Rattle.cy_outside.specs.declared.tree.Size.TheVariants as size
 use Rattle.cy_outside.specs.declared.tree.Listing.{Listing}
 use Rattle.cy_outside.specs.declared.tree.Listing.TheVariants as listing
-use Rattle.file_service.specs.declared.place.Place.{Place}
-use Rattle.file_service.specs.declared.place.Place.TheVariants.{Invalid, Root, At}
-use Rattle.file_service.specs.Standing.{Standing, File, Folder, Nothing, standing_of, Stands}
+use Rattle.file_service.specs.declared.place.Place.TheVariants.{At}
+use Rattle.file_service.specs.Standing.{File, Folder, Nothing, standing_of}
 use Rattle.file_service.specs.Names.{found, listed, name_at, HasNames}
-use Rattle.file_service.specs.Replies.{no_bytes, read_reply, read_of, IsRead, info, no_info, info_reply, IsInfo, ListsFolder, io_error}
+use Rattle.file_service.specs.Replies.{no_bytes, read_reply, read_of, IsRead, info, no_info, info_reply, IsInfo, ListsFolder}
 use Rattle.file_service.proofs.Pieces.{take_short}
 use Rattle.file_service.proofs.Sorted.{none_listed}
 use Rattle.file_service.proofs.Members.{listed_members, no_folder}

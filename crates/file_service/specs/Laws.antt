@@ -1,14 +1,18 @@
 -- Laws of files that are served.
-use Rattle.std.specs.Prelude.{◌≡◌, ◌≢◌, ◌↔◌, ◌⊎◌, ◌*◌, ◌<◌, ◌≤◌, ℕ, zero, suc, true, false, List, [], ◌∷◌, ◌++◌, length, take, codes}
+use Rattle.std.specs.Prelude.{◌≡◌, ◌≢◌, ◌↔◌, ◌⊎◌, ◌*◌, ◌<◌, ◌≤◌, ◌==◌, ℕ, zero, suc, Bool, true, false, Some, List, [], ◌∷◌, ◌++◌, length, take, codes}
 use Rattle.std.specs.List.{All, join_with_byte}
 use Rattle.std.specs.declared.cmp.Ordering.TheVariants.{Less}
 use Rattle.cy_outside.specs.Files.{Files, is_folder, IsMember}
 use Rattle.cy_outside.specs.declared.tree.Entry.{Entry}
+use Rattle.std_types.specs.declared.file.InfoReply.{InfoReply}
+use Rattle.std_types.specs.declared.file.ReadReply.{ReadReply}
+use Rattle.file_service.specs.declared.done.ListDone.{ListDone}
+use Rattle.file_service.specs.declared.place.Place.{Place}
 use Rattle.file_service.specs.declared.place.Place.TheVariants.{Invalid, Root, At}
-use Rattle.file_service.specs.Paths.{is_legal, place_of}
-use Rattle.file_service.specs.Names.{by_bytes, is_listed, name_at, names_of}
+use Rattle.file_service.specs.Paths.{place_of}
+use Rattle.file_service.specs.Names.{by_bytes, is_listed, listed, member_names, name_at, names_of}
 use Rattle.file_service.specs.Standing.{Standing, File}
-use Rattle.file_service.specs.Replies.{info_reply, io_error, read_reply}
+use Rattle.file_service.specs.Replies.{IsInfo, IsListing, IsRead, info_answer, info_reply, io_error, list_answer, read_answer, read_reply}
 
 -- a byte of a name in a path: 20 to 7E hex, and no slash
 pub record IsNameByte (b : ℕ) : Type 0 where
@@ -46,7 +50,7 @@ abbrev pub pieces : List ℕ → ℕ → List ℕ
 pieces bytes zero = []
 pieces bytes (suc n) = pieces bytes n ++ (read_reply (File bytes) (256 * n)).data
 
--- the replies to reads
+-- the replies that are made of what stands at a path
 pub record ReadLaws : Type 0 where
   pub front : (bytes : List ℕ) (n : ℕ) → pieces bytes n ≡ take (256 * n) bytes
   pub whole : (bytes : List ℕ) (n : ℕ) → length bytes ≤ 256 * n → pieces bytes n ≡ bytes
@@ -64,18 +68,39 @@ pub record IsListedName (files : Files) (folder name : List ℕ) : Type 0 where
   pub stands : IsMember files folder member
   pub named : member.name ≡ name
 
--- the names that a folder lists, by their numbers
-pub record ListLaws (files : Files) (folder : List ℕ) : Type 0 where
-  -- each name is below those behind it, so none stands twice
-  pub rises : (i j : ℕ) → i < j → j < length (names_of files folder)
-      → by_bytes (name_at (names_of files folder) i) (name_at (names_of files folder) j) ≡ Less
+-- names that are listed, by their numbers
+pub record NameLaws (names : List (List ℕ)) : Type 0 where
+  -- each is below those behind it, so none stands twice
+  pub rises : (i j : ℕ) → i < j → j < length (listed names) → by_bytes (name_at (listed names) i) (name_at (listed names) j) ≡ Less
+  -- each has at most 255 bytes 20 to 7E hex
+  pub each : (i : ℕ) → i < length (listed names) → is_listed (name_at (listed names) i) ≡ true
+  pub past : (i : ℕ) → length (listed names) ≤ i → name_at (listed names) i ≡ []
+
+-- the names that a folder lists: those of its members, and no others
+pub record FolderLaws (files : Files) (folder : List ℕ) : Type 0 where
+  pub in_order : NameLaws (member_names files folder)
   pub sound : (i : ℕ) → i < length (names_of files folder) → IsListedName files folder (name_at (names_of files folder) i)
   pub complete : (name : List ℕ) → IsListedName files folder name
       → (i : ℕ) × (i < length (names_of files folder)) × (name_at (names_of files folder) i ≡ name)
-  pub past : (i : ℕ) → length (names_of files folder) ≤ i → name_at (names_of files folder) i ≡ []
   pub no_folder : is_folder files folder ≡ false → names_of files folder ≡ []
+
+-- over a tree that tells its files, what is answered is what the files and whether the tree failed give
+pub record AnswerLaws (files : Files) : Type 0 where
+  pub read : (place : Place) (offset : ℕ) (reply : ReadReply) → IsRead (Some files) place offset reply
+      → reply ≡ read_answer files (reply.error.value == io_error) place offset
+  pub info : (place : Place) (reply : InfoReply) → IsInfo (Some files) place reply
+      → reply ≡ info_answer files (reply.error.value == io_error) place
+  pub list : (root : List ℕ) (place : Place) (index : ℕ) (done : ListDone) → IsListing (Some files) root place index done
+      → done ≡ list_answer files done.failed root place index
+  -- and each of these may be answered
+  pub reads : (failed : Bool) (place : Place) (offset : ℕ) → IsRead (Some files) place offset (read_answer files failed place offset)
+  pub infos : (failed : Bool) (place : Place) → IsInfo (Some files) place (info_answer files failed place)
+  pub lists : (failed : Bool) (root : List ℕ) (place : Place) (index : ℕ)
+      → IsListing (Some files) root place index (list_answer files failed root place index)
 
 pub record FileLaws : Type 0 where
   pub places : (root : List ℕ) → PlaceLaws root
   pub reads : ReadLaws
-  pub lists : (files : Files) (folder : List ℕ) → ListLaws files folder
+  pub names : (names : List (List ℕ)) → NameLaws names
+  pub folders : (files : Files) (folder : List ℕ) → FolderLaws files folder
+  pub answers : (files : Files) → AnswerLaws files

@@ -3,7 +3,7 @@ ghost use Rattle.std_types.specs.Files.{FitsInfoReply};
 ghost use Rattle.std_types.specs.Held.{HoldsBytes};
 ghost use Rattle.file_service.specs.Paths.{place_of};
 ghost use Rattle.file_service.specs.Causes.{IsKnown, TellsFault};
-ghost use Rattle.file_service.specs.Replies.{IsInfo, IsListing, IsRead, ListsFolder, info, io_error, read_of};
+ghost use Rattle.file_service.specs.Replies.{IsInfo, IsListing, IsRead, ListsFolder, info, io_error, no_name, read_of};
 
 use crate::codes::{INVALID, IO_ERROR, IS_DIRECTORY, NOT_FOUND, OK};
 use crate::done::{ListDone, ReadDone};
@@ -31,7 +31,8 @@ impl Served {
     /// its end. The code is the first that holds: 22 for an invalid path, 5 where the tree failed, 2
     /// where there is nothing, 21 where there is a folder, else 0.
     ///
-    /// Takes the memory of the joined path alone. Want of memory leaves the buffer as it was.
+    /// The buffer stays as it was for an invalid path, for the root and at want of memory; where the
+    /// tree failed it may hold anything. Takes the memory of the joined path alone.
     pub fn read<T: Tree>(
         &self,
         alloc: Global,
@@ -138,7 +139,7 @@ fn no_bytes(code: u16) -> ReadDone
 
 /// No name, and whether the tree failed.
 fn no_name(alloc: Global, failed: bool) -> ListDone
-    ensures { result ≡ record { name = []; failed = failed } }
+    ensures { result ≡ no_name failed }
 {
     let name = Text::new(String::new(alloc));
     ListDone { name, failed }

@@ -254,3 +254,19 @@ fn a_folder_that_changes(rt: HostRuntime) -> Result<(), Fail> {
     assert_eq!(rt; served.info(alloc, &mut tree, b"a")?.size, LAST);
     Ok(())
 }
+
+#[test]
+fn a_root_that_is_not_there(rt: HostRuntime) -> Result<(), Fail> {
+    let alloc = rt.alloc();
+    for root in ["nowhere", "srv/", ""] {
+        let root = Text::from_str(alloc, root)?;
+        let served = Served { root };
+        let mut tree = tree(alloc, &[])?;
+        let mut buf = [0; 256];
+        let done = served.read(alloc, &mut tree, b"a", 0, &mut buf)?;
+        assert_eq!(rt; done, ReadDone { code: 2, count: 0 });
+        assert_eq!(rt; served.info(alloc, &mut tree, b"")?.error.value, 0);
+        assert_eq!(rt; served.list(alloc, &mut tree, b"", 0)?.name.as_str(), "");
+    }
+    Ok(())
+}
