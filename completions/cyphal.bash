@@ -5,7 +5,7 @@ _cyphal()
     local word=${COMP_WORDS[COMP_CWORD]} command=${COMP_WORDS[1]}
     COMPREPLY=()
     if [ "$COMP_CWORD" -eq 1 ]; then
-        mapfile -t COMPREPLY < <(compgen -W 'compile compat encode decode run bound gen --help --version' -- "$word")
+        mapfile -t COMPREPLY < <(compgen -W 'compile compat encode decode run bound gen monitor allocate fetch --help --version' -- "$word")
         return
     fi
     case $command:$COMP_CWORD in

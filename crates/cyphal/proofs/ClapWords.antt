@@ -7,8 +7,8 @@ use Rattle.clap.specs.Walk.{Text, first_of}
 use Rattle.clap.specs.declared.parser.matches.ArgMatches.{ArgMatches}
 use Rattle.clap.proofs.WalkLemmas.{first_value-rows, both}
 use Rattle.clap.proofs.OnLiterals.{clap_on_literals}
-use Rattle.cyphal.specs.ClapShape.{one_shape, types_shape, two_shape}
-use Rattle.cyphal.specs.Words.{is_argument, are_arguments, are_types, one_given, two_given, types_given}
+use Rattle.cyphal.specs.ClapShape.{one_shape, two_shape, three_shape}
+use Rattle.cyphal.specs.Words.{is_argument, are_arguments, are_three, one_given, two_given, three_given}
 
 unhyphened : (b : Bool) → not b ≡ true → b ≡ false
 unhyphened true h = absurd cc
@@ -89,63 +89,63 @@ parsed_two (w ∷ root ∷ argument ∷ []) h =
     two_there w root argument each.0 each.1
 parsed_two (w ∷ root ∷ argument ∷ more ∷ rest) h = absurd cc
 
--- a root and the names of two types
+-- three arguments
 
-simple_types : is_simple types_shape ≡ true
-simple_types = refl
+simple_three : is_simple three_shape ≡ true
+simple_three = refl
 
 -- the values of all three arguments that a parse of the words gives, which are those that they have
-pub record ParsedTypes (words : List Text) : Type 0 where
-  pub root : Text
-  pub new : Text
-  pub old : Text
-  pub is_root : first_of (codes "ROOT") (matches_of types_shape words) ≡ Some root
-  pub is_new : first_of (codes "NEW") (matches_of types_shape words) ≡ Some new
-  pub is_old : first_of (codes "OLD") (matches_of types_shape words) ≡ Some old
-  pub asked : types_given words ≡ Some (root, new, old)
+pub record ParsedThree (words : List Text) : Type 0 where
+  pub first : Text
+  pub second : Text
+  pub third : Text
+  pub is_first : first_of (codes "FIRST") (matches_of three_shape words) ≡ Some first
+  pub is_second : first_of (codes "SECOND") (matches_of three_shape words) ≡ Some second
+  pub is_third : first_of (codes "THIRD") (matches_of three_shape words) ≡ Some third
+  pub asked : three_given words ≡ Some (first, second, third)
 
-root_of_types : (w : Text) (x y z : ℕ) (xs ys zs : Text) → (x == 45) ≡ false → (y == 45) ≡ false → (z == 45) ≡ false
-    → first_of (codes "ROOT") (matches_of types_shape (w ∷ (x ∷ xs) ∷ (y ∷ ys) ∷ (z ∷ zs) ∷ [])) ≡ Some (x ∷ xs)
+first_of_three : (w : Text) (x y z : ℕ) (xs ys zs : Text) → (x == 45) ≡ false → (y == 45) ≡ false → (z == 45) ≡ false
+    → first_of (codes "FIRST") (matches_of three_shape (w ∷ (x ∷ xs) ∷ (y ∷ ys) ∷ (z ∷ zs) ∷ [])) ≡ Some (x ∷ xs)
 unfolding clap_on_literals
-root_of_types w x y z xs ys zs h k l = simp (h, k, l) refl
+first_of_three w x y z xs ys zs h k l = simp (h, k, l) refl
 
-new_of_types : (w : Text) (x y z : ℕ) (xs ys zs : Text) → (x == 45) ≡ false → (y == 45) ≡ false → (z == 45) ≡ false
-    → first_of (codes "NEW") (matches_of types_shape (w ∷ (x ∷ xs) ∷ (y ∷ ys) ∷ (z ∷ zs) ∷ [])) ≡ Some (y ∷ ys)
+second_of_three : (w : Text) (x y z : ℕ) (xs ys zs : Text) → (x == 45) ≡ false → (y == 45) ≡ false → (z == 45) ≡ false
+    → first_of (codes "SECOND") (matches_of three_shape (w ∷ (x ∷ xs) ∷ (y ∷ ys) ∷ (z ∷ zs) ∷ [])) ≡ Some (y ∷ ys)
 unfolding clap_on_literals
-new_of_types w x y z xs ys zs h k l = simp (h, k, l) refl
+second_of_three w x y z xs ys zs h k l = simp (h, k, l) refl
 
-old_of_types : (w : Text) (x y z : ℕ) (xs ys zs : Text) → (x == 45) ≡ false → (y == 45) ≡ false → (z == 45) ≡ false
-    → first_of (codes "OLD") (matches_of types_shape (w ∷ (x ∷ xs) ∷ (y ∷ ys) ∷ (z ∷ zs) ∷ [])) ≡ Some (z ∷ zs)
+third_of_three : (w : Text) (x y z : ℕ) (xs ys zs : Text) → (x == 45) ≡ false → (y == 45) ≡ false → (z == 45) ≡ false
+    → first_of (codes "THIRD") (matches_of three_shape (w ∷ (x ∷ xs) ∷ (y ∷ ys) ∷ (z ∷ zs) ∷ [])) ≡ Some (z ∷ zs)
 unfolding clap_on_literals
-old_of_types w x y z xs ys zs h k l = simp (h, k, l) refl
+third_of_three w x y z xs ys zs h k l = simp (h, k, l) refl
 
-types_there : (w root new old : Text) → is_argument root ≡ true → is_argument new ≡ true → is_argument old ≡ true → ParsedTypes (w ∷ root ∷ new ∷ old ∷ [])
-types_there w [] new old h k l = absurd cc
-types_there w (x ∷ xs) [] old h k l = absurd cc
-types_there w (x ∷ xs) (y ∷ ys) [] h k l = absurd cc
-types_there w (x ∷ xs) (y ∷ ys) (z ∷ zs) h k l =
-    let first = unhyphened (x == 45) h in
-    let second = unhyphened (y == 45) k in
-    let third = unhyphened (z == 45) l in record {
-      root = x ∷ xs;
-      new = y ∷ ys;
-      old = z ∷ zs;
-      is_root = root_of_types w x y z xs ys zs first second third;
-      is_new = new_of_types w x y z xs ys zs first second third;
-      is_old = old_of_types w x y z xs ys zs first second third;
-      asked = simp (first, second, third) refl;
+three_there : (w first second third : Text) → is_argument first ≡ true → is_argument second ≡ true → is_argument third ≡ true → ParsedThree (w ∷ first ∷ second ∷ third ∷ [])
+three_there w [] second third h k l = absurd cc
+three_there w (x ∷ xs) [] third h k l = absurd cc
+three_there w (x ∷ xs) (y ∷ ys) [] h k l = absurd cc
+three_there w (x ∷ xs) (y ∷ ys) (z ∷ zs) h k l =
+    let no_first = unhyphened (x == 45) h in
+    let no_second = unhyphened (y == 45) k in
+    let no_third = unhyphened (z == 45) l in record {
+      first = x ∷ xs;
+      second = y ∷ ys;
+      third = z ∷ zs;
+      is_first = first_of_three w x y z xs ys zs no_first no_second no_third;
+      is_second = second_of_three w x y z xs ys zs no_first no_second no_third;
+      is_third = third_of_three w x y z xs ys zs no_first no_second no_third;
+      asked = simp (no_first, no_second, no_third) refl;
     }
 
-parsed_types : (words : List Text) → is_some (types_given words) ≡ true → ParsedTypes words
-parsed_types [] h = absurd cc
-parsed_types (w ∷ []) h = absurd cc
-parsed_types (w ∷ root ∷ []) h = absurd cc
-parsed_types (w ∷ root ∷ new ∷ []) h = absurd cc
-parsed_types (w ∷ root ∷ new ∷ old ∷ []) h =
-    let first = both (is_argument root) (is_argument new && is_argument old) (accepted {A = Text × Text × Text} (are_types root new old) (root, new, old) h) in
-    let others = both (is_argument new) (is_argument old) first.1 in
-    types_there w root new old first.0 others.0 others.1
-parsed_types (w ∷ root ∷ new ∷ old ∷ more ∷ rest) h = absurd cc
+parsed_three : (words : List Text) → is_some (three_given words) ≡ true → ParsedThree words
+parsed_three [] h = absurd cc
+parsed_three (w ∷ []) h = absurd cc
+parsed_three (w ∷ first ∷ []) h = absurd cc
+parsed_three (w ∷ first ∷ second ∷ []) h = absurd cc
+parsed_three (w ∷ first ∷ second ∷ third ∷ []) h =
+    let both_parts = both (is_argument first) (is_argument second && is_argument third) (accepted {A = Text × Text × Text} (are_three first second third) (first, second, third) h) in
+    let others = both (is_argument second) (is_argument third) both_parts.1 in
+    three_there w first second third both_parts.0 others.0 others.1
+parsed_three (w ∷ first ∷ second ∷ third ∷ more ∷ rest) h = absurd cc
 
 -- the value that the matches have of one argument
 pub record HasOne (m : ArgMatches) (words : List Text) : Type 0 where
@@ -183,26 +183,26 @@ has_two a m words e h hm =
       asked = p.asked;
     }
 
--- the values that the matches have of the arguments of two types
-pub record HasTypes (m : ArgMatches) (words : List Text) : Type 0 where
-  pub root : Text
-  pub new : Text
-  pub old : Text
-  pub is_root : first_value (found_of m) (codes "ROOT") ≡ Some root
-  pub is_new : first_value (found_of m) (codes "NEW") ≡ Some new
-  pub is_old : first_value (found_of m) (codes "OLD") ≡ Some old
-  pub asked : types_given words ≡ Some (root, new, old)
+-- the values that the matches have of three arguments
+pub record HasThree (m : ArgMatches) (words : List Text) : Type 0 where
+  pub first : Text
+  pub second : Text
+  pub third : Text
+  pub is_first : first_value (found_of m) (codes "FIRST") ≡ Some first
+  pub is_second : first_value (found_of m) (codes "SECOND") ≡ Some second
+  pub is_third : first_value (found_of m) (codes "THIRD") ≡ Some third
+  pub asked : three_given words ≡ Some (first, second, third)
 
-pub has_types : (a : App) (m : ArgMatches) (words : List Text) → a ≡ types_shape → is_some (types_given words) ≡ true → HasMatchesOf a words m → HasTypes m words
-has_types a m words e h hm =
-    let p = parsed_types words h in
-    let value = matched types_shape a m words simple_types e hm in record {
-      root = p.root;
-      new = p.new;
-      old = p.old;
-      is_root = value (codes "ROOT") ∙ p.is_root;
-      is_new = value (codes "NEW") ∙ p.is_new;
-      is_old = value (codes "OLD") ∙ p.is_old;
+pub has_three : (a : App) (m : ArgMatches) (words : List Text) → a ≡ three_shape → is_some (three_given words) ≡ true → HasMatchesOf a words m → HasThree m words
+has_three a m words e h hm =
+    let p = parsed_three words h in
+    let value = matched three_shape a m words simple_three e hm in record {
+      first = p.first;
+      second = p.second;
+      third = p.third;
+      is_first = value (codes "FIRST") ∙ p.is_first;
+      is_second = value (codes "SECOND") ∙ p.is_second;
+      is_third = value (codes "THIRD") ∙ p.is_third;
       asked = p.asked;
     }
 

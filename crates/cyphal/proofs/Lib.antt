@@ -3,6 +3,7 @@ pub mod Parts
 pub mod Plans
 pub mod Loaded
 pub mod Ended
+pub mod LogEnds
 pub mod statuses
 pub mod OneStatus
 pub mod Frames

@@ -5,3 +5,4 @@ pub mod Values
 pub mod Run
 pub mod Bound
 pub mod Gen
+pub mod Reach

@@ -1,9 +1,11 @@
 -- What the words ask for.
 use Rattle.std.specs.Prelude.{◌≡◌, ◌⊎◌, ℕ, true, false, List, Option, Some, None}
+use Rattle.node_reach.specs.Allocated.{allocate_voice}
+use Rattle.node_reach.specs.Monitored.{monitor_voice}
 use Rattle.node_run.specs.declared.status.Status.TheVariants as status
 use Rattle.value_lines.specs.Decoded.{Decodes}
 use Rattle.value_lines.specs.Encoded.{Encodes}
-use Rattle.cyphal.specs.Words.{Command, Compile, Compat, Encode, Decode, Run, Bound, Gen, command_of}
+use Rattle.cyphal.specs.Words.{Command, Compile, Compat, Encode, Decode, Run, Bound, Gen, Monitor, Allocate, Fetch, command_of}
 use Rattle.cyphal.specs.Cause.{Outside}
 use Rattle.cyphal.specs.Job.{Told, Outcome, Job, NotDone}
 use Rattle.cyphal.specs.jobs.Compile.{compile_job}
@@ -12,6 +14,8 @@ use Rattle.cyphal.specs.jobs.Values.{values_job}
 use Rattle.cyphal.specs.jobs.Run.{run_job}
 use Rattle.cyphal.specs.jobs.Bound.{bound_job}
 use Rattle.cyphal.specs.jobs.Gen.{gen_job}
+use Rattle.cyphal.specs.jobs.Reach.{reach_job}
+use Rattle.cyphal.specs.jobs.Fetch.{client, fetch_job}
 
 -- the commands
 abbrev pub job_of : Command → Job
@@ -22,10 +26,14 @@ job_of (Decode root name) = values_job Decodes root name
 job_of (Run root path) = run_job root path
 job_of (Bound root path) = bound_job root path
 job_of (Gen number) = gen_job number
+job_of (Monitor own) = reach_job (monitor_voice own)
+job_of (Allocate own) = reach_job (allocate_voice own)
+job_of (Fetch own server path) = fetch_job (client own server path)
 
 -- words that are no command ask for their refusal alone
 abbrev pub no_job : Job
 no_job = record {
+  calls_tree = false;
   takes_input = false;
   is_told = λ told. true;
   expects = λ told stat. stat ≡ status.Usage;

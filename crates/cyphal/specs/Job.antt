@@ -48,6 +48,8 @@ pub record ReportsNothing (reported : Reported) : Type 0 where
 
 -- a command with its arguments
 pub record Job : Type 1 where
+  -- whether it calls anything of the tree
+  pub calls_tree : Bool
   -- whether it takes of the input
   pub takes_input : Bool
   -- whether all that decides its status is told

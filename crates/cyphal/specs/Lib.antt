@@ -4,6 +4,7 @@ pub mod ErrorLine
 pub mod Help
 pub mod Cause
 pub mod Job
+pub mod LogEnds
 pub mod Plans
 pub mod jobs
 pub mod Expected

@@ -1,5 +1,6 @@
 -- Which words are a command.
-use Rattle.std.specs.Prelude.{ℕ, Bool, false, ◌==◌, ◌&&◌, not, List, [], ◌∷◌, codes, Option, Some, None, option_map, if◌then◌else◌}
+use Rattle.std.specs.Prelude.{ℕ, Bool, false, ◌==◌, nat_le, ◌&&◌, not, List, [], ◌∷◌, length, codes, Option, Some, None, option_map, if◌then◌else◌}
+use Rattle.std.specs.List.{list_all}
 use Rattle.std.specs.Str.{bytes_eq}
 use Rattle.dsdl_names.specs.Words.{number_to}
 use Rattle.cyphal.specs.declared.words.Accepted.{Accepted}
@@ -7,7 +8,9 @@ use Rattle.cyphal.specs.declared.words.Accepted.TheVariants as accepted
 
 -- what the words ask for: the layouts of the types below this root, whether one of them is newer than another, values of
 -- one of them as bytes, bytes as values of it, a run of the plan at this path, which is read in the namespace of the root,
--- its memory bound, or the run of the log that is made of this number
+-- its memory bound, the run of the log that is made of this number, who is online in the log of the input, which a node with
+-- this node-ID hears, node-IDs for the nodes of that log that have none, or the file that a node with this node-ID fetches of
+-- another one over that log
 pub data Command : Type 0 where
   Compile : List ℕ → Command
   Compat : List ℕ → List ℕ → List ℕ → Command
@@ -16,6 +19,9 @@ pub data Command : Type 0 where
   Run : List ℕ → List ℕ → Command
   Bound : List ℕ → List ℕ → Command
   Gen : ℕ → Command
+  Monitor : ℕ → Command
+  Allocate : ℕ → Command
+  Fetch : ℕ → ℕ → List ℕ → Command
 
 -- the command of accepted words
 abbrev pub asked_by : Accepted → Command
@@ -26,6 +32,9 @@ asked_by (accepted.Decode root name) = Decode root.now name.now
 asked_by (accepted.Run root plan) = Run root.now plan.now
 asked_by (accepted.Bound root plan) = Bound root.now plan.now
 asked_by (accepted.Gen number) = Gen number
+asked_by (accepted.Monitor own) = Monitor own.number
+asked_by (accepted.Allocate own) = Allocate own.number
+asked_by (accepted.Fetch file) = Fetch file.own.number file.server.number file.path.now
 
 -- an argument isn't empty and begins with no hyphen
 abbrev pub is_argument : List ℕ → Bool
@@ -36,9 +45,9 @@ is_argument (x ∷ xs) = not (x == 45)
 abbrev pub are_arguments : List ℕ → List ℕ → Bool
 are_arguments root argument = is_argument root && is_argument argument
 
--- the arguments ROOT, NEW and OLD
-abbrev pub are_types : List ℕ → List ℕ → List ℕ → Bool
-are_types root new old = is_argument root && (is_argument new && is_argument old)
+-- three arguments
+abbrev pub are_three : List ℕ → List ℕ → List ℕ → Bool
+are_three first second third = is_argument first && (is_argument second && is_argument third)
 
 -- the argument of words that have one alone
 abbrev pub one_given : List (List ℕ) → Option (List ℕ)
@@ -51,21 +60,46 @@ two_given (word ∷ root ∷ argument ∷ []) =
     if are_arguments root argument then Some (root, argument) else None
 two_given other = None
 
--- the root and the names of two types of words that have these
-abbrev pub types_given : List (List ℕ) → Option (List ℕ × List ℕ × List ℕ)
-types_given (word ∷ root ∷ new ∷ old ∷ []) =
-    if are_types root new old then Some (root, new, old) else None
-types_given other = None
+-- the arguments of words that have three
+abbrev pub three_given : List (List ℕ) → Option (List ℕ × List ℕ × List ℕ)
+three_given (word ∷ first ∷ second ∷ third ∷ []) =
+    if are_three first second third then Some (first, second, third) else None
+three_given other = None
 
 -- a number is decimal, without leading zeros, and below 2^32
 abbrev pub number_given : List ℕ → Option ℕ
 number_given word = number_to 4294967295 word
 
+-- a node-ID is such a number too, up to 127
+abbrev pub node_given : List ℕ → Option ℕ
+node_given word = number_to 127 word
+
+-- a path has at most 255 bytes, each a space or a visible character of ASCII
+abbrev pub is_visible : ℕ → Bool
+is_visible byte = nat_le 32 byte && nat_le byte 126
+
+abbrev pub is_path : List ℕ → Bool
+is_path path = nat_le (length path) 255 && list_all is_visible path
+
+-- the fetch of a file, where the node-IDs of both nodes are given and differ, and its path is one
+abbrev pub fetch_given : Option ℕ → Option ℕ → List ℕ → Option Command
+fetch_given None server path = None
+fetch_given (Some own) None path = None
+fetch_given (Some own) (Some server) path =
+    if not (server == own) && is_path path then Some (Fetch own server path) else None
+
+-- the command that a word names, of a node-ID, if there is one
+abbrev pub named_of_node : List ℕ → Option ℕ → Option Command
+named_of_node word node =
+    if bytes_eq word (codes "monitor") then option_map Monitor node
+    else (if bytes_eq word (codes "allocate") then option_map Allocate node else None)
+
 -- the command that a word names, of one argument
 abbrev pub named_of_one : List ℕ → List ℕ → Option Command
 named_of_one word argument =
     if bytes_eq word (codes "compile") then Some (Compile argument)
-    else (if bytes_eq word (codes "gen") then option_map Gen (number_given argument) else None)
+    else (if bytes_eq word (codes "gen") then option_map Gen (number_given argument)
+    else named_of_node word (node_given argument))
 
 -- the command that a word names, of a root and a plan
 abbrev pub named_of_plan : List ℕ → List ℕ → List ℕ → Option Command
@@ -80,13 +114,16 @@ named_of_two word root argument =
     else (if bytes_eq word (codes "decode") then Some (Decode root argument)
     else named_of_plan word root argument)
 
--- the command that a word names, of two types of a root
-abbrev pub named_of_types : List ℕ → List ℕ → List ℕ → List ℕ → Option Command
-named_of_types word root new old =
-    if bytes_eq word (codes "compat") then Some (Compat root new old) else None
+-- the command that a word names, of three arguments
+abbrev pub named_of_three : List ℕ → List ℕ → List ℕ → List ℕ → Option Command
+named_of_three word first second third =
+    if bytes_eq word (codes "compat") then Some (Compat first second third)
+    else (if bytes_eq word (codes "fetch")
+    then fetch_given (node_given first) (node_given second) third else None)
 
 -- what the words ask for, where they are accepted: `compile ROOT`, `compat ROOT NEW OLD`, `encode ROOT TYPE`,
--- `decode ROOT TYPE`, `run ROOT PLAN`, `bound ROOT PLAN` or `gen NUMBER`
+-- `decode ROOT TYPE`, `run ROOT PLAN`, `bound ROOT PLAN`, `gen NUMBER`, `monitor NODE`, `allocate NODE` or
+-- `fetch NODE SERVER PATH`
 abbrev pub command_of : List (List ℕ) → Option Command
 command_of [] = None
 command_of (word ∷ []) = None
@@ -94,6 +131,6 @@ command_of (word ∷ argument ∷ []) =
     if is_argument argument then named_of_one word argument else None
 command_of (word ∷ root ∷ argument ∷ []) =
     if are_arguments root argument then named_of_two word root argument else None
-command_of (word ∷ root ∷ new ∷ old ∷ []) =
-    if are_types root new old then named_of_types word root new old else None
-command_of (word ∷ root ∷ new ∷ old ∷ more ∷ rest) = None
+command_of (word ∷ first ∷ second ∷ third ∷ []) =
+    if are_three first second third then named_of_three word first second third else None
+command_of (word ∷ first ∷ second ∷ third ∷ more ∷ rest) = None

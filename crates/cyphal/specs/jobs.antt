@@ -4,3 +4,5 @@ pub mod Values
 pub mod Run
 pub mod Bound
 pub mod Gen
+pub mod Reach
+pub mod Fetch

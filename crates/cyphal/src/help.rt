@@ -34,6 +34,18 @@ cyphal gen NUMBER
     makes a log of 20,000 transfers on three buses from the number, below 2^32,
     runs it, and writes how much was received
 
+cyphal monitor NODE
+    hears the log on standard input as the node NODE, 0 to 127, and writes which
+    nodes are online at its end, and the network's time
+
+cyphal allocate NODE
+    hears such a log, gives node-IDs to nodes that have none, and writes which,
+    with the frames that say so
+
+cyphal fetch NODE SERVER PATH
+    fetches the file PATH of the node SERVER over such a log, and writes the
+    requests that it makes, and the file
+
 cyphal --help, cyphal --version
     write this, or the version
 

@@ -9,9 +9,13 @@ mod error_line;
 mod help;
 mod jobs;
 mod law;
+mod node_id;
 mod number;
 mod plan_file;
 mod program;
+#[cfg(test)]
+mod reach_tests;
+mod remote_file;
 mod run_words;
 #[cfg(test)]
 mod tests;

@@ -1,7 +1,9 @@
 //! The number of a word.
-ghost use Rattle.std.specs.Prelude.{◌≡◌, ◌<◌, ℕ};
-ghost use Rattle.dsdl_names.specs.Words.{at_most, decimal_from, number_of};
-ghost use Rattle.cyphal.specs.Words.{number_given};
+ghost use Rattle.std.specs.Prelude.{◌≡◌, ◌<◌, ◌≤◌, ℕ, IfSome, option_map};
+ghost use Rattle.dsdl_names.specs.Words.{at_most, decimal_from, number_of, number_to};
+ghost use Rattle.cyphal.specs.Words.{number_given, node_given};
+
+use crate::node_id::NodeId;
 
 /// A number above each that a word may be.
 const LARGE: u64 = 10_000_000_000;
@@ -10,9 +12,29 @@ const LARGE: u64 = 10_000_000_000;
 pub fn number_of(word: &[u8]) -> Option<u32>
     ensures { result ≡ number_given word.now }
 {
+    number_to(word, 4_294_967_295)
+}
+
+/// The node-ID of such a word, where it is at most 127.
+pub fn node_of(word: &[u8]) -> Option<NodeId>
+    ensures { option_map (λ node. node.number) result ≡ node_given word.now }
+{
+    match number_to(word, 127) {
+        None => None,
+        Some(number) => Some(NodeId {
+            number: number as u8,
+        }),
+    }
+}
+
+/// The number of such a word, where it is at most the greatest one.
+fn number_to(word: &[u8], most: u32) -> Option<u32>
+    ensures is { result ≡ number_to most word.now }
+    ensures within { IfSome result (λ number. number ≤ most) }
+{
     match decimal(word) {
         None => None,
-        Some(number) => if number > 4_294_967_295 {
+        Some(number) => if number > u64::from(most) {
             None
         } else {
             Some(number as u32)

@@ -1,7 +1,8 @@
 //! The whole program, over any outside.
-ghost use Rattle.std.specs.Prelude.{◌≡◌, None, IfSome, IsSome, map, string_bytes};
+ghost use Rattle.std.specs.Prelude.{◌≡◌, None, IfSome, IsSome, false, map, string_bytes};
 ghost use Rattle.cyphal.specs.Answered.{left_by, stream, HasEnded};
 ghost use Rattle.cyphal.specs.Cause.{outside};
+ghost use Rattle.cyphal.specs.Expected.{job_for};
 ghost use Rattle.cyphal.specs.Help.{own_answer, HasAnswered};
 ghost use Rattle.cyphal.specs.Job.{told_by};
 
@@ -26,6 +27,8 @@ pub fn program<T: Tree, L: Source, O: Sink, E: Sink>(
     ensures own { IfSome (own_answer (map string_bytes words.now)) (λ text.
         HasAnswered text result (O.written out.old) (O.written out.new)) }
     ensures quiet { IsSome (own_answer (map string_bytes words.now)) → err.new ≡ err.old }
+    ensures untouched { (job_for (map string_bytes words.now)).calls_tree ≡ false
+        → tree.new ≡ tree.old }
     ensures ended { let words = map string_bytes words.now in
         let told = told_by (T.files tree.old) (L.left input.old) (O.written out.old) in
         let left = left_by (L.left input.new) (O.written out.new) in

@@ -50,6 +50,9 @@ pub fn top<T: Tree, L: Source, O: Sink, E: Sink>(
         let old = outside (T.faults tree.old) (L.faults input.old) (O.faults out.old) input.old in
         let new = outside (T.faults tree.new) (L.faults input.new) (O.faults out.new) input.new in
         HasCauseOver job.takes_input result.status old new }
+    // A command that needs no file leaves the tree as it is.
+    ensures untouched { (job_for (map string_bytes words.now)).calls_tree ≡ false
+        → tree.new ≡ tree.old }
     ensures ran { let words = map string_bytes words.now in
         let told = told_by (T.files tree.old) (L.left input.old) (O.written out.old) in
         let put = of_report result.report in

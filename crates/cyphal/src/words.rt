@@ -2,10 +2,12 @@
 ghost use Rattle.std.specs.Prelude.{◌≡◌, ℕ, List, IfOk, OnErr, Some, is_some, map, option_map, string_bytes, true, false};
 ghost use Rattle.clap.specs.Words.{app_of};
 ghost use Rattle.clap.specs.Walk.{rule_of};
-ghost use Rattle.cyphal.specs.ClapShape.{given, one_shape, types_shape, two_shape};
-ghost use Rattle.cyphal.specs.Words.{Gen, asked_by, is_argument, are_types, are_arguments, one_given, two_given, types_given, named_of_one, named_of_two, named_of_types, named_of_plan, command_of};
+ghost use Rattle.cyphal.specs.ClapShape.{given, one_shape, two_shape, three_shape};
+ghost use Rattle.cyphal.specs.Words.{Gen, Monitor, Allocate, asked_by, is_argument, are_arguments, are_three, one_given, two_given, three_given, named_of_one, named_of_node, named_of_two, named_of_plan, named_of_three, command_of};
 
-use crate::number::number_of;
+use crate::node_id::NodeId;
+use crate::number::{node_of, number_of};
+use crate::remote_file::RemoteFile;
 use clap::{Arg, ArgAction, Command};
 use cy_bits::NoMemory;
 use std::alloc::Global;
@@ -47,10 +49,23 @@ pub enum Accepted<'a> {
     Gen {
         number: u32,
     },
+    /// Writes who is online in a log that the node `own` hears, and the network's time.
+    Monitor {
+        own: NodeId,
+    },
+    /// Gives node-IDs to the nodes of such a log that have none.
+    Allocate {
+        own: NodeId,
+    },
+    /// Fetches a file of another node over a log.
+    Fetch {
+        file: RemoteFile<'a>,
+    },
 }
 
 /// The command that the words are, so `compile ROOT`, `compat ROOT NEW OLD`, `encode ROOT TYPE`, `decode ROOT TYPE`,
-/// `run ROOT PLAN`, `bound ROOT PLAN` or `gen NUMBER`; none where they aren't accepted. It wants memory where they are.
+/// `run ROOT PLAN`, `bound ROOT PLAN`, `gen NUMBER`, `monitor NODE`, `allocate NODE` or `fetch NODE SERVER PATH`; none where
+/// they aren't accepted. It wants memory where they are.
 pub fn command_of<'a>(alloc: Global, words: &'a [String]) -> Result<Option<Accepted<'a>>, NoMemory>
     ensures is { let asked = command_of (map string_bytes words.entry.now) in
         IfOk result (λ given. option_map asked_by given ≡ asked) }
@@ -84,13 +99,18 @@ pub fn command_of<'a>(alloc: Global, words: &'a [String]) -> Result<Option<Accep
                 Ok(None)
             }
         }
-        [word, root, new, old] => {
-            if are_types(root.as_str(), new.as_str(), old.as_str()) {
-                match of_types(word.as_str(), root.as_str(), new.as_str(), old.as_str()) {
+        [word, first, second, third] => {
+            if are_three(first.as_str(), second.as_str(), third.as_str()) {
+                match of_three(
+                    word.as_str(),
+                    first.as_str(),
+                    second.as_str(),
+                    third.as_str(),
+                ) {
                     None => Ok(None),
                     Some(_) => {
-                        let (root, new, old) = types_words(alloc, words)?;
-                        Ok(of_types(word.as_str(), root, new, old))
+                        let (first, second, third) = three_words(alloc, words)?;
+                        Ok(of_three(word.as_str(), first, second, third))
                     }
                 }
             } else {
@@ -110,7 +130,7 @@ fn of_one<'a>(word: &str, argument: &'a str) -> Option<Accepted<'a>>
     } else if word == "gen" {
         of_number(number_of(argument.as_bytes()))
     } else {
-        None
+        of_node(word, node_of(argument.as_bytes()))
     }
 }
 
@@ -124,13 +144,37 @@ fn of_number<'a>(number: Option<u32>) -> Option<Accepted<'a>>
     }
 }
 
-/// The command of two types of a root that a word names.
-fn of_types<'a>(word: &str, root: &'a str, new: &'a str, old: &'a str) -> Option<Accepted<'a>>
+/// The command of a node that a word names, if there is a node.
+fn of_node<'a>(word: &str, node: Option<NodeId>) -> Option<Accepted<'a>>
+    ensures { let own = option_map (λ n. n.number) node in
+        option_map asked_by result ≡ named_of_node word.now own }
+{
+    if word == "monitor" {
+        Some(Accepted::Monitor { own: node? })
+    } else if word == "allocate" {
+        Some(Accepted::Allocate { own: node? })
+    } else {
+        None
+    }
+}
+
+/// The command of three arguments that a word names.
+fn of_three<'a>(word: &str, first: &'a str, second: &'a str, third: &'a str) -> Option<Accepted<'a>>
     ensures { option_map asked_by result
-        ≡ named_of_types word.now root.entry.now new.entry.now old.entry.now }
+        ≡ named_of_three word.now first.entry.now second.entry.now third.entry.now }
 {
     if word == "compat" {
-        Some(Accepted::Compat { root, new, old })
+        Some(Accepted::Compat {
+            root: first,
+            new: second,
+            old: third,
+        })
+    } else if word == "fetch" {
+        let own = node_of(first.as_bytes());
+        let server = node_of(second.as_bytes());
+        Some(Accepted::Fetch {
+            file: RemoteFile::new(own, server, third)?,
+        })
     } else {
         None
     }
@@ -187,11 +231,11 @@ fn are_arguments(root: &str, argument: &str) -> bool
     is_argument(root) && is_argument(argument)
 }
 
-/// Whether the arguments of a command of two types are accepted.
-fn are_types(root: &str, new: &str, old: &str) -> bool
-    ensures { result ≡ are_types root.now new.now old.now }
+/// Whether three arguments are accepted.
+fn are_three(first: &str, second: &str, third: &str) -> bool
+    ensures { result ≡ are_three first.now second.now third.now }
 {
-    is_argument(root) && is_argument(new) && is_argument(old)
+    is_argument(first) && is_argument(second) && is_argument(third)
 }
 
 /// A required argument with one value.
@@ -209,13 +253,13 @@ fn one_shape<'a>(alloc: Global) -> Result<Command<'a>, NoMemory>
     Ok(command)
 }
 
-fn types_shape<'a>(alloc: Global) -> Result<Command<'a>, NoMemory>
-    ensures { IfOk result (λ c. app_of c ≡ types_shape) }
+fn three_shape<'a>(alloc: Global) -> Result<Command<'a>, NoMemory>
+    ensures { IfOk result (λ c. app_of c ≡ three_shape) }
 {
     let command = Command::new(alloc, "cyphal")
-        .arg(given(alloc, "ROOT"))?
-        .arg(given(alloc, "NEW"))?
-        .arg(given(alloc, "OLD"))?;
+        .arg(given(alloc, "FIRST"))?
+        .arg(given(alloc, "SECOND"))?
+        .arg(given(alloc, "THIRD"))?;
     Ok(command)
 }
 
@@ -240,22 +284,22 @@ fn one_word<'a>(alloc: Global, words: &'a [String]) -> Result<&'a str, NoMemory>
     }
 }
 
-/// The arguments of accepted words that name two types. It refuses nothing, and wants memory.
-fn types_words<'a>(
+/// The arguments of accepted words that have three. It refuses nothing, and wants memory.
+fn three_words<'a>(
     alloc: Global,
     words: &'a [String],
 ) -> Result<(&'a str, &'a str, &'a str), NoMemory>
-    requires { is_some (types_given (map string_bytes words.now)) ≡ true }
-    ensures { let given = types_given (map string_bytes words.entry.now) in
+    requires { is_some (three_given (map string_bytes words.now)) ≡ true }
+    ensures { let given = three_given (map string_bytes words.entry.now) in
         IfOk result (λ got. given ≡ Some (got.0.now, got.1.now, got.2.now)) }
 {
-    let command = types_shape(alloc)?;
+    let command = three_shape(alloc)?;
     match command.try_get_matches_from(words) {
         Ok(matches) => {
-            let root = matches.get_str("ROOT").unwrap();
-            let new = matches.get_str("NEW").unwrap();
-            let old = matches.get_str("OLD").unwrap();
-            Ok((root, new, old))
+            let first = matches.get_str("FIRST").unwrap();
+            let second = matches.get_str("SECOND").unwrap();
+            let third = matches.get_str("THIRD").unwrap();
+            Ok((first, second, third))
         }
         Err(_) => Err(NoMemory),
     }

@@ -6,12 +6,15 @@ ghost use Rattle.cyphal.specs.Job.{outcome, told_by, is_fault, NotDone};
 ghost use Rattle.cyphal.specs.Cause.{outside, HasCauseOver};
 ghost use Rattle.cyphal.specs.Expected.{job_of, job_for, WasDone};
 
+use crate::jobs::allocate::allocate_nodes;
 use crate::jobs::bound::bound_plan;
 use crate::jobs::compat::compat_types;
 use crate::jobs::compile::compile_root;
 use crate::jobs::decoded::decode_lines;
 use crate::jobs::encoded::encode_lines;
+use crate::jobs::fetch::fetch_file;
 use crate::jobs::generated::generated;
+use crate::jobs::monitor::monitor_network;
 use crate::jobs::run::run_plan;
 use crate::words::{Accepted, command_of};
 use cy_outside::{Sink, Source, Tree};
@@ -38,6 +41,8 @@ pub fn work<T: Tree, L: Source, O: Sink, K: LineSink>(
         let old = outside (T.faults tree.old) (L.faults input.old) (O.faults out.old) input.old in
         let new = outside (T.faults tree.new) (L.faults input.new) (O.faults out.new) input.new in
         HasCauseOver job.takes_input result old new }
+    ensures untouched { (job_for (map string_bytes words.now)).calls_tree ≡ false
+        → tree.new ≡ tree.old }
     ensures ran { let words = map string_bytes words.now in
         let told = told_by (T.files tree.old) (L.left input.old) (O.written out.old) in
         let put = reported (K.lines lines.old) (K.lines lines.new) numbers.new in
@@ -74,6 +79,7 @@ fn carry_out<T: Tree, L: Source, O: Sink, K: LineSink>(
         let old = outside (T.faults tree.old) (L.faults input.old) (O.faults out.old) input.old in
         let new = outside (T.faults tree.new) (L.faults input.new) (O.faults out.new) input.new in
         HasCauseOver job.takes_input result old new }
+    ensures untouched { (job_of (asked_by given.entry)).calls_tree ≡ false → tree.new ≡ tree.old }
     ensures ran { let job = job_of (asked_by given.entry) in
         let told = told_by (T.files tree.old) (L.left input.old) (O.written out.old) in
         let put = reported (K.lines lines.old) (K.lines lines.new) numbers.new in
@@ -93,5 +99,8 @@ fn carry_out<T: Tree, L: Source, O: Sink, K: LineSink>(
         }
         Accepted::Bound { root, plan } => bound_plan(alloc, root, plan, tree, out),
         Accepted::Gen { number } => generated(alloc, number, out),
+        Accepted::Monitor { own } => monitor_network(alloc, own, input, out),
+        Accepted::Allocate { own } => allocate_nodes(alloc, own, input, out),
+        Accepted::Fetch { file } => fetch_file(alloc, file, input, out),
     }
 }

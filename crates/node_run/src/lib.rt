@@ -11,7 +11,7 @@ pub mod values;
 pub use frame_log::LogWhy;
 pub use log::bound_text::bound;
 pub use log::generated::run_gen;
-pub use log::run::{run_log, run_over};
+pub use log::run::{run_log, run_over, status_of};
 pub use report::Report;
 pub use status::Status;
 pub use types::compared::compat;

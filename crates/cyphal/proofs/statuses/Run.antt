@@ -4,22 +4,16 @@ use Rattle.clap.proofs.WalkLemmas.{both}
 use Rattle.dsdl_resolve.specs.Laws.{HaveOneAnswer}
 use Rattle.node_plan.specs.declared.plan.Plan.{Plan}
 use Rattle.frame_log.specs.Log.{Log, log_of}
-use Rattle.node_run.specs.Ran.{Reported, Ran, HasRun, names_of, refused, refusal_of}
-use Rattle.frame_log.specs.declared.error.LogWhy.{LogWhy}
-use Rattle.frame_log.specs.declared.error.LogWhy.TheVariants as why
+use Rattle.node_run.specs.Ran.{Reported, Ran, HasRun, names_of}
 use Rattle.node_run.specs.declared.status.Status.{Status}
 use Rattle.node_run.specs.declared.status.Status.TheVariants as status
 use Rattle.cyphal.specs.Cause.{is_refused}
 use Rattle.cyphal.specs.Job.{is_fault}
-use Rattle.cyphal.specs.jobs.Run.{ending, over, run_job}
+use Rattle.cyphal.specs.LogEnds.{ending}
+use Rattle.cyphal.specs.jobs.Run.{over, run_job}
+use Rattle.cyphal.proofs.LogEnds.{named, one_log_end}
 use Rattle.cyphal.proofs.Plans.{one_end}
 use Rattle.cyphal.proofs.statuses.Single.{IsSingle}
-
-named : (n : ℕ) (w : LogWhy) → refused (refusal_of n w) ≡ status.Log n w
-named n why.BadLine = refl
-named n why.TimeBack = refl
-named n why.UnknownBus = refl
-named n why.TooFar = refl
 
 -- a status that is no fault is that of the log's end
 ended_so : (plan : Plan) (log : Log) (stat : Status) (put : Reported) (before after : Option (List ℕ)) → is_fault stat ≡ false → Ran plan log stat put before after → stat ≡ ending log.refusal
@@ -62,12 +56,7 @@ no_refusal plan log status.NoMemory put before after h r = absurd cc
 pub run_not_refused : (plan : Plan) (input : Option (List ℕ)) (stat : Status) (put : Reported) (before after : Option (List ℕ)) → is_refused stat ≡ true → HasRun plan input stat put before after → ⊥
 run_not_refused plan input stat put before after h r = no_refusal plan (log_of (names_of plan) r.bytes) stat put before after h r.ran
 
--- where the input is told, a log has one end
-one_over : (input : Option (List ℕ)) → is_some input ≡ true → (plan : Plan) (s t : Status) → over input plan s → over input plan t → s ≡ t
-one_over None h plan s t a b = absurd cc
-one_over (Some bytes) h plan s t a b = a ∙ sym b
-
 pub single : HaveOneAnswer → (root path : List ℕ) → IsSingle (run_job root path)
 single law root path told s t h a b =
     let all = both (is_some told.files) (is_some told.input) h in
-    one_end law root path (over told.input) (one_over told.input all.1) told.files all.0 s t a b
+    one_end law root path (over told.input) (λ plan. one_log_end (names_of plan) told.input all.1) told.files all.0 s t a b

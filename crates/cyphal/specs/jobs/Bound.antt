@@ -20,6 +20,7 @@ pub record HasBoundAt (root path : List ℕ) (files : Option Files)
 
 abbrev pub bound_job : List ℕ → List ℕ → Job
 bound_job root path = record {
+  calls_tree = true;
   takes_input = false;
   is_told = λ told. is_some told.files;
   expects = λ told stat. EndsAt bounded root path told.files stat;

@@ -27,6 +27,7 @@ pub record HasComparedAt (root new old : List ℕ) (files : Option Files)
 -- no files are needed where the root is `none`
 abbrev pub compat_job : List ℕ → List ℕ → List ℕ → Job
 compat_job root new old = record {
+  calls_tree = true;
   takes_input = false;
   is_told = λ told. is_none root || is_some told.files;
   expects = λ told stat. Compares root new old told.files stat;

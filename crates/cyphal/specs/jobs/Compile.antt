@@ -24,6 +24,7 @@ pub record HasCompiledAt (root : List ℕ) (files : Option Files) (print : Print
 -- no files are needed where the root is `none`
 abbrev pub compile_job : List ℕ → Job
 compile_job root = record {
+  calls_tree = true;
   takes_input = false;
   is_told = λ told. is_none root || is_some told.files;
   expects = λ told stat. Compiles root told.files stat;

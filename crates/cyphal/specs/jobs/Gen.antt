@@ -10,6 +10,7 @@ HasGeneratedAt number print = HasGenerated number print.status print.before prin
 
 abbrev pub gen_job : ℕ → Job
 gen_job number = record {
+  calls_tree = false;
   takes_input = false;
   is_told = λ told. true;
   expects = λ told stat. stat ≡ status.Ok;

@@ -34,6 +34,7 @@ pub record HasAnsweredAt (answers : Answering) (root name : List ℕ) (files : O
 -- no files are needed where the root is `none`
 abbrev pub values_job : Answering → List ℕ → List ℕ → Job
 values_job answers root name = record {
+  calls_tree = true;
   takes_input = true;
   is_told = λ told. (is_none root || is_some told.files) && is_some told.input;
   expects = λ told stat. AnswersLines answers root name told stat;

@@ -95,8 +95,8 @@ pub fn run_log<L: Source, O: Sink>(
     status
 }
 
-/// The status of a run, by how its loop over the log ended.
-fn status_of(ended: Ended) -> Status
+/// The status of a command that hears a log, by how its loop over the log ended.
+pub fn status_of(ended: Ended) -> Status
     ensures { result ≡ status_of ended }
 {
     match ended {

@@ -12,3 +12,13 @@ returns-in-Gen-clause-cause g c =
       write = h.write;
       kept = λ e. (refl, refl, (h.kept e).1);
     }
+
+-- what hears a log without a plan is given no tree
+pub returns-in-Monitor-clause-cause : goal.returns-in-Monitor-clause-cause
+returns-in-Monitor-clause-cause g c = c.monitor_network.ensures.cause (g.T.Tree.faults c.args.tree.now)
+
+pub returns-in-Allocate-clause-cause : goal.returns-in-Allocate-clause-cause
+returns-in-Allocate-clause-cause g c = c.allocate_nodes.ensures.cause (g.T.Tree.faults c.args.tree.now)
+
+pub returns-in-Fetch-clause-cause : goal.returns-in-Fetch-clause-cause
+returns-in-Fetch-clause-cause g c = c.fetch_file.ensures.cause (g.T.Tree.faults c.args.tree.now)

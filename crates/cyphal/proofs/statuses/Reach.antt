@@ -1,0 +1,86 @@
+-- The status of a command that hears a log without a plan is that of the log's end.
+use Rattle.std.proofs.Common.{◌≡◌, ◌∙◌, inr, ℕ, true, false, List, Option, Some, None, refl, sym, ap, subst}
+use Rattle.cy_outside.specs.Outside.{Rose}
+use Rattle.frame_log.specs.Log.{Log, log_of}
+use Rattle.tail_frame.specs.declared.logged.Record.{Record}
+use Rattle.log_loop.specs.Gone.{Gone, HasGone}
+use Rattle.log_loop.specs.Voice.{Voice}
+use Rattle.log_loop.specs.declared.ended.Ended.{Ended}
+use Rattle.log_loop.specs.declared.ended.Ended.TheVariants as end
+use Rattle.node_reach.specs.Buses.{bus_names}
+use Rattle.node_run.specs.Ran.{status_of}
+use Rattle.node_run.specs.declared.status.Status.{Status}
+use Rattle.node_run.specs.declared.status.Status.TheVariants as status
+use Rattle.cyphal.specs.Cause.{Outside, is_refused, HasCauseOver}
+use Rattle.cyphal.specs.Job.{is_fault}
+use Rattle.cyphal.specs.LogEnds.{ending, EndsAsLog}
+use Rattle.cyphal.specs.jobs.Reach.{reach_job}
+use Rattle.cyphal.proofs.LogEnds.{named, one_log_end}
+use Rattle.cyphal.proofs.statuses.Single.{IsSingle}
+
+pub single : (said : Voice) → IsSingle (reach_job said)
+single said told s t h a b = one_log_end bus_names told.input h s t a b
+
+module _ (said : Voice) (heard broke : List Record → Type 0) where
+  -- an end that is no fault is that of the log
+  ended_so : (log : Log) (ended : Ended) (before after : Option (List ℕ)) → is_fault (status_of ended) ≡ false → Gone said heard broke log ended before after → status_of ended ≡ ending log.refusal
+  ended_so log end.Ok before after h g = ap ending (sym g.0)
+  ended_so log (end.Log line w) before after h g = sym (ap ending g.0 ∙ named line w)
+  ended_so log end.LogLong before after h g = ap ending (sym g.0)
+  ended_so log end.ReadFault before after h g = absurd cc
+  ended_so log end.WriteFault before after h g = absurd cc
+  ended_so log end.NoMemory before after h g = absurd cc
+
+  -- of the log that the input has, where it is told
+  pub ends_as_log : (input : Option (List ℕ)) (ended : Ended) (before after : Option (List ℕ)) (stat : Status) → stat ≡ status_of ended → is_fault stat ≡ false → HasGone said heard broke input ended before after → EndsAsLog said.names input stat
+  ends_as_log None ended before after stat e h g = tt
+  ends_as_log (Some bytes) ended before after stat e h g =
+      e ∙ ended_so (log_of said.names g.bytes) ended before after (sym (ap is_fault e) ∙ h) g.gone ∙ ap (λ (b : List ℕ). ending (log_of said.names b).refusal) g.is
+
+-- no end of a log is a refusal before it
+no_refusal : (ended : Ended) → is_refused (status_of ended) ≡ true → ⊥
+no_refusal end.Ok e = absurd cc
+no_refusal (end.Log line w) e = absurd cc
+no_refusal end.LogLong e = absurd cc
+no_refusal end.ReadFault e = absurd cc
+no_refusal end.WriteFault e = absurd cc
+no_refusal end.NoMemory e = absurd cc
+
+-- each status is that of one end
+read_end : (ended : Ended) → status_of ended ≡ status.ReadFault → ended ≡ end.ReadFault
+read_end end.Ok e = absurd cc
+read_end (end.Log line w) e = absurd cc
+read_end end.LogLong e = absurd cc
+read_end end.ReadFault e = refl
+read_end end.WriteFault e = absurd cc
+read_end end.NoMemory e = absurd cc
+
+write_end : (ended : Ended) → status_of ended ≡ status.WriteFault → ended ≡ end.WriteFault
+write_end end.Ok e = absurd cc
+write_end (end.Log line w) e = absurd cc
+write_end end.LogLong e = absurd cc
+write_end end.ReadFault e = absurd cc
+write_end end.WriteFault e = refl
+write_end end.NoMemory e = absurd cc
+
+whole_end : (ended : Ended) → status_of ended ≡ status.Ok → ended ≡ end.Ok
+whole_end end.Ok e = refl
+whole_end (end.Log line w) e = absurd cc
+whole_end end.LogLong e = absurd cc
+whole_end end.ReadFault e = absurd cc
+whole_end end.WriteFault e = absurd cc
+whole_end end.NoMemory e = absurd cc
+
+pub no_usage : (ended : Ended) (stat : Status) → stat ≡ status_of ended → stat ≡ status.Usage → ⊥
+no_usage ended stat e u = no_refusal ended (sym (ap is_refused e) ∙ ap is_refused u)
+
+-- the cause of a command that is given no tree
+pub cause_of : {L : Type 0} (ended : Ended) (stat : Status) → stat ≡ status_of ended → (old new : Outside L) → new.tree ≡ old.tree → (ended ≡ end.ReadFault → Rose old.input new.input)
+    → (ended ≡ end.WriteFault → Rose old.out new.out) → (ended ≡ end.Ok → (new.input ≡ old.input) × (new.out ≡ old.out)) → HasCauseOver true stat old new
+cause_of ended stat e old new tree read write kept = record {
+  read = λ s. inr (read (read_end ended (sym e ∙ s)));
+  unread = λ s. absurd cc;
+  refused = λ s. absurd (no_refusal ended (sym (ap is_refused e) ∙ s));
+  write = λ s. write (write_end ended (sym e ∙ s));
+  kept = λ s. (tree, kept (whole_end ended (sym e ∙ s)));
+}
