@@ -16,12 +16,7 @@ use std::alloc::Global;
 
 /// The plan at a path, read in the namespace of a root, or how a command ends for want of it. The root comes first: where
 /// it has no namespace, nothing of the plan is read.
-pub fn plan_at<T: Tree>(
-    alloc: Global,
-    root: &str,
-    path: &str,
-    tree: &mut T,
-) -> Result<Plan, Status>
+pub fn plan_at<T: Tree>(alloc: Global, root: &str, path: &str, tree: &mut T) -> Result<Plan, Status>
     ensures plan { IfOk result (PlanAt root.now path.now (T.files tree.old)) }
     ensures sound { IfOk result IsPlan }
     ensures kept { OnOk result (T.faults tree.new ≡ T.faults tree.old) }

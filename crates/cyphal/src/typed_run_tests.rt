@@ -18,10 +18,7 @@ const FILES: &[(&str, &[u8])] = &[
         b"uint32 uptime\nHealth.1.0 health\nMode.1.0 mode\n\
       uint8 vendor_specific_status_code\n@extent 96\n",
     ),
-    (
-        "large/demo/Big.1.0.dsdl",
-        b"uint8 a\n@extent 2147483648\n",
-    ),
+    ("large/demo/Big.1.0.dsdl", b"uint8 a\n@extent 2147483648\n"),
     ("refused/demo/A.1.0.dsdl", b"uint8 a\n"),
 ];
 

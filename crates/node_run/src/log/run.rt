@@ -45,7 +45,7 @@ pub fn run_over<L: Source, O: Sink, K: LineSink>(
     ensures held { numbers.new.held ≤ numbers.new.bound }
 {
     let names = names_of(&plan);
-    let mut writer = LineWriter::new(&plan.buses);
+    let mut writer = LineWriter::new(alloc, &plan.buses);
     let bound = bound(&plan);
     *numbers = Tally::new(0, bound).numbers;
     let Ok(mut node) = Node::open(alloc, plan) else {
