@@ -102,13 +102,24 @@ fn reads(rt: HostRuntime) -> Result<(), Fail> {
         assert_eq!(rt; done.code, code);
         assert_eq!(rt; &buf[..done.count], bytes);
     }
-    let calls = tree.calls.next;
+    Ok(())
+}
+
+#[test]
+fn invalid_paths(rt: HostRuntime) -> Result<(), Fail> {
+    let alloc = rt.alloc();
+    let served = served(alloc)?;
+    let mut tree = tree(alloc, &[0])?;
     for path in INVALID {
-        let mut buf = [0; 256];
+        let mut buf = [7; 256];
         let done = served.read(alloc, &mut tree, path, 0, &mut buf)?;
         assert_eq!(rt; done, ReadDone { code: 22, count: 0 });
+        assert_eq!(rt; served.info(alloc, &mut tree, path)?.error.value, 22);
+        let list = served.list(alloc, &mut tree, path, 0)?;
+        assert_eq!(rt; list.name.as_str(), "");
+        assert!(rt; !list.failed);
     }
-    assert_eq!(rt; tree.calls.next, calls);
+    assert_eq!(rt; tree.calls.next, 0);
     Ok(())
 }
 
