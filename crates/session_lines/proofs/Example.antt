@@ -4,7 +4,6 @@ use Rattle.std.specs.Prelude.{pos}
 use Rattle.std.proofs.lemmas.List.Elements.{All-nil, All-cons}
 use Rattle.can_id.specs.declared.key.Kind.TheVariants.{Message}
 use Rattle.cy_bits.specs.Bits.{bits_of, number}
-use Rattle.dsdl_types.specs.Encoding.{own_bits}
 use Rattle.dsdl_types.specs.Laws.{encoding}
 use Rattle.dsdl_types.specs.Newer.{Newer, newer_struct, newer_field, newer_simple, added}
 use Rattle.dsdl_types.specs.Rules.{IsSchema}
