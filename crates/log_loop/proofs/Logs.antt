@@ -1,5 +1,5 @@
 -- A log, of which some records came.
-use Rattle.std.proofs.Common.{◌≡◌, ℕ, ◌<◌, ◌≤◌, List, [], ◌∷◌, length, refl, arith}
+use Rattle.std.proofs.Common.{◌≡◌, ℕ, suc, ◌<◌, ◌≤◌, List, [], ◌∷◌, length, All, refl, arith}
 use mathlib.Core.List.{reverse_aux}
 use Rattle.tail_frame.specs.declared.logged.Record.{Record}
 use Rattle.frame_log.specs.Log.{Log}
@@ -25,6 +25,11 @@ ahead_in (r ∷ past) rest h =
     let i = ahead_in past (r ∷ rest) h in
     let fewer : length past ≤ line_of past = i.1 in
     let behind : line_of past < r.line = i.0.1 in (i.0.2, omega arith)
+
+-- what holds of each record holds of those behind the ones that came
+pub all_in : (P : Record → Type 0) (past rest : List Record) → All P (reverse_aux past rest) → All P rest
+all_in P [] rest h = h
+all_in P (r ∷ past) rest h = let i = all_in P past (r ∷ rest) h in λ k d below. i (suc k) d (omega arith)
 
 -- the records behind those that came
 pub newest_onto : (past rest : List Record) → reverse_aux (reverse_aux past rest) [] ≡ reverse_aux rest past

@@ -1,12 +1,12 @@
 -- From what is said on the records that came to a whole run.
 use Rattle.std.specs.Prelude.{unwrap_or, IfSome}
-use Rattle.std.proofs.Common.{◌≡◌, ◌∙◌, ◌^◌, ℕ, List, [], ◌∷◌, ◌++◌, ◌<◌, ◌≤◌, true, false, length, Option, Some, None, Ok, Err, refl, sym, ap, subst, append_assoc, append-nil, inl, inr, arith}
+use Rattle.std.proofs.Common.{◌≡◌, ◌∙◌, ◌^◌, ℕ, List, [], ◌∷◌, ◌++◌, ◌<◌, ◌≤◌, true, false, length, Option, Some, None, Ok, Err, All, refl, sym, ap, subst, append_assoc, append-nil, inl, inr, arith}
 use mathlib.Core.List.{reverse_aux}
 use Rattle.tail_frame.specs.declared.logged.Record.{Record}
 use Rattle.cy_outside.specs.Written.{behind, Begins}
 use Rattle.frame_log.specs.Log.{Log, ended, log_of, start}
 use Rattle.frame_log.specs.Input.{IsAtEnd}
-use Rattle.frame_log.specs.Order.{IsAhead}
+use Rattle.frame_log.specs.Order.{IsAhead, IsFit}
 use Rattle.frame_log.specs.Line.{cut}
 use Rattle.frame_log.specs.Reader.{buses_of, bytes_left, held_of, place_of, saw_end, log_behind}
 use Rattle.frame_log.specs.declared.reader.LogReader.{LogReader}
@@ -17,7 +17,7 @@ use Rattle.log_loop.specs.Next.{GoesOn, Writes}
 use Rattle.log_loop.specs.Taken.{whole_records, IsOfTaken}
 use Rattle.log_loop.specs.declared.next.Stop.{Stop}
 use Rattle.log_loop.specs.declared.next.Stop.TheVariants as stop
-use Rattle.log_loop.proofs.Logs.{onto, newest_onto, latest_of, line_of, ahead_in}
+use Rattle.log_loop.proofs.Logs.{onto, newest_onto, latest_of, line_of, ahead_in, all_in}
 use Rattle.log_loop.proofs.Written.{begins_more, begins_front, begins_gathered, begins_end, gathered_end, gathered_less, gathered_more, all_written, begins_none}
 use Rattle.log_loop.proofs.Taken.{fill, plain_fill, length_fill, plain_cut, records_whole, none_behind}
 use Rattle.log_loop.proofs.Came.{took_more, log_after, Reads, Has, HasNext, has_log, has_next}
@@ -142,6 +142,14 @@ next_order law names told left reader past rec r =
     let is = r.log [] (λ _. refl) in
     let all : IsAhead 0 0 (reverse_aux past (rec ∷ (log_behind reader []).records)) = subst (λ (l : Log). IsAhead 0 0 l.records) is (law names (r.came ++ [])) in
     let a = ahead_in past (rec ∷ (log_behind reader []).records) all in (a.0.0, a.0.1)
+
+-- and has a moment below 10 ^ 18
+pub next_low : ((buses : List (List ℕ)) (bytes : List ℕ) → All (IsFit buses) (log_of buses bytes).records) → (names : List (List ℕ)) (told left : Option (List ℕ)) (reader : LogReader) (past : List Record) (rec : Record)
+    → Reads names told left reader (rec ∷ past) → rec.moment < 10 ^ 18
+next_low law names told left reader past rec r =
+    let is = r.log [] (λ _. refl) in
+    let all : All (IsFit names) (reverse_aux past (rec ∷ (log_behind reader []).records)) = subst (λ (l : Log). All (IsFit names) l.records) is (law names (r.came ++ [])) in
+    let a = all_in (IsFit names) past (rec ∷ (log_behind reader []).records) all in (a 0 rec (omega arith)).3
 
 -- the text of one more step is gathered
 pub gathered_step : (v : Voice) (past : List Record) (rec : Record) (gathered next : List ℕ) (before after : Option (List ℕ)) → Gathered (said v past) gathered before after

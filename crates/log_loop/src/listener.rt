@@ -1,4 +1,4 @@
-ghost use Rattle.std.specs.Prelude.{◌≡◌, ◌≤◌, ◌<◌, ◌++◌, ◌∷◌, ℕ, List, length, OnOk, OnErr};
+ghost use Rattle.std.specs.Prelude.{◌≡◌, ◌≤◌, ◌<◌, ◌^◌, ◌++◌, ◌∷◌, ℕ, List, length, OnOk, OnErr};
 ghost use Rattle.tail_frame.specs.declared.logged.Record.{Record};
 ghost use Rattle.line_text.specs.Buffer.{text_of};
 
@@ -29,6 +29,7 @@ pub trait Listener {
     /// Hears a record, and gathers what it says on it.
     fn hear(&mut self, rec: &Record, gathered: &mut TextBuffer) -> Result<(), NoMemory>
         requires moment { latest self.old ≤ rec.now.moment }
+        requires moment_low { rec.now.moment < 10 ^ 18 }
         requires line { line self.old < rec.now.line }
         requires few { length (text_of gathered.old) ≤ 65536 }
         ensures heard { OnOk result ((first : Self) (past : List Record)

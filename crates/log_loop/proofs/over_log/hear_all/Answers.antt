@@ -9,7 +9,7 @@ use Rattle.log_loop.specs.Gone.{HasGone}
 use Rattle.log_loop.specs.Streamed.{IsStreamed}
 use Rattle.log_loop.specs.declared.ended.Ended.{Ended}
 use Rattle.log_loop.proofs.Streams.{streams_none, streams_next, open_before, grew_gathered, streamed_stopped, streamed_wanting, streamed_finished}
-use Rattle.log_loop.proofs.Runs.{has_stopped, has_taken, not_read_fault, has_wanted, has_finished, next_order, gathered_step, begins_step}
+use Rattle.log_loop.proofs.Runs.{has_stopped, has_taken, not_read_fault, has_wanted, has_finished, next_order, next_low, gathered_step, begins_step}
 use Rattle.log_loop.proofs.over_log.hear_all.Goals as goal
 
 pub returns-in-Err-clause-gone : goal.returns-in-Err-clause-gone
@@ -52,6 +52,14 @@ hear-requires-clause-moment g c =
     let more = reads_more names (left c.args.input.now) (left c.records.input) (left c.next.new.input) c.records.reader c.next.new.reader i.past c.next.new.written i.reads (rw c.in-Ok-true.field-0-test at c.in-Ok-true.ensures.log) c.in-Ok-true.ensures.end in
     let order = next_order c.ordered.ensures.order names (left c.args.input.now) (left c.next.new.input) c.next.new.reader i.past c.next.new.written more in
     omega (arith, order.0, i.latest)
+
+pub hear-requires-clause-moment_low : goal.hear-requires-clause-moment_low
+hear-requires-clause-moment_low g c =
+    let i = c.records.invariant in
+    let names = buses_of c.args.reader.now in
+    let left = g.L.Source.left in
+    let more = reads_more names (left c.args.input.now) (left c.records.input) (left c.next.new.input) c.records.reader c.next.new.reader i.past c.next.new.written i.reads (rw c.in-Ok-true.field-0-test at c.in-Ok-true.ensures.log) c.in-Ok-true.ensures.end in
+    next_low c.ordered.ensures.fit names (left c.args.input.now) (left c.next.new.input) c.next.new.reader i.past c.next.new.written more
 
 pub hear-requires-clause-line : goal.hear-requires-clause-line
 hear-requires-clause-line g c =

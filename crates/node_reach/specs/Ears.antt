@@ -1,0 +1,38 @@
+-- What a node that listens has heard, and what it tells of a record.
+use Rattle.std.specs.Prelude.{◌≡◌, ◌≤◌, ℕ, List, [], ◌∷◌, Option, Some, None, ⊤}
+use Rattle.rx_table.specs.Heard.{frames, frame_for}
+use Rattle.rx_table.specs.Places.{table_answer}
+use Rattle.rx_table.specs.Ports.{PortState}
+use Rattle.rx_table.specs.Table.{StandsFor, keyed}
+use Rattle.rx_table.specs.Views.{states_of, subscriptions}
+use Rattle.rx_table.specs.declared.fed.Met.{Met}
+use Rattle.tail_frame.specs.Frames.{FrameOf}
+use Rattle.tail_frame.specs.declared.logged.Record.{Record}
+use Rattle.node_reach.specs.PortTypes.{type_schema}
+use Rattle.node_reach.specs.Told.{answered}
+use Rattle.node_reach.specs.Transfers.{Transfer, Ears}
+use Rattle.node_reach.specs.declared.ear.Ear.{Ear}
+
+abbrev pub states_in : Ear → List PortState
+states_in ear = states_of type_schema ear.table
+
+-- no record is after this moment
+abbrev pub AllUpTo : ℕ → List Record → Type 0
+AllUpTo moment [] = ⊤
+AllUpTo moment (rec ∷ past) = (rec.moment ≤ moment) × AllUpTo moment past
+
+-- it listens with these ears, and stands for these records
+pub record Hears (ears : Ears) (ear : Ear) (past : List Record) : Type 0 where
+  pub own : ear.own ≡ ears.own
+  pub timeout : ear.table.timeout ≡ ears.timeout
+  pub ports : subscriptions type_schema ear.table ≡ ears.ports
+  pub sessions : StandsFor ears.timeout (frames ears.own past) (states_in ear)
+  pub moments : AllUpTo ear.latest past
+
+abbrev pub told_of : Ear → Option FrameOf → Met → Option Transfer
+told_of ear None met = None
+told_of ear (Some f) met = answered (keyed f) (table_answer (states_in ear) f.body met)
+
+-- the transfer that the ear tells of a record, by what that came to
+unfoldable pub told : Ear → Record → Met → Option Transfer
+told ear rec met = told_of ear (frame_for ear.own rec) met

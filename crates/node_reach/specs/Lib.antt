@@ -1,0 +1,13 @@
+pub mod Buses
+pub mod Anything
+pub mod Readings
+pub mod Lines
+pub mod Allocated
+pub mod Allocates
+pub mod Transfers
+pub mod Monitored
+pub mod InTime
+pub mod PortTypes
+pub mod Told
+pub mod Ears
+pub mod Monitors

@@ -1,0 +1,30 @@
+-- What is kept of heartbeats and of messages of time.
+use Rattle.std.specs.Prelude.{◌≡◌, ℕ, List, length}
+use Rattle.dsdl_types.specs.Views.{sch}
+use Rattle.net_monitor.specs.Beats.{Beat}
+use Rattle.net_monitor.specs.Stands.{Stands}
+use Rattle.std_types.specs.Types.{schema_of}
+use Rattle.std_types.specs.declared.std_name.StdName.TheVariants.{Heartbeat, Synchronization}
+use Rattle.tail_frame.specs.declared.logged.Record.{Record}
+use Rattle.time_sync.specs.Pairs.{Message}
+use Rattle.time_sync.specs.Stands.{Stands as StandsFor}
+use Rattle.node_reach.specs.Ears.{Hears}
+use Rattle.node_reach.specs.Monitored.{latest_beat, latest_message, last_moment, monitor_ears, beats, messages}
+use Rattle.node_reach.specs.declared.monitoring.Monitoring.{Monitoring}
+use Rattle.node_reach.specs.declared.network.Network.{Network}
+
+-- these heartbeats and these messages of time are known
+pub record Knows (network : Network) (beats : List Beat) (messages : List Message) : Type 0 where
+  pub beats_are : Stands beats network.monitor
+  pub messages_are : StandsFor messages network.sync
+  pub beat_typed : sch network.beat_type.schema ≡ schema_of Heartbeat
+  pub message_typed : sch network.message_type.schema ≡ schema_of Synchronization
+  pub latest_beat_is : network.latest_beat ≡ latest_beat beats
+  pub latest_message_is : network.latest_message ≡ latest_message messages
+
+-- a monitor with this node-ID heard these records
+pub record Monitors (own : ℕ) (now : Monitoring) (past : List Record) : Type 0 where
+  pub hears : Hears (monitor_ears own) now.ear past
+  pub knows : Knows now.network (beats own past) (messages own past)
+  pub latest : now.ear.latest ≡ last_moment past
+  pub records : now.records ≡ length past

@@ -1,0 +1,222 @@
+//! An allocator that hears a log.
+ghost use Rattle.std.specs.Prelude.{◌≤◌, ◌<◌};
+
+use crate::answer::{MOST, write_answer};
+use crate::lines::{Outgoing, put_end, put_full, put_given, put_transfer};
+use crate::payload::reading;
+use can_id::{Ident, make};
+use cy_bits::NoMemory;
+use line_text::TextBuffer;
+use log_loop::Listener;
+use pnp_alloc::{AllocEvent, AllocOut, Allocator};
+use std::alloc::Global;
+use std_types::allocation::NodeIdAllocation;
+use std_types::{Standard, StdName, std_type};
+use tail_frame::{Record, frame_of};
+
+/// The subject of `uavcan.pnp.NodeIDAllocationData.1.0`.
+const SUBJECT: u16 = 8166;
+
+/// An allocator, and what it takes to hear a log.
+#[derive(Drop)]
+pub struct Allocating {
+    alloc: Global,
+    /// The own node-ID, at most 127.
+    pub own: u8,
+    /// Who was given which node-ID.
+    pub allocator: Allocator,
+    /// The transfer-ID of the next answer.
+    pub tid: u8,
+    /// How many records it heard.
+    pub records: u64,
+    ghost node: { own ≤ 127 },
+    ghost cyclic: { tid < 32 },
+}
+
+impl Allocating {
+    ghost use Rattle.std.specs.Prelude.{◌≡◌, ◌%◌, ◌++◌, ◌∷◌, [], List, Some, OnOk, IfOk, IfSome, ℕ};
+    ghost use Rattle.line_text.specs.Buffer.{text_of};
+    ghost use Rattle.pnp_alloc.specs.Stands.{IsFit};
+    ghost use Rattle.pnp_alloc.specs.declared.event.AllocEvent.{AllocEvent as Event};
+    ghost use Rattle.pnp_alloc.specs.declared.event.AllocEvent.TheVariants.{Wanted};
+    ghost use Rattle.node_reach.specs.Allocated.{seen_by, wanted, event_of, answer_lines, event_text};
+    ghost use Rattle.node_reach.specs.Allocates.{Allocates, HasAnswered};
+
+    /// An allocator with this node-ID of its own that heard nothing yet.
+    pub(crate) fn new(alloc: Global, own: u8) -> Allocating
+        requires { own ≤ 127 }
+        ensures own { result.own ≡ own }
+        ensures allocates { Allocates own result [] }
+        ensures records { result.records ≡ 0 }
+    {
+        Allocating {
+            alloc,
+            own,
+            allocator: Allocator::new(own),
+            tid: 0,
+            records: 0,
+        }
+    }
+
+    /// The event of a record, if it is one.
+    fn event(&self, rec: &Record) -> Result<Option<AllocEvent>, NoMemory>
+        ensures event { IfOk result (λ event. event ≡ event_of self.now.own rec.now) }
+        ensures fit { IfOk result (λ event. IfSome event IsFit) }
+    {
+        let Some(frame) = frame_of(rec) else {
+            return Ok(None);
+        };
+        let key = frame.ident.key();
+        match key.source {
+            Some(source) => Ok(self.seen(source)),
+            None => {
+                if key.port == SUBJECT {
+                    self.wanted(frame.body)
+                } else {
+                    Ok(None)
+                }
+            }
+        }
+    }
+
+    /// The event of a frame of a source, which isn't one where the source is the own node.
+    fn seen(&self, source: u8) -> Option<AllocEvent>
+        requires { source < 128 }
+        ensures event { result ≡ seen_by self.now.own source }
+        ensures fit { IfSome result IsFit }
+    {
+        if source == self.own {
+            None
+        } else {
+            Some(AllocEvent::Seen { node: source })
+        }
+    }
+
+    /// The event of an anonymous message on the subject of allocation, if it is one.
+    fn wanted(&self, payload: &[u8]) -> Result<Option<AllocEvent>, NoMemory>
+        ensures event { IfOk result (λ event. event ≡ wanted payload.now) }
+        ensures fit { IfOk result (λ event. IfSome event IsFit) }
+    {
+        let standard = std_type(self.alloc, StdName::NodeIdAllocation)?;
+        let Some(value) = reading(self.alloc, &standard, payload)? else {
+            return Ok(None);
+        };
+        let message = NodeIdAllocation::of_value(self.alloc, &value)?;
+        if message.allocated_node_id.is_empty() {
+            Ok(Some(AllocEvent::Wanted {
+                uid: message.unique_id_hash,
+            }))
+        } else {
+            Ok(None)
+        }
+    }
+
+    /// Takes an event, and gathers what is said on it.
+    fn take(
+        &mut self,
+        moment: u64,
+        event: AllocEvent,
+        gathered: &mut TextBuffer,
+    ) -> Result<(), NoMemory>
+        requires { IsFit event }
+        ensures records { self.new.records ≡ self.old.records }
+        ensures answered { OnOk result ((own : ℕ) (past : List Event) → HasAnswered own self.old past
+            → HasAnswered own self.new (event ∷ past)) }
+        ensures text { OnOk result ((own : ℕ) (past : List Event) → HasAnswered own self.old past
+            → text_of gathered.new
+            ≡ text_of gathered.old ++ event_text own moment (Some event) past) }
+    {
+        match event {
+            AllocEvent::Seen { node: _node } => {
+                let _noted = self.allocator.hear(event);
+                Ok(())
+            }
+            AllocEvent::Wanted { uid } => self.answer(moment, uid, gathered),
+        }
+    }
+
+    /// Answers a unique id that wants a node-ID.
+    fn answer(&mut self, moment: u64, uid: u64, gathered: &mut TextBuffer) -> Result<(), NoMemory>
+        ensures records { self.new.records ≡ self.old.records }
+        ensures answered { OnOk result ((own : ℕ) (past : List Event) → HasAnswered own self.old past
+            → HasAnswered own self.new (Wanted uid ∷ past)) }
+        ensures text { OnOk result ((own : ℕ) (past : List Event) → HasAnswered own self.old past
+            → text_of gathered.new
+            ≡ text_of gathered.old ++ event_text own moment (Some (Wanted uid)) past) }
+    {
+        match self.allocator.hear(AllocEvent::Wanted { uid }) {
+            AllocOut::Noted => Ok(()),
+            AllocOut::Given { node } => {
+                put_given(gathered, moment, node, uid)?;
+                self.send(moment, uid, node, gathered)?;
+                self.tid = (self.tid + 1) % 32;
+                Ok(())
+            }
+            AllocOut::Full => put_full(gathered, moment, uid),
+        }
+    }
+
+    /// Gathers the lines of the message by which a unique id is given a node-ID.
+    fn send(
+        &self,
+        moment: u64,
+        uid: u64,
+        node: u8,
+        gathered: &mut TextBuffer,
+    ) -> Result<(), NoMemory>
+        ensures { OnOk result ((number : ℕ) → self.now.tid ≡ number % 32 → text_of gathered.new
+            ≡ text_of gathered.old ++ answer_lines self.now.own moment number uid node) }
+    {
+        let mut payload = [0; MOST];
+        let size = write_answer(self.alloc, uid, node, &mut payload)?;
+        let ident = make(Ident::Message {
+            priority: 4,
+            subject: SUBJECT,
+            source: self.own,
+        });
+        put_transfer(
+            gathered,
+            Outgoing {
+                moment,
+                ident,
+                tid: self.tid,
+                payload: &payload[..size],
+            },
+        )
+    }
+}
+
+impl Listener for Allocating {
+    ghost use Rattle.node_reach.specs.Allocated.{step_text, last_text};
+    ghost use Rattle.node_reach.specs.Allocates.{Allocates};
+
+    ghost heard = { λ first now past. Allocates first.own now past };
+
+    ghost broke = { λ first now past. Unit {0} };
+
+    ghost step_text = { λ first rec past. step_text first.own rec past };
+
+    ghost last_text = { λ first past. last_text first.own past };
+
+    ghost latest = { λ now. 0 };
+
+    ghost line = { λ now. now.records };
+
+    fn hear(&mut self, rec: &Record, gathered: &mut TextBuffer) -> Result<(), NoMemory> {
+        // No number of records passes the line of the last one.
+        let _line = rec.line;
+        let event = self.event(rec)?;
+        if let Some(event) = event {
+            self.take(rec.moment, event, gathered)?;
+        }
+        self.records += 1;
+        Ok(())
+    }
+
+    fn finish(&mut self, gathered: &mut TextBuffer) -> Result<(), NoMemory> {
+        let owners = self.allocator.owners().len() as u64;
+        put_end(gathered, self.records, b"owners", owners)
+    }
+
+    ghost heard_broke = { λ first now past h. tt };
+}

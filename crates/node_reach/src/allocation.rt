@@ -1,0 +1,34 @@
+//! Node-IDs for the nodes of a log that have none.
+ghost use Rattle.std.specs.Prelude.{◌≡◌, ◌≤◌};
+ghost use Rattle.cy_outside.specs.Outside.{Rose};
+ghost use Rattle.log_loop.specs.Gone.{HasGone};
+ghost use Rattle.log_loop.specs.Taken.{IsOfTaken};
+ghost use Rattle.log_loop.specs.Streamed.{IsStreamed};
+ghost use Rattle.node_reach.specs.Allocated.{allocate_voice};
+ghost use Rattle.node_reach.specs.Anything.{Anything};
+
+use crate::allocating::Allocating;
+use crate::buses::bus_names;
+use cy_outside::{Sink, Source};
+use log_loop::{Ended, listen};
+use std::alloc::Global;
+
+/// Hears a log of the buses `can0`, `can1` and `can2`, gives node-IDs to nodes without one, and writes the answers that a
+/// node with the node-ID `own`, at most 127, would send. At the log's end it writes how many records it heard, and how
+/// many nodes have a node-ID of it.
+pub fn allocate<L: Source, O: Sink>(alloc: Global, own: u8, input: &mut L, out: &mut O) -> Ended
+    requires { own ≤ 127 }
+    ensures gone { HasGone (allocate_voice own) Anything Anything
+        (L.left input.old) result (O.written out.old) (O.written out.new) }
+    ensures taken { result ≡ Ended.ReadFault → IsOfTaken (allocate_voice own) Anything
+        (L.left input.old) (L.left input.new) (O.written out.old) (O.written out.new) }
+    ensures streamed { IsStreamed (allocate_voice own) Anything
+        (L.left input.old) (L.left input.new) result (O.written out.old) (O.written out.new) }
+    ensures read { result ≡ Ended.ReadFault → Rose (L.faults input.old) (L.faults input.new) }
+    ensures write { result ≡ Ended.WriteFault → Rose (O.faults out.old) (O.faults out.new) }
+    ensures kept { result ≡ Ended.Ok
+        → (L.faults input.new ≡ L.faults input.old) × (O.faults out.new ≡ O.faults out.old) }
+{
+    let mut allocating = Allocating::new(alloc, own);
+    listen(alloc, &mut allocating, bus_names(), input, out)
+}

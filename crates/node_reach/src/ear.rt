@@ -1,0 +1,134 @@
+//! What a node hears on ports of standard types.
+ghost use Rattle.rx_table.specs.Table.{HeardBy};
+ghost use Rattle.node_reach.specs.InTime.{HeardBy-prop};
+ghost use Rattle.rx_table.specs.Views.{states_of};
+ghost use Rattle.node_reach.specs.PortTypes.{type_schema};
+
+use crate::frames::frame_for;
+use crate::transfer::{Transfer, transfer_of};
+use can_id::Kind;
+use cy_bits::NoMemory;
+use rx_table::laws::outcome_tells;
+use rx_table::{Met, SubscribeError, Table};
+use std::alloc::Global;
+use std_types::{StdName, StdType, std_type};
+use tail_frame::{Frame, Record};
+
+/// A node that listens on some ports. It stands for the records of a log that it has heard.
+#[derive(Drop)]
+pub struct Ear {
+    /// Its node-ID, at most 127.
+    pub own: u8,
+    /// The sessions of the sources that it hears.
+    pub table: Table<StdType>,
+    /// The moment of the last record, in microseconds, or 0.
+    pub latest: u64,
+    ghost in_time: { HeardBy latest (states_of type_schema table) } by { HeardBy-prop latest (states_of type_schema table) },
+}
+
+/// The sources that get a session on a port.
+const SOURCES: u16 = 128;
+
+impl Ear {
+    ghost use Rattle.std.specs.Prelude.{◌≡◌, ◌≤◌, ◌<◌, ◌^◌, ◌+◌, ◌++◌, ◌∷◌, [], None, List as ListOf, IfOk, IfSome, OnOk, option_map, length};
+    ghost use Rattle.can_id.specs.declared.key.Kind.TheVariants.{Message};
+    ghost use Rattle.rx_table.specs.Ports.{port_at};
+    ghost use Rattle.rx_table.specs.Views.{subscriptions};
+    ghost use Rattle.std_types.specs.Types.{schema_of};
+    ghost use Rattle.tail_frame.specs.declared.logged.Record.{Record as RecordOf};
+    ghost use Rattle.node_reach.specs.Transfers.{Ears, subject as subject_port, transfer_at};
+    ghost use Rattle.can_id.specs.Identifiers.{IsIdent};
+    ghost use Rattle.rx_table.specs.Places.{table_answer};
+    ghost use Rattle.rx_table.specs.Table.{keyed};
+    ghost use Rattle.tail_frame.specs.Frames.{seen};
+    ghost use Rattle.node_reach.specs.Ears.{Hears, states_in, told};
+    ghost use Rattle.node_reach.specs.Told.{owned, answered};
+
+    /// A node with this node-ID that listens on no port, and takes a bus as silent after so many microseconds.
+    pub(crate) fn new(alloc: Global, own: u8, timeout: u64) -> Result<Ear, NoMemory>
+        ensures hears { IfOk result (λ ear.
+            Hears (record { own = own; timeout = timeout; ports = [] }) ear []) }
+        ensures count { IfOk result (λ ear. length ear.table.ports.items ≡ 0) }
+        ensures latest { IfOk result (λ ear. ear.latest ≡ 0) }
+    {
+        let table = Table::new(alloc, timeout)?;
+        Ok(Ear {
+            own,
+            table,
+            latest: 0,
+        })
+    }
+
+    /// Listens on a subject for messages of a standard type, before it hears a record. It doesn't listen on that subject
+    /// yet, and on fewer than 2^16.
+    pub(crate) fn subscribe(
+        &mut self,
+        alloc: Global,
+        subject: u16,
+        name: StdName,
+    ) -> Result<(), NoMemory>
+        requires free { port_at Message subject (subscriptions type_schema self.old.table) ≡ None }
+        requires room { length self.old.table.ports.items < 2 ^ 16 }
+        ensures own { self.new.own ≡ self.old.own }
+        ensures latest { self.new.latest ≡ self.old.latest }
+        ensures count { OnOk result
+            (length self.new.table.ports.items ≡ length self.old.table.ports.items + 1) }
+        ensures hears { OnOk result ((ears : Ears) → Hears ears self.old [] → Hears (record ears {
+          ports = ears.ports ++ subject_port subject (schema_of name) ∷ [];
+        }) self.new []) }
+    {
+        let standard = std_type(alloc, name)?;
+        match self
+            .table
+            .subscribe(Kind::Message, subject, SOURCES, standard)
+        {
+            Ok(()) => Ok(()),
+            Err(SubscribeError::NoMemory) => Err(NoMemory),
+            Err(SubscribeError::Taken) => unreachable!(),
+        }
+    }
+
+    /// Takes the next record of a log, at a moment not before the last one. Memory is taken for a new source's session
+    /// alone.
+    pub(crate) fn hear(&mut self, rec: &Record) -> Result<Met, NoMemory>
+        requires { self.old.latest ≤ rec.now.moment }
+        ensures own { self.new.own ≡ self.old.own }
+        ensures latest { self.new.latest ≡ rec.now.moment }
+        ensures hears { OnOk result ((ears : Ears) (past : ListOf RecordOf) → Hears ears self.old past
+            → Hears ears self.new (rec.now ∷ past)) }
+        ensures told { IfOk result (λ met. (ears : Ears) (past : ListOf RecordOf) → Hears ears self.old past
+            → told self.new rec.now met ≡ transfer_at ears rec.now past) }
+    {
+        outcome_tells();
+        self.latest = rec.moment;
+        match frame_for(self.own, rec) {
+            Some(frame) => self.table.step(&frame),
+            None => Ok(Met::NoPort),
+        }
+    }
+
+    /// The transfer that ended at a record, if one did, by what the record came to: it was the last that was taken.
+    pub(crate) fn transfer<'a>(&'a self, rec: &'a Record, met: Met) -> Option<Transfer<'a>>
+        ensures told { option_map owned result ≡ told self.now rec.now met }
+        ensures source { IfSome result (λ transfer. transfer.source < 128) }
+    {
+        match frame_for(self.own, rec) {
+            Some(frame) => self.transfer_in(&frame, met),
+            None => None,
+        }
+    }
+
+    /// The transfer that ended at a frame, if one did.
+    fn transfer_in<'a>(&'a self, frame: &Frame<'a>, met: Met) -> Option<Transfer<'a>>
+        requires { IsIdent frame.now.ident }
+        ensures told { let f = seen frame.now in
+            option_map owned result ≡ answered (keyed f) (table_answer (states_in self.now) f.body met) }
+        ensures source { IfSome result (λ transfer. transfer.source < 128) }
+    {
+        let key = frame.ident.key();
+        match key.source {
+            Some(source) => transfer_of(key.kind, key.port, source, self.table.lend(met, frame)),
+            None => None,
+        }
+    }
+}

@@ -1,0 +1,147 @@
+//! What is known of a network by its heartbeats and its messages of time.
+ghost use Rattle.std.specs.Prelude.{◌≡◌, ◌<◌, ◌≤◌, ◌^◌};
+
+use crate::payload::reading;
+use crate::transfer::Transfer;
+use cy_bits::NoMemory;
+use dsdl_types::Value;
+use net_monitor::Monitor;
+use std::alloc::Global;
+use std_types::node::Heartbeat;
+use std_types::time::Synchronization;
+use std_types::{Standard, StdName, StdType, std_type};
+use time_sync::Sync;
+
+/// The subject of `uavcan.node.Heartbeat.1.0`.
+pub(crate) const HEARTBEAT: u16 = 7509;
+
+/// The subject of `uavcan.time.Synchronization.1.0`.
+pub(crate) const SYNCHRONIZATION: u16 = 7168;
+
+/// How many stamps there are.
+const STAMPS: u64 = 1 << 56;
+
+/// Who is online, and the network's time.
+#[derive(Drop)]
+pub struct Network {
+    alloc: Global,
+    /// What the heartbeats say.
+    pub monitor: Monitor,
+    /// What the messages of time say.
+    pub sync: Sync,
+    /// The moment of the last heartbeat, in microseconds, or 0.
+    pub latest_beat: u64,
+    /// The moment of the last message of time, in microseconds, or 0.
+    pub latest_message: u64,
+    /// The type of heartbeats.
+    pub beat_type: StdType,
+    /// The type of messages of time.
+    pub message_type: StdType,
+    ghost beats: { monitor.latest ≡ latest_beat },
+    ghost messages: { sync.latest ≡ latest_message },
+    ghost low: { latest_message < 10 ^ 18 },
+}
+
+impl Network {
+    ghost use Rattle.std.specs.Prelude.{[], Some, List, IfOk, IfSome, OnOk, option_map};
+    ghost use Rattle.std_types.specs.Types.{schema_of};
+    ghost use Rattle.std_types.specs.declared.std_name.StdName.TheVariants.{Heartbeat as heartbeat, Synchronization as synchronization};
+    ghost use Rattle.net_monitor.specs.Beats.{Beat};
+    ghost use Rattle.time_sync.specs.Pairs.{Message};
+    ghost use Rattle.node_reach.specs.Told.{owned};
+    ghost use Rattle.node_reach.specs.Monitored.{with_beat, with_message, add_beat, add_message};
+    ghost use Rattle.node_reach.specs.Monitors.{Knows};
+    ghost use Rattle.node_reach.specs.Transfers.{HasBegun, HasBegunBy};
+    ghost use Rattle.node_reach.specs.Readings.{reading};
+
+    /// A network of which nothing is known.
+    pub(crate) fn new(alloc: Global) -> Result<Network, NoMemory>
+        ensures { IfOk result (λ network. Knows network [] []) }
+    {
+        let beat_type = std_type(alloc, StdName::Heartbeat)?;
+        let message_type = std_type(alloc, StdName::Synchronization)?;
+        Ok(Network {
+            alloc,
+            monitor: Monitor::new(),
+            sync: Sync::new(),
+            latest_beat: 0,
+            latest_message: 0,
+            beat_type,
+            message_type,
+        })
+    }
+
+    /// Hears a record of this moment, at which a transfer may have ended.
+    pub(crate) fn hear(
+        &mut self,
+        moment: u64,
+        transfer: Option<Transfer<'_>>,
+    ) -> Result<(), NoMemory>
+        requires moment { moment < 10 ^ 18 }
+        requires source { IfSome transfer (λ t. t.source < 128) }
+        ensures { let t = option_map owned transfer.entry in
+            OnOk result ((beats : List Beat) (messages : List Message) → HasBegunBy moment t
+            → Knows self.old beats messages
+            → Knows self.new (with_beat t beats) (with_message t messages)) }
+    {
+        match transfer {
+            Some(transfer) => self.take(moment, transfer),
+            None => Ok(()),
+        }
+    }
+
+    /// Takes a transfer that ended at a moment, if it is a heartbeat or a message of time.
+    fn take(&mut self, moment: u64, transfer: Transfer<'_>) -> Result<(), NoMemory>
+        requires moment { moment < 10 ^ 18 }
+        requires source { transfer.source < 128 }
+        ensures { let t = owned transfer.entry in OnOk result ((beats : List Beat) (messages : List Message)
+            → HasBegun moment t → Knows self.old beats messages
+            → Knows self.new (with_beat (Some t) beats) (with_message (Some t) messages)) }
+    {
+        match transfer.port {
+            HEARTBEAT => self.take_beat(transfer),
+            SYNCHRONIZATION => self.take_message(moment, transfer),
+            _ => Ok(()),
+        }
+    }
+
+    /// Takes the payload of a transfer as a heartbeat, if it can be read.
+    fn take_beat(&mut self, transfer: Transfer<'_>) -> Result<(), NoMemory>
+        requires { transfer.source < 128 }
+        ensures { let t = owned transfer.entry in OnOk result ((beats : List Beat) (messages : List Message)
+            → Knows self.old beats messages
+            → Knows self.new (add_beat t beats (reading (schema_of heartbeat) t.payload)) messages) }
+    {
+        let Some(value) = reading(self.alloc, &self.beat_type, transfer.payload)? else {
+            return Ok(());
+        };
+        let beat = Heartbeat::of_value(self.alloc, &value)?;
+        let latest = self.latest_beat.max(transfer.moment);
+        self.monitor.event(latest, transfer.source, &beat);
+        self.latest_beat = latest;
+        Ok(())
+    }
+
+    /// Takes the payload of a transfer that ended at a moment as a message of time, if it can be read.
+    fn take_message(&mut self, moment: u64, transfer: Transfer<'_>) -> Result<(), NoMemory>
+        requires moment { moment < 10 ^ 18 }
+        requires source { transfer.source < 128 }
+        ensures { let t = owned transfer.entry in OnOk result ((beats : List Beat) (messages : List Message)
+            → HasBegun moment t → Knows self.old beats messages
+            → Knows self.new beats (add_message t messages (reading (schema_of synchronization) t.payload))) }
+    {
+        let Some(value) = reading(self.alloc, &self.message_type, transfer.payload)? else {
+            return Ok(());
+        };
+        let message = Synchronization::of_value(self.alloc, &value)?;
+        // These change no number: a transfer begins no later than it ends, its transfer-ID is at most 31, and the stamp
+        // has 56 bits.
+        let began = transfer.moment.min(moment);
+        let tid = transfer.tid % 32;
+        let stamp = message.previous_transmission_timestamp_microsecond % STAMPS;
+        let latest = self.latest_message.max(began);
+        self.sync.hear(latest, transfer.source, tid, stamp);
+        self.latest_message = latest;
+        Ok(())
+    }
+}

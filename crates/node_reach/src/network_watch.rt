@@ -1,0 +1,35 @@
+//! Who is online in a log, and the network's time.
+ghost use Rattle.std.specs.Prelude.{◌≡◌, ◌≤◌};
+ghost use Rattle.cy_outside.specs.Outside.{Rose};
+ghost use Rattle.log_loop.specs.Gone.{HasGone};
+ghost use Rattle.log_loop.specs.Taken.{IsOfTaken};
+ghost use Rattle.log_loop.specs.Streamed.{IsStreamed};
+ghost use Rattle.node_reach.specs.Monitored.{monitor_voice};
+ghost use Rattle.node_reach.specs.Anything.{Anything};
+
+use crate::buses::bus_names;
+use crate::monitoring::Monitoring;
+use cy_outside::{Sink, Source};
+use log_loop::{Ended, listen};
+use std::alloc::Global;
+
+/// Hears a log of the buses `can0`, `can1` and `can2` as the node `own`, at most 127, and writes at its end how each node
+/// is that was heard, the network's time, how many records it heard, and how many nodes are online.
+pub fn monitor<L: Source, O: Sink>(alloc: Global, own: u8, input: &mut L, out: &mut O) -> Ended
+    requires { own ≤ 127 }
+    ensures gone { HasGone (monitor_voice own) Anything Anything
+        (L.left input.old) result (O.written out.old) (O.written out.new) }
+    ensures taken { result ≡ Ended.ReadFault → IsOfTaken (monitor_voice own) Anything
+        (L.left input.old) (L.left input.new) (O.written out.old) (O.written out.new) }
+    ensures streamed { IsStreamed (monitor_voice own) Anything
+        (L.left input.old) (L.left input.new) result (O.written out.old) (O.written out.new) }
+    ensures read { result ≡ Ended.ReadFault → Rose (L.faults input.old) (L.faults input.new) }
+    ensures write { result ≡ Ended.WriteFault → Rose (O.faults out.old) (O.faults out.new) }
+    ensures kept { result ≡ Ended.Ok
+        → (L.faults input.new ≡ L.faults input.old) × (O.faults out.new ≡ O.faults out.old) }
+{
+    let Ok(mut monitoring) = Monitoring::new(alloc, own) else {
+        return Ended::NoMemory;
+    };
+    listen(alloc, &mut monitoring, bus_names(), input, out)
+}
