@@ -66,9 +66,6 @@ is_byte b e =
     let bounds = printable_bounds b (and_left (is_printable b) (not (is_slash b)) e) in
     record { low = bounds.0; high = bounds.1; no_slash = no_slash_false b (and_right (is_printable b) (not (is_slash b)) e) }
 
-byte_is : (b : ℕ) → IsNameByte b → is_name_byte b ≡ true
-byte_is b h = and_both (is_printable b) (not (is_slash b)) (bounds_printable b h.low h.high) (ap not (not_slash b h.no_slash))
-
 pub all_of : {X : Type 0} (p : X → Bool) (P : X → Type 0) → ((x : X) → p x ≡ true → P x) → (xs : List X) → list_all p xs ≡ true → All P xs
 all_of p P f [] e = All-nil P
 all_of p P f (x ∷ xs) e = All-cons P x xs (f x (and_left (p x) (list_all p xs) e)) (all_of p P f xs (and_right (p x) (list_all p xs) e))

@@ -156,10 +156,6 @@ listed_more names name e =
     ap ascending (filter-append is_listed names (name ∷ []) ∙ ap (λ b. filter is_listed names ++ cond b (name ∷ []) []) e)
     ∙ ascending_push (filter is_listed names) name
 
-pub listed_same : (names : List (List ℕ)) (name : List ℕ) → is_listed name ≡ false → listed (names ++ name ∷ []) ≡ listed names
-listed_same names name e =
-    ap ascending (filter-append is_listed names (name ∷ []) ∙ ap (λ b. filter is_listed names ++ cond b (name ∷ []) []) e ∙ append-nil (filter is_listed names))
-
 nothing_has : (names : List (List ℕ)) → ((q : List ℕ) → Has names q ≡ true → ⊥) → names ≡ []
 nothing_has [] h = refl
 nothing_has (x ∷ xs) h = absurd (h x (ap (λ b. b || Has xs x) (name_itself x x refl)))

@@ -143,6 +143,3 @@ read_failed told path offset = inl refl
 
 pub info_failed : (told : Option Files) (path : List ℕ) → IsInfo told (At path) (no_info 5)
 info_failed told path = inl refl
-
-pub lists_failed : (told : Option Files) (folder : List ℕ) (index : ℕ) → ListsFolder told folder index (record { name = []; failed = true })
-lists_failed told folder index = inl refl

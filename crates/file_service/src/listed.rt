@@ -17,7 +17,8 @@ fn is_listed(name: &str) -> bool
 
 /// The names of these entries that are listed, each once and in byte order.
 fn names_of(alloc: Global, entries: List<Entry>) -> Result<BTreeSet<String>, NoMemory>
-    ensures { IfOk result (λ names. map (λ t. string_bytes t) names.keys ≡ listed (map (λ e. e.name) entries)) }
+    ensures { IfOk result (λ names. map (λ t. string_bytes t) names.keys
+        ≡ listed (map (λ e. e.name) entries)) }
 {
     let mut names = BTreeSet::new(alloc);
     for entry in entries.into_vec() {

@@ -18,8 +18,8 @@ use std_types::file::{FileError, InfoReply};
 ///
 /// A path is asked for as it stands below the root. One leading `/` is dropped; the empty path is
 /// the root, a folder. A path is invalid where it holds a byte outside 20 to 7E hex, or a name that
-/// is empty, `.` or `..`. Nothing is asked of the tree for an invalid path, nor by `read` and `info`
-/// for the root. No memory is kept between calls.
+/// is empty, `.` or `..`. Nothing is asked of the tree for an invalid path, nor by `read` and
+/// `info` for the root. No memory is kept between calls.
 #[derive(Drop)]
 pub struct Served {
     /// The path of the folder in the tree. There need not be such a folder.
@@ -28,11 +28,11 @@ pub struct Served {
 
 impl Served {
     /// Puts the bytes of a file from an offset on at the buffer's front, at most 256, and none past
-    /// its end. The code is the first that holds: 22 for an invalid path, 5 where the tree failed, 2
-    /// where there is nothing, 21 where there is a folder, else 0.
+    /// its end. The code is the first that holds: 22 for an invalid path, 5 where the tree failed,
+    /// 2 where there is nothing, 21 where there is a folder, else 0.
     ///
-    /// The buffer stays as it was for an invalid path, for the root and at want of memory; where the
-    /// tree failed it may hold anything. Takes the memory of the joined path alone.
+    /// The buffer stays as it was for an invalid path, for the root and at want of memory; where
+    /// the tree failed it may hold anything. Takes the memory of the joined path alone.
     pub fn read<T: Tree>(
         &self,
         alloc: Global,
@@ -67,8 +67,8 @@ impl Served {
 
     /// The name with this number among those of a folder, in byte order and counted from 0. Names
     /// of more than 255 bytes, or with a byte outside 20 to 7E hex, are left out. It is empty past
-    /// the last name, for an invalid path, and where there is no folder; where the tree failed it is
-    /// empty too, and `failed` says so.
+    /// the last name, for an invalid path, and where there is no folder; where the tree failed it
+    /// is empty too, and `failed` says so.
     pub fn list<T: Tree>(
         &self,
         alloc: Global,
@@ -94,7 +94,8 @@ impl Served {
     }
 
     /// What stands at a path. Of a file its size in bytes, kept to 2^40 - 1. The code is the first
-    /// that holds: 22 for an invalid path, 5 where the tree failed, 2 where there is nothing, else 0.
+    /// that holds: 22 for an invalid path, 5 where the tree failed, 2 where there is nothing, else
+    /// 0.
     ///
     /// Takes the memory of the joined path alone.
     pub fn info<T: Tree>(
@@ -170,7 +171,8 @@ fn list_folder<T: Tree>(
     ensures files { T.files tree.new ≡ T.files tree.old }
     ensures answer { IfOk result (λ done. ListsFolder (T.files tree.old) folder.now index done) }
     ensures fits { IfOk result (λ done. HoldsBytes 255 done.name) }
-    ensures cause { IfOk result (λ done. TellsFault done.failed (T.faults tree.old) (T.faults tree.new)) }
+    ensures cause { IfOk result (λ done.
+        TellsFault done.failed (T.faults tree.old) (T.faults tree.new)) }
     ensures memory { OnErr result (T.faults tree.new ≡ T.faults tree.old) }
     ensures count { T.faults tree.old ≤ T.faults tree.new }
 {
