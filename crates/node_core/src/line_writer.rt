@@ -20,6 +20,8 @@ use node_plan::BusPlan;
 use std::alloc::Global;
 
 /// Puts the lines of a report together. It keeps the words that lines have in common.
+///
+/// What isn't inlined takes its part of a line by value: then a line of bytes isn't put into memory for it.
 #[derive(Drop)]
 pub struct LineWriter {
     /// Where the memory for a reading comes from.
@@ -58,7 +60,7 @@ impl LineWriter {
     {
         match line {
             LineRef::Rx(rx) => self.push_rx(text, rx),
-            LineRef::NoSession(refused) => self.push_refused(text, refused),
+            LineRef::NoSession(refused) => self.push_refused(text, *refused),
         }
     }
 
@@ -87,7 +89,7 @@ impl LineWriter {
     {
         match rx.port_type {
             None => self.push_raw(text, rx),
-            Some(_) => self.push_typed(text, rx),
+            Some(_) => self.push_typed(text, *rx),
         }
     }
 
@@ -107,14 +109,14 @@ impl LineWriter {
 
     /// Appends the text of a transfer on a port that may have a type.
     #[inline(never)]
-    fn push_typed(&mut self, text: &mut TextBuffer, rx: &RxRef<'_>) -> Result<(), NoMemory>
+    fn push_typed(&mut self, text: &mut TextBuffer, rx: RxRef<'_>) -> Result<(), NoMemory>
         ensures buses { writes_for self.new ≡ writes_for self.old }
-        ensures ok { OnOk result (Writes self.old (LineRef.Rx rx.now) text.old text.new) }
+        ensures ok { OnOk result (Writes self.old (LineRef.Rx rx.entry) text.old text.new) }
         ensures err { OnErr result (text_of text.new ≡ text_of text.old) }
     {
         let reading = rx.reading(self.alloc)?;
         reserve_with(text, rx.payload, &reading)?;
-        self.put_front(text, rx);
+        self.put_front(text, &rx);
         put_reading(text, &reading);
         Ok(())
     }
@@ -137,9 +139,9 @@ impl LineWriter {
     /// Appends the text of a start frame that had no session.
     #[cold]
     #[inline(never)]
-    fn push_refused(&mut self, text: &mut TextBuffer, refused: &Refused) -> Result<(), NoMemory>
+    fn push_refused(&mut self, text: &mut TextBuffer, refused: Refused) -> Result<(), NoMemory>
         ensures buses { writes_for self.new ≡ writes_for self.old }
-        ensures ok { OnOk result (Writes self.old (LineRef.NoSession refused.now) text.old text.new) }
+        ensures ok { OnOk result (Writes self.old (LineRef.NoSession refused) text.old text.new) }
         ensures err { OnErr result (text_of text.new ≡ text_of text.old) }
     {
         text.reserve(LINE)?;

@@ -1,4 +1,4 @@
-//! The one text of a value of a data type, and the words for bytes that are none.
+//! The one text of a value of a data type, and the words for bytes that can't be read.
 #![tactic(auto)]
 
 pub mod laws;
