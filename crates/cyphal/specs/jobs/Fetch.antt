@@ -2,7 +2,7 @@
 use Rattle.std.specs.Prelude.{ℕ, List}
 use Rattle.node_reach.specs.Fetched.{fetch_voice}
 use Rattle.node_reach.specs.FetchedFile.{WritesFile}
-use Rattle.node_reach.specs.declared.client.Client.{Client}
+use Rattle.node_reach.specs.Clients.{Client}
 use Rattle.node_run.specs.ValueLines.{Flow}
 use Rattle.node_run.specs.declared.status.Status.{Status}
 use Rattle.cyphal.specs.Job.{Job, ReportsNothing, flow_of}
