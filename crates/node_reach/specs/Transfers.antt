@@ -2,6 +2,7 @@
 -- came before.
 use Rattle.std.specs.Prelude.{ℕ, ◌<◌, ◌≤◌, if◌then◌else◌, List, take, Option, Some, None, ⊤}
 use Rattle.dsdl_types.specs.Schemas.{Sch}
+use Rattle.can_id.specs.declared.key.Kind.{Kind}
 use Rattle.can_id.specs.declared.key.Kind.TheVariants.{Message}
 use Rattle.rx_session.specs.Extents.{bytes_of}
 use Rattle.rx_table.specs.Heard.{frames, frame_for}
@@ -37,9 +38,13 @@ pub record Ears : Type 0 where
   pub timeout : ℕ
   pub ports : List Port
 
--- a port of a subject for messages of a type, with 128 sources
+-- a port for transfers of a type, with 128 sources
+abbrev pub port_for : Kind → ℕ → Sch → Port
+port_for kind number type = record { kind = kind; port = number; sources = 128; extent = bytes_of type }
+
+-- a port of a subject
 abbrev pub subject : ℕ → Sch → Port
-subject number type = record { kind = Message; port = number; sources = 128; extent = bytes_of type }
+subject number type = port_for Message number type
 
 abbrev pub of_delivery : ℕ → SessionKey → Option Delivery → Option Transfer
 of_delivery extent key None = None

@@ -31,12 +31,11 @@ const SOURCES: u16 = 128;
 
 impl Ear {
     ghost use Rattle.std.specs.Prelude.{◌≡◌, ◌≤◌, ◌<◌, ◌^◌, ◌+◌, ◌++◌, ◌∷◌, [], None, List as ListOf, IfOk, IfSome, OnOk, option_map, length};
-    ghost use Rattle.can_id.specs.declared.key.Kind.TheVariants.{Message};
     ghost use Rattle.rx_table.specs.Ports.{port_at};
     ghost use Rattle.rx_table.specs.Views.{subscriptions};
     ghost use Rattle.std_types.specs.Types.{schema_of};
     ghost use Rattle.tail_frame.specs.declared.logged.Record.{Record as RecordOf};
-    ghost use Rattle.node_reach.specs.Transfers.{Ears, subject as subject_port, transfer_at};
+    ghost use Rattle.node_reach.specs.Transfers.{Ears, port_for, transfer_at};
     ghost use Rattle.can_id.specs.Identifiers.{IsIdent};
     ghost use Rattle.rx_table.specs.Places.{table_answer};
     ghost use Rattle.rx_table.specs.Table.{keyed};
@@ -59,29 +58,27 @@ impl Ear {
         })
     }
 
-    /// Listens on a subject for messages of a standard type, before it hears a record. It doesn't listen on that subject
-    /// yet, and on fewer than 2^16.
+    /// Listens on a port for transfers of a standard type, before it hears a record. It doesn't listen on that port yet,
+    /// and on fewer than 2^16.
     pub(crate) fn subscribe(
         &mut self,
         alloc: Global,
-        subject: u16,
+        kind: Kind,
+        port: u16,
         name: StdName,
     ) -> Result<(), NoMemory>
-        requires free { port_at Message subject (subscriptions type_schema self.old.table) ≡ None }
+        requires free { port_at kind port (subscriptions type_schema self.old.table) ≡ None }
         requires room { length self.old.table.ports.items < 2 ^ 16 }
         ensures own { self.new.own ≡ self.old.own }
         ensures latest { self.new.latest ≡ self.old.latest }
         ensures count { OnOk result
             (length self.new.table.ports.items ≡ length self.old.table.ports.items + 1) }
         ensures hears { OnOk result ((ears : Ears) → Hears ears self.old [] → Hears (record ears {
-          ports = ears.ports ++ subject_port subject (schema_of name) ∷ [];
+          ports = ears.ports ++ port_for kind port (schema_of name) ∷ [];
         }) self.new []) }
     {
         let standard = std_type(alloc, name)?;
-        match self
-            .table
-            .subscribe(Kind::Message, subject, SOURCES, standard)
-        {
+        match self.table.subscribe(kind, port, SOURCES, standard) {
             Ok(()) => Ok(()),
             Err(SubscribeError::NoMemory) => Err(NoMemory),
             Err(SubscribeError::Taken) => unreachable!(),

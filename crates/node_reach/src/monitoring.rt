@@ -8,6 +8,7 @@ ghost use Rattle.node_reach.specs.Monitors.{Monitors};
 use crate::ear::Ear;
 use crate::lines::{put_end, put_estimate, put_node, put_offline};
 use crate::network::{HEARTBEAT, Network, SYNCHRONIZATION};
+use can_id::Kind;
 use cy_bits::NoMemory;
 use line_text::TextBuffer;
 use log_loop::Listener;
@@ -52,8 +53,13 @@ fn listening(alloc: Global, own: u8) -> Result<Ear, NoMemory>
     ensures latest { IfOk result (λ ear. ear.latest ≡ 0) }
 {
     let mut ear = Ear::new(alloc, own, TIMEOUT)?;
-    ear.subscribe(alloc, HEARTBEAT, StdName::Heartbeat)?;
-    ear.subscribe(alloc, SYNCHRONIZATION, StdName::Synchronization)?;
+    ear.subscribe(alloc, Kind::Message, HEARTBEAT, StdName::Heartbeat)?;
+    ear.subscribe(
+        alloc,
+        Kind::Message,
+        SYNCHRONIZATION,
+        StdName::Synchronization,
+    )?;
     Ok(ear)
 }
 

@@ -60,7 +60,7 @@ fn node_ids_are_given(rt: HostRuntime) {
         ),
         // A message that lists a node-ID, and one on another subject.
         row(
-            b"(1.000000) can0 117FE605##0010000000000010500000000E0\n(1.000000) can0 11606405#01E0\n",
+            b"(1.000000) can0 117FE605##00100000000000105000000E0\n(1.000000) can0 11606405#01E0\n",
             b"end records 2 owners 0\n",
         ),
     ];

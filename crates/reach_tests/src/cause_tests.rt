@@ -39,8 +39,16 @@ fn nothing_more_is_said(rt: HostRuntime) {
         ended: Ended::WriteFault,
     };
     let causes = [
-        refused(b"(0.000000) can0 107D552A#01000000000000E0\nbad\n", 2, LogWhy::BadLine),
-        refused(b"(0.000000) can3 107D552A#01000000000000E0\n", 1, LogWhy::UnknownBus),
+        refused(
+            b"(0.000000) can0 107D552A#01000000000000E0\nbad\n",
+            2,
+            LogWhy::BadLine,
+        ),
+        refused(
+            b"(0.000000) can3 107D552A#01000000000000E0\n",
+            1,
+            LogWhy::UnknownBus,
+        ),
         read_fault,
         write_fault,
     ];

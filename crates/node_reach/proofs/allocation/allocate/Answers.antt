@@ -15,7 +15,7 @@ returns-clause-gone g c =
     let after = g.O.Sink.written c.listen.new.out in
     subst (λ own. HasGone (allocate_voice own) Anything Anything left c.listen.result before after) c.new-allocating.ensures.own
     (subst (λ (names : List (List ℕ)). HasGone (voice names (step_text c.new-allocating.result.own) (last_text c.new-allocating.result.own)) Anything Anything left c.listen.result before after) c.bus_names.ensures
-    (has_gone _ _ _ before after left c.listen.result c.listen.ensures.gone))
+    (has_gone (voice c.bus_names.result (step_text c.new-allocating.result.own) (last_text c.new-allocating.result.own)) _ _ before after left c.listen.result c.listen.ensures.gone))
 
 pub returns-clause-taken : goal.returns-clause-taken
 returns-clause-taken g c e =
@@ -25,7 +25,7 @@ returns-clause-taken g c e =
     let after = g.O.Sink.written c.listen.new.out in
     subst (λ own. IsOfTaken (allocate_voice own) Anything left new before after) c.new-allocating.ensures.own
     (subst (λ (names : List (List ℕ)). IsOfTaken (voice names (step_text c.new-allocating.result.own) (last_text c.new-allocating.result.own)) Anything left new before after) c.bus_names.ensures
-    (has_taken _ _ left new before after (c.listen.ensures.taken e)))
+    (has_taken (voice c.bus_names.result (step_text c.new-allocating.result.own) (last_text c.new-allocating.result.own)) _ left new before after (c.listen.ensures.taken e)))
 
 pub returns-clause-streamed : goal.returns-clause-streamed
 returns-clause-streamed g c =
@@ -35,4 +35,4 @@ returns-clause-streamed g c =
     let after = g.O.Sink.written c.listen.new.out in
     subst (λ own. IsStreamed (allocate_voice own) Anything left new c.listen.result before after) c.new-allocating.ensures.own
     (subst (λ (names : List (List ℕ)). IsStreamed (voice names (step_text c.new-allocating.result.own) (last_text c.new-allocating.result.own)) Anything left new c.listen.result before after) c.bus_names.ensures
-    (has_streamed _ _ left new before after c.listen.result c.listen.ensures.streamed))
+    (has_streamed (voice c.bus_names.result (step_text c.new-allocating.result.own) (last_text c.new-allocating.result.own)) _ left new before after c.listen.result c.listen.ensures.streamed))

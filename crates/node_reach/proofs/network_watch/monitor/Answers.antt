@@ -24,7 +24,7 @@ returns-clause-gone g c =
     let own = c.in-Ok.monitoring.ear.own in
     subst (λ own. HasGone (monitor_voice own) Anything Anything left c.listen.result before after) (c.in-Ok.ensures {u = tt}).own
     (subst (λ (names : List (List ℕ)). HasGone (voice names step_text (last_text own)) Anything Anything left c.listen.result before after) c.bus_names.ensures
-    (has_gone _ _ _ before after left c.listen.result c.listen.ensures.gone))
+    (has_gone (voice c.bus_names.result step_text (last_text own)) _ _ before after left c.listen.result c.listen.ensures.gone))
 
 pub returns-clause-taken : goal.returns-clause-taken
 returns-clause-taken g c e =
@@ -35,7 +35,7 @@ returns-clause-taken g c e =
     let own = c.in-Ok.monitoring.ear.own in
     subst (λ own. IsOfTaken (monitor_voice own) Anything left new before after) (c.in-Ok.ensures {u = tt}).own
     (subst (λ (names : List (List ℕ)). IsOfTaken (voice names step_text (last_text own)) Anything left new before after) c.bus_names.ensures
-    (has_taken _ _ left new before after (c.listen.ensures.taken e)))
+    (has_taken (voice c.bus_names.result step_text (last_text own)) _ left new before after (c.listen.ensures.taken e)))
 
 pub returns-clause-streamed : goal.returns-clause-streamed
 returns-clause-streamed g c =
@@ -46,4 +46,4 @@ returns-clause-streamed g c =
     let own = c.in-Ok.monitoring.ear.own in
     subst (λ own. IsStreamed (monitor_voice own) Anything left new c.listen.result before after) (c.in-Ok.ensures {u = tt}).own
     (subst (λ (names : List (List ℕ)). IsStreamed (voice names step_text (last_text own)) Anything left new c.listen.result before after) c.bus_names.ensures
-    (has_streamed _ _ left new before after c.listen.result c.listen.ensures.streamed))
+    (has_streamed (voice c.bus_names.result step_text (last_text own)) _ left new before after c.listen.result c.listen.ensures.streamed))

@@ -1,5 +1,4 @@
 use Rattle.std.proofs.Common.{◌≡◌, ◌∙◌, List, [], ◌∷◌, ◌++◌, sym, ap, subst}
-use Rattle.can_id.specs.declared.key.Kind.TheVariants.{Message}
 use Rattle.rx_session.specs.Extents.{bytes_of}
 use Rattle.rx_table.specs.Ports.{Port, ports_of}
 use Rattle.rx_table.specs.Table.{StandsFor, HeardBy, states, subscribed}
@@ -9,7 +8,7 @@ use Rattle.rx_session.specs.Extents.{extent_bytes}
 use Rattle.std_types.specs.Types.{schema_of}
 use Rattle.std_types.specs.declared.shape.StdType.{StdType}
 use Rattle.node_reach.specs.PortTypes.{type_schema}
-use Rattle.node_reach.specs.Transfers.{subject}
+use Rattle.node_reach.specs.Transfers.{port_for}
 use Rattle.node_reach.proofs.Ears.{ports-append}
 use Rattle.node_reach.proofs.Results.{either}
 use Rattle.node_reach.proofs.ear.Ear.subscribe.Goals as goal
@@ -31,9 +30,9 @@ returns-in-Ok-clause-hears c = λ ears h.
     let new = c.subscribe.new.self in
     let made = c.in_ok-standard.standard in
     let ok = c.in-Ok.ensures {u = tt} in
-    let port : Port = record { kind = Message; port = c.args.subject; sources = 128; extent = bytes_of (type_schema made) } in
-    let port_is : port ≡ subject c.args.subject (schema_of c.args.name) =
-    (λ i. record { kind = Message; port = c.args.subject; sources = 128; extent = bytes_of ((c.in_ok-standard.ensures {u = tt}).schema i) }) in
+    let port : Port = record { kind = c.args.kind; port = c.args.port; sources = 128; extent = bytes_of (type_schema made) } in
+    let port_is : port ≡ port_for c.args.kind c.args.port (schema_of c.args.name) =
+    (λ i. record { kind = c.args.kind; port = c.args.port; sources = 128; extent = bytes_of ((c.in_ok-standard.ensures {u = tt}).schema i) }) in
     record {
       own = h.own;
       timeout = c.subscribe.ensures.timeout ∙ h.timeout;
