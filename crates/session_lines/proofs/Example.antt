@@ -1,33 +1,30 @@
 -- The premises can be met: a health and a mode are sent, and the port's type has the health alone.
-use Rattle.std.proofs.Common.{◌≡◌, ◌∙◌, ℕ, zero, suc, zero-le, le_refl, ◌≤◌, ◌<◌, ◌^◌, true, false, Some, None, List, [], ◌∷◌, ◌++◌, codes, refl, sym, ap, subst, inl, inr, arith}
+use Rattle.std.proofs.Common.{◌≡◌, ◌∙◌, ℕ, zero, suc, zero-le, le_refl, ◌≤◌, ◌<◌, true, false, Some, None, List, [], ◌∷◌, ◌++◌, codes, refl, sym, ap, subst, inl, arith}
 use Rattle.std.specs.Prelude.{pos}
 use Rattle.std.proofs.lemmas.List.Elements.{All-nil, All-cons}
 use Rattle.can_id.specs.declared.key.Kind.TheVariants.{Message}
 use Rattle.cy_bits.specs.Bits.{bits_of, number}
 use Rattle.dsdl_types.specs.Laws.{encoding}
-use Rattle.dsdl_types.specs.Newer.{Newer, newer_struct, newer_field, newer_simple, added}
+use Rattle.dsdl_types.specs.Newer.{newer_struct, newer_field, newer_simple, added}
 use Rattle.dsdl_types.specs.Rules.{IsSchema}
-use Rattle.dsdl_types.specs.Schemas.{Sch, Flds, Outline, PUint, Simple, Struct, Field, End, is_composite}
+use Rattle.dsdl_types.specs.Schemas.{Sch, Outline, PUint, Simple, Struct, Field, End, is_composite}
 use Rattle.dsdl_types.specs.Sound.{IsSound}
 use Rattle.dsdl_types.specs.Values.{Val, Parts, More, Empty, Num}
 use Rattle.dsdl_types.specs.Views.{sch, Kind, in_order, type_of as schema_of}
 use Rattle.dsdl_types.specs.declared.schema.Body.{roll-Body}
 use Rattle.dsdl_types.specs.declared.schema.Cast.TheVariants.{Saturated}
-use Rattle.dsdl_types.specs.declared.schema.Field.{Field as SchemaField, roll-Field}
+use Rattle.dsdl_types.specs.declared.schema.Field.{roll-Field}
 use Rattle.dsdl_types.specs.declared.schema.Schema.{Schema}
 use Rattle.dsdl_types.specs.declared.schema.Schema.TheVariants as S
 use Rattle.dsdl_types.proofs.Equations.{kind_struct, kind_uint, named_field}
-use Rattle.tail_frame.specs.declared.logged.Record.{Record}
 use Rattle.tail_frame.specs.Chains.{KeyRecord}
 use Rattle.rx_table.specs.Keys.{SessionKey}
-use Rattle.rx_table.specs.Ports.{Port}
 use Rattle.frag.specs.Wire.{IsFrameSize, fitting, last_size, padding}
-use Rattle.frag.specs.Sent.{size_on, transfer_at, pair_at, IsSentList, Explained, NoChance}
+use Rattle.frag.specs.Sent.{size_on, transfer_at, pair_at, Explained}
 use Rattle.frag.specs.declared.sent.Pair.{Pair}
 use Rattle.frag.specs.declared.sent.Sent.{Sent}
-use Rattle.frag.specs.declared.sent.Transfer.{Transfer}
 use Rattle.once.specs.Due.{Due, Names, SomeFromTo}
-use Rattle.once.specs.Report.{Explains, IsDue}
+use Rattle.once.specs.Report.{Explains}
 use Rattle.node_plan.specs.IsPlan.{IsShape, TypesKeepRules}
 use Rattle.node_plan.specs.declared.plan.Plan.{Plan}
 use Rattle.node_plan.specs.declared.plan.Sub.{Sub}
@@ -35,7 +32,6 @@ use Rattle.node_plan.specs.declared.plan.SubShape.TheVariants.{Named}
 use Rattle.node_core.specs.Heard.{port_of_sub}
 use Rattle.node_core.specs.Steps.{Step, Heard, records}
 use Rattle.session_lines.specs.Example.{ValuesExample}
-use Rattle.session_lines.specs.Reported.{of_key}
 use Rattle.session_lines.specs.Values.{IsSentTo}
 
 -- ---- the types
