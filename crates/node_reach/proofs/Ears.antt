@@ -35,14 +35,14 @@ pub keyed_none : (f : FrameOf) (key : Key) → key ≡ key_of_ident f.ident → 
 keyed_none f key is e = ap (λ (k : Key). with_source k.kind k.port k.source f) (sym is) ∙ ap (λ (o : Option ℕ). with_source key.kind key.port o f) e
 
 -- an ear that took a record
-pub record Takes (old new : Ear) (rec : Record) : Type 0 where
+pub record Stepped (old new : Ear) (rec : Record) : Type 0 where
   pub own : new.own ≡ old.own
   pub timeout : new.table.timeout ≡ old.table.timeout
   pub ports : subscriptions type_schema new.table ≡ subscriptions type_schema old.table
   pub latest : new.latest ≡ rec.moment
   pub behind : old.latest ≤ rec.moment
 
-module _ (old new : Ear) (rec : Record) (takes : Takes old new rec) (ears : Ears) (past : List Record) (h : Hears ears old past) where
+module _ (old new : Ear) (rec : Record) (takes : Stepped old new rec) (ears : Ears) (past : List Record) (h : Hears ears old past) where
   own_is : old.own ≡ ears.own
   own_is = h.own
 

@@ -10,7 +10,7 @@ use Rattle.tail_frame.specs.Frames.{FrameOf}
 use Rattle.tail_frame.specs.declared.logged.Record.{Record}
 use Rattle.node_reach.specs.PortTypes.{type_schema}
 use Rattle.node_reach.specs.Told.{answered}
-use Rattle.node_reach.specs.Transfers.{Transfer, Ears}
+use Rattle.node_reach.specs.Transfers.{Transfer, Ears, transfer_at}
 use Rattle.node_reach.specs.declared.ear.Ear.{Ear}
 
 abbrev pub states_in : Ear → List PortState
@@ -28,6 +28,14 @@ pub record Hears (ears : Ears) (ear : Ear) (past : List Record) : Type 0 where
   pub ports : subscriptions type_schema ear.table ≡ ears.ports
   pub sessions : StandsFor ears.timeout (frames ears.own past) (states_in ear)
   pub moments : AllUpTo ear.latest past
+
+-- an ear that takes a record stands for it too
+abbrev pub Takes : Record → Ear → Ear → Type 0
+Takes rec old new = (ears : Ears) (past : List Record) → Hears ears old past → Hears ears new (rec ∷ past)
+
+-- this is the transfer that ends at the next record
+abbrev pub Tells : Ear → Record → Option Transfer → Type 0
+Tells ear rec t = (ears : Ears) (past : List Record) → Hears ears ear past → t ≡ transfer_at ears rec past
 
 abbrev pub told_of : Ear → Option FrameOf → Met → Option Transfer
 told_of ear None met = None

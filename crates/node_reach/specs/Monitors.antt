@@ -1,5 +1,5 @@
 -- What is kept of heartbeats and of messages of time.
-use Rattle.std.specs.Prelude.{◌≡◌, ℕ, List, length}
+use Rattle.std.specs.Prelude.{◌≡◌, ℕ, List, length, Option}
 use Rattle.dsdl_types.specs.Views.{sch}
 use Rattle.net_monitor.specs.Beats.{Beat}
 use Rattle.net_monitor.specs.Stands.{Stands}
@@ -9,7 +9,9 @@ use Rattle.tail_frame.specs.declared.logged.Record.{Record}
 use Rattle.time_sync.specs.Pairs.{Message}
 use Rattle.time_sync.specs.Stands.{Stands as StandsFor}
 use Rattle.node_reach.specs.Ears.{Hears}
-use Rattle.node_reach.specs.Monitored.{latest_beat, latest_message, last_moment, monitor_ears, beats, messages}
+use Rattle.node_reach.specs.Monitored.{latest_beat, latest_message, add_beat, add_message, with_beat, with_message, last_moment, monitor_ears, beats, messages}
+use Rattle.node_reach.specs.Readings.{reading}
+use Rattle.node_reach.specs.Transfers.{Transfer, HasBegun, HasBegunBy}
 use Rattle.node_reach.specs.declared.monitoring.Monitoring.{Monitoring}
 use Rattle.node_reach.specs.declared.network.Network.{Network}
 
@@ -21,6 +23,23 @@ pub record Knows (network : Network) (beats : List Beat) (messages : List Messag
   pub message_typed : sch network.message_type.schema ≡ schema_of Synchronization
   pub latest_beat_is : network.latest_beat ≡ latest_beat beats
   pub latest_message_is : network.latest_message ≡ latest_message messages
+
+-- who takes a transfer that ended at this moment, if one did, knows it too
+abbrev pub Learns : ℕ → Option Transfer → Network → Network → Type 0
+Learns moment t old new =
+    (beats : List Beat) (messages : List Message) → HasBegunBy moment t → Knows old beats messages
+    → Knows new (with_beat t beats) (with_message t messages)
+
+-- the same of a payload as a heartbeat, and as a message of time
+abbrev pub LearnsBeat : Transfer → Network → Network → Type 0
+LearnsBeat t old new =
+    (beats : List Beat) (messages : List Message) → Knows old beats messages
+    → Knows new (add_beat t beats (reading (schema_of Heartbeat) t.payload)) messages
+
+abbrev pub LearnsMessage : ℕ → Transfer → Network → Network → Type 0
+LearnsMessage moment t old new =
+    (beats : List Beat) (messages : List Message) → HasBegun moment t → Knows old beats messages
+    → Knows new beats (add_message t messages (reading (schema_of Synchronization) t.payload))
 
 -- a monitor with this node-ID heard these records
 pub record Monitors (own : ℕ) (now : Monitoring) (past : List Record) : Type 0 where

@@ -34,13 +34,12 @@ pub struct Allocating {
 }
 
 impl Allocating {
-    ghost use Rattle.std.specs.Prelude.{◌≡◌, ◌%◌, ◌++◌, ◌∷◌, [], List, Some, OnOk, IfOk, IfSome, ℕ};
+    ghost use Rattle.std.specs.Prelude.{◌≡◌, ◌%◌, ◌++◌, [], OnOk, IfOk, IfSome, ℕ};
     ghost use Rattle.line_text.specs.Buffer.{text_of};
     ghost use Rattle.pnp_alloc.specs.Stands.{IsFit};
-    ghost use Rattle.pnp_alloc.specs.declared.event.AllocEvent.{AllocEvent as Event};
     ghost use Rattle.pnp_alloc.specs.declared.event.AllocEvent.TheVariants.{Wanted};
-    ghost use Rattle.node_reach.specs.Allocated.{seen_by, wanted, event_of, answer_lines, event_text};
-    ghost use Rattle.node_reach.specs.Allocates.{Allocates, HasAnswered};
+    ghost use Rattle.node_reach.specs.Allocated.{seen_by, wanted, event_of, answer_lines};
+    ghost use Rattle.node_reach.specs.Allocates.{Allocates, Takes, Says};
 
     /// An allocator with this node-ID of its own that heard nothing yet.
     pub(crate) fn new(alloc: Global, own: u8) -> Allocating
@@ -120,11 +119,9 @@ impl Allocating {
     ) -> Result<(), NoMemory>
         requires { IsFit event }
         ensures records { self.new.records ≡ self.old.records }
-        ensures answered { OnOk result ((own : ℕ) (past : List Event) → HasAnswered own self.old past
-            → HasAnswered own self.new (event ∷ past)) }
-        ensures text { OnOk result ((own : ℕ) (past : List Event) → HasAnswered own self.old past
-            → text_of gathered.new
-            ≡ text_of gathered.old ++ event_text own moment (Some event) past) }
+        ensures answered { OnOk result (Takes event self.old self.new) }
+        ensures text { OnOk result
+            (Says moment event self.old (text_of gathered.old) (text_of gathered.new)) }
     {
         match event {
             AllocEvent::Seen { node: _node } => {
@@ -138,11 +135,9 @@ impl Allocating {
     /// Answers a unique id that wants a node-ID.
     fn answer(&mut self, moment: u64, uid: u64, gathered: &mut TextBuffer) -> Result<(), NoMemory>
         ensures records { self.new.records ≡ self.old.records }
-        ensures answered { OnOk result ((own : ℕ) (past : List Event) → HasAnswered own self.old past
-            → HasAnswered own self.new (Wanted uid ∷ past)) }
-        ensures text { OnOk result ((own : ℕ) (past : List Event) → HasAnswered own self.old past
-            → text_of gathered.new
-            ≡ text_of gathered.old ++ event_text own moment (Some (Wanted uid)) past) }
+        ensures answered { OnOk result (Takes (Wanted uid) self.old self.new) }
+        ensures text { OnOk result
+            (Says moment (Wanted uid) self.old (text_of gathered.old) (text_of gathered.new)) }
     {
         match self.allocator.hear(AllocEvent::Wanted { uid }) {
             AllocOut::Noted => Ok(()),

@@ -30,17 +30,16 @@ pub struct Ear {
 const SOURCES: u16 = 128;
 
 impl Ear {
-    ghost use Rattle.std.specs.Prelude.{◌≡◌, ◌≤◌, ◌<◌, ◌^◌, ◌+◌, ◌++◌, ◌∷◌, [], None, List as ListOf, IfOk, IfSome, OnOk, option_map, length};
+    ghost use Rattle.std.specs.Prelude.{◌≡◌, ◌≤◌, ◌<◌, ◌^◌, ◌+◌, ◌++◌, ◌∷◌, [], None, IfOk, IfSome, OnOk, option_map, length};
     ghost use Rattle.rx_table.specs.Ports.{port_at};
     ghost use Rattle.rx_table.specs.Views.{subscriptions};
     ghost use Rattle.std_types.specs.Types.{schema_of};
-    ghost use Rattle.tail_frame.specs.declared.logged.Record.{Record as RecordOf};
-    ghost use Rattle.node_reach.specs.Transfers.{Ears, port_for, transfer_at};
+    ghost use Rattle.node_reach.specs.Transfers.{Ears, port_for};
     ghost use Rattle.can_id.specs.Identifiers.{IsIdent};
     ghost use Rattle.rx_table.specs.Places.{table_answer};
     ghost use Rattle.rx_table.specs.Table.{keyed};
     ghost use Rattle.tail_frame.specs.Frames.{seen};
-    ghost use Rattle.node_reach.specs.Ears.{Hears, states_in, told};
+    ghost use Rattle.node_reach.specs.Ears.{Hears, Takes, Tells, states_in, told};
     ghost use Rattle.node_reach.specs.Told.{owned, answered};
 
     /// A node with this node-ID that listens on no port, and takes a bus as silent after so many microseconds.
@@ -91,10 +90,8 @@ impl Ear {
         requires { self.old.latest ≤ rec.now.moment }
         ensures own { self.new.own ≡ self.old.own }
         ensures latest { self.new.latest ≡ rec.now.moment }
-        ensures hears { OnOk result ((ears : Ears) (past : ListOf RecordOf) → Hears ears self.old past
-            → Hears ears self.new (rec.now ∷ past)) }
-        ensures told { IfOk result (λ met. (ears : Ears) (past : ListOf RecordOf) → Hears ears self.old past
-            → told self.new rec.now met ≡ transfer_at ears rec.now past) }
+        ensures hears { OnOk result (Takes rec.now self.old self.new) }
+        ensures told { IfOk result (λ met. Tells self.old rec.now (told self.new rec.now met)) }
     {
         outcome_tells();
         self.latest = rec.moment;
@@ -119,7 +116,8 @@ impl Ear {
     fn transfer_in<'a>(&'a self, frame: &Frame<'a>, met: Met) -> Option<Transfer<'a>>
         requires { IsIdent frame.now.ident }
         ensures told { let f = seen frame.now in
-            option_map owned result ≡ answered (keyed f) (table_answer (states_in self.now) f.body met) }
+            let answer = table_answer (states_in self.now) f.body met in
+            option_map owned result ≡ answered (keyed f) answer }
         ensures source { IfSome result (λ transfer. transfer.source < 128) }
     {
         let key = frame.ident.key();

@@ -43,16 +43,9 @@ pub struct Network {
 }
 
 impl Network {
-    ghost use Rattle.std.specs.Prelude.{[], Some, List, IfOk, IfSome, OnOk, option_map};
-    ghost use Rattle.std_types.specs.Types.{schema_of};
-    ghost use Rattle.std_types.specs.declared.std_name.StdName.TheVariants.{Heartbeat as heartbeat, Synchronization as synchronization};
-    ghost use Rattle.net_monitor.specs.Beats.{Beat};
-    ghost use Rattle.time_sync.specs.Pairs.{Message};
+    ghost use Rattle.std.specs.Prelude.{[], Some, IfOk, IfSome, OnOk, option_map};
     ghost use Rattle.node_reach.specs.Told.{owned};
-    ghost use Rattle.node_reach.specs.Monitored.{with_beat, with_message, add_beat, add_message};
-    ghost use Rattle.node_reach.specs.Monitors.{Knows};
-    ghost use Rattle.node_reach.specs.Transfers.{HasBegun, HasBegunBy};
-    ghost use Rattle.node_reach.specs.Readings.{reading};
+    ghost use Rattle.node_reach.specs.Monitors.{Knows, Learns, LearnsBeat, LearnsMessage};
 
     /// A network of which nothing is known.
     pub(crate) fn new(alloc: Global) -> Result<Network, NoMemory>
@@ -80,9 +73,7 @@ impl Network {
         requires moment { moment < 10 ^ 18 }
         requires source { IfSome transfer (λ t. t.source < 128) }
         ensures { let t = option_map owned transfer.entry in
-            OnOk result ((beats : List Beat) (messages : List Message) → HasBegunBy moment t
-            → Knows self.old beats messages
-            → Knows self.new (with_beat t beats) (with_message t messages)) }
+            OnOk result (Learns moment t self.old self.new) }
     {
         match transfer {
             Some(transfer) => self.take(moment, transfer),
@@ -94,9 +85,8 @@ impl Network {
     fn take(&mut self, moment: u64, transfer: Transfer<'_>) -> Result<(), NoMemory>
         requires moment { moment < 10 ^ 18 }
         requires source { transfer.source < 128 }
-        ensures { let t = owned transfer.entry in OnOk result ((beats : List Beat) (messages : List Message)
-            → HasBegun moment t → Knows self.old beats messages
-            → Knows self.new (with_beat (Some t) beats) (with_message (Some t) messages)) }
+        ensures { let t = Some (owned transfer.entry) in
+            OnOk result (Learns moment t self.old self.new) }
     {
         match transfer.port {
             HEARTBEAT => self.take_beat(transfer),
@@ -108,9 +98,7 @@ impl Network {
     /// Takes the payload of a transfer as a heartbeat, if it can be read.
     fn take_beat(&mut self, transfer: Transfer<'_>) -> Result<(), NoMemory>
         requires { transfer.source < 128 }
-        ensures { let t = owned transfer.entry in OnOk result ((beats : List Beat) (messages : List Message)
-            → Knows self.old beats messages
-            → Knows self.new (add_beat t beats (reading (schema_of heartbeat) t.payload)) messages) }
+        ensures { OnOk result (LearnsBeat (owned transfer.entry) self.old self.new) }
     {
         let Some(value) = reading(self.alloc, &self.beat_type, transfer.payload)? else {
             return Ok(());
@@ -126,9 +114,8 @@ impl Network {
     fn take_message(&mut self, moment: u64, transfer: Transfer<'_>) -> Result<(), NoMemory>
         requires moment { moment < 10 ^ 18 }
         requires source { transfer.source < 128 }
-        ensures { let t = owned transfer.entry in OnOk result ((beats : List Beat) (messages : List Message)
-            → HasBegun moment t → Knows self.old beats messages
-            → Knows self.new beats (add_message t messages (reading (schema_of synchronization) t.payload))) }
+        ensures { let t = owned transfer.entry in
+            OnOk result (LearnsMessage moment t self.old self.new) }
     {
         let Some(value) = reading(self.alloc, &self.message_type, transfer.payload)? else {
             return Ok(());
