@@ -1,5 +1,5 @@
 -- How a command of a plan ends, from what was found at its path.
-use Rattle.std.proofs.Common.{◌≡◌, ◌∙◌, ◌⊎◌, inl, inr, ℕ, Bool, true, false, ◌||◌, List, Option, Some, None, IfSome, is_some, option_map, take, refl, sym, ap, subst}
+use Rattle.std.proofs.Common.{◌≡◌, ◌∙◌, ◌⊎◌, inl, inr, ℕ, Bool, true, false, ◌||◌, List, Option, Some, None, is_some, option_map, take, refl, sym, ap, subst}
 use Rattle.std.specs.FinMap as map
 use Rattle.cy_outside.specs.Files.{Files, ReadsFront}
 use Rattle.dsdl_types.specs.declared.namespace.Namespace.{Namespace}
@@ -9,11 +9,11 @@ use Rattle.node_plan.specs.declared.plan.Plan.{Plan}
 use Rattle.node_plan.specs.declared.plan.PlanError.{PlanError}
 use Rattle.node_plan.specs.declared.plan.PlanError.TheVariants as plan_error
 use Rattle.node_plan.specs.declared.plan.PlanWhy.{PlanWhy}
-use Rattle.node_run.specs.Loaded.{is_none, IsLoaded}
+use Rattle.node_run.specs.Loaded.{is_none}
 use Rattle.node_run.specs.declared.status.Status.{Status}
 use Rattle.node_run.specs.declared.status.Status.TheVariants as status
 use Rattle.cyphal.specs.Job.{is_fault}
-use Rattle.cyphal.specs.Plans.{PlanEnds, EndsOnText, EndsOnFile, EndsIn, EndsInRoot, EndsAt, without_plan, GivesPlan, PlanAt}
+use Rattle.cyphal.specs.Plans.{PlanEnds, EndsOnText, EndsOnFile, EndsIn, EndsAt, without_plan, GivesPlan, PlanAt}
 use Rattle.cyphal.proofs.Loaded.{Comes, loaded, Found, found_told, one_names, not_loaded, one}
 
 -- the first bytes of a text that count give the plan of all
