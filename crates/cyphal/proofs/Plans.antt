@@ -1,5 +1,5 @@
 -- How a command of a plan ends, from what was found at its path.
-use Rattle.std.proofs.Common.{◌≡◌, ◌∙◌, ◌⊎◌, inl, inr, ℕ, true, false, ◌||◌, List, Option, Some, None, IfSome, is_some, option_map, take, refl, sym, ap, subst}
+use Rattle.std.proofs.Common.{◌≡◌, ◌∙◌, ◌⊎◌, inl, inr, ℕ, Bool, true, false, ◌||◌, List, Option, Some, None, is_some, option_map, take, refl, sym, ap, subst}
 use Rattle.std.specs.FinMap as map
 use Rattle.cy_outside.specs.Files.{Files, ReadsFront}
 use Rattle.dsdl_types.specs.declared.namespace.Namespace.{Namespace}
@@ -9,11 +9,11 @@ use Rattle.node_plan.specs.declared.plan.Plan.{Plan}
 use Rattle.node_plan.specs.declared.plan.PlanError.{PlanError}
 use Rattle.node_plan.specs.declared.plan.PlanError.TheVariants as plan_error
 use Rattle.node_plan.specs.declared.plan.PlanWhy.{PlanWhy}
-use Rattle.node_run.specs.Loaded.{is_none, IsLoaded}
+use Rattle.node_run.specs.Loaded.{is_none}
 use Rattle.node_run.specs.declared.status.Status.{Status}
 use Rattle.node_run.specs.declared.status.Status.TheVariants as status
 use Rattle.cyphal.specs.Job.{is_fault}
-use Rattle.cyphal.specs.Plans.{PlanEnds, EndsOnText, EndsOnFile, EndsIn, EndsInRoot, EndsAt, without_plan, GivesPlan, PlanAt}
+use Rattle.cyphal.specs.Plans.{PlanEnds, EndsOnText, EndsOnFile, EndsIn, EndsAt, without_plan, GivesPlan, PlanAt}
 use Rattle.cyphal.proofs.Loaded.{Comes, loaded, Found, found_told, one_names, not_loaded, one}
 
 -- the first bytes of a text that count give the plan of all
@@ -84,7 +84,7 @@ names_ends ends names path (Some fs) stat e = file_ends ends names path (map.get
 
 pub refused_at : (ends : PlanEnds) (root path : List ℕ) (files : Option Files) (stat : Status) → EndsAt without_plan root path files stat → EndsAt ends root path files stat
 refused_at ends root path files stat (h, inl n) = (h, inl n)
-refused_at ends root path files stat (h, inr e) = (h, inr (record { names = e.names; is = e.is; ends = names_ends ends e.names path files stat e.ends }))
+refused_at ends root path files stat (h, inr e) = (h, inr (record { names = e.names; is = e.is; end = names_ends ends e.names path files stat e.end }))
 
 -- a command that has a plan ends as over that plan
 good_in : (ends : PlanEnds) (names : Namespace) (path : List ℕ) (files : Option Files) (stat : Status) (plan : Plan) → GivesPlan names path files plan → ends plan stat → EndsIn ends names path files stat
@@ -94,7 +94,7 @@ good_in ends names path (Some fs) stat plan gives e =
 
 pub good_at : (ends : PlanEnds) (root path : List ℕ) (files : Option Files) (stat : Status) (plan : Plan) → PlanAt root path files plan → ends plan stat → is_fault stat ≡ false → EndsAt ends root path files stat
 good_at ends root path files stat plan at e h =
-    (h, inr (record { names = at.names; is = at.is; ends = good_in ends at.names path files stat plan at.gives e }))
+    (h, inr (record { names = at.names; is = at.is; end = good_in ends at.names path files stat plan at.gives e }))
 
 -- where the files are told, nothing more has to be for a root
 told_root : (root : List ℕ) (files : Option Files) → is_some files ≡ true → (is_none root || is_some files) ≡ true
@@ -131,7 +131,7 @@ module _ (law : HaveOneAnswer) (root path : List ℕ) where
 
   comes_at : (ends : PlanEnds) (files : Option Files) (f : Found root files) (stat : Status) → EndsAt ends root path files stat → Comes root (λ names s. EndsIn ends names path files s) f.found stat
   comes_at ends files f stat (h, inl n) = not_loaded root (λ names s. EndsIn ends names path files s) files f stat h n
-  comes_at ends files f stat (h, inr e) = loaded e.is.files e.names (f.are e.is.files e.is.are) e.is.compiled e.ends
+  comes_at ends files f stat (h, inr e) = loaded e.is.files e.names (f.are e.is.files e.is.are) e.is.compiled e.end
 
   -- so there is one status where the files are told
   pub one_end : (ends : PlanEnds) → IsOneOver ends → (files : Option Files) → is_some files ≡ true → (s t : Status) → EndsAt ends root path files s → EndsAt ends root path files t → s ≡ t

@@ -34,7 +34,7 @@ pub record EndsInRoot (ends : PlanEnds) (root path : List ℕ) (files : Option F
     (stat : Status) : Type 0 where
   pub names : Namespace
   pub is : IsLoaded root files names
-  pub ends : EndsIn ends names path files stat
+  pub end : EndsIn ends names path files stat
 
 -- how a command of a plan ends: as the root says that has no namespace, before any of the plan is read, or as in its
 -- namespace

@@ -2,7 +2,7 @@
 ghost use Rattle.std.specs.Prelude.{◌≡◌, IfOk, IfSome};
 ghost use Rattle.dsdl_types.specs.Definitions.{IsDefinition, IsNamespace};
 ghost use Rattle.node_plan.specs.IsPlan.{IsShape};
-ghost use Rattle.node_plan.specs.Types.{message_in, message_with, shape_named};
+ghost use Rattle.node_plan.specs.Types.{message_with, shape_named};
 
 use crate::plan::SubShape;
 use cy_bits::{NoMemory, TryCopy};

@@ -1,9 +1,13 @@
 use Rattle.std.proofs.Common.{inr}
 use Rattle.node_run.specs.Ran.{reported}
 use Rattle.cyphal.specs.jobs.Run.{over}
-use Rattle.cyphal.proofs.Plans.{good_at}
+use Rattle.cyphal.proofs.Plans.{refused_at, good_at}
 use Rattle.cyphal.proofs.statuses.Run.{plan_answer, run_not_refused}
 use Rattle.cyphal.proofs.jobs.run.run_plan.Goals as goal
+
+pub returns-in-Err-clause-answer : goal.returns-in-Err-clause-answer
+returns-in-Err-clause-answer g c h =
+    refused_at (over (g.L.Source.left c.args.input.now)) c.args.root.now c.args.path.now (g.T.Tree.files c.args.tree.now) c.in-Err.status (c.in-Err.ensures.answer h)
 
 pub returns-clause-answer : goal.returns-clause-answer
 returns-clause-answer g c h =
