@@ -1,5 +1,5 @@
 -- What a client that fetches a file does at each event. Lists of events have the newest first.
-use Rattle.std.specs.Prelude.{ℕ, ◌+◌, ◌-◌, ◌%◌, ◌==◌, nat_lt, if◌then◌else◌, List, [], ◌∷◌, ◌++◌, length, Option, Some, None}
+use Rattle.std.specs.Prelude.{ℕ, ◌+◌, ◌-◌, ◌%◌, ◌==◌, ◌<◌, nat_lt, if◌then◌else◌, Bool, true, false, List, [], ◌∷◌, ◌++◌, length, Option, Some, None, ⊤}
 use Rattle.file_client.specs.declared.event.FetchOut.{FetchOut}
 use Rattle.file_client.specs.declared.event.FetchOut.TheVariants.{Ask, Wait, Done, Refused, GaveUp, TooLong}
 
@@ -7,6 +7,28 @@ use Rattle.file_client.specs.declared.event.FetchOut.TheVariants.{Ask, Wait, Don
 pub data Event : Type 0 where
   reply : (tid code : ℕ) (bytes : List ℕ) → Event
   late : Event
+
+-- whether an answer is an end, and whether this is none or an end
+abbrev pub is_end : FetchOut → Bool
+is_end (Ask tid offset) = false
+is_end Wait = false
+is_end Done = true
+is_end (Refused code) = true
+is_end (GaveUp offset) = true
+is_end (TooLong n) = true
+
+abbrev pub is_end_if_any : Option FetchOut → Bool
+is_end_if_any None = true
+is_end_if_any (Some out) = is_end out
+
+-- a request that is made has a transfer-ID of 0 to 31
+abbrev pub AsksInRange : FetchOut → Type 0
+AsksInRange (Ask tid offset) = tid < 32
+AsksInRange Wait = ⊤
+AsksInRange Done = ⊤
+AsksInRange (Refused code) = ⊤
+AsksInRange (GaveUp offset) = ⊤
+AsksInRange (TooLong n) = ⊤
 
 pub record State : Type 0 where
   -- the offset of each request, the newest first

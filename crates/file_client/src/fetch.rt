@@ -1,4 +1,5 @@
-ghost use Rattle.std.specs.Prelude.{◌≤◌, ◌<◌, ◌^◌, length};
+ghost use Rattle.std.specs.Prelude.{◌≡◌, ◌≤◌, ◌<◌, ◌^◌, length, true};
+ghost use Rattle.file_client.specs.Fetch.{is_end_if_any};
 
 use crate::{FetchEvent, FetchOut};
 use cy_bits::{Bytes, NoMemory};
@@ -29,11 +30,12 @@ pub struct Fetch {
     ghost limited: { length buffer < 2 ^ 32 },
     ghost cyclic: { tid < 32 },
     ghost few: { lates < 8 },
+    ghost ended: { is_end_if_any end ≡ true },
 }
 
 impl Fetch {
-    ghost use Rattle.std.specs.Prelude.{◌≡◌, ℕ, List, [], ◌∷◌, IfOk, None};
-    ghost use Rattle.file_client.specs.Fetch.{Event, State, fetched, answer, tid_of, offset_of, ask, finish, on_late, on_piece, on_reply};
+    ghost use Rattle.std.specs.Prelude.{ℕ, List, [], ◌∷◌, IfOk, None};
+    ghost use Rattle.file_client.specs.Fetch.{Event, State, fetched, answer, tid_of, offset_of, ask, finish, on_late, on_piece, on_reply, is_end, AsksInRange};
     ghost use Rattle.file_client.specs.Stands.{Keeps, Stands, event_of, IsShort};
 
     /// Request 0, at offset 0, is out. Reserves `limit` bytes, as many as the file may have.
@@ -61,6 +63,7 @@ impl Fetch {
             → Stands limit past self.old → Stands limit (event_of ev.entry ∷ past) self.new }
         ensures answer { (limit : ℕ) (past : List Event)
             → Stands limit past self.old → result ≡ answer limit (event_of ev.entry) past }
+        ensures tid { AsksInRange result }
     {
         if let Some(end) = self.end {
             return end;
@@ -89,10 +92,19 @@ impl Fetch {
 
     /// The bytes of the file so far.
     pub fn bytes(&self) -> &[u8]
-        ensures { (limit : ℕ) (past : List Event)
+        ensures file { (limit : ℕ) (past : List Event)
             → Stands limit past self.now → result.now ≡ (fetched limit past).file }
+        ensures few { length result.now < 2 ^ 32 }
     {
         &self.buffer.as_slice()[..self.count]
+    }
+
+    /// The end, once it came.
+    pub fn end(&self) -> Option<FetchOut>
+        ensures { (limit : ℕ) (past : List Event)
+            → Stands limit past self.now → result ≡ (fetched limit past).end }
+    {
+        self.end
     }
 
     /// A reply before any end.
@@ -102,6 +114,7 @@ impl Fetch {
             → Keeps limit (on_reply limit s tid code bytes.now).0 self.new }
         ensures answer { (limit : ℕ) (s : State) → Keeps limit s self.old
             → result ≡ (on_reply limit s tid code bytes.now).1 }
+        ensures tid { AsksInRange result }
     {
         if tid != self.tid {
             FetchOut::Wait
@@ -119,6 +132,7 @@ impl Fetch {
             → Keeps limit (on_piece limit s bytes.now).0 self.new }
         ensures answer { (limit : ℕ) (s : State) → Keeps limit s self.old
             → result ≡ (on_piece limit s bytes.now).1 }
+        ensures tid { AsksInRange result }
     {
         let length = self.count + bytes.len();
         if length > self.buffer.len() {
@@ -141,6 +155,7 @@ impl Fetch {
             → Keeps limit (on_late s).0 self.new }
         ensures answer { (limit : ℕ) (s : State) → Keeps limit s self.old
             → result ≡ (on_late s).1 }
+        ensures tid { AsksInRange result }
     {
         if self.lates + 1 == MOST_LATE {
             return self.finish(FetchOut::GaveUp {
@@ -157,6 +172,7 @@ impl Fetch {
             → Keeps limit (ask s).0 self.new }
         ensures answer { (limit : ℕ) (s : State) → Keeps limit s self.old
             → result ≡ (ask s).1 }
+        ensures tid { AsksInRange result }
     {
         self.tid = (self.tid + 1) % 32;
         FetchOut::Ask {
@@ -167,6 +183,7 @@ impl Fetch {
 
     /// Ends the fetch.
     fn finish(&mut self, end: FetchOut) -> FetchOut
+        requires { is_end end ≡ true }
         ensures keeps { (limit : ℕ) (s : State) → Keeps limit s self.old
             → Keeps limit (finish s end).0 self.new }
         ensures answer { result ≡ end }

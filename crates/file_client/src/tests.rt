@@ -37,8 +37,10 @@ fn ask(tid: u8, offset: u64) -> FetchOut {
     FetchOut::Ask { tid, offset }
 }
 
-/// Goes through the steps, and then has this transfer-ID, so many bytes, and these as the last of them.
+/// Goes through the steps, the last of which is answered by an end, and then has that end, this transfer-ID, so many
+/// bytes, and these as the last of them.
 fn goes(rt: &impl Abort, mut fetch: Fetch, steps: Steps<'_>, tid: u8, offset: u64, last: &[u8]) {
+    let mut end = None;
     for (ev, want) in steps {
         let out = match *ev {
             FetchEvent::Reply { tid, code, bytes } => {
@@ -48,7 +50,9 @@ fn goes(rt: &impl Abort, mut fetch: Fetch, steps: Steps<'_>, tid: u8, offset: u6
             FetchEvent::Late => fetch.event(FetchEvent::Late),
         };
         assert_eq!(rt; out, *want);
+        end = Some(out);
     }
+    assert_eq!(rt; fetch.end(), end);
     assert_eq!(rt; fetch.tid(), tid);
     assert_eq!(rt; fetch.offset(), offset);
     assert_eq!(rt; fetch.bytes().len() as u64, offset);

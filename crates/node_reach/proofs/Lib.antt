@@ -5,3 +5,6 @@ pub mod Answered
 pub mod Begun
 pub mod Ears
 pub mod Stamps
+pub mod Lates
+pub mod Replies
+pub mod Heard

@@ -11,3 +11,8 @@ pub mod PortTypes
 pub mod Told
 pub mod Ears
 pub mod Monitors
+pub mod Ticks
+pub mod Clients
+pub mod Fetched
+pub mod FetchedFile
+pub mod Fetches

@@ -1,19 +1,27 @@
-//! Commands over a log that need no plan: who is given which node-ID, who is online, and the network's time.
+//! Commands over a log that need no plan: who is given which node-ID, who is online, the network's time, and a file of
+//! another node.
 #![tactic(auto)]
 
 mod allocating;
 mod allocation;
 mod answer;
+mod ask;
+mod asking;
 mod buses;
+mod client;
 mod ear;
+mod fetching;
+mod file_fetch;
 mod frames;
 mod lines;
 mod monitoring;
 mod network;
 mod network_watch;
 mod payload;
+mod responses;
 mod transfer;
 
 pub use allocation::allocate;
+pub use file_fetch::fetch;
 pub use log_loop::Ended;
 pub use network_watch::monitor;

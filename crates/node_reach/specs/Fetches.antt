@@ -1,0 +1,37 @@
+-- A client that hears a log.
+use Rattle.std.specs.Prelude.{◌≡◌, List, None}
+use Rattle.file_client.specs.Fetch.{Event}
+use Rattle.file_client.specs.Laws.{end_after}
+use Rattle.file_client.specs.Stands.{Stands}
+use Rattle.tail_frame.specs.declared.logged.Record.{Record}
+use Rattle.node_reach.specs.Ears.{Hears}
+use Rattle.node_reach.specs.Fetched.{file_limit, file_ears, reply_by, events}
+use Rattle.node_reach.specs.Ticks.{start_of, last_tick}
+use Rattle.node_reach.specs.declared.asking.Asking.{Asking}
+use Rattle.node_reach.specs.declared.client.Client.{Client}
+use Rattle.node_reach.specs.declared.fetching.Fetching.{Fetching}
+use Rattle.node_reach.specs.declared.responses.Response.{Response}
+
+-- the event that a response is
+abbrev pub event_in : Response → Event
+event_in response = reply_by response.tid response.reply
+
+-- these events came to it
+abbrev pub HasAsked : List Event → Asking → Type 0
+HasAsked past now = Stands file_limit past now.fetch
+
+-- it came to the last tick of these records
+pub record HasTicked (now : Fetching) (past : List Record) : Type 0 where
+  pub first : now.first ≡ start_of past
+  pub tick : now.tick ≡ last_tick past
+
+-- it goes on with these records, and hears the server by them
+pub record Waits (now : Fetching) (past : List Record) : Type 0 where
+  pub ticked : HasTicked now past
+  pub hears : Hears (file_ears now.asking.client.own) now.responses.ear past
+
+-- it heard these records; behind an end it no longer listens
+pub record Fetches (client : Client) (now : Fetching) (past : List Record) : Type 0 where
+  pub same : now.asking.client ≡ client
+  pub asked : HasAsked (events client past) now.asking
+  pub waits : end_after file_limit (events client past) ≡ None → Waits now past

@@ -1,0 +1,59 @@
+//! A file of another node, over a log.
+ghost use Rattle.std.specs.Prelude.{◌≡◌, ◌≢◌, ◌≤◌, length};
+ghost use Rattle.cy_outside.specs.Outside.{Rose};
+ghost use Rattle.log_loop.specs.Gone.{HasGone};
+ghost use Rattle.log_loop.specs.Taken.{IsOfTaken};
+ghost use Rattle.log_loop.specs.Streamed.{IsStreamed};
+ghost use Rattle.node_reach.specs.Anything.{Anything};
+ghost use Rattle.node_reach.specs.Fetched.{fetch_voice};
+ghost use Rattle.node_reach.specs.FetchedFile.{WritesFile};
+
+use crate::buses::bus_names;
+use crate::client::Client;
+use crate::fetching::Fetching;
+use cy_bits::Bytes;
+use cy_outside::{Sink, Source};
+use file_client::fetch_laws;
+use log_loop::{Ended, listen};
+use std::alloc::Global;
+
+/// Fetches a file of at most 2^20 bytes by a log of the buses `can0`, `can1` and `can2`, and writes the requests that the
+/// node `own` would send to the node `server` for the file at `path`, one at the first record, one for each response with
+/// 256 bytes, and one for each second in which none came. The eighth such second at one place of the file ends the fetch,
+/// and so does a response with fewer bytes, an error of the server, or a byte above the limit. At the log's end it writes
+/// the file, or what became of it. The node-IDs are at most 127 and differ; the path has 1 to 255 bytes 0x20 to 0x7E.
+pub fn fetch<L: Source, O: Sink>(
+    alloc: Global,
+    own: u8,
+    server: u8,
+    path: &[u8],
+    input: &mut L,
+    out: &mut O,
+) -> Ended
+    requires own { own ≤ 127 }
+    requires server { server ≤ 127 }
+    requires other { server ≢ own }
+    requires path { length path.now ≤ 255 }
+    ensures gone { HasGone (fetch_voice (record { own = own; server = server; path = path.now })) Anything Anything
+        (L.left input.old) result (O.written out.old) (O.written out.new) }
+    ensures taken { result ≡ Ended.ReadFault → IsOfTaken (fetch_voice (record { own = own; server = server; path = path.now })) Anything
+        (L.left input.old) (L.left input.new) (O.written out.old) (O.written out.new) }
+    ensures streamed { IsStreamed (fetch_voice (record { own = own; server = server; path = path.now })) Anything
+        (L.left input.old) (L.left input.new) result (O.written out.old) (O.written out.new) }
+    ensures fetched { WritesFile (record { own = own; server = server; path = path.now })
+        (L.left input.old) result (O.written out.old) (O.written out.new) }
+    ensures read { result ≡ Ended.ReadFault → Rose (L.faults input.old) (L.faults input.new) }
+    ensures write { result ≡ Ended.WriteFault → Rose (O.faults out.old) (O.faults out.new) }
+    ensures kept { result ≡ Ended.Ok
+        → (L.faults input.new ≡ L.faults input.old) × (O.faults out.new ≡ O.faults out.old) }
+{
+    fetch_laws();
+    let Ok(path) = Bytes::from_slice(alloc, path) else {
+        return Ended::NoMemory;
+    };
+    let client = Client { own, server, path };
+    let Ok(mut fetching) = Fetching::new(alloc, client) else {
+        return Ended::NoMemory;
+    };
+    listen(alloc, &mut fetching, bus_names(), input, out)
+}
