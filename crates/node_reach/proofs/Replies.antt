@@ -1,5 +1,5 @@
 -- What a node hears of a file server.
-use Rattle.std.proofs.Common.{◌≡◌, ◌≢◌, ◌∙◌, ℕ, ◌≤◌, eqb, Bool, List, length, take, Option, Some, None, Result, Ok, Err, OnOk, sym, ap, subst}
+use Rattle.std.proofs.Common.{◌≡◌, ◌≢◌, ◌∙◌, ℕ, ◌≤◌, eqb, Bool, List, length, take, Option, Some, None, sym, ap, subst}
 use Rattle.std.proofs.lemmas.Bool.{eq-eqb, ne_eqb, cond-true, cond-false}
 use Rattle.std.specs.Option.{option_and_then}
 use Rattle.cy_bits.specs.Bits.{bits}
@@ -48,7 +48,3 @@ pub of_another : (server : ℕ) (t : Transfer) (o : Option Transfer) → Some t 
 of_another server t o is other =
     sym (cond-false (eqb t.key.source server) (reply_of t.tid t.payload) None (ne_eqb t.key.source server other))
     ∙ ap (option_and_then (reply_in server)) is
-
-pub on_any : {T E : Type 0} (P : Type 0) (r : Result T E) → P → OnOk r P
-on_any P (Ok x) h = h
-on_any P (Err e) h = tt

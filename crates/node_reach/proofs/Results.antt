@@ -12,3 +12,7 @@ if_ok P Q (Err e) f h = tt
 pub either : {T E : Type 0} (A B C : Type 0) (r : Result T E) → (A → C) → (B → C) → OnOk r A → OnErr r B → C
 either A B C (Ok x) f g a b = f a
 either A B C (Err e) f g a b = g b
+
+pub on_any : {T E : Type 0} (P : Type 0) (r : Result T E) → P → OnOk r P
+on_any P (Ok x) h = h
+on_any P (Err e) h = tt

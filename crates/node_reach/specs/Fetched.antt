@@ -25,6 +25,10 @@ use Rattle.node_reach.specs.Ticks.{first_moment, tick_moment, last_tick, ticks_b
 use Rattle.node_reach.specs.Transfers.{Transfer, Ears, port_for, transfer_at}
 use Rattle.node_reach.specs.declared.client.Client.{Client}
 
+-- a client with this node-ID that reads the file at a path of a server
+abbrev pub client_of : ℕ → ℕ → List ℕ → Client
+client_of own server path = record { own = own; server = server; path = path }
+
 -- the most bytes that a file may have
 abbrev pub file_limit : ℕ
 file_limit = 2 ^ 20

@@ -1,20 +1,26 @@
 -- A client that hears a log.
-use Rattle.std.specs.Prelude.{◌≡◌, List, None}
+use Rattle.std.specs.Prelude.{◌≡◌, ℕ, List, Option, None, option_map}
 use Rattle.file_client.specs.Fetch.{Event}
 use Rattle.file_client.specs.Laws.{end_after}
 use Rattle.file_client.specs.Stands.{Stands}
 use Rattle.tail_frame.specs.declared.logged.Record.{Record}
 use Rattle.node_reach.specs.Ears.{Hears}
-use Rattle.node_reach.specs.Fetched.{file_limit, file_ears, reply_by, events}
+use Rattle.node_reach.specs.Fetched.{file_limit, file_ears, reply_by, reply_at, events}
 use Rattle.node_reach.specs.Ticks.{start_of, last_tick}
 use Rattle.node_reach.specs.declared.asking.Asking.{Asking}
 use Rattle.node_reach.specs.declared.client.Client.{Client}
+use Rattle.node_reach.specs.declared.ear.Ear.{Ear}
 use Rattle.node_reach.specs.declared.fetching.Fetching.{Fetching}
 use Rattle.node_reach.specs.declared.responses.Response.{Response}
 
 -- the event that a response is
 abbrev pub event_in : Response → Event
 event_in response = reply_by response.tid response.reply
+
+-- this is the reply of a server that ends at the next record
+abbrev pub TellsReply : Ear → ℕ → Record → Option Response → Type 0
+TellsReply ear server rec response =
+    (own : ℕ) (past : List Record) → Hears (file_ears own) ear past → option_map event_in response ≡ reply_at own server rec past
 
 -- these events came to it
 abbrev pub HasAsked : List Event → Asking → Type 0

@@ -1,8 +1,8 @@
 //! A client of a file server and what it says.
 ghost use Rattle.node_reach.specs.Clients.{IsClient};
 
-use crate::ask::put_outcome;
 use crate::client::Client;
+use crate::fetch_lines::put_outcome;
 use cy_bits::NoMemory;
 use file_client::{Fetch, FetchEvent, FetchOut, fetch_laws};
 use line_text::TextBuffer;

@@ -1,5 +1,6 @@
-use crate::ask::{MOST, put_ask, write_request};
+use crate::fetch_lines::put_ask;
 use crate::lines::{Outgoing, put_transfer};
+use crate::request::{MOST, write_request};
 use can_id::{Ident, make};
 use cy_bits::{Bytes, NoMemory};
 use line_text::TextBuffer;

@@ -29,6 +29,9 @@ pub struct Ear {
 /// The sources that get a session on a port.
 const SOURCES: u16 = 128;
 
+/// The silence of a bus, in microseconds, after which another takes over, where nothing else is said.
+pub(crate) const TIMEOUT: u64 = 2_000_000;
+
 impl Ear {
     ghost use Rattle.std.specs.Prelude.{◌≡◌, ◌≤◌, ◌<◌, ◌^◌, ◌+◌, ◌++◌, ◌∷◌, [], None, IfOk, IfSome, OnOk, option_map, length};
     ghost use Rattle.rx_table.specs.Ports.{port_at};

@@ -5,7 +5,7 @@ ghost use Rattle.log_loop.specs.Gone.{HasGone};
 ghost use Rattle.log_loop.specs.Taken.{IsOfTaken};
 ghost use Rattle.log_loop.specs.Streamed.{IsStreamed};
 ghost use Rattle.node_reach.specs.Anything.{Anything};
-ghost use Rattle.node_reach.specs.Fetched.{fetch_voice};
+ghost use Rattle.node_reach.specs.Fetched.{client_of, fetch_voice};
 ghost use Rattle.node_reach.specs.FetchedFile.{WritesFile};
 
 use crate::buses::bus_names;
@@ -17,11 +17,15 @@ use file_client::fetch_laws;
 use log_loop::{Ended, listen};
 use std::alloc::Global;
 
-/// Fetches a file of at most 2^20 bytes by a log of the buses `can0`, `can1` and `can2`, and writes the requests that the
-/// node `own` would send to the node `server` for the file at `path`, one at the first record, one for each response with
-/// 256 bytes, and one for each second in which none came. The eighth such second at one place of the file ends the fetch,
-/// and so does a response with fewer bytes, an error of the server, or a byte above the limit. At the log's end it writes
-/// the file, or what became of it. The node-IDs are at most 127 and differ; the path has 1 to 255 bytes 0x20 to 0x7E.
+/// Fetches a file of at most 2^20 bytes of the node `server` for the node `own`, by the service `uavcan.file.Read` over a
+/// log of the buses `can0`, `can1` and `can2`.
+///
+/// The first request is made at the first record. At each whole second behind it the request that is out is late: it is
+/// made anew, but for the eighth time at one offset, which ends the fetch. A response with 256 bytes is followed by the
+/// next request; fewer bytes end the fetch, and so do an error of the server and bytes above the limit. Each request is
+/// written with its frames, and at the log's end the file, why there is none, or that a request is still out.
+///
+/// The node-IDs are at most 127 and differ; the path is 1 to 255 bytes 0x20 to 0x7E.
 pub fn fetch<L: Source, O: Sink>(
     alloc: Global,
     own: u8,
@@ -34,13 +38,14 @@ pub fn fetch<L: Source, O: Sink>(
     requires server { server ≤ 127 }
     requires other { server ≢ own }
     requires path { length path.now ≤ 255 }
-    ensures gone { HasGone (fetch_voice (record { own = own; server = server; path = path.now })) Anything Anything
+    ensures gone { HasGone (fetch_voice (client_of own server path.now)) Anything Anything
         (L.left input.old) result (O.written out.old) (O.written out.new) }
-    ensures taken { result ≡ Ended.ReadFault → IsOfTaken (fetch_voice (record { own = own; server = server; path = path.now })) Anything
+    ensures taken { let voice = fetch_voice (client_of own server path.now) in
+        result ≡ Ended.ReadFault → IsOfTaken voice Anything
         (L.left input.old) (L.left input.new) (O.written out.old) (O.written out.new) }
-    ensures streamed { IsStreamed (fetch_voice (record { own = own; server = server; path = path.now })) Anything
+    ensures streamed { IsStreamed (fetch_voice (client_of own server path.now)) Anything
         (L.left input.old) (L.left input.new) result (O.written out.old) (O.written out.new) }
-    ensures fetched { WritesFile (record { own = own; server = server; path = path.now })
+    ensures fetched { WritesFile (client_of own server path.now)
         (L.left input.old) result (O.written out.old) (O.written out.new) }
     ensures read { result ≡ Ended.ReadFault → Rose (L.faults input.old) (L.faults input.new) }
     ensures write { result ≡ Ended.WriteFault → Rose (O.faults out.old) (O.faults out.new) }

@@ -5,11 +5,11 @@
 mod allocating;
 mod allocation;
 mod answer;
-mod ask;
 mod asking;
 mod buses;
 mod client;
 mod ear;
+mod fetch_lines;
 mod fetching;
 mod file_fetch;
 mod frames;
@@ -18,6 +18,7 @@ mod monitoring;
 mod network;
 mod network_watch;
 mod payload;
+mod request;
 mod responses;
 mod transfer;
 

@@ -5,7 +5,7 @@ ghost use Rattle.node_reach.specs.Ears.{Hears};
 ghost use Rattle.node_reach.specs.Monitored.{monitor_ears, node_lines, state_in, state_line, step_text, last_text};
 ghost use Rattle.node_reach.specs.Monitors.{Monitors};
 
-use crate::ear::Ear;
+use crate::ear::{Ear, TIMEOUT};
 use crate::lines::{put_end, put_estimate, put_node, put_offline};
 use crate::network::{HEARTBEAT, Network, SYNCHRONIZATION};
 use can_id::Kind;
@@ -16,9 +16,6 @@ use net_monitor::NodeState;
 use std::alloc::Global;
 use std_types::StdName;
 use tail_frame::Record;
-
-/// The silence of a bus, in microseconds, after which another takes over.
-const TIMEOUT: u64 = 2_000_000;
 
 /// A monitor, and what it takes to hear a log.
 #[derive(Drop)]

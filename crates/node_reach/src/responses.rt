@@ -1,7 +1,7 @@
 //! The responses of a file server that a node hears.
 ghost use Rattle.std.specs.Prelude.{◌≤◌, length};
 
-use crate::ear::Ear;
+use crate::ear::{Ear, TIMEOUT};
 use crate::payload::reading;
 use crate::transfer::Transfer;
 use can_id::Kind;
@@ -31,9 +31,6 @@ pub struct Responses {
     pub ear: Ear,
 }
 
-/// The silence of a bus, in microseconds, after which another takes over.
-const TIMEOUT: u64 = 2_000_000;
-
 /// The service `uavcan.file.Read`.
 const READ: u16 = 408;
 
@@ -56,11 +53,10 @@ impl Response {
 }
 
 impl Responses {
-    ghost use Rattle.std.specs.Prelude.{◌≡◌, ◌∷◌, [], ℕ, List, IfOk, OnOk, option_map};
-    ghost use Rattle.tail_frame.specs.declared.logged.Record.{Record as RecordOf};
-    ghost use Rattle.node_reach.specs.Ears.{Hears};
-    ghost use Rattle.node_reach.specs.Fetched.{file_ears, reply_of, reply_at};
-    ghost use Rattle.node_reach.specs.Fetches.{event_in};
+    ghost use Rattle.std.specs.Prelude.{◌≡◌, [], IfOk, OnOk, option_map};
+    ghost use Rattle.node_reach.specs.Ears.{Hears, Takes};
+    ghost use Rattle.node_reach.specs.Fetched.{file_ears, reply_of};
+    ghost use Rattle.node_reach.specs.Fetches.{event_in, TellsReply};
 
     /// A node with this node-ID, at most 127, that heard nothing yet.
     pub(crate) fn new(alloc: Global, own: u8) -> Result<Responses, NoMemory>
@@ -78,10 +74,8 @@ impl Responses {
     pub(crate) fn hear(&mut self, rec: &Record, server: u8) -> Result<Option<Response>, NoMemory>
         requires { self.old.ear.latest ≤ rec.now.moment }
         ensures latest { self.new.ear.latest ≤ rec.now.moment }
-        ensures hears { OnOk result ((own : ℕ) (past : List RecordOf) → Hears (file_ears own) self.old.ear past
-            → Hears (file_ears own) self.new.ear (rec.now ∷ past)) }
-        ensures reply { IfOk result (λ response. (own : ℕ) (past : List RecordOf) → Hears (file_ears own) self.old.ear past
-            → option_map event_in response ≡ reply_at own server rec.now past) }
+        ensures hears { OnOk result (Takes rec.now self.old.ear self.new.ear) }
+        ensures reply { IfOk result (TellsReply self.old.ear server rec.now) }
     {
         let met = self.ear.hear(rec)?;
         let Some(transfer) = self.ear.transfer(rec, met) else {

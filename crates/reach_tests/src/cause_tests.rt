@@ -1,7 +1,7 @@
 //! How the commands end where the log is refused, or the input or the output fails.
 use cy_outside::{MemSink, MemSource};
 use frame_log::LogWhy;
-use node_reach::{Ended, allocate, monitor};
+use node_reach::{Ended, allocate, fetch, monitor};
 
 /// A heartbeat of node 42.
 const HEARTBEAT: &[u8] = b"(0.000000) can0 107D552A#01000000000000E0\n";
@@ -61,5 +61,10 @@ fn nothing_more_is_said(rt: HostRuntime) {
         let mut out = MemSink::new(rt.alloc(), cause.writes);
         assert_eq!(rt; allocate(rt.alloc(), 1, &mut input, &mut out), cause.ended);
         assert!(rt; out.written.is_empty());
+        let mut input = MemSource::new(cause.log, cause.reads);
+        let mut out = MemSink::new(rt.alloc(), cause.writes);
+        let ended = fetch(rt.alloc(), 1, 42, b"a", &mut input, &mut out);
+        assert_eq!(rt; ended, cause.ended);
+        assert!(rt; !out.written.as_slice().ends_with(b"open 0\n"));
     }
 }

@@ -7,4 +7,6 @@ mod allocate_tests;
 #[cfg(test)]
 mod cause_tests;
 #[cfg(test)]
+mod fetch_tests;
+#[cfg(test)]
 mod monitor_tests;

@@ -48,7 +48,7 @@ returns-in-None-clause-heard c = λ first past h.
     let ear = subst (λ (r : Responses). Hears (file_ears a.own) r.ear past) (sym c.wait.ensures.responses) waits.hears in
     let ticked = (c.in_ok-wait.ensures {u = tt}).ticks past waits.ticked in
     let is = reply_is a c.wait.new.self.asking.client rec past _ None c.wait.ensures.client ((c.in_ok-response.ensures {u = tt}).reply a.own past ear) (ap (option_map event_in) c.in-None.is) in
-    fetches_next a rec past None is new c.wait.ensures.client ((c.in_ok-wait.ensures {u = tt}).asked past waits.ticked k.asked) (record { first = ticked.first; tick = ticked.tick }) ((c.in_ok-response.ensures {u = tt}).hears a.own past ear) in
+    fetches_next a rec past None is new c.wait.ensures.client ((c.in_ok-wait.ensures {u = tt}).asked past waits.ticked k.asked) (record { first = ticked.first; tick = ticked.tick }) ((c.in_ok-response.ensures {u = tt}).hears (file_ears a.own) past ear) in
     subst (λ (b : Client). Fetches b now past → Fetches b new (rec ∷ past)) h.same next h
 
 pub returns-in-None-clause-text : goal.returns-in-None-clause-text
@@ -87,7 +87,7 @@ returns-in-Some-clause-heard c = on_ok _ _ c.take.result (λ taken first past h.
     fetches_next a rec past (Some e) is new (c.take.ensures.client ∙ c.wait.ensures.client)
     (subst (λ (f : Event). HasAsked (f ∷ before) c.take.new.self) c.event.ensures.event asked)
     (record { first = ticked.first; tick = ticked.tick })
-    ((c.in_ok-response.ensures {u = tt}).hears a.own past ear) in
+    ((c.in_ok-response.ensures {u = tt}).hears (file_ears a.own) past ear) in
     subst (λ (b : Client). Fetches b now past → Fetches b new (rec ∷ past)) h.same next h) c.take.ensures.asked
 
 pub returns-in-Some-clause-text : goal.returns-in-Some-clause-text

@@ -1,47 +1,11 @@
-//! What is written of a fetch: the payload of a request, and lines.
-ghost use Rattle.std.specs.Prelude.{◌≡◌, ◌≤◌, ◌<◌, ◌^◌, ◌++◌, ◌∷◌, [], IfOk, OnOk, decimal, length, take};
+//! The lines on a fetch.
+ghost use Rattle.std.specs.Prelude.{◌≡◌, ◌≤◌, ◌<◌, ◌^◌, ◌++◌, ◌∷◌, [], OnOk, decimal, length};
 ghost use Rattle.line_text.specs.Buffer.{text_of};
-ghost use Rattle.node_reach.specs.Fetched.{request_payload, ask_line, file_line, end_text};
+ghost use Rattle.node_reach.specs.Fetched.{ask_line, file_line, end_text};
 
-use cy_bits::{Bytes, NoMemory};
-use dsdl_types::laws::readings_stored;
+use cy_bits::NoMemory;
 use file_client::FetchOut;
 use line_text::TextBuffer;
-use serdes::laws::{extent_has_room, fits_or_misfit};
-use serdes::{WriteError, write_as};
-use std::alloc::Global;
-use std_types::file::ReadRequest;
-use std_types::{Standard, StdName, std_type};
-
-/// The most bytes that a request to read has, which is its extent.
-pub(crate) const MOST: usize = 300;
-
-/// Writes the payload of a request for the bytes of a file from an offset on, and answers its length.
-pub(crate) fn write_request(
-    alloc: Global,
-    offset: u64,
-    path: &[u8],
-    out: &mut [u8; MOST],
-) -> Result<usize, NoMemory>
-    requires { length path.now ≤ 255 }
-    ensures size { IfOk result (λ size. size ≤ 300) }
-    ensures payload { IfOk result (λ size. take size out.new ≡ request_payload offset path.now) }
-{
-    extent_has_room();
-    fits_or_misfit();
-    readings_stored();
-    let standard = std_type(alloc, StdName::ReadRequest)?;
-    let request = ReadRequest {
-        offset,
-        path: Bytes::from_slice(alloc, path)?,
-    };
-    let value = request.to_value(alloc)?;
-    match write_as(alloc, &standard.schema, &value, out) {
-        Ok(size) => Ok(size),
-        Err(WriteError::NoMemory) => Err(NoMemory),
-        Err(WriteError::Misfit { .. }) => unreachable!(),
-    }
-}
 
 /// Appends the line of a request.
 pub(crate) fn put_ask(

@@ -16,7 +16,7 @@ use Rattle.std_types.specs.Types.{schema_of}
 use Rattle.std_types.specs.declared.file.ReadRequest.{ReadRequest}
 use Rattle.std_types.specs.declared.std_name.StdName.TheVariants.{ReadRequest as read_request}
 use Rattle.node_reach.specs.Fetched.{request_payload}
-use Rattle.node_reach.proofs.ask.write_request.Goals as goal
+use Rattle.node_reach.proofs.request.write_request.Goals as goal
 
 extent_is : extent_of (schema_of read_request) ≡ 2400
 unfolding schema_of
