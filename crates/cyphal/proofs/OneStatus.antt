@@ -4,12 +4,11 @@ use Rattle.dsdl_resolve.specs.Laws.{HaveOneAnswer}
 use Rattle.value_lines.specs.Decoded.{Decodes}
 use Rattle.value_lines.specs.Encoded.{Encodes}
 use Rattle.node_reach.specs.Allocated.{allocate_voice}
-use Rattle.node_reach.specs.Fetched.{fetch_voice}
+use Rattle.node_reach.specs.Fetched.{client_of, fetch_voice}
 use Rattle.node_reach.specs.Monitored.{monitor_voice}
 use Rattle.node_run.specs.ValueLines.{HasOneStatus}
 use Rattle.cyphal.specs.Words.{Command, Compile, Compat, Encode, Decode, Run, Bound, Gen, Monitor, Allocate, Fetch}
 use Rattle.cyphal.specs.Expected.{job_of, job_asked}
-use Rattle.cyphal.specs.jobs.Fetch.{client}
 use Rattle.cyphal.proofs.statuses.Single.{IsSingle}
 use Rattle.cyphal.proofs.statuses.Compile as compile
 use Rattle.cyphal.proofs.statuses.Compat as compat
@@ -30,7 +29,7 @@ module _ (law : HaveOneAnswer) (encodes : HasOneStatus Encodes) (decodes : HasOn
   single (Gen number) = gen.single number
   single (Monitor own) = reach.single (monitor_voice own)
   single (Allocate own) = reach.single (allocate_voice own)
-  single (Fetch own server path) = reach.single (fetch_voice (client own server path))
+  single (Fetch own server path) = reach.single (fetch_voice (client_of own server path))
 
   pub one_status : (command : Option Command) → IsSingle (job_asked command)
   one_status None told s t h a b = a ∙ sym b

@@ -1,6 +1,7 @@
 -- What the words ask for.
 use Rattle.std.specs.Prelude.{◌≡◌, ◌⊎◌, ℕ, true, false, List, Option, Some, None}
 use Rattle.node_reach.specs.Allocated.{allocate_voice}
+use Rattle.node_reach.specs.Fetched.{client_of}
 use Rattle.node_reach.specs.Monitored.{monitor_voice}
 use Rattle.node_run.specs.declared.status.Status.TheVariants as status
 use Rattle.value_lines.specs.Decoded.{Decodes}
@@ -15,7 +16,7 @@ use Rattle.cyphal.specs.jobs.Run.{run_job}
 use Rattle.cyphal.specs.jobs.Bound.{bound_job}
 use Rattle.cyphal.specs.jobs.Gen.{gen_job}
 use Rattle.cyphal.specs.jobs.Reach.{reach_job}
-use Rattle.cyphal.specs.jobs.Fetch.{client, fetch_job}
+use Rattle.cyphal.specs.jobs.Fetch.{fetch_job}
 
 -- the commands
 abbrev pub job_of : Command → Job
@@ -28,7 +29,7 @@ job_of (Bound root path) = bound_job root path
 job_of (Gen number) = gen_job number
 job_of (Monitor own) = reach_job (monitor_voice own)
 job_of (Allocate own) = reach_job (allocate_voice own)
-job_of (Fetch own server path) = fetch_job (client own server path)
+job_of (Fetch own server path) = fetch_job (client_of own server path)
 
 -- words that are no command ask for their refusal alone
 abbrev pub no_job : Job

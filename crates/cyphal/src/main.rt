@@ -11,6 +11,7 @@ mod jobs;
 mod law;
 mod node_id;
 mod number;
+mod path;
 mod plan_file;
 mod program;
 #[cfg(test)]

@@ -1,6 +1,7 @@
 ghost use Rattle.std.specs.Prelude.{◌≢◌, ◌≤◌, length};
 
 use crate::node_id::NodeId;
+use crate::path::is_path;
 
 /// A file of another node, and the node that fetches it.
 #[derive(Clone, Copy, Drop)]
@@ -17,8 +18,7 @@ pub struct RemoteFile<'a> {
 
 impl<'a> RemoteFile<'a> {
     ghost use Rattle.std.specs.Prelude.{◌≡◌, option_map};
-    ghost use Rattle.std.specs.List.{list_all};
-    ghost use Rattle.cyphal.specs.Words.{Fetch, is_visible, is_path, fetch_given};
+    ghost use Rattle.cyphal.specs.Words.{Fetch, fetch_given};
 
     /// The file at a path, where there are both nodes, they differ, and the path has at most 255 bytes, each of them a
     /// space or a visible character of ASCII.
@@ -35,17 +35,4 @@ impl<'a> RemoteFile<'a> {
             None
         }
     }
-}
-
-/// Whether a path has at most 255 bytes, each of them a space or a visible character of ASCII.
-fn is_path(path: &[u8]) -> bool
-    ensures { result ≡ is_path path.now }
-{
-    path.len() <= 255 && path.iter().all(|byte| is_visible(*byte))
-}
-
-fn is_visible(byte: u8) -> bool
-    ensures { result ≡ is_visible byte }
-{
-    32 <= byte && byte <= 126
 }

@@ -1,11 +1,12 @@
 //! `fetch NODE SERVER PATH`: a file of another node, over the log of the input.
 ghost use Rattle.std.specs.Prelude.{◌≡◌, ℕ, true, false};
 ghost use Rattle.node_reach.specs.Buses.{bus_names};
+ghost use Rattle.node_reach.specs.Fetched.{client_of};
 ghost use Rattle.node_run.specs.ValueLines.{flow};
 ghost use Rattle.cyphal.specs.Cause.{outside, HasCauseOver};
 ghost use Rattle.cyphal.specs.Job.{is_fault};
 ghost use Rattle.cyphal.specs.LogEnds.{EndsAsLog};
-ghost use Rattle.cyphal.specs.jobs.Fetch.{client, HasFetched};
+ghost use Rattle.cyphal.specs.jobs.Fetch.{HasFetched};
 
 use crate::remote_file::RemoteFile;
 use cy_outside::{Sink, Source};
@@ -30,7 +31,7 @@ pub fn fetch_file<L: Source, O: Sink>(
     ensures ran { let asked = file.entry in
         let told = flow (L.left input.old) (L.left input.new)
         (O.written out.old) (O.written out.new) in
-        HasFetched (client asked.own.number asked.server.number asked.path.now) result told }
+        HasFetched (client_of asked.own.number asked.server.number asked.path.now) result told }
 {
     let path = file.path.as_bytes();
     status_of(fetch(alloc, file.own.number, file.server.number, path, input, out))
