@@ -1,15 +1,21 @@
 use cy_outside::{MemSink, MemSource};
+use frame_log::LogWhy;
 use node_reach::{Ended, allocate};
 
 /// A log, and what the allocator of node 1 says of it.
 #[derive(Drop)]
 struct Expected<'a> {
     log: &'a [u8],
+    ended: Ended,
     written: &'a [u8],
 }
 
 const fn row<'a>(log: &'a [u8], written: &'a [u8]) -> Expected<'a> {
-    Expected { log, written }
+    Expected {
+        log,
+        ended: Ended::Ok,
+        written,
+    }
 }
 
 #[test]
@@ -58,6 +64,21 @@ fn node_ids_are_given(rt: HostRuntime) {
             tx 1.000000 can2 107FE601 7C00895540\n\
             end records 2 owners 1\n",
         ),
+        // A line that is refused behind it: what was said stays, and there is no last line.
+        Expected {
+            log: b"(1.000000) can0 117FE605#01000000000000E0\nbad\n",
+            ended: Ended::Log {
+                line: 2,
+                why: LogWhy::BadLine,
+            },
+            written: b"given 1.000000 125 000000000001\n\
+            tx 1.000000 can0 107FE601 01000000000001A0\n\
+            tx 1.000000 can0 107FE601 7D00BA6440\n\
+            tx 1.000000 can1 107FE601 01000000000001A0\n\
+            tx 1.000000 can1 107FE601 7D00BA6440\n\
+            tx 1.000000 can2 107FE601 01000000000001A0\n\
+            tx 1.000000 can2 107FE601 7D00BA6440\n",
+        },
         // A message that lists a node-ID, and one on another subject.
         row(
             b"(1.000000) can0 117FE605##00100000000000105000000E0\n(1.000000) can0 11606405#01E0\n",
@@ -68,7 +89,7 @@ fn node_ids_are_given(rt: HostRuntime) {
         let mut input = MemSource::new(row.log, &[]);
         let mut out = MemSink::new(rt.alloc(), &[]);
         let ended = allocate(rt.alloc(), 1, &mut input, &mut out);
-        assert_eq!(rt; ended, Ended::Ok);
+        assert_eq!(rt; ended, row.ended);
         assert_eq!(rt; out.written.as_slice(), row.written);
     }
 }
