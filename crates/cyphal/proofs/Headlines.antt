@@ -2,28 +2,35 @@
 use Rattle.std.proofs.Common.{◌≡◌, ◌∙◌, ◌⊎◌, inl, inr, ℕ, true, List, [], ◌∷◌, ◌++◌, Option, Some, sym, ap, subst, append-nil, append_assoc}
 use Rattle.std.proofs.lemmas.Bool.{both_ways, true≢false}
 use Rattle.std.proofs.lemmas.List.{append_cancel_left}
+use Rattle.std.proofs.lemmas.List.Elements.{Contains-append_left}
+use Rattle.std.specs.List.{Contains}
 use mathlib.Core.List.{reverse_aux}
+use Rattle.tail_frame.specs.Chains.{KeyRecord}
 use Rattle.tail_frame.specs.declared.logged.Record.{Record}
 use Rattle.rx_table.specs.Keys.{SessionKey, KeyedFrame, history}
 use Rattle.rx_table.specs.Ports.{Port}
+use Rattle.frag.specs.Sent.{transfer_at}
 use Rattle.frag.specs.declared.sent.Pair.{Pair}
 use Rattle.frag.specs.declared.sent.Sent.{Sent}
 use Rattle.once.specs.Raw.{WireExplainsFields}
-use Rattle.once.specs.Report.{AnyRx, Explains, SelectedRx, OnceInPart, DueInReport}
+use Rattle.once.specs.Report.{AnyRx, Explains, IsDue, SelectedRx}
 use Rattle.once.specs.Report as rx_report
 use Rattle.cy_outside.specs.Written.{behind, Begins}
 use Rattle.dsdl_resolve.specs.Laws.{HaveOneAnswer}
+use Rattle.dsdl_types.specs.Schemas.{Sch}
+use Rattle.node_plan.specs.IsPlan.{TypesKeepRules}
 use Rattle.node_plan.specs.declared.plan.Plan.{Plan}
 use Rattle.frame_log.specs.Log.{Log, log_of}
-use Rattle.frame_log.specs.Order.{IsAhead}
 use Rattle.log_loop.proofs.Logs.{newest_onto}
 use Rattle.log_loop.proofs.Written.{begins_none}
 use Rattle.node_core.specs.declared.line.Line.{Line}
+use Rattle.node_core.specs.declared.line.Line.TheVariants.{Rx}
 use Rattle.rx_table.specs.Heard.{frames}
 use Rattle.node_core.specs.LineSinks.{put_behind}
 use Rattle.node_core.specs.Steps.{Step, lines, lines_at, steps}
 use Rattle.node_core.specs.Text.{text}
 use Rattle.session_lines.specs.Reported.{rxs, of_key, IsSession, Reported as SessionLines}
+use Rattle.session_lines.specs.Values.{type_of, IsSentTo, SayValues, SaysDueValue, ValuesInReport, DueValuesInReport}
 use Rattle.session_lines.proofs.Projection.{rxs_append}
 use Rattle.node_run.specs.Ran.{Reported, At, AtFirst, Ran, HasRun, names_of, newest_first, steps_of, end_part, whole_text}
 use Rattle.node_run.specs.declared.status.Status.{Status}
@@ -36,8 +43,9 @@ use Rattle.cyphal.specs.Plans.{PlanAt}
 use Rattle.cyphal.specs.jobs.Run.{HasRunAt}
 use Rattle.cyphal.specs.Expected.{job_asked, job_for, WasDone}
 use Rattle.rx_table.specs.Heard.{heard_as}
+use Rattle.cyphal.specs.Laws.{HeadlineLaws}
 use Rattle.cyphal.proofs.Plans.{one_plan}
-use Rattle.cyphal.specs.Headline.{log_in, logged_in, lines_of, report_text, Asked, ExplainsIn, OnceIn, DueIn, HeadlineOf, HasPut, OncePut, DuePut}
+use Rattle.cyphal.specs.Headline.{log_in, logged_in, lines_of, report_text, Asked, ExplainsIn, OnceIn, DueIn, ValuesIn, DueValuesIn, HeadlineOf, HasPut, OncePut, DuePut, ValuesPut, DueValuesPut}
 use Rattle.cyphal.proofs.Frames.{frames_are, are_records, in_order}
 
 -- the lines of the first steps are the first lines
@@ -200,22 +208,56 @@ module _ (plan : Plan) (bytes : List ℕ) (key : SessionKey) where
       subst (λ (log : List KeyedFrame). Explains plan.timeout sent key origin (history key log)) (frames_are plan.node past)
       (law (heard_as plan.node) (are_records plan.node) plan.timeout sent key origin past x)
 
--- the records of every log are in order
-abbrev InOrder : Type 0
-InOrder = (buses : List (List ℕ)) (bytes : List ℕ) → IsAhead 0 0 (log_of buses bytes).records
+  -- what its lines say over the whole log
+  all_values : ValuesInReport → (p : Port) (port : Sch) (sent : Sent) (origin : List Pair) → IsSentTo plan key past p port sent origin → SayValues key port sent origin (of_key plan key past) (lines plan (steps plan past))
+  all_values law p port sent origin =
+      subst (λ (t : List Record). IsSentTo plan key t p port sent origin → SayValues key port sent origin (of_key plan key t) (lines plan (steps plan past)))
+      (records_steps plan past) (law plan key (steps plan past) p port sent origin)
+
+  all_due_values : DueValuesInReport → (p : Port) (port : Sch) (sent : Sent) (origin : List Pair) (q : KeyRecord) → IsSentTo plan key past p port sent origin
+      → (due : IsDue plan.timeout sent origin (of_key plan key past) q) → SaysDueValue key port (transfer_at sent due.j).payload q (lines plan (steps plan past))
+  all_due_values law p port sent origin q =
+      subst
+      (λ (t : List Record). IsSentTo plan key t p port sent origin → (due : IsDue plan.timeout sent origin (of_key plan key t) q) → SaysDueValue key port (transfer_at sent due.j).payload q (lines plan (steps plan past)))
+      (records_steps plan past) (law plan key (steps plan past) p port sent origin q)
 
 -- of each front of the lines of a log
-once_in : SessionLines → WireExplainsFields → OnceInPart → InOrder → (plan : Plan) (bytes : List ℕ) (mine rest : List Line) → lines_of plan bytes ≡ mine ++ rest → OnceIn plan bytes mine
-once_in law fields once order plan bytes mine rest e key p sent origin s x =
-    once plan.timeout p.extent sent key origin (frames plan.node (logged_in plan bytes)) (rxs key mine) (rxs key rest)
-    (in_order plan.node (log_in plan bytes).records (order (names_of plan) bytes)) (by_fields plan bytes key fields sent origin x)
-    (sym (session plan bytes key law p s) ∙ (ap (rxs key) e ∙ rxs_append key mine rest))
+once_in : HeadlineLaws → (plan : Plan) (bytes : List ℕ) (mine rest : List Line) → lines_of plan bytes ≡ mine ++ rest → OnceIn plan bytes mine
+once_in law plan bytes mine rest e key p sent origin s x =
+    law.once plan.timeout p.extent sent key origin (frames plan.node (logged_in plan bytes)) (rxs key mine) (rxs key rest)
+    (in_order plan.node (log_in plan bytes).records (law.order (names_of plan) bytes)) (by_fields plan bytes key law.fields sent origin x)
+    (sym (session plan bytes key law.sessions p s) ∙ (ap (rxs key) e ∙ rxs_append key mine rest))
 
 -- of all of them
-due_in : SessionLines → WireExplainsFields → DueInReport → (plan : Plan) (bytes : List ℕ) → DueIn plan bytes (lines_of plan bytes)
-due_in law fields due plan bytes key p sent origin q s x d =
-    subst (AnyRx (λ rx. rx.last ≡ q.line)) (sym (session plan bytes key law p s))
-    (due plan.timeout p.extent sent key origin (of_key plan key (logged_in plan bytes)) q (by_fields plan bytes key fields sent origin x) d)
+due_in : HeadlineLaws → (plan : Plan) (bytes : List ℕ) → DueIn plan bytes (lines_of plan bytes)
+due_in law plan bytes key p sent origin q s x d =
+    subst (AnyRx (λ rx. rx.last ≡ q.line)) (sym (session plan bytes key law.sessions p s))
+    (law.due plan.timeout p.extent sent key origin (of_key plan key (logged_in plan bytes)) q (by_fields plan bytes key law.fields sent origin x) d)
+
+-- the types of a plan that is asked for keep the rules
+types_of : HeadlineLaws → (words : List (List ℕ)) (told : Told) (plan : Plan) (bytes : List ℕ) → Asked words told plan bytes → TypesKeepRules plan
+types_of law words told plan bytes a =
+    let at = a.is_plan in
+    law.plans at.names at.gives.0 plan (law.namespaces at.is.files at.names at.is.compiled) at.gives.2
+
+sent_to : HeadlineLaws → (plan : Plan) (bytes : List ℕ) → TypesKeepRules plan → (key : SessionKey) (p : Port) (port : Sch) (sent : Sent) (origin : List Pair)
+    → IsSession plan key (logged_in plan bytes) p → type_of plan key ≡ Some port → ExplainsIn plan bytes sent key origin → IsSentTo plan key (logged_in plan bytes) p port sent origin
+sent_to law plan bytes rules key p port sent origin s t x = record {
+  rules = rules;
+  session = s;
+  typed = t;
+  log = in_order plan.node (log_in plan bytes).records (law.order (names_of plan) bytes);
+  explains = by_fields plan bytes key law.fields sent origin x;
+}
+
+values_in : HeadlineLaws → (plan : Plan) (bytes : List ℕ) → TypesKeepRules plan → (mine rest : List Line) → lines_of plan bytes ≡ mine ++ rest → ValuesIn plan bytes mine
+values_in law plan bytes rules mine rest e key p port sent origin s t x rx line =
+    all_values plan bytes key law.values p port sent origin (sent_to law plan bytes rules key p port sent origin s t x) rx
+    (record { stands = subst (λ (ls : List Line). Contains ls (Rx rx)) (sym e) (Contains-append_left mine rest (Rx rx) line.stands); is_of_key = line.is_of_key })
+
+due_values_in : HeadlineLaws → (plan : Plan) (bytes : List ℕ) → TypesKeepRules plan → DueValuesIn plan bytes (lines_of plan bytes)
+due_values_in law plan bytes rules key p port sent origin q s t x due =
+    all_due_values plan bytes key law.due_values p port sent origin q (sent_to law plan bytes rules key p port sent origin s t x) due
 
 module _ {L : Type 0} (one : HaveOneAnswer) (words : List (List ℕ)) (told : Told) (came : Outcome) (old new : Outside L) (done : WasDone words told came old new) where
   settled_text : (plan : Plan) (bytes : List ℕ) → Asked words told plan bytes → is_settled came.status ≡ true → came.written ≡ behind told.written (report_text plan bytes)
@@ -232,13 +274,17 @@ module _ {L : Type 0} (one : HaveOneAnswer) (words : List (List ℕ)) (told : To
       by_run (inl n) = subst (λ w. Begins (report_text plan bytes) told.written w) (sym n.written) (begins_none (report_text plan bytes) told.written)
       by_run (inr r) = written_first plan (log_in plan bytes) came.status came.reported told.written came.written (ran one words told came plan bytes a r)
 
-  pub headline_of : SessionLines → WireExplainsFields → OnceInPart → DueInReport → InOrder → HeadlineOf words told came
-  headline_of law fields once due order plan bytes a = record {
-    written = settled_text plan bytes a;
-    begun = first_text plan bytes a;
-    once = once_in law fields once order plan bytes;
-    due = due_in law fields due plan bytes;
-  }
+  pub headline_of : HeadlineLaws → HeadlineOf words told came
+  headline_of law plan bytes a =
+      let rules = types_of law words told plan bytes a in
+      record {
+        written = settled_text plan bytes a;
+        begun = first_text plan bytes a;
+        once = once_in law plan bytes;
+        due = due_in law plan bytes;
+        values = values_in law plan bytes rules;
+        due_values = due_values_in law plan bytes rules;
+      }
 
   -- what a sink tells is what was put
   same_put : (mine put : List Line) → HasPut came.reported mine → came.reported.new ≡ put_behind came.reported.old put → put ≡ mine
@@ -271,3 +317,9 @@ module _ {L : Type 0} (one : HaveOneAnswer) (words : List (List ℕ)) (told : To
 
   pub due_of : HeadlineOf words told came → DuePut words told came
   due_of head mine h plan bytes a s = subst (λ ls. DueIn plan bytes ls) (whole_put plan bytes mine a h s) (head plan bytes a).due
+
+  pub values_of : HeadlineOf words told came → ValuesPut words told came
+  values_of head mine h plan bytes a = let f = front_put plan bytes mine a h in (head plan bytes a).values mine f.0 f.1
+
+  pub due_values_of : HeadlineOf words told came → DueValuesPut words told came
+  due_values_of head mine h plan bytes a s = subst (λ ls. DueValuesIn plan bytes ls) (whole_put plan bytes mine a h s) (head plan bytes a).due_values

@@ -1,10 +1,12 @@
 -- The headline: of each session only sent transfers are reported, in order and at most once, and each transfer that
--- is due is; and what is written is the text of this report.
+-- is due is; what was sent as a value is reported as that value; and what is written is the text of this report.
 use Rattle.std.specs.Prelude.{◌≡◌, ◌++◌, ℕ, true, List, Option, Some}
 use Rattle.tail_frame.specs.Chains.{KeyRecord}
 use Rattle.tail_frame.specs.declared.logged.Record.{Record}
 use Rattle.rx_table.specs.Keys.{SessionKey}
 use Rattle.rx_table.specs.Ports.{Port}
+use Rattle.dsdl_types.specs.Schemas.{Sch}
+use Rattle.frag.specs.Sent.{transfer_at}
 use Rattle.frag.specs.declared.sent.Pair.{Pair}
 use Rattle.frag.specs.declared.sent.Sent.{Sent}
 use Rattle.once.specs.Raw.{WireExplains}
@@ -18,6 +20,7 @@ use Rattle.rx_table.specs.Heard.{heard_as}
 use Rattle.node_core.specs.Steps.{lines}
 use Rattle.node_core.specs.Text.{text}
 use Rattle.session_lines.specs.Reported.{rxs, of_key, IsSession}
+use Rattle.session_lines.specs.Values.{type_of, SayValues, SaysDueValue}
 use Rattle.node_run.specs.Ran.{Reported, names_of, newest_first, steps_of, end_part}
 use Rattle.node_run.specs.declared.status.Status.{Status}
 use Rattle.cyphal.specs.Words.{Run, command_of}
@@ -79,9 +82,27 @@ DueIn plan bytes lines =
     → IsDue plan.timeout sent origin (of_session_in plan bytes key) q
     → AnyRx (λ rx. rx.last ≡ q.line) (rxs key lines)
 
+-- values: where a transfer of a session was sent as a value of its port's type, or of a newer or an older version of it,
+-- these lines say this value
+abbrev pub ValuesIn : Plan → List ℕ → List Line → Type 0
+ValuesIn plan bytes lines =
+    (key : SessionKey) (p : Port) (port : Sch) (sent : Sent) (origin : List Pair)
+    → IsSession plan key (logged_in plan bytes) p → type_of plan key ≡ Some port
+    → ExplainsIn plan bytes sent key origin
+    → SayValues key port sent origin (of_session_in plan bytes key) lines
+
+-- and each transfer that is due is among these lines as the value that it was sent as
+abbrev pub DueValuesIn : Plan → List ℕ → List Line → Type 0
+DueValuesIn plan bytes lines =
+    (key : SessionKey) (p : Port) (port : Sch) (sent : Sent) (origin : List Pair) (q : KeyRecord)
+    → IsSession plan key (logged_in plan bytes) p → type_of plan key ≡ Some port
+    → ExplainsIn plan bytes sent key origin
+    → (due : IsDue plan.timeout sent origin (of_session_in plan bytes key) q)
+    → SaysDueValue key port (transfer_at sent due.j).payload q lines
+
 -- The headline over what is written: where all that counts of the input was run it is the text of the lines of the log,
 -- and a beginning of it however the run ended. These lines, and each front of them, say of a session only what was sent,
--- at most once; and all of them say what is due.
+-- at most once, each value as it was sent; and all of them say what is due.
 pub record Headline (plan : Plan) (bytes : List ℕ) (stat : Status)
     (before after : Option (List ℕ)) : Type 0 where
   pub written : is_settled stat ≡ true → after ≡ behind before (report_text plan bytes)
@@ -89,6 +110,9 @@ pub record Headline (plan : Plan) (bytes : List ℕ) (stat : Status)
   pub once : (front rest : List Line) → lines_of plan bytes ≡ front ++ rest
       → OnceIn plan bytes front
   pub due : DueIn plan bytes (lines_of plan bytes)
+  pub values : (front rest : List Line) → lines_of plan bytes ≡ front ++ rest
+      → ValuesIn plan bytes front
+  pub due_values : DueValuesIn plan bytes (lines_of plan bytes)
 
 -- of words that ask for a run of a told plan over a told input
 abbrev pub HeadlineOf : List (List ℕ) → Told → Outcome → Type 0
@@ -112,10 +136,28 @@ DueOf words told stat mine =
     (plan : Plan) (bytes : List ℕ) → Asked words told plan bytes → is_settled stat ≡ true
     → DueIn plan bytes mine
 
--- both, of the lines that a sink of lines tells
+-- values, of the lines of a report, however the run ended
+abbrev pub ValuesOf : List (List ℕ) → Told → List Line → Type 0
+ValuesOf words told mine =
+    (plan : Plan) (bytes : List ℕ) → Asked words told plan bytes → ValuesIn plan bytes mine
+
+-- and those that are due, where all that counts of the input was run
+abbrev pub DueValuesOf : List (List ℕ) → Told → Status → List Line → Type 0
+DueValuesOf words told stat mine =
+    (plan : Plan) (bytes : List ℕ) → Asked words told plan bytes → is_settled stat ≡ true
+    → DueValuesIn plan bytes mine
+
+-- each of these, of the lines that a sink of lines tells
 abbrev pub OncePut : List (List ℕ) → Told → Outcome → Type 0
 OncePut words told came = (mine : List Line) → HasPut came.reported mine → OnceOf words told mine
 
 abbrev pub DuePut : List (List ℕ) → Told → Outcome → Type 0
 DuePut words told came =
     (mine : List Line) → HasPut came.reported mine → DueOf words told came.status mine
+
+abbrev pub ValuesPut : List (List ℕ) → Told → Outcome → Type 0
+ValuesPut words told came = (mine : List Line) → HasPut came.reported mine → ValuesOf words told mine
+
+abbrev pub DueValuesPut : List (List ℕ) → Told → Outcome → Type 0
+DueValuesPut words told came =
+    (mine : List Line) → HasPut came.reported mine → DueValuesOf words told came.status mine

@@ -8,6 +8,7 @@ pub mod LogEnds
 pub mod Plans
 pub mod jobs
 pub mod Expected
+pub mod Laws
 pub mod Headline
 pub mod Streaming
 pub mod Answered

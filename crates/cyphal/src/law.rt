@@ -1,5 +1,27 @@
 //! What holds of definitions alone: the functions do nothing.
+ghost use Rattle.cyphal.specs.Laws.{HeadlineLaws};
 ghost use Rattle.cyphal.specs.Premises.{PremisesCanBeMet};
+
+use dsdl_resolve::namespaces_keep_rules;
+use frame_log::ordered;
+use node_plan::laws::plans_keep_type_rules;
+use once::{due_in_report, once_in_part, wire_explains_fields};
+use session_lines::laws::{due_values, reported, values};
+
+/// The laws that the headline rests on.
+pub fn headline_laws()
+    ensures { HeadlineLaws }
+{
+    reported();
+    wire_explains_fields();
+    once_in_part();
+    due_in_report();
+    ordered();
+    values();
+    due_values();
+    namespaces_keep_rules();
+    plans_keep_type_rules();
+}
 
 /// The premises of the headline can be met.
 pub fn premises_can_be_met()

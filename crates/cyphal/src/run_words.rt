@@ -9,19 +9,17 @@ ghost use Rattle.cyphal.specs.ErrorLine.{error_line};
 ghost use Rattle.cyphal.specs.Job.{outcome, told_by, is_fault, NotDone};
 ghost use Rattle.cyphal.specs.Cause.{outside, HasCauseOver};
 ghost use Rattle.cyphal.specs.Expected.{job_for, WasDone};
-ghost use Rattle.cyphal.specs.Headline.{HeadlineOf, OncePut, DuePut};
+ghost use Rattle.cyphal.specs.Headline.{HeadlineOf, OncePut, DuePut, ValuesPut, DueValuesPut};
 ghost use Rattle.cyphal.specs.Streaming.{TakenOf, StreamedOf};
 
 use crate::error_line::put_error;
+use crate::law::headline_laws;
 use crate::work::work;
 use cy_outside::{Sink, Source, Tree};
 use dsdl_resolve::one_answer;
-use frame_log::ordered;
 use node_core::{LineSink, Numbers};
 use node_run::Status;
 use node_run::values::laws::one_status;
-use once::{due_in_report, once_in_part, wire_explains_fields};
-use session_lines::laws::reported;
 use std::alloc::Global;
 
 /// How a command ended, and what was counted.
@@ -89,6 +87,14 @@ pub fn run_words<T: Tree, L: Source, O: Sink, E: Sink, K: LineSink>(
         let put = reported (K.lines lines.old) (K.lines lines.new) result.numbers in
         let came = outcome result.status put (L.left input.new) (O.written out.new) in
         DuePut (map string_bytes words.now) told came }
+    ensures values { let told = told_by (T.files tree.old) (L.left input.old) (O.written out.old) in
+        let put = reported (K.lines lines.old) (K.lines lines.new) result.numbers in
+        let came = outcome result.status put (L.left input.new) (O.written out.new) in
+        ValuesPut (map string_bytes words.now) told came }
+    ensures due_values { let told = told_by (T.files tree.old) (L.left input.old) (O.written out.old) in
+        let put = reported (K.lines lines.old) (K.lines lines.new) result.numbers in
+        let came = outcome result.status put (L.left input.new) (O.written out.new) in
+        DueValuesPut (map string_bytes words.now) told came }
     // How far the input is taken where a read fails: not at all, where the tree failed, or up to the last whole line.
     ensures taken { let words = map string_bytes words.now in
         let told = told_by (T.files tree.old) (L.left input.old) (O.written out.old) in
@@ -106,11 +112,7 @@ pub fn run_words<T: Tree, L: Source, O: Sink, E: Sink, K: LineSink>(
     ensures whole_line { ¬ Rose (E.faults err.old) (E.faults err.new)
         → E.written err.new ≡ behind (E.written err.old) (error_line result.status) }
 {
-    reported();
-    once_in_part();
-    due_in_report();
-    wire_explains_fields();
-    ordered();
+    headline_laws();
     one_answer();
     one_status();
     let mut numbers = no_numbers();

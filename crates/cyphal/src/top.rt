@@ -9,7 +9,7 @@ ghost use Rattle.cyphal.specs.ErrorLine.{error_line};
 ghost use Rattle.cyphal.specs.Job.{outcome, told_by, is_fault, NotDone};
 ghost use Rattle.cyphal.specs.Cause.{outside, HasCauseOver};
 ghost use Rattle.cyphal.specs.Expected.{job_for, WasDone};
-ghost use Rattle.cyphal.specs.Headline.{HeadlineOf, OnceOf, DueOf};
+ghost use Rattle.cyphal.specs.Headline.{HeadlineOf, OnceOf, DueOf, ValuesOf, DueValuesOf};
 ghost use Rattle.cyphal.specs.Streaming.{TakenOf, StreamedOf};
 
 use crate::run_words::run_words;
@@ -79,6 +79,10 @@ pub fn top<T: Tree, L: Source, O: Sink, E: Sink>(
         OnceOf (map string_bytes words.now) told result.report.lines }
     ensures due { let told = told_by (T.files tree.old) (L.left input.old) (O.written out.old) in
         DueOf (map string_bytes words.now) told result.status result.report.lines }
+    ensures values { let told = told_by (T.files tree.old) (L.left input.old) (O.written out.old) in
+        ValuesOf (map string_bytes words.now) told result.report.lines }
+    ensures due_values { let told = told_by (T.files tree.old) (L.left input.old) (O.written out.old) in
+        DueValuesOf (map string_bytes words.now) told result.status result.report.lines }
     // How far the input is taken where a read fails: not at all, where the tree failed, or up to the last whole line.
     ensures taken { let words = map string_bytes words.now in
         let told = told_by (T.files tree.old) (L.left input.old) (O.written out.old) in

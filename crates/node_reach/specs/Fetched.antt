@@ -41,6 +41,7 @@ file_ears own = record {
   ports = port_for Response 408 (schema_of read_reply) ∷ [];
 }
 
+-- a response with this transfer-ID, as the client sees it
 abbrev pub reply_by : ℕ → ReadReply → Event
 reply_by tid r = reply tid r.error.value r.data
 
@@ -121,6 +122,7 @@ abbrev pub reply_text : Client → ℕ → Option Event → List Event → List 
 reply_text client moment None past = []
 reply_text client moment (Some event) past = event_text client moment event past
 
+-- what is said on a record, and on the ticks before it
 abbrev pub step_text : Client → Record → List Record → List ℕ
 step_text client rec past =
     ticks_text client rec past

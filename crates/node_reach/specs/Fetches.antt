@@ -31,7 +31,7 @@ pub record HasTicked (now : Fetching) (past : List Record) : Type 0 where
   pub first : now.first ≡ start_of past
   pub tick : now.tick ≡ last_tick past
 
--- it goes on with these records, and hears the server by them
+-- no end came: it knows the last tick and the sessions of these records
 pub record Waits (now : Fetching) (past : List Record) : Type 0 where
   pub ticked : HasTicked now past
   pub hears : Hears (file_ears now.asking.client.own) now.responses.ear past

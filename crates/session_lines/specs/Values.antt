@@ -37,8 +37,8 @@ pub data AreVersions (sender port : Sch) : Type 0 where
   newer : Newer sender port → AreVersions sender port
   older : Newer port sender → AreVersions sender port
 
--- A sender's value as one of the port's type. Each number is in the range of its type; what only the sender's type has is
--- dropped, and what only the port's type has is zero.
+-- A sender's value as one of the port's type, with each number in the range of its type: the value itself; where the
+-- sender's type is newer, without what only that type has; where it is older, with zero for what only the port's type has.
 abbrev pub as_received : (sender port : Sch) → AreVersions sender port → Val → Val
 as_received sender port (same is) v = cast port v
 as_received sender port (newer is) v = as_old sender port (cast sender v)

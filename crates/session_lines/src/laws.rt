@@ -1,5 +1,6 @@
 //! Laws of the lines of a session, each the contract of a call that does nothing.
 
+ghost use Rattle.session_lines.specs.Example.{ValuesExample};
 ghost use Rattle.session_lines.specs.OneReport.{TextTellsLines};
 ghost use Rattle.session_lines.specs.Readings.{LinesHaveReadings};
 ghost use Rattle.session_lines.specs.Reported.{Reported};
@@ -40,6 +41,11 @@ pub fn due_values()
     values();
     once::due_in_report();
 }
+
+/// The premises of these laws on values can be met.
+pub fn example()
+    ensures { ValuesExample }
+{}
 
 /// No two lists of lines have one text.
 pub fn text_tells_lines()

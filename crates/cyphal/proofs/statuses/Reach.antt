@@ -82,5 +82,5 @@ cause_of ended stat e old new tree read write kept = record {
   unread = λ s. absurd cc;
   refused = λ s. absurd (no_refusal ended (sym (ap is_refused e) ∙ s));
   write = λ s. write (write_end ended (sym e ∙ s));
-  kept = λ s. (tree, kept (whole_end ended (sym e ∙ s)));
+  kept = λ s. (tree, (kept (whole_end ended (sym e ∙ s))).0, (kept (whole_end ended (sym e ∙ s))).1);
 }

@@ -1,5 +1,5 @@
 -- `bound ROOT PLAN`: the memory bound of a plan.
-use Rattle.std.specs.Prelude.{◌≡◌, ℕ, false, List, Option, is_some}
+use Rattle.std.specs.Prelude.{◌≡◌, ℕ, true, false, List, Option, is_some}
 use Rattle.cy_outside.specs.Files.{Files}
 use Rattle.node_plan.specs.declared.plan.Plan.{Plan}
 use Rattle.node_run.specs.BoundText.{HasBound}

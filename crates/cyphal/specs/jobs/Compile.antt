@@ -1,5 +1,5 @@
 -- `compile ROOT`: the layouts of the types below a root.
-use Rattle.std.specs.Prelude.{ℕ, false, ◌||◌, List, Option, is_some}
+use Rattle.std.specs.Prelude.{ℕ, true, false, ◌||◌, List, Option, is_some}
 use Rattle.cy_outside.specs.Files.{Files}
 use Rattle.dsdl_types.specs.declared.namespace.Namespace.{Namespace}
 use Rattle.node_run.specs.Layouts.{HasLayouts}

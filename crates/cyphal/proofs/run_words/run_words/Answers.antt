@@ -1,5 +1,5 @@
 use Rattle.std.proofs.Common.{map, string_bytes}
-use Rattle.cyphal.proofs.Headlines.{headline_of, once_of, due_of}
+use Rattle.cyphal.proofs.Headlines.{headline_of, once_of, due_of, values_of, due_values_of}
 use Rattle.cyphal.proofs.Ended.{completed}
 use Rattle.cyphal.proofs.OneStatus.{one_status}
 use Rattle.cyphal.proofs.Streaming.{taken_of, streamed_of}
@@ -25,21 +25,27 @@ pub returns-clause-line : goal.returns-clause-line
 returns-clause-line g c = begins_either c.put_error.result _ _ _ c.put_error.ensures.written c.put_error.ensures.begins
 
 pub returns-clause-headline : goal.returns-clause-headline
-returns-clause-headline g c =
-    headline_of c.one_answer.ensures _ _ _ _ _ c.work-status.ensures.ran
-    c.reported.ensures c.wire_explains_fields.ensures c.once_in_part.ensures c.due_in_report.ensures c.ordered.ensures.order
+returns-clause-headline g c = headline_of c.one_answer.ensures _ _ _ _ _ c.work-status.ensures.ran c.headline_laws.ensures
 
 pub returns-clause-once : goal.returns-clause-once
 returns-clause-once g c =
     once_of c.one_answer.ensures _ _ _ _ _ c.work-status.ensures.ran
-    (headline_of c.one_answer.ensures _ _ _ _ _ c.work-status.ensures.ran
-    c.reported.ensures c.wire_explains_fields.ensures c.once_in_part.ensures c.due_in_report.ensures c.ordered.ensures.order)
+    (headline_of c.one_answer.ensures _ _ _ _ _ c.work-status.ensures.ran c.headline_laws.ensures)
 
 pub returns-clause-due : goal.returns-clause-due
 returns-clause-due g c =
     due_of c.one_answer.ensures _ _ _ _ _ c.work-status.ensures.ran
-    (headline_of c.one_answer.ensures _ _ _ _ _ c.work-status.ensures.ran
-    c.reported.ensures c.wire_explains_fields.ensures c.once_in_part.ensures c.due_in_report.ensures c.ordered.ensures.order)
+    (headline_of c.one_answer.ensures _ _ _ _ _ c.work-status.ensures.ran c.headline_laws.ensures)
+
+pub returns-clause-values : goal.returns-clause-values
+returns-clause-values g c =
+    values_of c.one_answer.ensures _ _ _ _ _ c.work-status.ensures.ran
+    (headline_of c.one_answer.ensures _ _ _ _ _ c.work-status.ensures.ran c.headline_laws.ensures)
+
+pub returns-clause-due_values : goal.returns-clause-due_values
+returns-clause-due_values g c =
+    due_values_of c.one_answer.ensures _ _ _ _ _ c.work-status.ensures.ran
+    (headline_of c.one_answer.ensures _ _ _ _ _ c.work-status.ensures.ran c.headline_laws.ensures)
 
 pub returns-clause-taken : goal.returns-clause-taken
 returns-clause-taken g c = taken_of c.one_answer.ensures _ _ _ _ _ c.work-status.ensures.ran

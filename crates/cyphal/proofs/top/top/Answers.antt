@@ -16,6 +16,16 @@ returns-clause-due g c =
     c.run_words-done.ensures.due c.report_of-report.result.lines
     ([], ap Some (c.new-kept.ensures ∙ c.empty.ensures), ap Some (sym (c.report_of-report.ensures.lines ∙ c.into_list.ensures)))
 
+pub returns-clause-values : goal.returns-clause-values
+returns-clause-values g c =
+    c.run_words-done.ensures.values c.report_of-report.result.lines
+    ([], ap Some (c.new-kept.ensures ∙ c.empty.ensures), ap Some (sym (c.report_of-report.ensures.lines ∙ c.into_list.ensures)))
+
+pub returns-clause-due_values : goal.returns-clause-due_values
+returns-clause-due_values g c =
+    c.run_words-done.ensures.due_values c.report_of-report.result.lines
+    ([], ap Some (c.new-kept.ensures ∙ c.empty.ensures), ap Some (sym (c.report_of-report.ensures.lines ∙ c.into_list.ensures)))
+
 pub returns-clause-taken : goal.returns-clause-taken
 returns-clause-taken g c fault =
     let done = c.run_words-done in

@@ -1,0 +1,14 @@
+use Rattle.cyphal.proofs.law.headline_laws.Goals as goal
+
+pub returns : goal.returns
+returns c = record {
+  sessions = c.reported.ensures;
+  fields = c.wire_explains_fields.ensures;
+  once = c.once_in_part.ensures;
+  due = c.due_in_report.ensures;
+  order = c.ordered.ensures.order;
+  values = c.values.ensures;
+  due_values = c.due_values.ensures;
+  namespaces = c.namespaces_keep_rules.ensures;
+  plans = c.plans_keep_type_rules.ensures;
+}

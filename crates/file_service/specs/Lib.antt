@@ -1,0 +1,6 @@
+pub mod Paths
+pub mod Names
+pub mod Standing
+pub mod Replies
+pub mod Causes
+pub mod Laws
