@@ -1,6 +1,5 @@
 -- A front of a file that was read so far.
-use Rattle.std.proofs.Common.{◌≡◌, ◌∙◌, ◌⊎◌, inl, inr, ℕ, ◌+◌, ◌-◌, ◌≤◌, Bool, true, false, T, List, [], ◌++◌, Option, Some, None, refl, sym, ap, subst, take, drop, length, arith}
-use Rattle.std.proofs.lemmas.Bool.{cases_lt}
+use Rattle.std.proofs.Common.{◌≡◌, ◌∙◌, ◌⊎◌, inl, inr, ℕ, ◌+◌, ◌-◌, ◌<◌, ◌≤◌, Bool, true, false, T, List, [], ◌++◌, Option, Some, None, refl, sym, ap, subst, take, drop, length, arith}
 use Rattle.std.proofs.lemmas.Grind.{common_steps}
 use Rattle.std.proofs.Math.Seq.{take-add}
 use Rattle.std.specs.Prelude.{⊤, min, unwrap_or, option_map}
@@ -50,18 +49,15 @@ all_of : (whole : List ℕ) (k most : ℕ) → length whole ≤ k → k ≤ most
 all_of whole k most a b = grind (arith, common_steps)
 
 ends : (whole front buf : List ℕ) (most room n : ℕ) → n ≤ length buf → length front ≤ most → room ≡ min 8192 (most - length front)
-    → min room (length whole - length front) ≡ n → (n ≡ 0) ⊎ (length (front ++ take n buf) ≡ most)
+    → min room (length whole - length front) ≡ n → (n < room) ⊎ (length (front ++ take n buf) ≡ most)
     → front ++ take n buf ≡ take (length (front ++ take n buf)) whole → front ++ take n buf ≡ take most whole
 ends whole front buf most room n h l r g (inr e) f = f ∙ ap (λ k. take k whole) e
 ends whole front buf most room n h l r g (inl e) f =
     let k : length (front ++ take n buf) ≡ length front + n = length_more front buf n h in
-    f ∙ elim (cases_lt (length front) most) as (λ _. take (length (front ++ take n buf)) whole ≡ take most whole) [
-      | inl room_left ↦ all_of whole _ most (omega (arith, k)) (omega (arith, k))
-      | inr full ↦ ap (λ m. take m whole) (omega (arith, k))
-    ]
+    f ∙ all_of whole _ most (omega (arith, k)) (omega (arith, k))
 
 whole_of : (o : Option (List ℕ)) (folder : Bool) (front buf : List ℕ) (most room n : ℕ) → n ≤ length buf → length front ≤ most → room ≡ min 8192 (most - length front)
-    → got_of o folder (length front) room ≡ Bytes n → (n ≡ 0) ⊎ (length (front ++ take n buf) ≡ most)
+    → got_of o folder (length front) room ≡ Bytes n → (n < room) ⊎ (length (front ++ take n buf) ≡ most)
     → front ++ take n buf ≡ take (length (front ++ take n buf)) (unwrap_or o []) → Some (front ++ take n buf) ≡ option_map (take most) o
 unfolding is_bytes
 whole_of (Some whole) folder front buf most room n h l r g c f = ap Some (ends whole front buf most room n h l r (number_of whole (length front) room n g) c f)
@@ -70,7 +66,7 @@ whole_of None false front buf most room n h l r g c f = absurd (not_bytes Absent
 
 -- the last read of a file
 pub front_whole : (told : Option Files) (path front buf : List ℕ) (most n : ℕ) → n ≤ length buf → length front ≤ most → length buf ≡ min 8192 (most - length front)
-    → IsFront told path front → Reads told path (length front) buf (Bytes n) → (n ≡ 0) ⊎ (length (front ++ take n buf) ≡ most)
+    → IsFront told path front → Reads told path (length front) buf (Bytes n) → (n < length buf) ⊎ (length (front ++ take n buf) ≡ most)
     → ReadsFront told path most (Some (front ++ take n buf))
 front_whole None path front buf most n h l r e a c = tt
 front_whole (Some files) path front buf most n h l r e a c =

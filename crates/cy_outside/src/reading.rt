@@ -33,7 +33,7 @@ pub fn read_file<T: Tree>(
                 let Ok(()) = bytes.extend_from_slice(&piece[..n]) else {
                     return Err(TreeError::NoMemory);
                 };
-                if n == 0 || bytes.len() == most {
+                if n < room || bytes.len() == most {
                     return Ok(Some(Bytes::new(bytes)));
                 }
             }

@@ -239,6 +239,7 @@ impl<S: Shape> Table<S> {
     }
 
     /// The shape of a subscription, or `None` where that kind and port isn't subscribed.
+    #[inline(always)]
     pub fn shape(&self, kind: Kind, port: u16) -> Option<&S>
         ensures { option_copied result ≡ shape_at kind port self.now.ports.items }
     {
