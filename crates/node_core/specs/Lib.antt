@@ -4,9 +4,12 @@ pub mod Held
 pub mod InTime
 pub mod LineSinks
 pub mod Puts
+pub mod Queues
 pub mod Raw
 pub mod Readings
+pub mod Received
 pub mod Seconds
+pub mod Sending
 pub mod Shapes
 pub mod Stands
 pub mod Steps

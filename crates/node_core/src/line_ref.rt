@@ -3,7 +3,7 @@ ghost use Rattle.std.specs.Prelude.{◌≡◌, IfOk};
 ghost use Rattle.node_core.specs.Told.{owned, reading_in};
 
 use crate::compiled_shape::CompiledShape;
-use crate::line::{Line, Reading, Refused, Rx};
+use crate::line::{FullLine, Line, Reading, Refused, Rx, Tx};
 use can_id::Key;
 use cy_bits::{Bytes, NoMemory};
 use std::alloc::Global;
@@ -15,6 +15,23 @@ pub enum LineRef<'a> {
     Rx(RxRef<'a>),
     /// A start frame came from a source that its port has no session for.
     NoSession(Refused),
+    /// A frame left the node.
+    Tx(TxRef<'a>),
+    /// A bus had no places for a transfer that the node sends.
+    Full(FullLine),
+}
+
+/// A frame that left the node, with its data bytes lent.
+#[derive(Clone, Copy)]
+pub struct TxRef<'a> {
+    /// The moment of the step behind which it left, in microseconds.
+    pub moment: u64,
+    /// The bus on which it left: its place among the buses of the plan, counted from 0.
+    pub bus: u8,
+    /// Its identifier, of 29 bits.
+    pub ident: u32,
+    /// Its data bytes, with the tail: at most 64.
+    pub bytes: &'a [u8],
 }
 
 /// A transfer that was received, with its payload lent. What that says isn't read before it is asked for.
