@@ -2,6 +2,7 @@ pub mod Came
 pub mod Heard
 pub mod Held
 pub mod InTime
+pub mod Keeps
 pub mod LineSinks
 pub mod Puts
 pub mod Queues

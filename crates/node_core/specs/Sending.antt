@@ -1,15 +1,13 @@
 -- What a node sends: its heartbeat each second, and the replies to requests (Cyphal Specification, section 5.3).
-use Rattle.std.specs.Prelude.{ℕ, Bool, true, false, ◌==◌, if◌then◌else◌, List, Option, Some, None, option_map}
-use Rattle.std.specs.Option.{option_and_then}
+use Rattle.std.specs.Prelude.{◌≢◌, ◌<◌, ℕ, Bool, true, false, ◌==◌, if◌then◌else◌, List, Option, Some, None, option_map}
 use Rattle.can_id.specs.Identifiers.{bits}
 use Rattle.can_id.specs.declared.ident.Ident.{Ident}
 use Rattle.can_id.specs.declared.ident.Ident.TheVariants.{Message, Anonymous, Service}
 use Rattle.tail_frame.specs.Frames.{FrameOf}
-use Rattle.tail_frame.specs.declared.logged.Record.{Record}
 use Rattle.node_plan.specs.declared.plan.Plan.{Plan}
 use Rattle.node_status.specs.Status.{heartbeat_payload, info_payload}
-use Rattle.rx_table.specs.Heard.{frame_for}
 use Rattle.node_core.specs.Queues.{Sends}
+use Rattle.node_core.specs.declared.request.Request.{Request}
 
 -- the heartbeat of a tick, with a transfer-ID
 abbrev pub beat : Plan → ℕ → ℕ → Sends
@@ -20,19 +18,20 @@ beat plan number tid = record {
   payload = heartbeat_payload plan.status.health plan.status.mode plan.status.code number;
 }
 
--- a request: the service, who asks, and its priority and transfer-ID
-pub record Request : Type 0 where
-  pub service : ℕ
-  pub client : ℕ
-  pub priority : ℕ
-  pub tid : ℕ
-
 abbrev pub request_with : ℕ → Ident → Option Request
 request_with tid (Message priority subject source) = None
 request_with tid (Anonymous priority subject pseudo) = None
 request_with tid (Service priority false service destination source) = None
 request_with tid (Service priority true service destination source) =
     Some (record { service = service; client = source; priority = priority; tid = tid })
+
+-- a request of another node: its numbers are in their ranges
+pub record IsRequestTo (node : ℕ) (r : Request) : Type 0 where
+  pub service : r.service < 512
+  pub client : r.client < 128
+  pub other : r.client ≢ node
+  pub priority : r.priority < 8
+  pub tid : r.tid < 32
 
 -- the request that a frame is of
 abbrev pub request_of : FrameOf → Option Request
@@ -53,7 +52,3 @@ reply_with plan r payload = record {
 
 abbrev pub reply_to : Plan → Request → Option Sends
 reply_to plan r = option_map (reply_with plan r) (answer_to plan r.service)
-
--- the reply to the request that a record ends
-abbrev pub reply_at : Plan → Record → Option Sends
-reply_at plan rec = option_and_then (reply_to plan) (option_and_then request_of (frame_for plan.node rec))

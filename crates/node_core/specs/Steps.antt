@@ -1,7 +1,8 @@
 -- The steps of a node: the records that it hears and its ticks, and the lines that each gives.
 use Rattle.std.specs.Prelude.{ℕ, zero, suc, Bool, true, false, ◌||◌, ◌+◌, ◌-◌, ◌*◌, ◌/◌, ◌%◌, if◌then◌else◌, List, [], ◌∷◌, ◌++◌, length, map, count_by, Option, Some, None}
+use Rattle.std.specs.Option.{option_and_then}
 use Rattle.tail_frame.specs.declared.logged.Record.{Record}
-use Rattle.rx_table.specs.Heard.{frames}
+use Rattle.rx_table.specs.Heard.{frame_for, frames}
 use Rattle.rx_table.specs.Ports.{held}
 use Rattle.node_plan.specs.Bound.{bound_of}
 use Rattle.node_plan.specs.declared.plan.BusPlan.{BusPlan}
@@ -9,10 +10,11 @@ use Rattle.node_plan.specs.declared.plan.Plan.{Plan}
 use Rattle.node_core.specs.Heard.{ports_of}
 use Rattle.node_core.specs.Queues.{Sends, Queue, push_all, fulls, leaving, drained, rounds, waiting}
 pub use Rattle.node_core.specs.Received.{rx_line, of_delivery, anonymous_line, refused_line, of_session, of_source, on_port, of_frame, got, bad_of_source, bad_on_port, bad_of_frame, is_bad_at}
-use Rattle.node_core.specs.Sending.{beat, reply_at}
+use Rattle.node_core.specs.Sending.{beat, reply_to, request_of}
 use Rattle.node_core.specs.declared.line.Line.{Line}
 use Rattle.node_core.specs.declared.line.Line.TheVariants.{Rx, NoSession, Tx, Full}
 use Rattle.node_core.specs.declared.numbers.Numbers.{Numbers}
+use Rattle.node_core.specs.declared.request.Request.{Request}
 
 -- a step of a node: a record, or a tick with its number and moment
 pub data Step : Type 0 where
@@ -93,13 +95,14 @@ abbrev pub has_rx : List Line → Bool
 has_rx [] = false
 has_rx (line ∷ lines) = is_rx line || has_rx lines
 
--- what is sent on a record that gave these lines: the reply, where it ended a request
-abbrev pub reply_on : Plan → Record → List Line → Option Sends
-reply_on plan rec lines = if has_rx lines then reply_at plan rec else None
+-- the request that a record ended, where it gave these lines
+abbrev pub request_on : Plan → Record → List Line → Option Request
+request_on plan rec lines =
+    if has_rx lines then option_and_then request_of (frame_for plan.node rec) else None
 
 -- what a step sends: a tick the heartbeat, a record the reply to the request that it ended
 abbrev pub sends : Plan → Step → List Step → Kept → Option Sends
-sends plan (Heard rec) past k = reply_on plan rec (got plan rec (records past))
+sends plan (Heard rec) past k = option_and_then (reply_to plan) (request_on plan rec (got plan rec (records past)))
 sends plan (Tick number moment) past k = Some (beat plan number k.tid)
 
 -- a heartbeat uses a transfer-ID, also where no bus has room for it

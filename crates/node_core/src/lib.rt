@@ -1,6 +1,7 @@
 //! The node: what one record gives, line by line, and the text of these lines.
 #![tactic(auto)]
 
+mod bus_queue;
 mod bus_words;
 pub mod came;
 mod compiled_shape;
@@ -17,17 +18,20 @@ pub mod port_shape;
 mod port_word;
 mod ports;
 mod raw_shape;
+mod request;
 mod second;
 mod word;
 mod words;
 
+pub use bus_queue::BusQueue;
 pub use came::Came;
 pub use compiled_shape::CompiledShape;
-pub use line::{Line, Reading, Refused, Rx};
-pub use line_ref::{LineRef, RxRef};
+pub use line::{FullLine, Line, Reading, Refused, Rx, Tx};
+pub use line_ref::{LineRef, RxRef, TxRef};
 pub use line_sink::{KeptLines, LineSink, NoLines};
 pub use line_writer::LineWriter;
 pub use node::{Node, Stepped};
 pub use numbers::Numbers;
 pub use port_shape::PortShape;
 pub use raw_shape::RawShape;
+pub use request::Request;

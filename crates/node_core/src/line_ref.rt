@@ -5,7 +5,7 @@ ghost use Rattle.node_core.specs.Told.{owned, reading_in};
 use crate::compiled_shape::CompiledShape;
 use crate::line::{FullLine, Line, Reading, Refused, Rx, Tx};
 use can_id::Key;
-use cy_bits::{Bytes, NoMemory};
+use cy_bits::{Bytes, NoMemory, ShortList};
 use std::alloc::Global;
 
 /// One line of the report, with its payload lent.
@@ -30,8 +30,8 @@ pub struct TxRef<'a> {
     pub bus: u8,
     /// Its identifier, of 29 bits.
     pub ident: u32,
-    /// Its data bytes, with the tail: at most 64.
-    pub bytes: &'a [u8],
+    /// Its data bytes, with the tail.
+    pub bytes: &'a ShortList<u8, 64>,
 }
 
 /// A transfer that was received, with its payload lent. What that says isn't read before it is asked for.
