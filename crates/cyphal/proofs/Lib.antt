@@ -7,6 +7,7 @@ pub mod LogEnds
 pub mod statuses
 pub mod OneStatus
 pub mod Frames
+pub mod Fronts
 pub mod Headlines
 pub mod Streaming
 pub mod Answered
