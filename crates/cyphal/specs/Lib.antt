@@ -6,6 +6,7 @@ pub mod Cause
 pub mod Job
 pub mod LogEnds
 pub mod Plans
+pub mod Migrated
 pub mod jobs
 pub mod Expected
 pub mod Laws

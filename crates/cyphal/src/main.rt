@@ -4,11 +4,14 @@
 ghost use Rattle.std.specs.Prelude.{◌≡◌};
 ghost use Rattle.cyphal.specs.ErrorLine.{code_of};
 
+#[cfg(test)]
+mod calls;
 mod dsdl_line;
 mod error_line;
 mod help;
 mod jobs;
 mod law;
+mod migration;
 mod node_id;
 mod number;
 mod path;
@@ -18,6 +21,8 @@ mod program;
 mod reach_tests;
 mod remote_file;
 mod run_words;
+#[cfg(test)]
+mod sending_tests;
 #[cfg(test)]
 mod tests;
 mod top;

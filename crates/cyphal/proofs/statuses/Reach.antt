@@ -1,5 +1,5 @@
 -- The status of a command that hears a log without a plan is that of the log's end.
-use Rattle.std.proofs.Common.{◌≡◌, ◌∙◌, inr, ℕ, true, false, List, Option, Some, None, refl, sym, ap, subst}
+use Rattle.std.proofs.Common.{◌≡◌, ◌∙◌, inr, ℕ, true, false, List, Option, Some, None, refl, sym, ap}
 use Rattle.cy_outside.specs.Outside.{Rose}
 use Rattle.frame_log.specs.Log.{Log, log_of}
 use Rattle.tail_frame.specs.declared.logged.Record.{Record}
@@ -14,12 +14,19 @@ use Rattle.node_run.specs.declared.status.Status.TheVariants as status
 use Rattle.cyphal.specs.Cause.{Outside, is_refused, HasCauseOver}
 use Rattle.cyphal.specs.Job.{is_fault}
 use Rattle.cyphal.specs.LogEnds.{ending, EndsAsLog}
-use Rattle.cyphal.specs.jobs.Reach.{reach_job}
+use Rattle.cyphal.specs.declared.jobs.reach.Hearing.{Hearing}
+use Rattle.cyphal.specs.declared.jobs.reach.Hearing.TheVariants as hearing
+use Rattle.cyphal.specs.jobs.Reach.{voice_of, reach_job}
 use Rattle.cyphal.proofs.LogEnds.{named, one_log_end}
 use Rattle.cyphal.proofs.statuses.Single.{IsSingle}
 
 pub single : (said : Voice) → IsSingle (reach_job said)
 single said told s t h a b = one_log_end bus_names told.input h s t a b
+
+-- every voice is of the same buses
+pub voice_names : (hears : Hearing) (own : ℕ) → (voice_of hears own).names ≡ bus_names
+voice_names hearing.Monitor own = refl
+voice_names hearing.Allocate own = refl
 
 module _ (said : Voice) (heard broke : List Record → Type 0) where
   -- an end that is no fault is that of the log
