@@ -1,5 +1,5 @@
 -- The text of the memory bound of a plan.
-use Rattle.std.specs.Prelude.{◌≡◌, ℕ, List, [], ◌∷◌, ◌++◌, Option, codes, decimal}
+use Rattle.std.specs.Prelude.{◌≡◌, ℕ, List, [], ◌∷◌, ◌++◌, ◌*◌, Option, codes, decimal}
 use Rattle.std.specs.List.{flat_map}
 use Rattle.cy_outside.specs.Written.{behind, Begins}
 use Rattle.node_plan.specs.Bound.{port_bound, bound_of}
@@ -18,6 +18,13 @@ port_words p =
 -- the line of a port
 abbrev pub port_line : PlanPort → List ℕ
 port_line p = line_of (port_words p)
+
+-- the words of such a line behind its kind
+abbrev pub port_numbers : ℕ → ℕ → ℕ → List ℕ
+port_numbers port sources extent = line_of (
+    decimal port ∷ codes "sources" ∷ decimal sources ∷ codes "extent" ∷ decimal extent
+    ∷ codes "bytes" ∷ decimal (sources * extent) ∷ []
+    )
 
 -- the line of the memory bound
 abbrev pub bound_line : ℕ → List ℕ

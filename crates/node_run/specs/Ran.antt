@@ -170,3 +170,8 @@ status_of end.LogLong = status.LogLong
 status_of end.ReadFault = status.ReadFault
 status_of end.WriteFault = status.WriteFault
 status_of end.NoMemory = status.NoMemory
+
+-- the numbers of a run, by how its loop over the log ended: those of its steps, and at the end so many frames sent
+abbrev pub end_sent : Ended → Numbers → ℕ → Numbers
+end_sent end.Ok numbers sent = record numbers { sent = sent }
+end_sent other numbers sent = numbers
