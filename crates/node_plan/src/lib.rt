@@ -2,17 +2,17 @@
 //! and what it says of itself.
 #![tactic(auto)]
 
-pub mod bound;
 mod draft;
 pub mod laws;
 mod line;
+mod memory;
 pub mod plan;
 mod read;
 pub mod services;
 mod types;
 mod words;
 
-pub use bound::bound;
+pub use memory::bound;
 pub use plan::{BusPlan, NodeStatus, Plan, PlanError, PlanWhy, Sub, SubShape};
 pub use read::{MAX_TEXT, read_plan};
 pub use services::Service;
