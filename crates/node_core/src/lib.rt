@@ -17,7 +17,6 @@ pub mod node;
 pub mod numbers;
 pub mod port_shape;
 mod port_word;
-mod payloads;
 mod ports;
 mod raw_shape;
 mod request;

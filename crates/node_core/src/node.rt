@@ -16,7 +16,7 @@ use crate::request::Request;
 use can_id::Kind;
 use cy_bits::{List, NoMemory, ShortList};
 use node_plan::Plan;
-use crate::payloads::info_payload;
+use node_status::info_payload;
 use rx_table::{Met, Table};
 use std::alloc::Global;
 use tail_frame::{Frame, Record};

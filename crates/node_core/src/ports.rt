@@ -29,11 +29,7 @@ pub fn table_of(alloc: Global, plan: &Plan) -> Result<Table<PortShape>, NoMemory
 }
 
 /// Subscribes to the subjects of a plan.
-fn subscribe_subs(
-    alloc: Global,
-    plan: &Plan,
-    table: &mut Table<PortShape>,
-) -> Result<(), NoMemory>
+fn subscribe_subs(alloc: Global, plan: &Plan, table: &mut Table<PortShape>) -> Result<(), NoMemory>
     requires plan { IsPlan plan.now }
     requires empty { IsTableOf plan.now.timeout [] table.old }
     ensures { let subs = map port_of_sub plan.now.subs in

@@ -12,7 +12,7 @@ use crate::node::Node;
 use crate::request::Request;
 use crate::transfer::{GET_INFO, HEARTBEAT, Transfer, beat_ident, reply_ident};
 use cy_bits::ShortList;
-use crate::payloads::heartbeat_payload;
+use node_status::heartbeat_payload;
 use tx_queue::OutFrame;
 
 impl Node {
