@@ -18,11 +18,11 @@ use std::alloc::Global;
 /// many nodes have a node-ID of it.
 pub fn allocate<L: Source, O: Sink>(alloc: Global, own: u8, input: &mut L, out: &mut O) -> Ended
     requires { own ≤ 127 }
-    ensures gone { HasGone (allocate_voice own) Anything Anything
+    ensures gone { HasGone (allocate_voice own) Anything Anything Anything
         (L.left input.old) result (O.written out.old) (O.written out.new) }
     ensures taken { result ≡ Ended.ReadFault → IsOfTaken (allocate_voice own) Anything
         (L.left input.old) (L.left input.new) (O.written out.old) (O.written out.new) }
-    ensures streamed { IsStreamed (allocate_voice own) Anything
+    ensures streamed { IsStreamed (allocate_voice own) Anything Anything
         (L.left input.old) (L.left input.new) result (O.written out.old) (O.written out.new) }
     ensures read { result ≡ Ended.ReadFault → Rose (L.faults input.old) (L.faults input.new) }
     ensures write { result ≡ Ended.WriteFault → Rose (O.faults out.old) (O.faults out.new) }

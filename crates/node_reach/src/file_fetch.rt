@@ -38,12 +38,14 @@ pub fn fetch<L: Source, O: Sink>(
     requires server { server ≤ 127 }
     requires other { server ≢ own }
     requires path { length path.now ≤ 255 }
-    ensures gone { HasGone (fetch_voice (client_of own server path.now)) Anything Anything
+    ensures gone { let voice = fetch_voice (client_of own server path.now) in
+        HasGone voice Anything Anything Anything
         (L.left input.old) result (O.written out.old) (O.written out.new) }
     ensures taken { let voice = fetch_voice (client_of own server path.now) in
         result ≡ Ended.ReadFault → IsOfTaken voice Anything
         (L.left input.old) (L.left input.new) (O.written out.old) (O.written out.new) }
-    ensures streamed { IsStreamed (fetch_voice (client_of own server path.now)) Anything
+    ensures streamed { let voice = fetch_voice (client_of own server path.now) in
+        IsStreamed voice Anything Anything
         (L.left input.old) (L.left input.new) result (O.written out.old) (O.written out.new) }
     ensures fetched { WritesFile (client_of own server path.now)
         (L.left input.old) result (O.written out.old) (O.written out.new) }

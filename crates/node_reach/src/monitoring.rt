@@ -63,6 +63,8 @@ fn listening(alloc: Global, own: u8) -> Result<Ear, NoMemory>
 impl Listener for Monitoring {
     ghost heard = { λ first now past. Monitors first.ear.own now past };
 
+    ghost ended = { λ first now past. Monitors first.ear.own now past };
+
     ghost broke = { λ first now past. Unit {0} };
 
     ghost step_text = { λ first rec past. step_text rec past };
@@ -93,6 +95,8 @@ impl Listener for Monitoring {
     }
 
     ghost heard_broke = { λ first now past h. tt };
+
+    ghost ended_broke = { λ first now past h. tt };
 }
 
 /// Gathers the lines of nodes, of which these are online.
