@@ -57,6 +57,22 @@ pub struct RxRef<'a> {
     pub payload: &'a [u8],
 }
 
+impl TxRef<'_> {
+    ghost use Rattle.node_core.specs.declared.line_ref.LineRef.{LineRef as Lent};
+
+    /// The same line, with a copy of the data bytes. Takes no memory.
+    fn copy(&self) -> Line
+        ensures { result ≡ owned (Lent.Tx self.now) }
+    {
+        Line::Tx(Tx {
+            moment: self.moment,
+            bus: self.bus,
+            ident: self.ident,
+            bytes: copy_of(self.bytes),
+        })
+    }
+}
+
 impl RxRef<'_> {
     /// What the payload says. Takes no memory where the port has no type.
     pub fn reading(&self, alloc: Global) -> Result<Reading, NoMemory>
@@ -87,6 +103,19 @@ impl<'a> LineRef<'a> {
                 payload: Bytes::from_slice(alloc, rx.payload)?,
             })),
             LineRef::NoSession(refused) => Ok(Line::NoSession(*refused)),
+            LineRef::Tx(tx) => Ok(tx.copy()),
+            LineRef::Full(full) => Ok(Line::Full(*full)),
         }
     }
+}
+
+/// The same bytes.
+fn copy_of(bytes: &ShortList<u8, 64>) -> ShortList<u8, 64>
+    ensures { result ≡ bytes.now }
+{
+    let mut copied = ShortList::new();
+    for byte in bytes.as_slice() {
+        copied.push(*byte);
+    }
+    copied
 }
