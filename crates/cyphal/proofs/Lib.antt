@@ -1,6 +1,8 @@
 pub mod ClapWords
 pub mod Parts
 pub mod Plans
+pub mod ShortPlans
+pub mod Migrations
 pub mod Loaded
 pub mod Ended
 pub mod LogEnds
