@@ -29,10 +29,10 @@ voice_of hearing.Allocate own = allocate_voice own
 pub record HasListened (said : Voice) (stat : Status) (told : Flow) : Type 0 where
   pub ended : Ended
   pub is : stat ≡ status_of ended
-  pub gone : HasGone said Anything Anything told.left ended told.before told.after
+  pub gone : HasGone said Anything Anything Anything Anything told.left ended told.before told.after
   pub taken : ended ≡ end.ReadFault
       → IsOfTaken said Anything told.left told.new told.before told.after
-  pub streamed : IsStreamed said Anything told.left told.new ended told.before told.after
+  pub streamed : IsStreamed said Anything Anything told.left told.new ended told.before told.after
 
 -- it ends as the log does
 abbrev pub reach_job : Voice → Job

@@ -57,12 +57,13 @@ fn heard<L: Source, O: Sink>(
     input: &mut L,
     out: &mut O,
 ) -> Ended
-    ensures gone { HasGone (voice_of hearing own.number) Anything Anything
+    ensures gone { let voice = voice_of hearing own.number in
+        HasGone voice Anything Anything Anything Anything
         (L.left input.old) result (O.written out.old) (O.written out.new) }
     ensures taken { let voice = voice_of hearing own.number in
         result ≡ Ended.ReadFault → IsOfTaken voice Anything
         (L.left input.old) (L.left input.new) (O.written out.old) (O.written out.new) }
-    ensures streamed { IsStreamed (voice_of hearing own.number) Anything
+    ensures streamed { IsStreamed (voice_of hearing own.number) Anything Anything
         (L.left input.old) (L.left input.new) result (O.written out.old) (O.written out.new) }
     ensures read { result ≡ Ended.ReadFault → Rose (L.faults input.old) (L.faults input.new) }
     ensures write { result ≡ Ended.WriteFault → Rose (O.faults out.old) (O.faults out.new) }

@@ -10,7 +10,7 @@ returns-clause-answer g c h =
     let own = c.args.own.number in
     let input = g.L.Source.left c.args.input.now in
     subst (λ names. EndsAsLog names input c.status_of.result) (voice_names c.args.hearing own)
-    (ends_as_log (voice_of c.args.hearing own) Anything Anything input c.heard.result (g.O.Sink.written c.args.out.now) (g.O.Sink.written c.heard.new.out) c.status_of.result c.status_of.ensures h c.heard.ensures.gone)
+    (ends_as_log (voice_of c.args.hearing own) Anything Anything Anything Anything input c.heard.result (g.O.Sink.written c.args.out.now) (g.O.Sink.written c.heard.new.out) c.status_of.result c.status_of.ensures h c.heard.ensures.gone)
 
 pub returns-clause-usage : goal.returns-clause-usage
 returns-clause-usage g c = no_usage c.heard.result c.status_of.result c.status_of.ensures
