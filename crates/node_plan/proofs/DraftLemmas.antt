@@ -13,23 +13,26 @@ use Rattle.node_plan.specs.IsPlan.{IsBus, IsDraft}
 use Rattle.node_plan.specs.Names.{is_bus_name}
 use Rattle.node_plan.proofs.NameLemmas.{fails_at, differ}
 
-abbrev pub bus_of : List ℕ → BusPlan
-bus_of name = record { name = name; mtu = 8; rate = 4096 }
-
 -- another name
 other_name : (a b : List ℕ) → bytes_eq a b ≡ false → a ≢ b
 other_name a b h e = differ (bytes_eq a b) ((bytes_eq-Decides a b).1 e) h
 
-pub IsDraft-bus : (d : Draft) (name : List ℕ) → IsDraft d → 1 ≤ length name → IsTrue (is_bus_name name) → length d.buses < 3 → has_bus name d.buses ≡ false
-    → IsDraft (record d { buses = d.buses ++ bus_of name ∷ [] })
-IsDraft-bus d name h some bytes few new = record {
+pub IsDraft-bus : (d : Draft) (bus : BusPlan) → IsDraft d → IsBus bus → length d.buses < 3 → has_bus bus.name d.buses ≡ false
+    → IsDraft (record d { buses = d.buses ++ bus ∷ [] })
+IsDraft-bus d bus h fits few new = record {
   node = h.node;
   few_buses = grind (arith, common_steps);
-  buses = All-push IsBus d.buses (bus_of name) h.buses (record { some_byte = some; bytes = bytes; mtu = refl; rate = refl });
-  names = all_pairs_push (λ a b. a.name ≢ b.name) d.buses (bus_of name) h.names
-      (λ k b l. other_name (get_or d.buses k b).name name (fails_at (λ b. bytes_eq b.name name) d.buses new k b l));
+  buses = All-push IsBus d.buses bus h.buses fits;
+  names = all_pairs_push (λ a b. a.name ≢ b.name) d.buses bus h.names
+      (λ k b l. other_name (get_or d.buses k b).name bus.name (fails_at (λ b. bytes_eq b.name bus.name) d.buses new k b l));
+  mtu = h.mtu;
+  rate = h.rate;
   timeout = h.timeout;
   few_subs = h.few_subs;
   subs = h.subs;
   subjects = h.subjects;
+  clients = h.clients;
+  status = h.status;
+  info = h.info;
+  queue = h.queue;
 }

@@ -1,5 +1,8 @@
 //! Lines of a plan that say what the node is.
-ghost use Rattle.std.specs.Prelude.{◌≡◌, IfOk};
+ghost use Rattle.std.specs.Prelude.{◌≡◌, ◌<◌, ◌^◌, IfOk, IfSome};
+ghost use Rattle.std.specs.List.{list_all};
+ghost use Rattle.std_types.specs.Held.{IsUniqueId};
+ghost use Rattle.std_types.specs.Node.{FitsVersion};
 ghost use Rattle.node_plan.specs.Info.{IsVersionWord, blank_info, is_node_name, is_printable, revision_in, said_of_info, said_of_versions, unique_id_in, version_in, version_of};
 ghost use Rattle.node_plan.specs.IsPlan.{IsInfo};
 ghost use Rattle.node_plan.specs.Line.{IsSaid};
@@ -60,7 +63,8 @@ pub fn version_in(word: &[u8]) -> VersionWord
 }
 
 fn revision_in(word: &[u8]) -> Option<u64>
-    ensures { result ≡ revision_in word.now }
+    ensures value { result ≡ revision_in word.now }
+    ensures fits { IfSome result (λ n. n < 2 ^ 64) }
 {
     match <[u8; 8] as FromHex>::from_hex(word) {
         Ok(bytes) => Some(u64::from_be_bytes(bytes)),
@@ -69,7 +73,8 @@ fn revision_in(word: &[u8]) -> Option<u64>
 }
 
 fn unique_id_in(word: &[u8]) -> Option<[u8; 16]>
-    ensures { result ≡ unique_id_in word.now }
+    ensures value { result ≡ unique_id_in word.now }
+    ensures fits { IfSome result IsUniqueId }
 {
     match <[u8; 16] as FromHex>::from_hex(word) {
         Ok(bytes) => Some(bytes),
@@ -83,10 +88,16 @@ fn is_printable(b: u8) -> bool
     b >= b' ' && b <= b'~'
 }
 
+fn has_printable_bytes(name: &[u8]) -> bool
+    ensures { result ≡ list_all is_printable name.now }
+{
+    name.iter().all(|b| is_printable(*b))
+}
+
 fn is_node_name(name: &[u8]) -> bool
     ensures { result ≡ is_node_name name.now }
 {
-    name.len() <= MAX_NAME && name.iter().all(|b| is_printable(*b))
+    name.len() <= MAX_NAME && has_printable_bytes(name)
 }
 
 fn info_of(
@@ -97,6 +108,8 @@ fn info_of(
     unique_id: &[u8],
     name: &[u8],
 ) -> Result<Said, NoMemory>
+    requires hardware { FitsVersion hardware }
+    requires software { FitsVersion software }
     ensures value { IfOk result (λ said.
         said ≡ said_of_versions hardware software revision.now unique_id.now name.now) }
     ensures sound { IfOk result IsSaid }

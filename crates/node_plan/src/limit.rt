@@ -1,6 +1,6 @@
 //! How many bytes of a text count.
-ghost use Rattle.std.specs.Prelude.{◌≡◌, ◌≤◌, ◌+◌, ◌^◌, false};
-ghost use Rattle.node_plan.specs.Limit.{begins_two, is_plan_two, is_version_two, limit_of};
+ghost use Rattle.std.specs.Prelude.{◌≡◌};
+ghost use Rattle.node_plan.specs.Limit.{is_plan_two, is_version_two, limit_of, skips};
 
 /// The greatest number of bytes of a text of version 1. The line of version 2 begins among these.
 const MAX_FIRST: usize = 1 << 20;
@@ -17,18 +17,29 @@ fn is_plan_two(text: &[u8]) -> bool
     first == b"plan 2".as_slice() || first == b"plan 2\n".as_slice()
 }
 
+/// Whether a comment goes on behind this byte of a skipped line; nothing where the line isn't
+/// skipped.
+fn skips(comment: bool, b: u8) -> Option<bool>
+    ensures { result ≡ skips comment b }
+{
+    if b == b'\n' {
+        Some(false)
+    } else if comment || b == b'#' {
+        Some(true)
+    } else {
+        None
+    }
+}
+
 /// Whether the first line that isn't skipped is `plan 2`, and begins among the first 2^20 bytes.
 pub fn is_version_two(text: &[u8]) -> bool
     ensures { result ≡ is_version_two text.now }
 {
     let mut comment = false;
     for i in 0..text.len().min(MAX_FIRST) {
-        if text[i] == b'\n' {
-            comment = false;
-        } else if comment || text[i] == b'#' {
-            comment = true;
-        } else {
-            return is_plan_two(&text[i..]);
+        match skips(comment, text[i]) {
+            Some(next) => comment = next,
+            None => return is_plan_two(&text[i..]),
         }
     }
     false

@@ -1,7 +1,7 @@
 //! What a line of a plan says.
 ghost use Rattle.std.specs.Prelude.{◌≡◌, IfOk};
 ghost use Rattle.dsdl_types.specs.Definitions.{IsNamespace};
-ghost use Rattle.node_plan.specs.Line.{said_of, said_of_one, said_of_two, said_of_all, said_of_type, said_of_four, said_of_five, said_of_words, IsSaid};
+ghost use Rattle.node_plan.specs.Line.{said_of, said_of_one, said_of_two, said_of_all, said_of_type, said_of_four, said_of_five, said_of_many, said_of_words, IsSaid};
 ghost use Rattle.node_plan.specs.Words.{words_of};
 
 use crate::bus::{bus, mtu_in};
@@ -178,6 +178,27 @@ fn five_words(word: &[u8], port: &[u8], sources: &[u8], raw: &[u8], extent: &[u8
     )
 }
 
+fn many_words(
+    alloc: Global,
+    word: &[u8],
+    hardware: &[u8],
+    software: &[u8],
+    revision: &[u8],
+    unique_id: &[u8],
+    name: &[u8],
+) -> Result<Said, NoMemory>
+    ensures value { IfOk result (λ said. said
+        ≡ said_of_many word.now hardware.now software.now revision.now unique_id.now name.now) }
+    ensures sound { IfOk result IsSaid }
+{
+    if word != b"info".as_slice() {
+        return Ok(Said::NoForm);
+    }
+    let hardware = version_in(hardware);
+    let software = version_in(software);
+    info(alloc, hardware, software, revision, unique_id, name)
+}
+
 fn words(alloc: Global, names: &Namespace, is_two: bool, line: &[u8]) -> Result<Said, NoMemory>
     requires { IsNamespace names.now }
     ensures value { IfOk result (λ said.
@@ -196,20 +217,10 @@ fn words(alloc: Global, names: &Namespace, is_two: bool, line: &[u8]) -> Result<
     let Some((fourth, behind)) = cut(b' ', behind) else {
         return four_words(alloc, names, is_two, word, second, third, behind);
     };
-    let Some((fifth, behind)) = cut(b' ', behind) else {
-        return Ok(five_words(word, second, third, fourth, behind));
-    };
-    if word != b"info".as_slice() {
-        return Ok(Said::NoForm);
+    match cut(b' ', behind) {
+        Some((fifth, behind)) => many_words(alloc, word, second, third, fourth, fifth, behind),
+        None => Ok(five_words(word, second, third, fourth, behind)),
     }
-    info(
-        alloc,
-        version_in(second),
-        version_in(third),
-        fourth,
-        fifth,
-        behind,
-    )
 }
 
 /// What a line says, where `is_two` tells whether it is one of version 2.

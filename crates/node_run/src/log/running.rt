@@ -1,20 +1,20 @@
 //! A node that runs: the listener that reports what it hears and what it sends.
-ghost use Rattle.std.specs.Prelude.{◌≡◌, ◌≤◌, ◌<◌, ◌+◌, ◌*◌, ◌-◌, ◌/◌, ◌^◌, ◌++◌, ◌∷◌, [], ℕ, List, OnOk, OnErr, min};
+ghost use Rattle.std.specs.Prelude.{◌≡◌, ◌≤◌, ◌<◌, ◌+◌, ◌*◌, ◌-◌, ◌/◌, ◌^◌, ◌++◌, ◌∷◌, [], refl, ℕ, List, OnOk, OnErr, min};
+ghost use Rattle.std.proofs.Common.{◌∙◌, ap, sym, append-nil};
 ghost use Rattle.std.specs.Option.{ForSome, option_and_then};
 ghost use Rattle.tail_frame.specs.declared.logged.Record.{Record};
 ghost use Rattle.line_text.specs.Buffer.{text_of};
 ghost use Rattle.node_core.specs.Keeps.{keeps, sent};
-ghost use Rattle.node_core.specs.LineSinks.{BeginsList};
+ghost use Rattle.node_core.specs.LineSinks.{BeginsList, put_behind};
 ghost use Rattle.node_core.specs.Queues.{fulls, leaving};
 ghost use Rattle.node_core.specs.Sending.{IsRequestTo, reply_to};
 ghost use Rattle.node_core.specs.Stands.{StandsAsBefore};
-ghost use Rattle.node_core.specs.Steps.{Heard, Tick, left, ticks_from};
+ghost use Rattle.node_core.specs.Steps.{Heard, Tick, left, lines, steps, ticks_from};
 ghost use Rattle.node_core.specs.Writer.{writes_for};
 ghost use Rattle.node_run.specs.Goes.{BreaksOff, GoesOn, begun_at, latest_of, state, ticked, with_sent};
 ghost use Rattle.node_run.specs.Hears.{BrokeOff, CutShort, HasEnded, Hears, last_text, step_text};
-ghost use Rattle.node_run.specs.Ran.{reported};
+ghost use Rattle.node_run.specs.Ran.{next_lines, reported};
 ghost use Rattle.node_run.specs.Tells.{HasTold};
-ghost use Rattle.node_run.proofs.Runs.{heard_broke};
 
 use crate::log::clock::Clock;
 use crate::log::sending::{empty, send};
@@ -92,7 +92,25 @@ impl<'a, K: LineSink> Listener for Running<'a, K> {
         Ok(())
     }
 
-    ghost heard_broke = { λ first now past h. (h.0, heard_broke first.node.now.plan (K.lines first.lines.now) _ now.clock past h.1) };
+    ghost heard_broke = { λ first now past h. (
+      h.0,
+      record {
+        first = λ refusal. record {
+          newer = [];
+          past = steps first.node.now.plan past;
+          parts = refl;
+          told = [];
+          rest = next_lines first.node.now.plan [] (steps first.node.now.plan past) refusal;
+          next = refl;
+          at = record {
+            reported = h.1.runs.at.reported
+                ∙ ap (put_behind (K.lines first.lines.now)) (sym (append-nil (lines first.node.now.plan (steps first.node.now.plan past))));
+            counted = h.1.runs.at.counted;
+          };
+        };
+        within = h.1.runs.within;
+      },
+    ) };
 }
 
 impl<'a, K: LineSink> Running<'a, K> {
