@@ -1,21 +1,12 @@
 -- What a node keeps beside its sessions.
 use Rattle.std.specs.Prelude.{◌≡◌, ◌+◌, ◌%◌, List, ◌++◌, map, Option, Some}
 use Rattle.tail_frame.specs.declared.logged.Record.{Record}
-use Rattle.node_core.specs.Queues.{Sends, Queue, push_all}
+use Rattle.node_core.specs.Buses.{queue_of}
+use Rattle.node_core.specs.Queues.{Sends, push_all}
 use Rattle.node_core.specs.Stands.{Stands}
 use Rattle.node_core.specs.Steps.{Step, Heard, Kept, node_lines, pushed, records}
-use Rattle.node_core.specs.declared.bus_queue.BusQueue.{BusQueue}
 use Rattle.node_core.specs.declared.line.Line.{Line}
 use Rattle.node_core.specs.declared.node.Node.{Node}
-
--- the list of a bus
-abbrev pub queue_of : BusQueue → Queue
-queue_of q = record {
-  mtu = q.mtu;
-  rate = q.rate;
-  places = q.frames.places;
-  waiting = q.frames.waiting.items;
-}
 
 -- the frames that wait on each bus, and the transfer-ID of the next heartbeat
 abbrev pub keeps : Node → Kept

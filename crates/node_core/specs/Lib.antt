@@ -1,3 +1,4 @@
+pub mod Buses
 pub mod Came
 pub mod Heard
 pub mod Held

@@ -1,4 +1,4 @@
-ghost use Rattle.std.specs.Prelude.{◌≡◌, true};
+ghost use Rattle.std.specs.Prelude.{◌≡◌, ◌≤◌, true};
 ghost use Rattle.node_core.specs.Queues.{is_frame_size};
 
 use crate::line::FullLine;
@@ -15,12 +15,13 @@ pub struct BusQueue {
     /// The frames.
     pub frames: TxQueue,
     pub ghost size: { is_frame_size mtu ≡ true },
+    pub ghost few: { frames.places ≤ 4096 },
 }
 
 impl BusQueue {
-    ghost use Rattle.std.specs.Prelude.{◌<◌, ◌≤◌, ◌^◌, length, map};
+    ghost use Rattle.std.specs.Prelude.{◌<◌, ◌^◌, length, map};
     ghost use Rattle.std.specs.Option.{option_to_list};
-    ghost use Rattle.node_core.specs.Keeps.{queue_of};
+    ghost use Rattle.node_core.specs.Buses.{queue_of};
     ghost use Rattle.node_core.specs.Queues.{full_line, push};
     ghost use Rattle.node_core.specs.Transfers.{sends_of};
     ghost use Rattle.node_core.specs.declared.line.Line.TheVariants.{Full};
