@@ -1,4 +1,5 @@
--- The premises can be met: a health and a mode are sent, and the port's type has the health alone.
+-- The premises can be met: a health and a mode are sent to a node that sends itself, whose port's type has the health
+-- alone.
 use Rattle.std.proofs.Common.{◌≡◌, ◌∙◌, ℕ, zero, suc, zero-le, le_refl, ◌≤◌, ◌<◌, true, false, Some, None, List, [], ◌∷◌, ◌++◌, codes, replicate, refl, sym, ap, subst, inl, arith}
 use Rattle.std.specs.Prelude.{pos}
 use Rattle.std.proofs.lemmas.List.Elements.{All-nil, All-cons}
@@ -32,7 +33,7 @@ use Rattle.node_plan.specs.declared.plan.SubShape.TheVariants.{Named}
 use Rattle.node_core.specs.Heard.{table_port}
 use Rattle.node_plan.specs.Ports.{port_of_sub}
 use Rattle.std_types.specs.declared.node.NodeInfo.{NodeInfo}
-use Rattle.node_core.specs.Steps.{Step, Heard, records}
+use Rattle.node_core.specs.Steps.{Step, Heard, Tick, records}
 use Rattle.session_lines.specs.Example.{ValuesExample}
 use Rattle.session_lines.specs.Values.{IsSentTo}
 
@@ -87,7 +88,7 @@ plan = record {
   node = 10;
   buses = record { name = codes "can0"; mtu = 8; rate = 4096 } ∷ [];
   timeout = 2000000;
-  silent = true;
+  silent = false;
   subs = sub ∷ [];
   clients = 4;
   status = record { health = 0; mode = 0; code = 0 };
@@ -103,7 +104,7 @@ abbrev key : SessionKey
 key = record { kind = Message; port = 100; source = 1 }
 
 abbrev steps : List Step
-steps = Heard (record { line = 1; moment = 1000000; bus = 0; ident = 0x10606401; bytes = 7 ∷ 1 ∷ 0xE0 ∷ [] }) ∷ []
+steps = Heard (record { line = 1; moment = 1000000; bus = 0; ident = 0x10606401; bytes = 7 ∷ 1 ∷ 0xE0 ∷ [] }) ∷ Tick 0 1000000 ∷ []
 
 abbrev r : KeyRecord
 r = record { line = 1; moment = 1000000; bus = 0; priority = 4; start = true; end = true; toggle = true; tid = 0; body = 7 ∷ 1 ∷ [] }
