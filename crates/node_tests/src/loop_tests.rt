@@ -20,6 +20,8 @@ struct Count {
 impl Listener for Count {
     ghost heard = { λ first now past. now.n ≡ first.n + length past };
 
+    ghost ended = { λ first now past. now.n ≡ first.n + length past };
+
     ghost broke = { λ first now past. now.n ≤ first.n + length past };
 
     ghost step_text = { λ first rec past. ((first.n + length past) % 256) ∷ [] };
@@ -42,6 +44,8 @@ impl Listener for Count {
     }
 
     ghost heard_broke = { λ first now past e. Prim.search rules };
+
+    ghost ended_broke = { λ first now past e. Prim.search rules };
 }
 
 /// Says the bus of each record as a digit, and has memory for so many alone.
@@ -52,6 +56,8 @@ struct Buses {
 
 impl Listener for Buses {
     ghost heard = { λ first now past. now.left + length past ≡ first.left };
+
+    ghost ended = { λ first now past. now.left + length past ≡ first.left };
 
     ghost broke = { λ first now past. now.left + length past ≤ first.left + 1 };
 
@@ -77,6 +83,8 @@ impl Listener for Buses {
     }
 
     ghost heard_broke = { λ first now past e. Prim.search rules };
+
+    ghost ended_broke = { λ first now past e. Prim.search rules };
 }
 
 /// The buses `can0` and `can1`.
