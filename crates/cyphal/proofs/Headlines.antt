@@ -27,7 +27,7 @@ use Rattle.node_core.specs.Steps.{Step, lines, all_lines, steps}
 use Rattle.node_core.specs.Text.{text}
 use Rattle.session_lines.specs.Reported.{rxs, of_key, IsSession, StepsReportAll}
 use Rattle.session_lines.specs.Values.{type_of, IsSentTo, SayValues, SaysDueValue}
-use Rattle.session_lines.proofs.Projection.{rxs_append}
+use Rattle.session_lines.proofs.Sending.{rxs_append}
 use Rattle.node_run.specs.Ran.{Reported, Ran, HasRun, names_of, steps_of, due_lines, end_part, whole_text}
 use Rattle.node_run.specs.declared.status.Status.{Status}
 use Rattle.node_run.specs.declared.status.Status.TheVariants as status

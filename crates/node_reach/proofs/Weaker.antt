@@ -17,7 +17,7 @@ module _ (v : Voice) (heard ended broke cut_short : List Record → Type 0) (bef
   upto : (log : Log) → Upto v heard log before after → Upto v Anything log before after
   upto log u = record { came = u.came; left = u.left; parts = u.parts; hears = tt; written = u.written }
 
-  begun : (done : List Record → Type 0) (log : Log) → Begun v done log before after → Begun v Anything log before after
+  abbrev begun : (done : List Record → Type 0) (log : Log) → Begun v done log before after → Begun v Anything log before after
   begun done log b = record { came = b.came; left = b.left; parts = b.parts; is = tt; written = b.written }
 
   begun_whole : (done : List Record → Type 0) (log : Log) → BegunWhole v done log before after → BegunWhole v Anything log before after
