@@ -6,7 +6,6 @@ pub mod Cause
 pub mod Job
 pub mod LogEnds
 pub mod Plans
-pub mod Migrated
 pub mod jobs
 pub mod Expected
 pub mod Laws

@@ -11,7 +11,6 @@ mod error_line;
 mod help;
 mod jobs;
 mod law;
-mod migration;
 mod node_id;
 mod number;
 mod path;

@@ -4,7 +4,7 @@ use Rattle.std.specs.FinMap as map
 use Rattle.cy_outside.specs.Files.{Files}
 use Rattle.cy_outside.specs.Written.{behind, Begins}
 use Rattle.dsdl_types.specs.declared.namespace.Namespace.{Namespace}
-use Rattle.cyphal.specs.Migrated.{IsMigrated}
+use Rattle.node_plan.specs.Answers.{IsMigrated}
 use Rattle.node_run.specs.Loaded.{IsLoaded}
 use Rattle.node_run.specs.declared.status.Status.{Status}
 use Rattle.node_run.specs.declared.status.Status.TheVariants as status

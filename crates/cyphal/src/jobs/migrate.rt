@@ -12,7 +12,7 @@ use crate::plan_file::{plan_refused, text_at};
 use cy_bits::Bytes;
 use cy_outside::{Sink, Tree, put_all};
 use dsdl_types::Namespace;
-use crate::migration::migrate;
+use node_plan::migrate;
 use node_run::{Status, load};
 use std::alloc::Global;
 
