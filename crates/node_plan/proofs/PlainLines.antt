@@ -1,5 +1,5 @@
 -- Lines that say neither a version nor nothing, and lines that say nothing of a bus.
-use Rattle.std.proofs.Common.{◌≡◌, ◌==◌, ◌&&◌, ℕ, Bool, true, false, List, [], ◌∷◌, Option, Some, None, length, refl}
+use Rattle.std.proofs.Common.{◌≡◌, ◌==◌, ℕ, Bool, true, false, List, Option, Some, None, length, ap, refl, subst, sym}
 use Rattle.std.specs.Prelude.{◌||◌, codes, if◌then◌else◌, nat_lt}
 use Rattle.std.specs.Str.{bytes_eq}
 use Rattle.std.proofs.lemmas.Bool.{cond_both}
@@ -13,7 +13,7 @@ use Rattle.node_plan.specs.declared.plan.SubShape.{SubShape}
 use Rattle.node_plan.specs.declared.words.Number.{Number}
 use Rattle.node_plan.specs.declared.words.Number.TheVariants as number
 use Rattle.node_plan.specs.Info.{info_with, is_node_name, revision_in, said_of_info, said_of_parts, said_of_version_words, unique_id_in, version_in}
-use Rattle.node_plan.specs.Line.{said_of_node, said_of_name, said_of_numbers, said_of_bus, said_of_mtu, said_of_rate, said_of_timeout, said_of_clients, said_of_queue, said_of_status, said_of_shape, said_of_sub, said_of_type, said_of_raw, said_of_one, said_of_all, said_of_four, said_of_five, said_of_many}
+use Rattle.node_plan.specs.Line.{said_of_node, said_of_name, said_of_bus, said_of_mtu, said_of_rate, said_of_timeout, said_of_clients, said_of_queue, said_of_status, said_of_shape, said_of_sub, said_of_type, said_of_raw, said_of_one, said_of_all, said_of_two, said_of_version, said_of_four, said_of_five, said_of_many}
 use Rattle.node_plan.specs.Names.{is_bus_name}
 use Rattle.node_plan.specs.Ports.{extent_of}
 use Rattle.node_plan.specs.Types.{shape_named}
@@ -138,7 +138,7 @@ plain_name name mtu rate = both true (is_bus_name name) (said.Bus (record { name
 plain_bus : (name : List ℕ) (mtu rate : ℕ) → Plain true (said_of_bus name (number.Within mtu) (number.Within rate))
 plain_bus name mtu rate = both true (length name == 0) said.NoForm (said_of_name name mtu rate) tt (plain_name name mtu rate)
 
-pub plain_all : (word value : List ℕ) → Plain true (said_of_all word value)
+plain_all : (word value : List ℕ) → Plain true (said_of_all word value)
 plain_all word value =
     let rate = said_of_rate (number_in 1 4096 value) in
     let is_rate = bytes_eq word (codes "rate") in
@@ -148,3 +148,23 @@ plain_all word value =
     let from_mtu = if is_mtu then mtu else from_rate in
     both true (bytes_eq word (codes "bus")) (said_of_bus value (number.Within 8) (number.Within 4096)) from_mtu (plain_bus value 8 4096)
     (both true is_mtu mtu from_rate (plain_mtu (mtu_in value)) (both true is_rate rate said.NoForm (plain_rate (number_in 1 4096 value)) tt))
+
+-- a line of two words of version 1 whose first isn't `plan`
+pub plain_two : (word value : List ℕ) → bytes_eq word (codes "plan") ≡ false → Plain true (said_of_two false word value)
+plain_two word value h =
+    let queue = said_of_queue (number_in 1 4096 value) in
+    let is_queue = bytes_eq word (codes "queue") in
+    let from_queue = if is_queue then queue else said_of_all word value in
+    let clients = said_of_clients (number_in 1 128 value) in
+    let is_clients = bytes_eq word (codes "clients") in
+    let from_clients = if is_clients then clients else from_queue in
+    let timeout = said_of_timeout (number_in 1 60_000_000 value) in
+    let is_timeout = bytes_eq word (codes "timeout") in
+    let from_timeout = if is_timeout then timeout else from_clients in
+    let is_node = bytes_eq word (codes "node") in
+    let from_node = if is_node then said_of_node (number_in 0 127 value) else from_timeout in
+    subst (Plain true) (sym (ap (λ test. if test then said_of_version value else from_node) h))
+    (both true is_node (said_of_node (number_in 0 127 value)) from_timeout (plain_node true (number_in 0 127 value))
+    (both true is_timeout timeout from_clients (plain_timeout true (number_in 1 60_000_000 value))
+    (both true is_clients clients from_queue (plain_clients true (number_in 1 128 value))
+    (both true is_queue queue (said_of_all word value) (plain_queue true (number_in 1 4096 value)) (plain_all word value)))))
