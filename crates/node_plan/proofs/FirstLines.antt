@@ -51,8 +51,11 @@ module _ (names : Namespace) (new : Draft) (b : ℕ) (s : List ℕ) where
   of_second e h = inr (inr (whole (b ∷ s) (codes "plan" ∷ codes "2" ∷ []) e, let same : record start { version = Some version.Two } ≡ new = cc in ap (λ (d : Draft). d.node) (sym same)))
 
   of_plan : (value : List ℕ) → Goes (codes "plan") value
-  of_plan value = elim (word_case value (codes "1")) [ inl e ↦ subst (Goes (codes "plan")) (sym e) of_one | inr not_one ↦
-      elim (word_case value (codes "2")) [ inl e ↦ subst (Goes (codes "plan")) (sym e) of_second | inr not_two ↦ λ e h. absurd (none not_one not_two h) ] ]
+  of_plan value = elim (word_case value (codes "1")) [
+    | inl e ↦ subst (Goes (codes "plan")) (sym e) of_one
+    | inr not_one ↦
+        elim (word_case value (codes "2")) [ inl e ↦ subst (Goes (codes "plan")) (sym e) of_second | inr not_two ↦ λ e h. absurd (none not_one not_two h) ]
+  ]
     where
       none : bytes_eq value (codes "1") ≡ false → bytes_eq value (codes "2") ≡ false → step start (said_of_version value) ≡ Ok new → ⊥
       none o t h = of_tests (bytes_eq value (codes "1")) (bytes_eq value (codes "2")) o t h
@@ -63,8 +66,11 @@ module _ (names : Namespace) (new : Draft) (b : ℕ) (s : List ℕ) where
           of_tests false false e f h = cc
 
   of_two : (word value : List ℕ) → Goes word value
-  of_two word value = elim (word_case word (codes "plan")) [ inl e ↦ subst (λ w. Goes w value) (sym e) (of_plan value) | inr other ↦
-      λ e h. absurd (late (said_of_two false word value) new (plain_two word value other) h) ]
+  of_two word value = elim (word_case word (codes "plan")) [
+    | inl e ↦ subst (λ w. Goes w value) (sym e) (of_plan value)
+    | inr other ↦
+        λ e h. absurd (late (said_of_two false word value) new (plain_two word value other) h)
+  ]
 
   of_words : (words : List (List ℕ)) → words_of (b ∷ s) ≡ words → step start (said_of_words names false words) ≡ Ok new → Begins new (b ∷ s)
   of_words [] e h = absurd cc

@@ -127,25 +127,49 @@ module _ (names : Namespace) (m r : ℕ) (numbers : AreNumbers m r) (d new : Dra
         let more : length new.buses ≡ length d.buses + 1 = ap (λ bs. length {A = BusPlan} bs) g.2 ∙ length-append d.buses (first_bus value ∷ []) in
         let long : length ((b ∷ s) ++ numbers_text m r) ≡ length (b ∷ s) + length (numbers_text m r) = length-append (b ∷ s) (numbers_text m r) in
         let short : length (numbers_text m r) ≤ 8 = numbers.short in record {
-      step = ap (step (two_of m r d)) (bus_says e) ∙ g.0;
-      version = g.1 ∙ first;
-      first = subst AreFirst (sym g.2) (first-push d.buses value ones);
-      longer = omega (arith, more, long, short);
-    }
+          step = ap (step (two_of m r d)) (bus_says e) ∙ g.0;
+          version = g.1 ∙ first;
+          first = subst AreFirst (sym g.2) (first-push d.buses value ones);
+          longer = omega (arith, more, long, short);
+        }
 
     at : (word w : List ℕ) → word ≡ w → Goes w → Goes word
     at word w e g = subst Goes (sym e) g
 
     of_two : (word : List ℕ) → Goes word
-    of_two word = elim (word_case word (codes "plan")) [ inl e ↦ at word (codes "plan") e of_plan | inr not_plan ↦
-        elim (word_case word (codes "node")) [ inl e ↦ at word (codes "node") e of_node | inr not_node ↦
-        elim (word_case word (codes "timeout")) [ inl e ↦ at word (codes "timeout") e of_timeout | inr not_timeout ↦
-        elim (word_case word (codes "clients")) [ inl e ↦ at word (codes "clients") e of_clients | inr not_clients ↦
-        elim (word_case word (codes "queue")) [ inl e ↦ at word (codes "queue") e of_queue | inr not_queue ↦
-        elim (word_case word (codes "bus")) [ inl e ↦ at word (codes "bus") e of_bus | inr not_bus ↦
-        elim (word_case word (codes "mtu")) [ inl e ↦ at word (codes "mtu") e of_mtu | inr not_mtu ↦
-        elim (word_case word (codes "rate")) [ inl e ↦ at word (codes "rate") e of_rate | inr not_rate ↦
-        λ e h. absurd (none word not_plan not_node not_timeout not_clients not_queue not_bus not_mtu not_rate h) ] ] ] ] ] ] ] ]
+    of_two word = elim (word_case word (codes "plan")) [
+      | inl e ↦ at word (codes "plan") e of_plan
+      | inr not_plan ↦
+          elim (word_case word (codes "node")) [
+            | inl e ↦ at word (codes "node") e of_node
+            | inr not_node ↦
+                elim (word_case word (codes "timeout")) [
+                  | inl e ↦ at word (codes "timeout") e of_timeout
+                  | inr not_timeout ↦
+                      elim (word_case word (codes "clients")) [
+                        | inl e ↦ at word (codes "clients") e of_clients
+                        | inr not_clients ↦
+                            elim (word_case word (codes "queue")) [
+                              | inl e ↦ at word (codes "queue") e of_queue
+                              | inr not_queue ↦
+                                  elim (word_case word (codes "bus")) [
+                                    | inl e ↦ at word (codes "bus") e of_bus
+                                    | inr not_bus ↦
+                                        elim (word_case word (codes "mtu")) [
+                                          | inl e ↦ at word (codes "mtu") e of_mtu
+                                          | inr not_mtu ↦
+                                              elim (word_case word (codes "rate")) [
+                                                | inl e ↦ at word (codes "rate") e of_rate
+                                                | inr not_rate ↦
+                                                    λ e h. absurd (none word not_plan not_node not_timeout not_clients not_queue not_bus not_mtu not_rate h)
+                                              ]
+                                        ]
+                                  ]
+                            ]
+                      ]
+                ]
+          ]
+    ]
       where
         none : (word : List ℕ) → bytes_eq word (codes "plan") ≡ false → bytes_eq word (codes "node") ≡ false → bytes_eq word (codes "timeout") ≡ false → bytes_eq word (codes "clients") ≡ false
             → bytes_eq word (codes "queue") ≡ false → bytes_eq word (codes "bus") ≡ false → bytes_eq word (codes "mtu") ≡ false → bytes_eq word (codes "rate") ≡ false
