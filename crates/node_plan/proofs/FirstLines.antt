@@ -15,7 +15,8 @@ use Rattle.node_plan.proofs.JoinedLemmas.{Free}
 use Rattle.node_plan.proofs.LimitLemmas.{begins_two-said, begins_two-skip}
 use Rattle.node_plan.proofs.MigratedLines.{word_case}
 use Rattle.node_plan.proofs.PartsLemmas.{joined-parts}
-use Rattle.node_plan.proofs.PlainLines.{Plain, plain_five, plain_four, plain_many, plain_one, plain_two}
+use Rattle.node_plan.proofs.PlainLines.{AnyShape, Plain, plain, plain_four, plain_two}
+use Rattle.node_plan.proofs.SaidTables as tables
 
 -- the draft behind `plan 1`
 abbrev pub begun : Draft
@@ -74,13 +75,13 @@ module _ (names : Namespace) (new : Draft) (b : ℕ) (s : List ℕ) where
 
   of_words : (words : List (List ℕ)) → words_of (b ∷ s) ≡ words → step start (said_of_words names false words) ≡ Ok new → Begins new (b ∷ s)
   of_words [] e h = absurd cc
-  of_words (a ∷ []) e h = absurd (late (said_of_one a) new (plain_one true a) h)
+  of_words (a ∷ []) e h = absurd (late (said_of_one a) new (tables.of_one (Plain true) AnyShape (plain true) a) h)
   of_words (a ∷ v ∷ []) e h = of_two a v e h
   of_words (a ∷ v ∷ c ∷ []) e h = absurd cc
   of_words (a ∷ v ∷ c ∷ f ∷ []) e h = absurd (late (said_of_four names false a v c f) new (plain_four true names a v c f) h)
-  of_words (a ∷ v ∷ c ∷ f ∷ g ∷ []) e h = absurd (late (said_of_five a v c f g) new (plain_five true a v c f g) h)
+  of_words (a ∷ v ∷ c ∷ f ∷ g ∷ []) e h = absurd (late (said_of_five a v c f g) new (tables.of_five (Plain true) AnyShape (plain true) a v c f g) h)
   of_words (a ∷ v ∷ c ∷ f ∷ g ∷ i ∷ more) e h =
-      absurd (late (said_of_many a v c f g (joined 32 (i ∷ more))) new (plain_many true a v c f g (joined 32 (i ∷ more))) h)
+      absurd (late (said_of_many a v c f g (joined 32 (i ∷ more))) new (tables.of_many (Plain true) AnyShape (plain true) a v c f g (joined 32 (i ∷ more))) h)
 
 pub first_line : (names : Namespace) (new : Draft) (line : List ℕ) → step start (said_of names false line) ≡ Ok new → Begins new line
 first_line names new [] h = inl (tt, let same : start ≡ new = cc in sym same)
