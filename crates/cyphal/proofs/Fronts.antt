@@ -27,11 +27,10 @@ next_step plan step [] past = ([], ap (λ t. lines plan past ++ t) (sym (append-
 next_step plan step (older ∷ newer) past =
     let f = next_step plan older newer past in
     let at = lines_at plan step (older ∷ (newer ++ past)) in
-    let first = first_lines plan older newer past in
-    (
+    let first = first_lines plan older newer past in (
       f.0 ++ at,
       ap (λ t. t ++ at) f.1
-      ∙ (append_assoc (lines plan past) (first ++ f.0) at ∙ ap (λ t. lines plan past ++ t) (append_assoc first f.0 at)),
+          ∙ (append_assoc (lines plan past) (first ++ f.0) at ∙ ap (λ t. lines plan past ++ t) (append_assoc first f.0 at)),
     )
 
 -- behind the lines of the first steps come the next ones
@@ -41,12 +40,11 @@ next_due plan [] past (Some refusal) = ([], sym (append-nil (lines plan past)))
 next_due plan (step ∷ newer) past refusal =
     let f = next_step plan step newer past in
     let d = steps_due plan (step ∷ (newer ++ past)) refusal in
-    let first = first_lines plan step newer past in
-    (
+    let first = first_lines plan step newer past in (
       f.0 ++ d.0,
       d.1
-      ∙ (ap (λ t. t ++ d.0) f.1
-      ∙ (append_assoc (lines plan past) (first ++ f.0) d.0 ∙ ap (λ t. lines plan past ++ t) (append_assoc first f.0 d.0))),
+          ∙ (ap (λ t. t ++ d.0) f.1
+          ∙ (append_assoc (lines plan past) (first ++ f.0) d.0 ∙ ap (λ t. lines plan past ++ t) (append_assoc first f.0 d.0))),
     )
 
 -- the first lines of a log were put, and no other
@@ -94,10 +92,9 @@ came_lines plan log came left e =
     let first : newest_first log ≡ reverse_aux left came = ap (λ t. reverse_aux t []) e ∙ newest_onto came left in
     let s = steps_newer plan came left in
     let f = lines_newer plan s.0 (steps plan came) in
-    let d = steps_due plan (steps_of plan log) log.refusal in
-    (
+    let d = steps_due plan (steps_of plan log) log.refusal in (
       f.0 ++ d.0,
       d.1
-      ∙ (ap (λ t. lines plan t ++ d.0) (ap (steps plan) first ∙ s.1)
-      ∙ (ap (λ t. t ++ d.0) f.1 ∙ append_assoc (lines plan (steps plan came)) f.0 d.0)),
+          ∙ (ap (λ t. lines plan t ++ d.0) (ap (steps plan) first ∙ s.1)
+          ∙ (ap (λ t. t ++ d.0) f.1 ∙ append_assoc (lines plan (steps plan came)) f.0 d.0)),
     )
