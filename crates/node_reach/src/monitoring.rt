@@ -78,8 +78,8 @@ impl Listener for Monitoring {
     fn hear(&mut self, rec: &Record, _gathered: &mut TextBuffer) -> Result<(), NoMemory> {
         // No number of records passes the line of the last one.
         let _line = rec.line;
-        let met = self.ear.hear(rec)?;
-        let transfer = self.ear.transfer(rec, met);
+        let heard = self.ear.hear(rec)?;
+        let transfer = self.ear.transfer(heard);
         self.network.hear(rec.moment, transfer)?;
         self.records += 1;
         Ok(())

@@ -13,10 +13,11 @@ use cy_outside::{Sink, Source};
 use log_loop::{Ended, listen};
 use std::alloc::Global;
 
-/// Hears a log of the buses `can0`, `can1` and `can2` as the node `own`, at most 127, and writes at its end how each node
-/// is that was heard, the network's time, how many records it heard, and how many nodes are online.
+/// Hears a log of the buses `can0`, `can1` and `can2` as the node `own`, at most 127, and writes at
+/// its end how each node is that was heard, the network's time, how many records it heard, and how
+/// many nodes are online.
 pub fn monitor<L: Source, O: Sink>(alloc: Global, own: u8, input: &mut L, out: &mut O) -> Ended
-    requires { own ≤ 127 }
+    requires own { own ≤ 127 }
     ensures gone { HasGone (monitor_voice own) Anything Anything Anything
         (L.left input.old) result (O.written out.old) (O.written out.new) }
     ensures taken { result ≡ Ended.ReadFault → IsOfTaken (monitor_voice own) Anything
