@@ -1,8 +1,7 @@
 -- Lemmas on the ports of a plan.
 use Rattle.std.proofs.Common.{◌≡◌, ◌∙◌, ◌<◌, ◌≤◌, ◌≢◌, ◌+◌, ◌*◌, zero, suc, ℕ, Bool, true, false, List, [], ◌∷◌, ◌++◌, refl, sym, ap, arith, length, get_or}
-use Rattle.std.specs.Prelude.{◌/◌, map, sum_by, if◌then◌else◌}
+use Rattle.std.specs.Prelude.{◌/◌, IfSome, map, sum_by, if◌then◌else◌}
 use Rattle.std.specs.List.{All, AllPairs}
-use Rattle.std.specs.Option.{ForSome}
 use Rattle.std.proofs.lemmas.List.Elements.{All-append, All-cons, All-map, All-nil}
 use Rattle.std.proofs.lemmas.List.Kept.{AllPairs-cons}
 use Rattle.std.proofs.lemmas.List.Sums.{sum_by-append, sum_by-cons}
@@ -51,7 +50,7 @@ bound_of-parts plan = sym (sum_by-append port_bound (map port_of_sub plan.subs) 
 
 -- ---- the ports are in their ranges
 
-of_type : (s : SubShape) → IsShape s → ForSome (type_in s) (λ s. IsSchema s × (is_composite s ≡ true))
+of_type : (s : SubShape) → IsShape s → IfSome (type_in s) (λ s. IsSchema s × (is_composite s ≡ true))
 of_type (shape.Raw n) h = tt
 of_type (shape.Named id s) h = h
 

@@ -1,5 +1,6 @@
 //! The plan as far as its lines were read.
-ghost use Rattle.std.specs.Prelude.{◌≡◌, ◌≤◌, length, map, Option};
+ghost use Rattle.std.specs.Prelude.{◌≡◌, map, unwrap_or};
+ghost use Rattle.node_plan.specs.Info.{blank_info};
 ghost use Rattle.node_plan.specs.Draft.{has_bus, has_subject, on_bus};
 
 use crate::info::blank_info;
@@ -12,6 +13,13 @@ use std_types::node::NodeInfo;
 const MAX_BUSES: usize = 3;
 
 const MAX_SUBS: usize = 64;
+
+/// The status of a node of which nothing is said.
+const NO_STATUS: NodeStatus = NodeStatus {
+    health: 0,
+    mode: 0,
+    code: 0,
+};
 
 /// What the lines said so far.
 #[derive(Drop)]
@@ -37,7 +45,7 @@ impl Draft {
     ghost use Rattle.std.specs.Prelude.{◌≡◌, ◌<◌, ◌≤◌, IsTrue, IfSome, is_some, length, true};
     ghost use Rattle.node_plan.specs.Names.{is_bus_name};
     ghost use Rattle.node_plan.specs.Answers.{IsStep};
-    ghost use Rattle.node_plan.specs.Draft.{start, complete, is_two, once, with_bus, with_sub, with_version, without_type, with_line, step};
+    ghost use Rattle.node_plan.specs.Draft.{start, complete, is_two, once, plan_with, with_bus, with_sub, with_version, without_type, with_line, step};
     ghost use Rattle.node_plan.specs.IsPlan.{IsBus, IsDraft, IsInfo, IsMtu, IsPlan, IsRate, IsStatus, IsSub};
     ghost use Rattle.node_plan.specs.Line.{IsSaid};
 
@@ -320,15 +328,13 @@ impl Draft {
         }
     }
 
-    /// The plan, where no line is missing that must be there.
-    pub fn finish(self, alloc: Global) -> Option<Plan>
-        requires { IsDraft self }
-        ensures value { result ≡ complete self }
-        ensures sound { IfSome result IsPlan }
+    /// The plan of this node, with what counts where nothing is said.
+    fn plan_with(self, alloc: Global, node: u8) -> Plan
+        ensures { result ≡ plan_with self node }
     {
         let Draft {
-            version,
-            node,
+            version: _,
+            node: _,
             buses,
             mtu,
             rate,
@@ -340,29 +346,40 @@ impl Draft {
             info,
             queue,
         } = self;
-        let node = node?;
-        if version.is_none() || buses.is_empty() {
-            return None;
-        }
-        let info = match info {
-            Some(info) => info,
-            None => blank_info(alloc),
-        };
-        Some(Plan {
+        Plan {
             node,
             buses: on_buses(&buses, mtu, rate),
             timeout: timeout.unwrap_or(2_000_000),
             silent,
             subs,
             clients: clients.unwrap_or(4),
-            status: status.unwrap_or(NodeStatus {
-                health: 0,
-                mode: 0,
-                code: 0,
-            }),
-            info,
+            status: status.unwrap_or(NO_STATUS),
+            info: info_or_blank(alloc, info),
             queue: queue.unwrap_or(64),
-        })
+        }
+    }
+
+    /// The plan, where no line is missing that must be there.
+    pub fn finish(self, alloc: Global) -> Option<Plan>
+        requires { IsDraft self }
+        ensures value { result ≡ complete self }
+        ensures sound { IfSome result IsPlan }
+    {
+        let node = self.node?;
+        if self.version.is_none() || self.buses.is_empty() {
+            return None;
+        }
+        Some(self.plan_with(alloc, node))
+    }
+}
+
+/// What the node is, where it was said.
+fn info_or_blank(alloc: Global, info: Option<NodeInfo>) -> NodeInfo
+    ensures { result ≡ unwrap_or info blank_info }
+{
+    match info {
+        Some(info) => info,
+        None => blank_info(alloc),
     }
 }
 
