@@ -18,6 +18,7 @@ use Rattle.log_loop.specs.Next.{Goes, Comes, ComesBehind, Writes}
 use Rattle.log_loop.specs.Taken.{whole_records}
 use Rattle.log_loop.specs.declared.next.Stop.{Stop}
 use Rattle.log_loop.specs.declared.next.Stop.TheVariants as stop
+use Rattle.frame_log.specs.declared.error.LogError.TheVariants as error
 use Rattle.log_loop.proofs.Came.{took_more}
 use Rattle.log_loop.proofs.Logs.{onto, newest_onto}
 use Rattle.log_loop.proofs.Written.{behind_none, behind_more, all_written, gathered_less}
