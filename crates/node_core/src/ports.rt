@@ -1,7 +1,8 @@
 //! The table of a plan's ports.
-ghost use Rattle.std.specs.Prelude.{◌≡◌, ◌<◌, ◌≤◌, ◌^◌, ◌++◌, ◌∷◌, [], ℕ, List, None, IfOk, OnOk, length, map};
+ghost use Rattle.std.specs.Prelude.{◌≡◌, ◌<◌, ◌≤◌, ◌^◌, ◌++◌, ◌∷◌, [], ℕ, List, None, Some, IfOk, OnOk, length, take};
+ghost use Rattle.std_types.specs.Types.{schema_of};
 ghost use Rattle.node_plan.specs.IsPlan.{IsPlan, IsShape};
-ghost use Rattle.node_plan.specs.Ports.{IsService, PlanPort, extent_of, port_of_sub, port_of_service, ports, type_in};
+ghost use Rattle.node_plan.specs.Ports.{PlanPort, extent_of, ports, service_extent, type_in};
 ghost use Rattle.node_core.specs.Shapes.{port_schema, port_type, shape_extent};
 ghost use Rattle.node_core.specs.Tables.{IsTableOf, port_with};
 ghost use Rattle.rx_table.specs.Ports.{port_at};
@@ -12,7 +13,8 @@ use crate::port_shape::PortShape;
 use crate::raw_shape::RawShape;
 use can_id::Kind;
 use cy_bits::{NoMemory, TryCopy};
-use node_plan::{Plan, Service, Sub, SubShape};
+use node_plan::laws::ports_are_fit;
+use node_plan::{Plan, Service, SubShape};
 use rx_table::{SubscribeError, Table};
 use std::alloc::Global;
 use std_types::std_type;
@@ -32,9 +34,10 @@ pub fn table_of(alloc: Global, plan: &Plan) -> Result<Table<PortShape>, NoMemory
 fn subscribe_subs(alloc: Global, plan: &Plan, table: &mut Table<PortShape>) -> Result<(), NoMemory>
     requires plan { IsPlan plan.now }
     requires empty { IsTableOf plan.now.timeout [] table.old }
-    ensures { let subs = map port_of_sub plan.now.subs in
+    ensures { let subs = take (length plan.now.subs) (ports plan.now) in
         OnOk result (IsTableOf plan.now.timeout subs table.new) }
 {
+    ports_are_fit();
     for sub in plan.subs.as_slice() {
         let shape = sub_shape(alloc, &sub.shape)?;
         subscribe(table, Kind::Message, sub.port, sub.sources, shape)?;
@@ -49,10 +52,11 @@ fn subscribe_services(
     table: &mut Table<PortShape>,
 ) -> Result<(), NoMemory>
     requires plan { IsPlan plan.now }
-    requires subs { let subs = map port_of_sub plan.now.subs in
+    requires subs { let subs = take (length plan.now.subs) (ports plan.now) in
         IsTableOf plan.now.timeout subs table.old }
     ensures { OnOk result (IsTableOf plan.now.timeout (ports plan.now) table.new) }
 {
+    ports_are_fit();
     for service in plan.services().as_slice() {
         let shape = service_shape(alloc, service)?;
         subscribe(table, Kind::Request, service.port, service.sources, shape)?;
@@ -101,9 +105,9 @@ fn sub_shape(alloc: Global, shape: &SubShape) -> Result<PortShape, NoMemory>
 
 /// The shape of the requests of a service.
 fn service_shape(alloc: Global, service: &Service) -> Result<PortShape, NoMemory>
-    requires { IsService service.now }
-    ensures extent { IfOk result (λ made. shape_extent made ≡ (port_of_service service.now).extent) }
-    ensures port_type { IfOk result (λ made. port_type made ≡ (port_of_service service.now).type) }
+    ensures extent { IfOk result (λ made. shape_extent made ≡ service_extent service.now) }
+    ensures port_type { IfOk result (λ made.
+        port_type made ≡ Some (schema_of service.now.request)) }
 {
     let schema = std_type(alloc, service.request)?.schema;
     Ok(PortShape::Compiled(CompiledShape { schema }))

@@ -1,5 +1,5 @@
 -- How a run goes on, step by step.
-use Rattle.std.specs.Prelude.{◌≡◌, ◌≤◌, ◌+◌, ◌*◌, ◌-◌, ◌^◌, ◌==◌, ◌++◌, ℕ, zero, suc, min, max, List, Option, if◌then◌else◌, length, count_by}
+use Rattle.std.specs.Prelude.{◌≡◌, ◌≤◌, ◌⊎◌, ◌+◌, ◌-◌, ◌/◌, ◌^◌, ◌==◌, ◌++◌, ℕ, min, max, List, Option, if◌then◌else◌, length}
 use Rattle.node_plan.specs.Bound.{bound_of}
 use Rattle.node_plan.specs.IsPlan.{IsPlan}
 use Rattle.node_plan.specs.declared.plan.BusPlan.{BusPlan}
@@ -9,6 +9,7 @@ use Rattle.node_core.specs.declared.line.Line.{Line}
 use Rattle.node_core.specs.declared.node.Node.{Node}
 use Rattle.node_core.specs.declared.numbers.Numbers.{Numbers}
 use Rattle.node_core.specs.Keeps.{keeps}
+use Rattle.node_core.specs.Queues.{Queue, waiting}
 use Rattle.node_core.specs.Stands.{Stands}
 use Rattle.node_core.specs.Steps.{Step, records, kept, lines_behind}
 use Rattle.node_core.specs.Text.{text}
@@ -60,24 +61,28 @@ GoesOn newer old new gathered_old gathered_new =
 abbrev pub BreaksOff : List Step → State → State → Type 0
 BreaksOff newer old new =
     (plan : Plan) (before : Option (List Line)) (past : List Step)
-    → Runs plan before old past → Broke plan (report_of before new) (newer ++ past)
+    → IsFew (newer ++ past) → Runs plan before old past → Broke plan (report_of before new) (newer ++ past)
 
 -- the numbers with so many more frames that were sent
 abbrev pub with_sent : Numbers → ℕ → Numbers
 with_sent n more = record n { sent = min (n.sent + more) (2 ^ 64 - 1) }
 
--- a clock whose first tick is at a moment, where there was none yet
-abbrev pub begun_at : Clock → ℕ → Clock
-begun_at clock moment = if clock.number == 0 then record clock { next = moment } else clock
+-- the moment of a clock's next tick by its number, where the first one is at this moment
+abbrev pub begun_next : ℕ → ℕ → ℕ → ℕ
+begun_next number next moment = if number == 0 then moment else next
 
--- behind one more tick
-abbrev pub ticked : Clock → Clock
-ticked clock = record clock { number = clock.number + 1; next = clock.next + 1000000; last = clock.next }
+-- how many ticks are due from one at this moment up to another
+abbrev pub ticks_due : ℕ → ℕ → ℕ
+ticks_due next moment = (moment - next) / 1000000 + 1
 
--- the moment of the last tick, where there was one
-abbrev pub last_tick : Clock → ℕ
-last_tick clock = if clock.number == 0 then 0 else clock.next - 1000000
+-- the moment of the last tick by the number and the moment of the next one; 0 where there was none
+abbrev pub last_tick : ℕ → ℕ → ℕ
+last_tick number next = if number == 0 then 0 else next - 1000000
 
 -- no record comes before that, nor before the last frame that the node heard
 abbrev pub latest_of : Node → Clock → ℕ
-latest_of node clock = max node.latest (last_tick clock)
+latest_of node clock = max node.latest (last_tick clock.number clock.next)
+
+-- nothing waits, or a clock has this moment as the one behind which frames left last
+abbrev pub IsLast : ℕ → List Queue → ℕ → Type 0
+IsLast moment queues last = (waiting queues ≡ 0) ⊎ (last ≡ moment)

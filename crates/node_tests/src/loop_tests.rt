@@ -11,7 +11,8 @@ use std::alloc::Global;
 use std::test::Fail;
 use tail_frame::Record;
 
-/// Says on each record how many came before it, in one byte, and a newline at the end.
+/// Says on each record how many came before it, in one byte, and a newline at the end, where it
+/// forgets them.
 #[derive(Drop)]
 struct Count {
     n: u64,
@@ -20,7 +21,7 @@ struct Count {
 impl Listener for Count {
     ghost heard = { λ first now past. now.n ≡ first.n + length past };
 
-    ghost ended = { λ first now past. now.n ≡ first.n + length past };
+    ghost ended = { λ first now past. now.n ≡ 0 };
 
     ghost broke = { λ first now past. now.n ≤ first.n + length past };
 
@@ -41,7 +42,9 @@ impl Listener for Count {
     }
 
     fn finish(&mut self, gathered: &mut TextBuffer) -> Result<(), NoMemory> {
-        gathered.push(b"\n")
+        gathered.push(b"\n")?;
+        self.n = 0;
+        Ok(())
     }
 
     ghost heard_broke = { λ first now past e. Prim.search rules };
@@ -97,7 +100,8 @@ fn two_buses() -> ShortList<BusName, 3> {
     buses
 }
 
-/// A log, the numbers of the reads and of the writes that fail, and what comes of it.
+/// A log, the numbers of the reads and of the writes that fail, and what comes of it: how the loop
+/// ends, what is written, and how many records a `Count` has counted.
 #[derive(Drop)]
 struct Row<'a> {
     log: &'a [u8],
@@ -105,6 +109,7 @@ struct Row<'a> {
     writes: &'a [u64],
     ended: Ended,
     written: &'a [u8],
+    counted: u64,
 }
 
 const GOOD: &[u8] = b"(0.000000) can0 107D552A#01\n(1.000000) can1 107D552A#02\n";
@@ -123,6 +128,7 @@ fn a_listener_is_heard_as_far_as_the_log_goes(rt: HostRuntime) -> Result<(), Fai
             writes: &[],
             ended: Ended::Ok,
             written: b"\x00\x01\n",
+            counted: 0,
         },
         Row {
             log: back,
@@ -130,6 +136,7 @@ fn a_listener_is_heard_as_far_as_the_log_goes(rt: HostRuntime) -> Result<(), Fai
             writes: &[],
             ended: refused,
             written: b"\x00",
+            counted: 1,
         },
         Row {
             log: GOOD,
@@ -137,6 +144,7 @@ fn a_listener_is_heard_as_far_as_the_log_goes(rt: HostRuntime) -> Result<(), Fai
             writes: &[],
             ended: Ended::ReadFault,
             written: b"\x00\x01",
+            counted: 2,
         },
         Row {
             log: GOOD,
@@ -144,6 +152,7 @@ fn a_listener_is_heard_as_far_as_the_log_goes(rt: HostRuntime) -> Result<(), Fai
             writes: &[0],
             ended: Ended::WriteFault,
             written: b"",
+            counted: 2,
         },
     ];
     for row in rows {
@@ -153,6 +162,7 @@ fn a_listener_is_heard_as_far_as_the_log_goes(rt: HostRuntime) -> Result<(), Fai
         let ended = listen(rt.alloc(), &mut count, two_buses(), &mut input, &mut out);
         assert_eq!(rt; ended, row.ended);
         assert_eq!(rt; out.written.as_slice(), row.written);
+        assert_eq!(rt; count.n, row.counted);
     }
     Ok(())
 }

@@ -1,5 +1,5 @@
 //! When a node ticks.
-ghost use Rattle.std.specs.Prelude.{◌≡◌, ◌≤◌, ◌<◌, ◌*◌, ◌-◌, ◌^◌, if◌then◌else◌};
+ghost use Rattle.std.specs.Prelude.{◌≡◌, ◌≤◌, ◌<◌, ◌+◌, ◌*◌, ◌-◌, ◌^◌, if◌then◌else◌};
 
 /// When a node that runs ticks next, and behind which step frames left it last. Moments are in microseconds.
 #[derive(Clone, Copy, Debug, PartialEq, Eq)]
@@ -14,7 +14,7 @@ pub struct Clock {
 }
 
 impl Clock {
-    ghost use Rattle.node_run.specs.Goes.{begun_at, ticked};
+    ghost use Rattle.node_run.specs.Goes.{begun_next};
 
     /// The time between two ticks.
     pub const SECOND: u64 = 1_000_000;
@@ -33,7 +33,8 @@ impl Clock {
 
     /// Lets the first tick be at a moment, where there was none yet.
     pub fn begin(&mut self, moment: u64)
-        ensures { self.new ≡ begun_at self.old moment }
+        ensures number { self.new.number ≡ self.old.number }
+        ensures next { self.new.next ≡ begun_next self.old.number self.old.next moment }
     {
         if self.number == 0 {
             self.next = moment;
@@ -43,7 +44,9 @@ impl Clock {
     /// Goes on to the next tick.
     pub fn tick(&mut self)
         requires { self.old.next < 10 ^ 18 }
-        ensures { self.new ≡ ticked self.old }
+        ensures number { self.new.number ≡ self.old.number + 1 }
+        ensures next { self.new.next ≡ self.old.next + 1000000 }
+        ensures last { self.new.last ≡ self.old.next }
     {
         *self = Clock {
             number: self.number + 1,

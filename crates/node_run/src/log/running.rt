@@ -1,17 +1,19 @@
 //! A node that runs: the listener that reports what it hears and what it sends.
-ghost use Rattle.std.specs.Prelude.{◌≡◌, ◌≤◌, ◌<◌, ◌+◌, ◌*◌, ◌-◌, ◌/◌, ◌^◌, ◌++◌, ◌∷◌, [], refl, ℕ, List, OnOk, OnErr, min};
-ghost use Rattle.std.proofs.Common.{◌∙◌, ap, sym, append-nil};
+ghost use Rattle.std.specs.Prelude.{◌≡◌, ◌≤◌, ◌<◌, ◌+◌, ◌*◌, ◌^◌, ◌++◌, ◌∷◌, [], refl, ℕ, List, OnOk, OnErr, length, map};
 ghost use Rattle.std.specs.Option.{ForSome, option_and_then};
+ghost use Rattle.std.proofs.Common.{◌∙◌, ap, sym, append-nil};
 ghost use Rattle.tail_frame.specs.declared.logged.Record.{Record};
 ghost use Rattle.line_text.specs.Buffer.{text_of};
 ghost use Rattle.node_core.specs.Keeps.{keeps, sent};
 ghost use Rattle.node_core.specs.LineSinks.{BeginsList, put_behind};
-ghost use Rattle.node_core.specs.Queues.{fulls, leaving};
+ghost use Rattle.node_core.specs.Queues.{fulls, leaving, push_all};
 ghost use Rattle.node_core.specs.Sending.{IsRequestTo, reply_to};
 ghost use Rattle.node_core.specs.Stands.{StandsAsBefore};
 ghost use Rattle.node_core.specs.Steps.{Heard, Tick, left, lines, steps, ticks_from};
 ghost use Rattle.node_core.specs.Writer.{writes_for};
-ghost use Rattle.node_run.specs.Goes.{BreaksOff, GoesOn, begun_at, latest_of, state, ticked, with_sent};
+ghost use Rattle.node_core.specs.declared.line.Line.TheVariants.{Full};
+ghost use Rattle.node_run.specs.Goes.{BreaksOff, GoesOn, IsLast};
+ghost use Rattle.node_run.specs.Goes.{begun_next, last_tick, latest_of, state, ticks_due, with_sent};
 ghost use Rattle.node_run.specs.Hears.{BrokeOff, CutShort, HasEnded, Hears, last_text, step_text};
 ghost use Rattle.node_run.specs.Ran.{next_lines, reported};
 ghost use Rattle.node_run.specs.Tells.{HasTold};
@@ -23,7 +25,7 @@ use crate::log::telling::tell;
 use cy_bits::{NoMemory, ShortList};
 use line_text::TextBuffer;
 use log_loop::Listener;
-use node_core::{LineSink, LineWriter, Node, Numbers, Request};
+use node_core::{FullLine, LineSink, LineWriter, Node, Numbers, Request};
 use tail_frame::Record;
 
 /// A node, the numbers of its run, and where its lines go.
@@ -121,19 +123,21 @@ impl<'a, K: LineSink> Running<'a, K> {
         requires few { self.old.tally.numbers.records < 2 ^ 28 }
         ensures same_reference { self.new.lines.ghost_name ≡ self.old.lines.ghost_name }
         ensures latest { self.new.node.now.latest ≤ rec.now.moment }
+        ensures count { self.new.tally.numbers.records ≤ self.old.tally.numbers.records + 1 }
         ensures number { self.new.clock.number ≡ self.old.clock.number }
         ensures next { self.new.clock.next ≡ self.old.clock.next }
-        ensures ok { let old = state self.old.node.now (writes_for self.old.writer.now) (K.lines self.old.lines.now)
-            self.old.tally.numbers in
-            let new = state self.new.node.now (writes_for self.new.writer.now) (K.lines self.new.lines.now)
-            self.new.tally.numbers in
+        ensures last { OnOk result (IsLast rec.now.moment (keeps self.new.node.now).queues self.new.clock.last) }
+        ensures ok {
+            let old = state self.old.node.now (writes_for self.old.writer.now)
+                (K.lines self.old.lines.now) self.old.tally.numbers in
+            let new = state self.new.node.now (writes_for self.new.writer.now)
+                (K.lines self.new.lines.now) self.new.tally.numbers in
             OnOk result (GoesOn (Heard rec.now ∷ []) old new (text_of gathered.old) (text_of gathered.new)) }
-        ensures last { OnOk result (HasLast rec.now.moment self.old.clock.last self.new.clock.last
-            (keeps self.old.node.now) (keeps self.new.node.now)) }
-        ensures err { let old = state self.old.node.now (writes_for self.old.writer.now) (K.lines self.old.lines.now)
-            self.old.tally.numbers in
-            let new = state self.new.node.now (writes_for self.new.writer.now) (K.lines self.new.lines.now)
-            self.new.tally.numbers in
+        ensures err {
+            let old = state self.old.node.now (writes_for self.old.writer.now)
+                (K.lines self.old.lines.now) self.old.tally.numbers in
+            let new = state self.new.node.now (writes_for self.new.writer.now)
+                (K.lines self.new.lines.now) self.new.tally.numbers in
             OnErr result (BreaksOff (Heard rec.now ∷ []) old new) }
     {
         let came = self.node.step(rec)?;
@@ -141,14 +145,55 @@ impl<'a, K: LineSink> Running<'a, K> {
         tell(self.writer, self.lines, gathered, told)?;
         let seen = Seen::of(told, came.badcrc);
         let request = came.request(told);
-        if request.is_some() || self.node.waiting() != 0 {
-            self.answer(rec.moment, request, gathered)?;
-        }
+        self.follow(rec.moment, request, gathered)?;
         self.tally.count(seen, self.node.held());
         Ok(())
     }
 
-    /// Answers a request, if there is one, and lets frames leave behind the step of a record.
+    /// Answers a request, if there is one, and lets frames leave behind the step of a record. A node that has nothing to
+    /// send does nothing.
+    #[inline(always)]
+    fn follow(
+        &mut self,
+        moment: u64,
+        request: Option<Request>,
+        gathered: &mut TextBuffer,
+    ) -> Result<(), NoMemory>
+        requires { ForSome request (IsRequestTo self.old.node.now.plan.node) }
+        ensures same_reference { self.new.lines.ghost_name ≡ self.old.lines.ghost_name }
+        ensures plan { self.new.node.now.plan ≡ self.old.node.now.plan }
+        ensures latest { self.new.node.now.latest ≡ self.old.node.now.latest }
+        ensures stands { StandsAsBefore self.old.node.now self.new.node.now }
+        ensures buses { writes_for self.new.writer.now ≡ writes_for self.old.writer.now }
+        ensures number { self.new.clock.number ≡ self.old.clock.number }
+        ensures next { self.new.clock.next ≡ self.old.clock.next }
+        ensures keeps { let reply = option_and_then (reply_to self.old.node.now.plan) request in
+            OnOk result (keeps self.new.node.now ≡ left (sent reply (keeps self.old.node.now))) }
+        ensures told {
+            let reply = option_and_then (reply_to self.old.node.now.plan) request in
+            let qs = (keeps self.old.node.now).queues in
+            OnOk result (HasTold (writes_for self.old.writer.now)
+            (fulls moment reply qs ++ leaving moment (push_all reply qs)) (text_of gathered.old) (text_of gathered.new)
+            (K.lines self.old.lines.now) (K.lines self.new.lines.now)) }
+        ensures numbers {
+            let reply = option_and_then (reply_to self.old.node.now.plan) request in
+            let more = length (leaving moment (push_all reply (keeps self.old.node.now).queues)) in
+            OnOk result (self.new.tally.numbers ≡ with_sent self.old.tally.numbers more) }
+        ensures last { OnOk result (IsLast moment (keeps self.new.node.now).queues self.new.clock.last) }
+        ensures err {
+            let reply = option_and_then (reply_to self.old.node.now.plan) request in
+            let qs = (keeps self.old.node.now).queues in
+            OnErr result (BeginsList (fulls moment reply qs ++ leaving moment (push_all reply qs))
+            (K.lines self.old.lines.now) (K.lines self.new.lines.now)) }
+        ensures uncounted { OnErr result (self.new.tally.numbers ≡ self.old.tally.numbers) }
+    {
+        if request.is_none() && self.node.waiting() == 0 {
+            return Ok(());
+        }
+        self.answer(moment, request, gathered)
+    }
+
+    /// The same, where there is something to send.
     #[inline(never)]
     fn answer(
         &mut self,
@@ -156,15 +201,39 @@ impl<'a, K: LineSink> Running<'a, K> {
         request: Option<Request>,
         gathered: &mut TextBuffer,
     ) -> Result<(), NoMemory>
+        requires { ForSome request (IsRequestTo self.old.node.now.plan.node) }
+        ensures same_reference { self.new.lines.ghost_name ≡ self.old.lines.ghost_name }
+        ensures plan { self.new.node.now.plan ≡ self.old.node.now.plan }
+        ensures latest { self.new.node.now.latest ≡ self.old.node.now.latest }
+        ensures stands { StandsAsBefore self.old.node.now self.new.node.now }
+        ensures buses { writes_for self.new.writer.now ≡ writes_for self.old.writer.now }
+        ensures number { self.new.clock.number ≡ self.old.clock.number }
+        ensures next { self.new.clock.next ≡ self.old.clock.next }
+        ensures keeps { let reply = option_and_then (reply_to self.old.node.now.plan) request in
+            OnOk result (keeps self.new.node.now ≡ left (sent reply (keeps self.old.node.now))) }
+        ensures told {
+            let reply = option_and_then (reply_to self.old.node.now.plan) request in
+            let qs = (keeps self.old.node.now).queues in
+            OnOk result (HasTold (writes_for self.old.writer.now)
+            (fulls moment reply qs ++ leaving moment (push_all reply qs)) (text_of gathered.old) (text_of gathered.new)
+            (K.lines self.old.lines.now) (K.lines self.new.lines.now)) }
+        ensures numbers {
+            let reply = option_and_then (reply_to self.old.node.now.plan) request in
+            let more = length (leaving moment (push_all reply (keeps self.old.node.now).queues)) in
+            OnOk result (self.new.tally.numbers ≡ with_sent self.old.tally.numbers more) }
+        ensures last { OnOk result (self.new.clock.last ≡ moment) }
+        ensures err {
+            let reply = option_and_then (reply_to self.old.node.now.plan) request in
+            let qs = (keeps self.old.node.now).queues in
+            OnErr result (BeginsList (fulls moment reply qs ++ leaving moment (push_all reply qs))
+            (K.lines self.old.lines.now) (K.lines self.new.lines.now)) }
+        ensures uncounted { OnErr result (self.new.tally.numbers ≡ self.old.tally.numbers) }
     {
-        let fulls = match request {
-            Some(request) => self.node.reply(moment, request),
-            None => ShortList::new(),
-        };
+        let full = put_reply(self.node, moment, request);
         let sent = send(
             self.node,
             moment,
-            &fulls,
+            &full,
             self.writer,
             self.lines,
             gathered,
@@ -179,6 +248,33 @@ impl<'a, K: LineSink> Running<'a, K> {
     fn ticks(&mut self, moment: u64, gathered: &mut TextBuffer) -> Result<(), NoMemory>
         requires due { self.old.clock.next ≤ moment }
         requires low { moment < 10 ^ 18 }
+        ensures same_reference { self.new.lines.ghost_name ≡ self.old.lines.ghost_name }
+        ensures latest { self.new.node.now.latest ≡ self.old.node.now.latest }
+        ensures records { self.new.tally.numbers.records ≡ self.old.tally.numbers.records }
+        ensures last { last_tick self.new.clock.number self.new.clock.next ≤ moment }
+        ensures number {
+            let next = begun_next self.old.clock.number self.old.clock.next moment in
+            OnOk result (self.new.clock.number ≡ self.old.clock.number + ticks_due next moment) }
+        ensures next {
+            let next = begun_next self.old.clock.number self.old.clock.next moment in
+            OnOk result (self.new.clock.next ≡ next + ticks_due next moment * 1000000) }
+        ensures ok {
+            let old = state self.old.node.now (writes_for self.old.writer.now)
+                (K.lines self.old.lines.now) self.old.tally.numbers in
+            let new = state self.new.node.now (writes_for self.new.writer.now)
+                (K.lines self.new.lines.now) self.new.tally.numbers in
+            let next = begun_next self.old.clock.number self.old.clock.next moment in
+            OnOk result ((first : ℕ) → next ≡ first + self.old.clock.number * 1000000
+            → GoesOn (ticks_from first self.old.clock.number (ticks_due next moment)) old new
+            (text_of gathered.old) (text_of gathered.new)) }
+        ensures err {
+            let old = state self.old.node.now (writes_for self.old.writer.now)
+                (K.lines self.old.lines.now) self.old.tally.numbers in
+            let new = state self.new.node.now (writes_for self.new.writer.now)
+                (K.lines self.new.lines.now) self.new.tally.numbers in
+            let next = begun_next self.old.clock.number self.old.clock.next moment in
+            OnErr result ((first : ℕ) → next ≡ first + self.old.clock.number * 1000000
+            → BreaksOff (ticks_from first self.old.clock.number (ticks_due next moment)) old new) }
     {
         self.clock.begin(moment);
         let due = (moment - self.clock.next) / Clock::SECOND + 1;
@@ -191,13 +287,33 @@ impl<'a, K: LineSink> Running<'a, K> {
     /// The step of the next tick.
     fn tick(&mut self, gathered: &mut TextBuffer) -> Result<(), NoMemory>
         requires low { self.old.clock.next < 10 ^ 18 }
+        ensures same_reference { self.new.lines.ghost_name ≡ self.old.lines.ghost_name }
+        ensures latest { self.new.node.now.latest ≡ self.old.node.now.latest }
+        ensures records { self.new.tally.numbers.records ≡ self.old.tally.numbers.records }
+        ensures number { OnOk result (self.new.clock.number ≡ self.old.clock.number + 1) }
+        ensures next { OnOk result (self.new.clock.next ≡ self.old.clock.next + 1000000) }
+        ensures ok {
+            let old = state self.old.node.now (writes_for self.old.writer.now)
+                (K.lines self.old.lines.now) self.old.tally.numbers in
+            let new = state self.new.node.now (writes_for self.new.writer.now)
+                (K.lines self.new.lines.now) self.new.tally.numbers in
+            OnOk result (GoesOn (Tick self.old.clock.number self.old.clock.next ∷ []) old new
+            (text_of gathered.old) (text_of gathered.new)) }
+        ensures err {
+            let old = state self.old.node.now (writes_for self.old.writer.now)
+                (K.lines self.old.lines.now) self.old.tally.numbers in
+            let new = state self.new.node.now (writes_for self.new.writer.now)
+                (K.lines self.new.lines.now) self.new.tally.numbers in
+            OnErr result (BreaksOff (Tick self.old.clock.number self.old.clock.next ∷ []) old new) }
+        ensures stays { OnErr result ((self.new.clock.number ≡ self.old.clock.number)
+            × (self.new.clock.next ≡ self.old.clock.next)) }
     {
         let moment = self.clock.next;
-        let fulls = self.node.tick(moment, self.clock.number);
+        let full = self.node.tick(moment, self.clock.number);
         let sent = send(
             self.node,
             moment,
-            &fulls,
+            &full,
             self.writer,
             self.lines,
             gathered,
@@ -205,5 +321,22 @@ impl<'a, K: LineSink> Running<'a, K> {
         self.tally.send(sent);
         self.clock.tick();
         Ok(())
+    }
+}
+
+/// Puts the reply to a request, if there is one, behind the frames that wait; tells on which buses there was no room.
+fn put_reply(node: &mut Node, moment: u64, request: Option<Request>) -> ShortList<FullLine, 3>
+    requires { ForSome request (IsRequestTo node.old.plan.node) }
+    ensures plan { node.new.plan ≡ node.old.plan }
+    ensures latest { node.new.latest ≡ node.old.latest }
+    ensures stands { StandsAsBefore node.old node.new }
+    ensures keeps { let reply = option_and_then (reply_to node.old.plan) request in
+        keeps node.new ≡ sent reply (keeps node.old) }
+    ensures full { let reply = option_and_then (reply_to node.old.plan) request in
+        map Full result ≡ fulls moment reply (keeps node.old).queues }
+{
+    match request {
+        Some(request) => node.reply(moment, request),
+        None => ShortList::new(),
     }
 }
