@@ -1,5 +1,5 @@
 -- What a silent node keeps and tells.
-use Rattle.std.proofs.Common.{◌≡◌, ◌∙◌, ℕ, ◌+◌, ◌-◌, true, false, cond, List, [], ◌∷◌, ◌++◌, map, Option, Some, None, refl, ap, append-nil}
+use Rattle.std.proofs.Common.{◌≡◌, ◌∙◌, ℕ, true, false, cond, List, [], ◌∷◌, ◌++◌, map, Option, Some, None, refl, ap, append-nil}
 use Rattle.std.proofs.lemmas.Bool.{cond_both, cond-true}
 use Rattle.std.specs.Option.{option_and_then}
 use Rattle.can_id.specs.Identifiers.{key_of}
@@ -20,7 +20,7 @@ use Rattle.node_core.specs.Heard.{ports_of, table_port}
 use Rattle.node_core.specs.Laws.{SilentKeepNothing, SilentReceive}
 use Rattle.node_core.specs.Queues.{Sends, Queue, fulls, leaving, push_all, waiting}
 use Rattle.node_core.specs.Sending.{reply_to, request_of, request_with}
-use Rattle.node_core.specs.Steps.{Step, Heard, Kept, got, has_rx, kept, left, lines, lines_at, lines_behind, of_frame, on_port, pushed, records, sends, steps, ticks_before}
+use Rattle.node_core.specs.Steps.{Step, Heard, Kept, got, has_rx, kept, left, lines_at, lines_behind, of_frame, on_port, pushed, records, sends, steps, ticks_before}
 use Rattle.node_core.specs.declared.line.Line.{Line}
 use Rattle.node_core.specs.declared.request.Request.{Request}
 use Rattle.node_core.proofs.Queues.{nothing_waits}
@@ -88,8 +88,8 @@ silent_keep_nothing plan [] quiet = (refl, nothing_waits plan.queue plan.buses)
 silent_keep_nothing plan (rec ∷ past) quiet =
     let older = silent_keep_nothing plan past quiet in
     let same : kept plan (steps plan (rec ∷ past)) ≡ kept plan (steps plan past) =
-        ap (λ (t : List Step). kept plan (Heard rec ∷ t ++ steps plan past)) (no_ticks plan rec past quiet)
-        ∙ keeps_all plan rec (steps plan past) quiet older.1 in
+    ap (λ (t : List Step). kept plan (Heard rec ∷ t ++ steps plan past)) (no_ticks plan rec past quiet)
+    ∙ keeps_all plan rec (steps plan past) quiet older.1 in
     (same ∙ older.0, ap (λ (k : Kept). waiting k.queues) same ∙ older.1)
 
 pub silent_receive : SilentReceive
