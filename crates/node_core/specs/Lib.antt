@@ -1,9 +1,11 @@
+pub mod Buses
 pub mod Came
 pub mod Heard
 pub mod Held
 pub mod InTime
 pub mod Keeps
 pub mod LineSinks
+pub mod Pops
 pub mod Puts
 pub mod Queues
 pub mod Raw
@@ -17,6 +19,7 @@ pub mod Steps
 pub mod Tables
 pub mod Text
 pub mod Told
+pub mod Transfers
 pub mod Types
 pub mod Words
 pub mod Writer

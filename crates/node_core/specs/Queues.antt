@@ -1,9 +1,13 @@
 -- The frames that wait to leave on each bus of a node. Of all lists of frames the first is that of the plan's first bus.
-use Rattle.std.specs.Prelude.{◌≡◌, ℕ, zero, suc, Bool, if◌then◌else◌, ◌+◌, nat_le, List, [], ◌∷◌, ◌++◌, length, map, Option, Some, None}
+use Rattle.std.specs.Prelude.{◌≡◌, ℕ, zero, suc, Bool, ◌==◌, ◌||◌, if◌then◌else◌, ◌+◌, nat_le, List, [], ◌∷◌, ◌++◌, length, map, Option, Some, None}
 use Rattle.tx_queue.specs.Waiting.{free, least, needed, out_frames}
 use Rattle.tx_queue.specs.declared.frame.OutFrame.{OutFrame}
 use Rattle.node_core.specs.declared.line.Line.{Line}
 use Rattle.node_core.specs.declared.line.Line.TheVariants.{Tx, Full}
+
+-- whether frames can have this size, classic CAN's or CAN FD's
+abbrev pub is_frame_size : ℕ → Bool
+is_frame_size m = (m == 8) || (m == 64)
 
 -- a transfer that a node sends on every bus: its identifier, transfer-ID, port and payload
 pub record Sends : Type 0 where

@@ -120,12 +120,12 @@ pushed plan step past k = record {
 abbrev pub left : Kept → Kept
 left k = record k { queues = map drained k.queues }
 
--- nothing waits on a bus of a plan
-abbrev pub empty_queue : Plan → BusPlan → Queue
-empty_queue plan bus = record { mtu = bus.mtu; rate = bus.rate; places = plan.queue; waiting = [] }
+-- nothing waits on a bus, where so many frames may
+abbrev pub empty_queue : ℕ → BusPlan → Queue
+empty_queue places bus = record { mtu = bus.mtu; rate = bus.rate; places = places; waiting = [] }
 
 abbrev pub nothing_kept : Plan → Kept
-nothing_kept plan = record { queues = map (empty_queue plan) plan.buses; tid = 0 }
+nothing_kept plan = record { queues = map (empty_queue plan.queue) plan.buses; tid = 0 }
 
 -- what is kept behind steps
 abbrev pub kept : Plan → List Step → Kept

@@ -1,7 +1,8 @@
-//! The node: what one record gives, line by line, and the text of these lines.
+//! The node: what one record or one tick gives, line by line, what it sends, and the text of these lines.
 #![tactic(auto)]
 
 mod bus_queue;
+mod bus_queues;
 mod bus_words;
 pub mod came;
 mod compiled_shape;
@@ -20,10 +21,13 @@ mod ports;
 mod raw_shape;
 mod request;
 mod second;
+mod sending;
+mod transfer;
 mod word;
 mod words;
 
 pub use bus_queue::BusQueue;
+pub use bus_queues::BusQueues;
 pub use came::Came;
 pub use compiled_shape::CompiledShape;
 pub use line::{FullLine, Line, Reading, Refused, Rx, Tx};

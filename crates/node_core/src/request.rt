@@ -1,3 +1,8 @@
+ghost use Rattle.std.specs.Prelude.{◌≡◌};
+ghost use Rattle.node_core.specs.Sending.{request_with};
+
+use can_id::Ident;
+
 /// A request to the node, which a frame ended.
 #[derive(Clone, Copy, Debug, PartialEq, Eq)]
 pub struct Request {
@@ -9,4 +14,28 @@ pub struct Request {
     pub priority: u8,
     /// Its transfer-ID, 0 to 31.
     pub tid: u8,
+}
+
+impl Request {
+    /// The request that a frame with this transfer-ID and this identifier is of.
+    #[inline(always)]
+    pub(crate) fn with(tid: u8, ident: Ident) -> Option<Request>
+        ensures { result ≡ request_with tid ident }
+    {
+        match ident {
+            Ident::Service {
+                priority,
+                request: true,
+                service,
+                source,
+                ..
+            } => Some(Request {
+                service,
+                client: source,
+                priority,
+                tid,
+            }),
+            _ => None,
+        }
+    }
 }

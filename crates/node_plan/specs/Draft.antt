@@ -1,5 +1,5 @@
 -- The plan as far as its lines were read, and what a line makes of it.
-use Rattle.std.specs.Prelude.{ℕ, Bool, true, false, List, [], ◌∷◌, ◌++◌, ◌==◌, ◌&&◌, Option, None, Some, Result, Ok, Err, if◌then◌else◌, is_some, length, nat_le, nat_lt, unwrap_or}
+use Rattle.std.specs.Prelude.{ℕ, Bool, true, false, List, [], ◌∷◌, ◌++◌, ◌==◌, ◌&&◌, Option, None, Some, Result, Ok, Err, if◌then◌else◌, is_some, length, nat_le, nat_lt, replicate, unwrap_or}
 use Rattle.std.specs.List.{list_any}
 use Rattle.std.specs.Str.{bytes_eq}
 use Rattle.node_plan.specs.declared.draft.Draft.{Draft}
@@ -10,6 +10,20 @@ use Rattle.node_plan.specs.declared.plan.Plan.{Plan}
 use Rattle.node_plan.specs.declared.plan.PlanWhy.{PlanWhy}
 use Rattle.node_plan.specs.declared.plan.PlanWhy.TheVariants as why
 use Rattle.node_plan.specs.declared.plan.Sub.{Sub}
+use Rattle.std_types.specs.declared.node.NodeInfo.{NodeInfo}
+
+-- what a node is of which nothing is said: the protocol is 1.0
+abbrev pub blank_info : NodeInfo
+blank_info = record {
+  protocol_version = record { major = 1; minor = 0 };
+  hardware_version = record { major = 0; minor = 0 };
+  software_version = record { major = 0; minor = 0 };
+  software_vcs_revision_id = 0;
+  unique_id = replicate 16 0;
+  name = [];
+  software_image_crc = [];
+  certificate_of_authenticity = [];
+}
 
 -- no line yet
 abbrev pub start : Draft
@@ -67,6 +81,6 @@ complete d = of_node d.node
   where
     of_node : Option ℕ → Option Plan
     of_node None = None
-    of_node (Some node) = if d.has_version && d.silent && nat_lt 0 (length d.buses)
-        then Some (record { node = node; buses = d.buses; timeout = unwrap_or d.timeout 2_000_000; silent = d.silent; subs = d.subs })
+    of_node (Some node) = if d.has_version && nat_lt 0 (length d.buses)
+        then Some (record { node = node; buses = d.buses; timeout = unwrap_or d.timeout 2_000_000; silent = d.silent; subs = d.subs; clients = 4; status = record { health = 0; mode = 0; code = 0 }; info = blank_info; queue = 64 })
         else None

@@ -6,5 +6,6 @@ pub mod Draft
 pub mod Plan
 pub mod Answers
 pub mod IsPlan
+pub mod Ports
 pub mod Bound
 pub mod Laws

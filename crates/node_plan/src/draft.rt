@@ -1,11 +1,12 @@
 //! The plan as far as its lines were read.
 ghost use Rattle.std.specs.Prelude.{◌≡◌};
-ghost use Rattle.node_plan.specs.Draft.{has_bus, has_subject};
+ghost use Rattle.node_plan.specs.Draft.{blank_info, has_bus, has_subject};
 
 use crate::line::Said;
-use crate::plan::{BusPlan, Plan, PlanError, PlanWhy, Sub};
-use cy_bits::{BusName, List, ShortList};
+use crate::plan::{BusPlan, NodeStatus, Plan, PlanError, PlanWhy, Sub};
+use cy_bits::{BusName, Bytes, List, ShortList};
 use std::alloc::Global;
+use std_types::node::{NodeInfo, Version};
 
 const MAX_BUSES: usize = 3;
 
@@ -228,7 +229,7 @@ impl Draft {
     }
 
     /// The plan, where no line is missing that must be there.
-    pub fn finish(self) -> Option<Plan>
+    pub fn finish(self, alloc: Global) -> Option<Plan>
         requires { IsDraft self }
         ensures value { result ≡ complete self }
         ensures sound { IfSome result IsPlan }
@@ -242,7 +243,7 @@ impl Draft {
             subs,
         } = self;
         let node = node?;
-        if !has_version || !silent || buses.is_empty() {
+        if !has_version || buses.is_empty() {
             return None;
         }
         Some(Plan {
@@ -251,7 +252,31 @@ impl Draft {
             timeout: timeout.unwrap_or(2_000_000),
             silent,
             subs,
+            clients: 4,
+            status: NodeStatus {
+                health: 0,
+                mode: 0,
+                code: 0,
+            },
+            info: blank_info(alloc),
+            queue: 64,
         })
+    }
+}
+
+/// What a node is of which nothing is said.
+fn blank_info(alloc: Global) -> NodeInfo
+    ensures { result ≡ blank_info }
+{
+    NodeInfo {
+        protocol_version: Version { major: 1, minor: 0 },
+        hardware_version: Version { major: 0, minor: 0 },
+        software_version: Version { major: 0, minor: 0 },
+        software_vcs_revision_id: 0,
+        unique_id: [0; 16],
+        name: Bytes::new(Vec::new(alloc)),
+        software_image_crc: List::empty(alloc),
+        certificate_of_authenticity: Bytes::new(Vec::new(alloc)),
     }
 }
 

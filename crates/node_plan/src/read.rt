@@ -20,12 +20,12 @@ use std::alloc::Global;
 pub const MAX_TEXT: usize = 1 << 20;
 
 /// The plan of all lines, where `n` is the number of the line that would follow.
-fn finished(draft: Draft, n: u32) -> Result<Plan, PlanError>
+fn finished(alloc: Global, draft: Draft, n: u32) -> Result<Plan, PlanError>
     requires { IsDraft draft }
     ensures value { IsPlanAnswer (finished draft n) result }
     ensures sound { IfOk result IsPlan }
 {
-    draft.finish().ok_or(PlanError::Refused {
+    draft.finish(alloc).ok_or(PlanError::Refused {
         n,
         why: PlanWhy::Line,
     })
@@ -46,11 +46,11 @@ fn read_last(
     ensures sound { IfOk result IsPlan }
 {
     if line.is_empty() {
-        return finished(draft, n);
+        return finished(alloc, draft, n);
     }
     let said = read_line(alloc, names, line)?;
     draft.take(n, said)?;
-    finished(draft, n + 1)
+    finished(alloc, draft, n + 1)
 }
 
 /// The plan of lines, with what stands behind the last newline, which is refused where it is long.

@@ -10,7 +10,7 @@ invariant_of-result c = record { in_time = subst (HeardBy 0) (sym c.in_ok-table.
 pub returns-clause-stands : goal.returns-clause-stands
 returns-clause-stands c = record {
   timeout = c.in_ok-table.ensures.waits;
-  ports = ap ports_in c.in_ok-table.ensures.ports_are ∙ ports_in-subscribed _;
+  ports_are = ap ports_in c.in_ok-table.ensures.ports_are ∙ ports_in-subscribed _;
   types = c.in_ok-table.ensures.types;
   sessions = c.in_ok-table.ensures.stands;
 }

@@ -1,7 +1,7 @@
 use Rattle.std.proofs.Common.{◌≡◌, ◌≤◌, ◌*◌, ◌^◌, take}
 use Rattle.std.specs.Prelude.{sum_by}
 use Rattle.node_plan.specs.Bound.{sub_bound}
-use Rattle.node_plan.proofs.plan.bound.Given as goal
+use Rattle.node_plan.proofs.memory.subs_bound.Given as goal
 
 abbrev pub invariant-loop-sub : goal.invariant-loop-sub
 invariant-loop-sub l = record {
