@@ -11,7 +11,7 @@ use Rattle.node_plan.specs.declared.plan.SubShape.TheVariants as shape
 use Rattle.std_types.specs.Node.{FitsNodeInfo}
 use Rattle.std_types.specs.declared.node.NodeInfo.{NodeInfo}
 use Rattle.node_plan.specs.declared.plan.NodeStatus.{NodeStatus}
-use Rattle.node_plan.specs.Bound.{extent_of}
+use Rattle.node_plan.specs.Ports.{extent_of}
 use Rattle.node_plan.specs.Names.{is_bus_name}
 
 -- frames carry at most 8 bytes, or 64
@@ -81,10 +81,16 @@ pub record IsDraft (draft : Draft) : Type 0 where
   pub few_buses : length draft.buses ≤ 3
   pub buses : All IsBus draft.buses
   pub names : AllPairs (λ a b. a.name ≢ b.name) draft.buses
+  pub mtu : ForSome draft.mtu IsMtu
+  pub rate : ForSome draft.rate IsRate
   pub timeout : ForSome draft.timeout (λ t. (1 ≤ t) × (t ≤ 60_000_000))
   pub few_subs : length draft.subs ≤ 64
   pub subs : All IsSub draft.subs
   pub subjects : AllPairs (λ a b. a.port ≢ b.port) draft.subs
+  pub clients : ForSome draft.clients (λ n. (1 ≤ n) × (n ≤ 128))
+  pub status : ForSome draft.status IsStatus
+  pub info : ForSome draft.info IsInfo
+  pub queue : ForSome draft.queue (λ n. (1 ≤ n) × (n ≤ 4096))
 
 -- the types of a plan's subscriptions keep the rules
 abbrev pub TypesKeepRules : Plan → Type 0

@@ -1,7 +1,9 @@
 pub mod Words
 pub mod Names
 pub mod Types
+pub mod Info
 pub mod Line
+pub mod Limit
 pub mod Draft
 pub mod Plan
 pub mod Answers

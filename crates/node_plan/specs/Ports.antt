@@ -1,6 +1,5 @@
 -- The ports of a plan: what a node receives, from how many nodes, and what it is read as.
-use Rattle.std.specs.Prelude.{◌≡◌, ◌≢◌, ℕ, ◌/◌, ◌<◌, ◌≤◌, true, List, [], ◌∷◌, ◌++◌, Option, Some, None, map, if◌then◌else◌}
-use Rattle.std.specs.Option.{ForSome}
+use Rattle.std.specs.Prelude.{◌≡◌, ◌≢◌, ℕ, ◌/◌, ◌<◌, ◌≤◌, true, List, [], ◌∷◌, ◌++◌, Option, Some, None, IfSome, map, if◌then◌else◌}
 use Rattle.can_id.specs.declared.key.Kind.{Kind}
 use Rattle.can_id.specs.declared.key.Kind.TheVariants as kind
 use Rattle.dsdl_types.specs.Rules.{IsSchema}
@@ -89,7 +88,7 @@ pub record IsPort (p : PlanPort) : Type 0 where
   pub some_source : 1 ≤ p.sources
   pub few_sources : p.sources ≤ 128
   pub extent : p.extent ≤ 65536
-  pub type : ForSome p.type (λ s. IsSchema s × (is_composite s ≡ true))
+  pub type : IfSome p.type (λ s. IsSchema s × (is_composite s ≡ true))
 
 -- two ports that no key fits both of
 abbrev pub Differ : PlanPort → PlanPort → Type 0

@@ -2,17 +2,23 @@
 //! and what it says of itself.
 #![tactic(auto)]
 
+mod bus;
 mod draft;
+mod info;
 pub mod laws;
+mod limit;
 mod line;
 mod memory;
+mod numbers;
 pub mod plan;
 mod read;
 pub mod services;
+mod sub;
 mod types;
 mod words;
 
+pub use limit::MAX_TEXT;
 pub use memory::bound;
 pub use plan::{BusPlan, NodeStatus, Plan, PlanError, PlanWhy, Sub, SubShape};
-pub use read::{MAX_TEXT, read_plan};
+pub use read::read_plan;
 pub use services::Service;

@@ -46,6 +46,7 @@ impl Plan {
     /// The services that the node answers, in the order of their ports. Takes no memory.
     pub fn services(&self) -> ShortList<Service, 8>
         ensures value { result ≡ services self.now }
+        ensures fit { IsPlan self.now → All IsService result }
     {
         let mut services = ShortList::new();
         if !self.silent {

@@ -5,6 +5,6 @@ use Rattle.node_plan.proofs.memory.subs_bound.Given as goal
 
 abbrev pub invariant-loop-sub : goal.invariant-loop-sub
 invariant-loop-sub l = record {
-  value : l.total ≡ sum_by sub_bound (take l.sub-index l.sub-items);
+  value : l.total ≡ sum_by sub_bound (take l.sub-index l.subs);
   most : l.total ≤ l.sub-index * 2 ^ 23;
 }
