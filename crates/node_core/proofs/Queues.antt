@@ -54,8 +54,8 @@ length-map_over f n qs = omega (arith, length-append (map f (take n qs)) (drop n
 
 -- a list of the loop that pushes
 module _ (x : Sends) (qs : List Queue) (buses : List BusQueue) (n : ℕ) (old new : BusQueue)
-         (done : map queue_of buses ≡ map (push x) (take n qs) ++ drop n qs) (within : n < length buses) (is : old ≡ get_or buses n old)
-         (pushes : queue_of new ≡ push x (queue_of old)) where
+    (done : map queue_of buses ≡ map (push x) (take n qs) ++ drop n qs) (within : n < length buses) (is : old ≡ get_or buses n old)
+    (pushes : queue_of new ≡ push x (queue_of old)) where
   size : length qs ≡ length buses
   size = sym (length-map_over (push x) n qs) ∙ (ap length (sym done) ∙ length-map buses queue_of)
 

@@ -18,6 +18,7 @@ pub mod numbers;
 pub mod port_shape;
 mod port_word;
 mod ports;
+mod pushes;
 mod raw_shape;
 mod request;
 mod second;

@@ -8,11 +8,11 @@ use crate::bus_queues::BusQueues;
 use crate::came::{Came, Heard};
 use crate::fed::{is_bad, line_on};
 use crate::heard::{frame_for, subject_in};
-use crate::line::{FullLine, Line};
+use crate::line::Line;
 use crate::line_ref::LineRef;
 use crate::port_shape::PortShape;
 use crate::ports::table_of;
-use crate::request::Request;
+use crate::pushes::push_told;
 use can_id::Kind;
 use cy_bits::{List, NoMemory, ShortList};
 use node_plan::Plan;
@@ -53,7 +53,7 @@ pub struct Stepped {
 }
 
 impl Node {
-    ghost use Rattle.std.specs.Prelude.{[], ◌++◌, List as ListOf, IfOk, OnOk, OnErr, length, map, take};
+    ghost use Rattle.std.specs.Prelude.{[], List as ListOf, IfOk, OnOk, OnErr, length, take};
     ghost use Rattle.std.specs.Option.{ForSome};
     ghost use Rattle.tail_frame.specs.Frames.{seen};
     ghost use Rattle.tail_frame.specs.declared.logged.Record.{Record as RecordOf};
@@ -64,12 +64,10 @@ impl Node {
     ghost use Rattle.node_core.specs.Heard.{IsElsewhere};
     ghost use Rattle.node_core.specs.Shapes.{port_schema};
     ghost use Rattle.node_core.specs.Came.{answer_in, heard_is_bad, came_lines, came_request, met_lines, TellsRequest};
-    ghost use Rattle.node_core.specs.Keeps.{Appends, KeepsOf, keeps, sent};
-    ghost use Rattle.node_core.specs.Queues.{fulls};
-    ghost use Rattle.node_core.specs.Sending.{IsRequestTo, reply_to};
+    ghost use Rattle.node_core.specs.Keeps.{Appends, KeepsOf, keeps};
+    ghost use Rattle.node_core.specs.Sending.{IsRequestTo};
     ghost use Rattle.node_core.specs.Steps.{kept};
     ghost use Rattle.node_core.specs.declared.line.Line.{Line as LineOf};
-    ghost use Rattle.node_core.specs.declared.line.Line.TheVariants.{Full};
     ghost use Rattle.node_core.specs.Stands.{Stands, Takes, StandsAsBefore, Gives, TellsBadCrc};
     ghost use Rattle.node_core.specs.Stands.{TakesFrame, KeepsSessions, FrameGives, FrameTellsBadCrc};
     ghost use Rattle.node_core.specs.Stands.{Holds, IsWithinBound};
@@ -117,16 +115,15 @@ impl Node {
         let request = came.request(told);
         let before = lines.len();
         push_told(self.alloc, lines, told)?;
-        if let Some(request) = request {
-            let fulls = self.reply(rec.moment, request);
-            if push_fulls(lines, &fulls).is_err() {
+        match self.answer(rec.moment, request, lines) {
+            Ok(()) => Ok(Stepped {
+                badcrc: came.badcrc,
+            }),
+            Err(refused) => {
                 lines.cut_back(before);
-                return Err(NoMemory);
+                Err(refused)
             }
         }
-        Ok(Stepped {
-            badcrc: came.badcrc,
-        })
     }
 
     /// Takes the next record of the log, at a moment not before the last one. Memory is taken for a new
@@ -229,30 +226,4 @@ impl Node {
     {
         self.table.held()
     }
-}
-
-/// Appends the line that was told, if there is one.
-fn push_told(
-    alloc: Global,
-    lines: &mut List<Line>,
-    told: Option<LineRef<'_>>,
-) -> Result<(), NoMemory>
-    ensures ok { OnOk result (lines.new ≡ lines.old ++ told_lines told.entry) }
-    ensures err { OnErr result (lines.new ≡ lines.old) }
-{
-    match told {
-        Some(line) => lines.push(line.copy(alloc)?),
-        None => Ok(()),
-    }
-}
-
-/// Appends lines on full buses. Where memory is wanting, it appends some of them.
-fn push_fulls(lines: &mut List<Line>, fulls: &ShortList<FullLine, 3>) -> Result<(), NoMemory>
-    ensures ok { OnOk result (lines.new ≡ lines.old ++ map Full fulls.now) }
-    ensures behind { take (length lines.old) lines.new ≡ lines.old }
-{
-    for full in fulls.as_slice() {
-        lines.push(Line::Full(*full))?;
-    }
-    Ok(())
 }

@@ -1,5 +1,6 @@
 //! What a node sends.
-ghost use Rattle.std.specs.Prelude.{◌≡◌, ◌<◌, Some, length, map};
+ghost use Rattle.std.specs.Prelude.{◌≡◌, ◌<◌, ◌++◌, OnOk, Some, length, map, take};
+ghost use Rattle.std.specs.Option.{ForSome, option_and_then};
 ghost use Rattle.node_core.specs.Keeps.{beaten, keeps, sent};
 ghost use Rattle.node_core.specs.Pops.{Pops, queue_at};
 ghost use Rattle.node_core.specs.Queues.{fulls, waiting};
@@ -7,11 +8,12 @@ ghost use Rattle.node_core.specs.Sending.{IsRequestTo, beat, reply_to};
 ghost use Rattle.node_core.specs.Stands.{StandsAsBefore};
 ghost use Rattle.node_core.specs.declared.line.Line.TheVariants.{Full};
 
-use crate::line::FullLine;
+use crate::line::{FullLine, Line};
 use crate::node::Node;
+use crate::pushes::push_fulls;
 use crate::request::Request;
 use crate::transfer::{GET_INFO, HEARTBEAT, Transfer, beat_ident, reply_ident};
-use cy_bits::ShortList;
+use cy_bits::{List, NoMemory, ShortList};
 use node_status::heartbeat_payload;
 use tx_queue::OutFrame;
 
@@ -39,6 +41,33 @@ impl Node {
             payload: self.info.as_slice(),
         };
         self.queues.push_all(moment, &reply)
+    }
+
+    /// The same of a request, if there is one, with the lines on full buses put behind others. Where memory for these
+    /// is wanting, some of them are.
+    pub(crate) fn answer(
+        &mut self,
+        moment: u64,
+        request: Option<Request>,
+        lines: &mut List<Line>,
+    ) -> Result<(), NoMemory>
+        requires { ForSome request (IsRequestTo self.old.plan.node) }
+        ensures plan { self.new.plan ≡ self.old.plan }
+        ensures latest { self.new.latest ≡ self.old.latest }
+        ensures stands { StandsAsBefore self.old self.new }
+        ensures keeps { let x = option_and_then (reply_to self.old.plan) request in
+            keeps self.new ≡ sent x (keeps self.old) }
+        ensures lines { let x = option_and_then (reply_to self.old.plan) request in
+            OnOk result (lines.new ≡ lines.old ++ fulls moment x (keeps self.old).queues) }
+        ensures behind { take (length lines.old) lines.new ≡ lines.old }
+    {
+        match request {
+            Some(request) => {
+                let fulls = self.reply(moment, request);
+                push_fulls(lines, &fulls)
+            }
+            None => Ok(()),
+        }
     }
 
     /// Puts the heartbeat of a tick behind the frames that wait on each bus (Cyphal Specification, section 5.3.2). The

@@ -13,7 +13,6 @@ item_is : (plan : Plan) (items : List Service) (n : ℕ) (d : Service) → items
 item_is plan items n d e within =
     get_or_default items n d (get_or items n d) within ∙ ap (λ (t : List Service). get_or t n (get_or items n d)) e
 
-
 pub subscribe-requires-clause-other : goal.subscribe-requires-clause-other
 subscribe-requires-clause-other c =
     let plan = c.args.plan.now in
