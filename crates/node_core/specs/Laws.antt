@@ -16,7 +16,8 @@ LinesJoin = (plan : Plan) (newer older : List Step)
 
 -- where nothing waits, nothing leaves, and the lists stay
 abbrev pub NothingLeaves : Type 0
-NothingLeaves = (moment : ℕ) (qs : List Queue) → waiting qs ≡ 0 → (leaving moment qs ≡ []) × (map drained qs ≡ qs)
+NothingLeaves = (moment : ℕ) (qs : List Queue) → waiting qs ≡ 0
+    → (leaving moment qs ≡ []) × (map drained qs ≡ qs)
 
 -- where nothing waits behind the last step, nothing is emptied
 abbrev pub NothingEmptied : Type 0
@@ -26,7 +27,8 @@ NothingEmptied = (plan : Plan) (all : List Step) → waiting (kept plan all).que
 -- nothing ever waits at a silent node
 abbrev pub SilentKeepNothing : Type 0
 SilentKeepNothing = (plan : Plan) (past : List Record) → plan.silent ≡ true
-    → (kept plan (steps plan past) ≡ kept plan []) × (waiting (kept plan (steps plan past)).queues ≡ 0)
+    → (kept plan (steps plan past) ≡ kept plan [])
+    × (waiting (kept plan (steps plan past)).queues ≡ 0)
 
 -- and its lines are on what it receives
 abbrev pub SilentReceive : Type 0

@@ -9,7 +9,8 @@ pub fn held_rises()
     ensures { HeldRises }
 {}
 
-/// The steps of a log have its records, and the lines of newer steps stand behind those of older ones.
+/// The steps of a log have its records, and the lines of newer steps stand behind those of older
+/// ones.
 pub fn steps_follow()
     ensures records { RecordsOfSteps }
     ensures lines { LinesJoin }
