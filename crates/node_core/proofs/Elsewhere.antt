@@ -19,7 +19,7 @@ module _ (node : Node) (rec : Record) (out : IsElsewhere (subscriptions port_sch
   stands_with None e = s
   stands_with (Some f) e = record {
     timeout = s.timeout;
-    ports = s.ports;
+    ports_are = s.ports_are;
     types = s.types;
     sessions = stands-none node.plan.timeout f (key_of f.ident) refl (states_of port_schema node.table) (frames node.plan.node past) (out node.plan.node f e) s.sessions;
   }
@@ -28,7 +28,7 @@ module _ (node : Node) (rec : Record) (out : IsElsewhere (subscriptions port_sch
   still_stands = stands_with (frame_for node.plan.node rec) refl
 
   nowhere : (f : FrameOf) → frame_for node.plan.node rec ≡ Some f → port_on (ports_of node.plan) f ≡ None
-  nowhere f e = ap (λ (ports : List Port). port_on ports f) (sym s.ports) ∙ out node.plan.node f e
+  nowhere f e = ap (λ (ports : List Port). port_on ports f) (sym s.ports_are) ∙ out node.plan.node f e
 
   lines_with : (o : Option FrameOf) → frame_for node.plan.node rec ≡ o → of_frame node.plan (frames node.plan.node past) o ≡ []
   lines_with None e = refl

@@ -1,20 +1,25 @@
 -- What a record came to is what the log says of it.
-use Rattle.std.proofs.Common.{◌≡◌, ◌∙◌, ℕ, ◌-◌, Bool, List, length, Option, Some, None, refl, sym, ap, subst}
-use Rattle.std.proofs.lemmas.Bool.{cond_both}
+use Rattle.std.proofs.Common.{◌≡◌, ◌∙◌, ◌<◌, ℕ, ◌-◌, Bool, true, false, not, ◌&&◌, eqb, List, length, Option, Some, None, refl, sym, ap, subst}
+use Rattle.std.proofs.lemmas.Bool.{cond_both, eq-eqb}
 use Rattle.std.specs.Option.{option_and_then}
-use Rattle.can_id.specs.Identifiers.{ident_of}
+use Rattle.can_id.specs.Identifiers.{IsIdent, ident_of}
 use Rattle.can_id.specs.declared.ident.Ident.{Ident}
+use Rattle.can_id.specs.declared.ident.Ident.TheVariants.{Message, Anonymous, Service}
 use Rattle.tail_frame.specs.Frames.{FrameOf, framed, last_byte, is_discarded, tail_of, frame_of}
 use Rattle.tail_frame.specs.declared.logged.Record.{Record}
+use Rattle.tail_frame.specs.declared.tail.Tail.{Tail}
 use Rattle.rx_table.specs.Keys.{KeyedFrame}
 use Rattle.rx_table.specs.Table.{port_on}
 use Rattle.rx_table.specs.declared.fed.Met.{Met}
-use Rattle.node_core.specs.Came.{frame_with, met_lines, came_lines}
+use Rattle.node_core.specs.Came.{frame_with, met_lines, came_lines, came_request}
 use Rattle.rx_table.specs.Heard.{is_for, if_for, frame_for, frames}
 use Rattle.node_core.specs.Heard.{ports_of}
+use Rattle.node_core.specs.Sending.{IsRequestTo, request_with}
 use Rattle.node_core.specs.Stands.{StandsAt, Stands}
-use Rattle.node_core.specs.Steps.{on_port, of_frame, got}
+use Rattle.node_core.specs.Steps.{on_port, of_frame, got, has_rx}
+use Rattle.node_core.specs.declared.line.Line.{Line}
 use Rattle.node_core.specs.declared.node.Node.{Node}
+use Rattle.node_core.specs.declared.request.Request.{Request}
 
 -- a frame is its record with its identifier and its tail
 pub record IsOf (rec : Record) (f : FrameOf) : Type 0 where
@@ -56,3 +61,28 @@ pub none_got : (node : Node) (rec : Record) (badcrc : Bool) → None ≡ frame_f
     → (past : List Record) → came_lines node rec (record { badcrc = badcrc; heard = None }) ≡ got node.plan rec past
 unfolding came_lines
 none_got node rec badcrc e past = ap (of_frame node.plan (frames node.plan.node past)) e
+
+apart : (same rest : Bool) → (not same && rest) ≡ true → same ≡ true → ⊥
+apart true rest e h = absurd cc
+apart false rest e h = absurd cc
+
+-- the request that a frame for the node is of is of another node, in its ranges
+asks_with : (node tid : ℕ) (ident : Ident) (r : Request) → IsIdent ident → is_for node ident ≡ true → tid < 32 → request_with tid ident ≡ Some r → IsRequestTo node r
+asks_with node tid (Message priority subject source) r ranges own short e = cc
+asks_with node tid (Anonymous priority subject pseudo) r ranges own short e = cc
+asks_with node tid (Service priority false service destination source) r ranges own short e = cc
+asks_with node tid (Service priority true service destination source) r ranges own short e =
+    let it : record { service = service; client = source; priority = priority; tid = tid } ≡ r = cc in
+    subst (IsRequestTo node) it (record {
+      service = ranges.1;
+      client = ranges.3;
+      other = λ same. apart (eqb source node) (eqb destination node) own (eq-eqb source node same);
+      priority = ranges.0;
+      tid = short;
+    })
+
+pub asks : (node : ℕ) (badcrc : Bool) (ident : Ident) (tail : Tail) (met : Met) (lines : List Line) (r : Request) → IsIdent ident → is_for node ident ≡ true → tail.tid < 32
+    → came_request (record { badcrc = badcrc; heard = Some (record { ident = ident; tail = tail; met = met }) }) lines ≡ Some r → IsRequestTo node r
+asks node badcrc ident tail met lines r ranges own short e =
+    cond_both (has_rx lines) (request_with tail.tid ident) None (λ (o : Option Request). o ≡ Some r → IsRequestTo node r)
+    (λ _ n. asks_with node tail.tid ident r ranges own short n) (λ _ n. cc) e

@@ -11,6 +11,7 @@ use Rattle.rx_table.specs.Ports.{Port, PortState, Answer}
 use Rattle.rx_table.specs.Table.{StandsFor, logged, port_on, Told}
 use Rattle.rx_table.specs.Views.{Keeps, Answers}
 use Rattle.rx_table.specs.declared.table.Table.{Table}
+use Rattle.node_plan.specs.Ports.{ports}
 use Rattle.node_plan.specs.declared.plan.Plan.{Plan}
 use Rattle.node_core.specs.declared.node.Node.{Node}
 use Rattle.rx_table.specs.Heard.{frame_for, with_frame, frames}
@@ -46,15 +47,15 @@ pub hear_lines : OutcomeTells → (node : Node) (table : Table PortShape) (f : F
     → answer_lines (type_at table (key_of f.ident)) f answer ≡ on_port node.plan f log (port_on (ports_of node.plan) f)
 hear_lines tells node table f log answer keeps s told =
     let key = key_of f.ident in
-    let type_is = first_type key.kind key.port table.ports.items node.plan.subs (keeps.ports ∙ s.ports) (types_stay node.plan.subs node.table.ports.items table.ports.items keeps.shapes s.types) in
+    let type_is = first_type key.kind key.port table.ports.items (ports node.plan) (keeps.ports ∙ s.ports_are) (types_stay (ports node.plan) node.table.ports.items table.ports.items keeps.shapes s.types) in
     ap (λ (t : Option Sch). answer_lines t f answer) type_is
-    ∙ told_lines tells node.plan (ports_of node.plan) f log answer (planned _ _ _ _ f log _ answer s.timeout s.ports (told log) s.sessions)
+    ∙ told_lines tells node.plan (ports_of node.plan) f log answer (planned _ _ _ _ f log _ answer s.timeout s.ports_are (told log) s.sessions)
 
 pub hear_bad : OutcomeTells → (node : Node) (f : FrameOf) (log : List KeyedFrame) (answer : Answer)
     → StandsAt node log → Answers port_schema node.table f answer
     → answer_is_bad answer ≡ bad_on_port node.plan.timeout f log (port_on (ports_of node.plan) f)
 hear_bad tells node f log answer s told =
-    told_bad tells node.plan (ports_of node.plan) f log answer (planned _ _ _ _ f log _ answer s.timeout s.ports (told log) s.sessions)
+    told_bad tells node.plan (ports_of node.plan) f log answer (planned _ _ _ _ f log _ answer s.timeout s.ports_are (told log) s.sessions)
 
 -- a record that is a frame for the node
 pub frame_stands : (old new : Node) (rec : Record) (f : FrameOf) → new.plan ≡ old.plan → Some f ≡ frame_for old.plan.node rec

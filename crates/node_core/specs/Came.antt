@@ -1,5 +1,6 @@
 -- What a record came to at a node, and the lines on it.
-use Rattle.std.specs.Prelude.{ℕ, ◌-◌, Bool, List, [], length, take, Option, Some, None}
+use Rattle.std.specs.Prelude.{◌≡◌, ℕ, ◌-◌, Bool, if◌then◌else◌, List, [], length, take, Option, Some, None}
+use Rattle.std.specs.Option.{option_and_then}
 use Rattle.can_id.specs.Identifiers.{key_of}
 use Rattle.can_id.specs.declared.ident.Ident.{Ident}
 use Rattle.tail_frame.specs.Frames.{FrameOf}
@@ -13,7 +14,11 @@ use Rattle.node_core.specs.declared.came.Came.{Came}
 use Rattle.node_core.specs.declared.came.Heard.{Heard}
 use Rattle.node_core.specs.declared.line.Line.{Line}
 use Rattle.node_core.specs.declared.node.Node.{Node}
+use Rattle.node_core.specs.declared.request.Request.{Request}
+use Rattle.node_core.specs.Sending.{request_with}
 use Rattle.node_core.specs.Shapes.{shape_extent}
+use Rattle.node_core.specs.Stands.{Stands}
+use Rattle.node_core.specs.Steps.{got, has_rx, request_on}
 use Rattle.node_core.specs.Told.{answer_lines, answer_is_bad}
 use Rattle.node_core.specs.Types.{type_at}
 
@@ -47,3 +52,15 @@ heard_is_bad node rec heard = answer_is_bad (answer_in node (frame_with rec hear
 -- the lines on what a record came to
 unfoldable pub came_lines : Node → Record → Came → List Line
 came_lines node rec came = heard_lines node rec came.heard
+
+-- the request that a record ended, where it gave these lines
+abbrev pub came_request : Came → List Line → Option Request
+came_request came lines =
+    if has_rx lines
+    then option_and_then (λ heard. request_with heard.tail.tid heard.ident) came.heard
+    else None
+
+-- it is the one that the log says
+abbrev pub TellsRequest : Node → Record → Came → Type 0
+TellsRequest node rec came = (past : List Record) → Stands node past
+    → came_request came (got node.plan rec past) ≡ request_on node.plan rec (got node.plan rec past)

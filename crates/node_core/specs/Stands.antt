@@ -1,5 +1,5 @@
 -- The log that a node stands for.
-use Rattle.std.specs.Prelude.{◌≡◌, ◌≤◌, ◌++◌, ℕ, Bool, List, ◌∷◌}
+use Rattle.std.specs.Prelude.{◌≡◌, ◌≤◌, ℕ, Bool, List, ◌∷◌}
 use Rattle.tail_frame.specs.Frames.{FrameOf}
 use Rattle.tail_frame.specs.declared.logged.Record.{Record}
 use Rattle.rx_table.specs.Keys.{KeyedFrame}
@@ -7,6 +7,7 @@ use Rattle.rx_table.specs.Ports.{ports_of as ports_in}
 use Rattle.rx_table.specs.Table.{states, StandsFor, logged, port_on}
 use Rattle.node_core.specs.declared.node.Node.{Node}
 use Rattle.node_plan.specs.Bound.{bound_of}
+use Rattle.node_plan.specs.Ports.{ports}
 use Rattle.rx_table.specs.Heard.{frames}
 use Rattle.node_core.specs.Heard.{ports_of}
 use Rattle.node_core.specs.Shapes.{shape_extent}
@@ -17,8 +18,8 @@ use Rattle.node_core.specs.declared.line.Line.{Line}
 -- its sessions are those of its plan's ports after these frames, the newest first, and its ports have the plan's types
 pub record StandsAt (node : Node) (log : List KeyedFrame) : Type 0 where
   pub timeout : node.table.timeout ≡ node.plan.timeout
-  pub ports : ports_in (states shape_extent node.table.ports.items) ≡ ports_of node.plan
-  pub types : HasTypes node.plan.subs node.table
+  pub ports_are : ports_in (states shape_extent node.table.ports.items) ≡ ports_of node.plan
+  pub types : HasTypes (ports node.plan) node.table
   pub sessions : StandsFor node.plan.timeout log (states shape_extent node.table.ports.items)
 
 -- and after these records
@@ -36,10 +37,6 @@ StandsAsBefore old new = (past : List Record) → Stands old past → Stands new
 -- these are the lines that the next record gives
 abbrev pub Gives : Node → Record → List Line → Type 0
 Gives node rec lines = (past : List Record) → Stands node past → lines ≡ got node.plan rec past
-
--- the next record appends the lines that it gives
-abbrev pub Appends : Node → Record → List Line → List Line → Type 0
-Appends node rec old new = (past : List Record) → Stands node past → new ≡ old ++ got node.plan rec past
 
 -- this is whether the next record ends a transfer whose bytes don't fit their CRC
 abbrev pub TellsBadCrc : Node → Record → Bool → Type 0

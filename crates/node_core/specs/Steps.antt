@@ -1,124 +1,174 @@
--- The steps of a node, and the lines that each gives.
-use Rattle.std.specs.Prelude.{ℕ, Bool, true, false, ◌&&◌, ◌+◌, if◌then◌else◌, List, [], ◌∷◌, ◌++◌, length, take, count_by, Option, Some, None}
-use Rattle.can_id.specs.Identifiers.{key_of, priority_of}
-use Rattle.can_id.specs.declared.key.Key.{Key}
-use Rattle.tail_frame.specs.Chains.{KeyRecord}
-use Rattle.tail_frame.specs.Frames.{FrameOf}
+-- The steps of a node: the records that it hears and its ticks, and the lines that each gives.
+use Rattle.std.specs.Prelude.{ℕ, zero, suc, Bool, true, false, ◌||◌, ◌+◌, ◌-◌, ◌*◌, ◌/◌, ◌%◌, if◌then◌else◌, List, [], ◌∷◌, ◌++◌, length, map, count_by, Option, Some, None}
+use Rattle.std.specs.Option.{option_and_then}
 use Rattle.tail_frame.specs.declared.logged.Record.{Record}
-use Rattle.transfer_crc.specs.Crc.{crc_of}
-use Rattle.rx_table.specs.Keys.{KeyedFrame, history}
-use Rattle.rx_table.specs.Ports.{Port, is_admitted, held}
-use Rattle.rx_table.specs.Received.{Delivery}
-use Rattle.rx_table.specs.Steps.{delivery_at, is_bad}
-use Rattle.rx_table.specs.Table.{keyed, port_on}
-use Rattle.node_plan.specs.Bound.{bound_of}
-use Rattle.node_plan.specs.declared.plan.Plan.{Plan}
 use Rattle.rx_table.specs.Heard.{frame_for, frames}
+use Rattle.rx_table.specs.Ports.{held}
+use Rattle.node_plan.specs.Bound.{bound_of}
+use Rattle.node_plan.specs.declared.plan.BusPlan.{BusPlan}
+use Rattle.node_plan.specs.declared.plan.Plan.{Plan}
 use Rattle.node_core.specs.Heard.{ports_of}
-use Rattle.node_core.specs.Readings.{reading_of}
-use Rattle.node_core.specs.Types.{type_on}
+use Rattle.node_core.specs.Queues.{Sends, Queue, push_all, fulls, leaving, drained, rounds, waiting}
+pub use Rattle.node_core.specs.Received.{rx_line, of_delivery, anonymous_line, refused_line, of_session, of_source, on_port, of_frame, got, bad_of_source, bad_on_port, bad_of_frame, is_bad_at}
+use Rattle.node_core.specs.Sending.{beat, reply_to, request_of}
 use Rattle.node_core.specs.declared.line.Line.{Line}
-use Rattle.node_core.specs.declared.line.Line.TheVariants.{Rx, NoSession}
+use Rattle.node_core.specs.declared.line.Line.TheVariants.{Rx, NoSession, Tx, Full}
 use Rattle.node_core.specs.declared.numbers.Numbers.{Numbers}
+use Rattle.node_core.specs.declared.request.Request.{Request}
 
--- the line of a delivery on a port of a plan with this extent
-abbrev pub rx_line : Plan → ℕ → Key → Delivery → Line
-rx_line plan extent key d = Rx (record {
-  moment = d.first.moment;
-  bus = d.first.bus;
-  key = key;
-  priority = d.last.priority;
-  tid = d.first.tid;
-  first = d.first.line;
-  last = d.last.line;
-  payload = take extent d.content;
-  reading = reading_of (type_on plan key) (take extent d.content);
-})
-
-abbrev pub of_delivery : Plan → ℕ → Key → Option Delivery → List Line
-of_delivery plan extent key None = []
-of_delivery plan extent key (Some d) = rx_line plan extent key d ∷ []
-
--- the line of an anonymous message, which is one frame
-abbrev pub anonymous_line : Plan → ℕ → FrameOf → Line
-anonymous_line plan extent f = Rx (record {
-  moment = f.moment;
-  bus = f.bus;
-  key = key_of f.ident;
-  priority = priority_of f.ident;
-  tid = f.tail.tid;
-  first = f.line;
-  last = f.line;
-  payload = take extent f.body;
-  reading = reading_of (type_on plan (key_of f.ident)) (take extent f.body);
-})
-
--- the line of a start frame whose source has no session
-abbrev pub refused_line : Key → KeyRecord → Line
-refused_line key rec = NoSession (record { moment = rec.moment; bus = rec.bus; key = key; line = rec.line })
-
--- what a frame with a source gives on a port, after these: what its session delivers, or that there is none for it
-abbrev pub of_session : Plan → Port → Key → KeyedFrame → List KeyedFrame → List Line
-of_session plan p key k log =
-    if is_admitted p k log
-    then of_delivery plan p.extent key (delivery_at crc_of plan.timeout k.rec (history k.key log))
-    else (if k.rec.start then refused_line key k.rec ∷ [] else [])
-
--- an anonymous message is delivered at once
-abbrev pub of_source : Plan → Port → FrameOf → List KeyedFrame → Option KeyedFrame → List Line
-of_source plan p f log None = anonymous_line plan p.extent f ∷ []
-of_source plan p f log (Some k) = of_session plan p (key_of f.ident) k log
-
-abbrev pub on_port : Plan → FrameOf → List KeyedFrame → Option Port → List Line
-on_port plan f log None = []
-on_port plan f log (Some p) = of_source plan p f log (keyed f)
-
-abbrev pub of_frame : Plan → List KeyedFrame → Option FrameOf → List Line
-of_frame plan log None = []
-of_frame plan log (Some f) = on_port plan f log (port_on (ports_of plan) f)
-
--- the lines on what a record gives, where these came before it, the newest first
-abbrev pub got : Plan → Record → List Record → List Line
-got plan rec past = of_frame plan (frames plan.node past) (frame_for plan.node rec)
-
-abbrev pub bad_of_source : ℕ → Port → List KeyedFrame → Option KeyedFrame → Bool
-bad_of_source timeout p log None = false
-bad_of_source timeout p log (Some k) = is_admitted p k log && is_bad crc_of timeout k.rec (history k.key log)
-
-abbrev pub bad_on_port : ℕ → FrameOf → List KeyedFrame → Option Port → Bool
-bad_on_port timeout f log None = false
-bad_on_port timeout f log (Some p) = bad_of_source timeout p log (keyed f)
-
-abbrev pub bad_of_frame : Plan → List KeyedFrame → Option FrameOf → Bool
-bad_of_frame plan log None = false
-bad_of_frame plan log (Some f) = bad_on_port plan.timeout f log (port_on (ports_of plan) f)
-
--- whether a record ends a transfer whose bytes don't fit their CRC
-abbrev pub is_bad_at : Plan → Record → List Record → Bool
-is_bad_at plan rec past = bad_of_frame plan (frames plan.node past) (frame_for plan.node rec)
-
--- a step of a node
+-- a step of a node: a record, or a tick with its number and moment
 pub data Step : Type 0 where
   Heard : Record → Step
+  Tick : ℕ → ℕ → Step
 
 -- the records of steps
 abbrev pub records : List Step → List Record
 records [] = []
 records (Heard rec ∷ past) = rec ∷ records past
+records (Tick number moment ∷ past) = records past
+
+abbrev pub moment_of : Step → ℕ
+moment_of (Heard rec) = rec.moment
+moment_of (Tick number moment) = moment
+
+-- the moment of the first record of a log
+abbrev pub first_of : Record → List Record → ℕ
+first_of rec [] = rec.moment
+first_of rec (older ∷ past) = first_of older past
+
+-- how many ticks are not after a moment: one at the first record, and one each second from there on
+abbrev pub ticks_until : ℕ → ℕ → ℕ
+ticks_until first moment = (moment - first) / 1000000 + 1
+
+-- how many ticks were before the newest of these records
+abbrev pub ticks_done : List Record → ℕ
+ticks_done [] = 0
+ticks_done (rec ∷ past) = ticks_until (first_of rec past) rec.moment
+
+-- so many ticks from a number on, the newest first
+abbrev pub ticks_from : ℕ → ℕ → ℕ → List Step
+ticks_from first number zero = []
+ticks_from first number (suc n) = Tick (number + n) (first + (number + n) * 1000000) ∷ ticks_from first number n
+
+-- the ticks from a number on up to a moment
+abbrev pub ticks_upto : ℕ → ℕ → ℕ → List Step
+ticks_upto first number moment = ticks_from first number (ticks_until first moment - number)
+
+-- the ticks between a record and those before it; a silent node has none
+abbrev pub ticks_before : Plan → Record → List Record → List Step
+ticks_before plan rec past = if plan.silent then [] else ticks_upto (first_of rec past) (ticks_done past) rec.moment
+
+-- a record and the ticks before it
+abbrev pub new_steps : Plan → Record → List Record → List Step
+new_steps plan rec past = Heard rec ∷ ticks_before plan rec past
 
 -- the steps of a log, both with the newest first
 abbrev pub steps : Plan → List Record → List Step
 steps plan [] = []
-steps plan (rec ∷ past) = Heard rec ∷ steps plan past
+steps plan (rec ∷ past) = new_steps plan rec past ++ steps plan past
 
--- the lines of a step, where these came before it
+-- what a node keeps from step to step beside its sessions: the frames that wait, and the next heartbeat's transfer-ID
+pub record Kept : Type 0 where
+  pub queues : List Queue
+  pub tid : ℕ
+
+abbrev pub is_rx : Line → Bool
+is_rx (Rx rx) = true
+is_rx (NoSession refused) = false
+is_rx (Tx tx) = false
+is_rx (Full full) = false
+
+abbrev pub is_nosession : Line → Bool
+is_nosession (Rx rx) = false
+is_nosession (NoSession refused) = true
+is_nosession (Tx tx) = false
+is_nosession (Full full) = false
+
+abbrev pub is_tx : Line → Bool
+is_tx (Rx rx) = false
+is_tx (NoSession refused) = false
+is_tx (Tx tx) = true
+is_tx (Full full) = false
+
+-- whether one of these lines is on a transfer that was received
+abbrev pub has_rx : List Line → Bool
+has_rx [] = false
+has_rx (line ∷ lines) = is_rx line || has_rx lines
+
+-- the request that a record ended, where it gave these lines
+abbrev pub request_on : Plan → Record → List Line → Option Request
+request_on plan rec lines =
+    if has_rx lines then option_and_then request_of (frame_for plan.node rec) else None
+
+-- what a step sends: a tick the heartbeat, a record the reply to the request that it ended
+abbrev pub sends : Plan → Step → List Step → Kept → Option Sends
+sends plan (Heard rec) past k = option_and_then (reply_to plan) (request_on plan rec (got plan rec (records past)))
+sends plan (Tick number moment) past k = Some (beat plan number k.tid)
+
+-- a heartbeat uses a transfer-ID, also where no bus has room for it
+abbrev pub next_tid : Step → ℕ → ℕ
+next_tid (Heard rec) tid = tid
+next_tid (Tick number moment) tid = (tid + 1) % 32
+
+-- what is kept once a step's transfer was pushed, and then behind the step
+abbrev pub pushed : Plan → Step → List Step → Kept → Kept
+pushed plan step past k = record {
+  queues = push_all (sends plan step past k) k.queues;
+  tid = next_tid step k.tid;
+}
+
+abbrev pub left : Kept → Kept
+left k = record k { queues = map drained k.queues }
+
+-- nothing waits on a bus, where so many frames may
+abbrev pub empty_queue : ℕ → BusPlan → Queue
+empty_queue places bus = record { mtu = bus.mtu; rate = bus.rate; places = places; waiting = [] }
+
+abbrev pub nothing_kept : Plan → Kept
+nothing_kept plan = record { queues = map (empty_queue plan.queue) plan.buses; tid = 0 }
+
+-- what is kept behind steps
+abbrev pub kept : Plan → List Step → Kept
+kept plan [] = nothing_kept plan
+kept plan (step ∷ past) = left (pushed plan step past (kept plan past))
+
+-- the lines on what a step received
+abbrev pub received_at : Plan → Step → List Step → List Line
+received_at plan (Heard rec) past = got plan rec (records past)
+received_at plan (Tick number moment) past = []
+
+-- with those on the buses that had no room for what it sends
+abbrev pub node_lines : Plan → Step → List Step → Kept → List Line
+node_lines plan step past k = received_at plan step past ++ fulls (moment_of step) (sends plan step past k) k.queues
+
+-- the lines of a step, where these came before it: behind the node's, those on the frames that leave
 abbrev pub lines_at : Plan → Step → List Step → List Line
-lines_at plan (Heard rec) past = got plan rec (records past)
+lines_at plan step past =
+    node_lines plan step past (kept plan past)
+    ++ leaving (moment_of step) (pushed plan step past (kept plan past)).queues
 
 -- the lines of steps, of which the newest comes first
 abbrev pub lines : Plan → List Step → List Line
 lines plan [] = []
 lines plan (step ∷ past) = lines plan past ++ lines_at plan step past
+
+-- the lines of the newer steps, behind the older ones
+abbrev pub lines_behind : Plan → List Step → List Step → List Line
+lines_behind plan [] older = []
+lines_behind plan (step ∷ newer) older = lines_behind plan newer older ++ lines_at plan step (newer ++ older)
+
+-- the lines on a record and the ticks before it, where these records came before
+abbrev pub lines_on : Plan → Record → List Record → List Line
+lines_on plan rec past = lines_behind plan (new_steps plan rec past) (steps plan past)
+
+-- behind the last step all that waits leaves, in rounds
+abbrev pub emptying : Plan → List Step → List Line
+emptying plan [] = []
+emptying plan (step ∷ past) = rounds (waiting (kept plan (step ∷ past)).queues) (moment_of step) (kept plan (step ∷ past)).queues
+
+-- the lines of a log that was read to its end
+abbrev pub all_lines : Plan → List Step → List Line
+all_lines plan steps = lines plan steps ++ emptying plan steps
 
 -- the bytes of the buffers of all sessions
 abbrev pub held_at : Plan → List Record → ℕ
@@ -126,6 +176,7 @@ held_at plan past = held (ports_of plan) (frames plan.node past)
 
 abbrev pub bad_at : Plan → Step → List Step → Bool
 bad_at plan (Heard rec) past = is_bad_at plan rec (records past)
+bad_at plan (Tick number moment) past = false
 
 abbrev pub one_if : Bool → ℕ
 one_if b = if b then 1 else 0
@@ -135,14 +186,6 @@ abbrev pub badcrcs : Plan → List Step → ℕ
 badcrcs plan [] = 0
 badcrcs plan (step ∷ past) = badcrcs plan past + one_if (bad_at plan step past)
 
-abbrev pub is_rx : Line → Bool
-is_rx (Rx rx) = true
-is_rx (NoSession refused) = false
-
-abbrev pub is_nosession : Line → Bool
-is_nosession (Rx rx) = false
-is_nosession (NoSession refused) = true
-
 -- the numbers of a report on these steps
 abbrev pub numbers : Plan → List Step → Numbers
 numbers plan steps = record {
@@ -150,7 +193,11 @@ numbers plan steps = record {
   delivered = count_by is_rx (lines plan steps);
   badcrc = badcrcs plan steps;
   nosession = count_by is_nosession (lines plan steps);
-  sent = 0;
+  sent = count_by is_tx (lines plan steps);
   held = held_at plan (records steps);
   bound = bound_of plan;
 }
+
+-- the numbers of a report on a log that was read to its end
+abbrev pub end_numbers : Plan → List Step → Numbers
+end_numbers plan steps = record (numbers plan steps) { sent = count_by is_tx (all_lines plan steps) }

@@ -1,14 +1,14 @@
 -- The text of a report.
 use Rattle.std.specs.Prelude.{ℕ, List, [], ◌∷◌, ◌++◌, Option, Some, None, codes, decimal, slice_get}
 use Rattle.hex.specs.Hex.{encode_upper}
-pub use Rattle.line_text.specs.Text.{moment_text, line_of, spaced}
+pub use Rattle.line_text.specs.Text.{ident_text, moment_text, line_of, spaced}
 use Rattle.can_id.specs.declared.key.Key.{Key}
 use Rattle.can_id.specs.declared.key.Kind.{Kind}
 use Rattle.can_id.specs.declared.key.Kind.TheVariants.{Message, Request, Response}
 use Rattle.value_text.specs.Unreadable.{unreadable_text}
 use Rattle.node_plan.specs.declared.plan.BusPlan.{BusPlan}
 use Rattle.node_core.specs.declared.line.Line.{Line}
-use Rattle.node_core.specs.declared.line.Line.TheVariants.{Rx, NoSession}
+use Rattle.node_core.specs.declared.line.Line.TheVariants.{Rx, NoSession, Tx, Full}
 use Rattle.node_core.specs.declared.line.Rx.{Rx as Received}
 use Rattle.node_core.specs.declared.line.Reading.{Reading}
 use Rattle.node_core.specs.declared.line.Reading.TheVariants.{Raw, Good, Bad}
@@ -72,6 +72,11 @@ abbrev pub words_of : List BusPlan → Line → List (List ℕ)
 words_of buses (Rx rx) = front_words buses rx ++ (payload_text rx.payload ∷ reading_text rx.reading ∷ [])
 words_of buses (NoSession refused) =
     (codes "nosession" ∷ place_words buses refused.moment refused.bus refused.key) ++ (decimal refused.line ∷ [])
+words_of buses (Tx tx) =
+    codes "tx" ∷ moment_text tx.moment ∷ bus_text buses tx.bus ∷ ident_text tx.ident ∷ encode_upper tx.bytes ∷ []
+words_of buses (Full full) =
+    codes "full" ∷ moment_text full.moment ∷ bus_text buses full.bus ∷ decimal full.port
+    ∷ decimal full.needed ∷ decimal full.free ∷ []
 
 -- the text of a line
 abbrev pub line_text : List BusPlan → Line → List ℕ

@@ -8,7 +8,7 @@ use Rattle.dsdl_types.specs.Views.{sch}
 use Rattle.rx_session.specs.Session.{Outcome, Ignored, Held, BadCrc, Delivered}
 use Rattle.rx_table.specs.Ports.{Answer, NoPort, NoSession, OfSession, Anonymous}
 use Rattle.node_core.specs.declared.line.Line.{Line}
-use Rattle.node_core.specs.declared.line.Line.TheVariants.{Rx, NoSession as Refusal}
+use Rattle.node_core.specs.declared.line.Line.TheVariants.{Rx, NoSession as Refusal, Tx, Full}
 use Rattle.node_core.specs.declared.line.Reading.{Reading}
 use Rattle.node_core.specs.declared.line_ref.LineRef.{LineRef}
 use Rattle.node_core.specs.declared.line_ref.LineRef.TheVariants as lent
@@ -71,6 +71,8 @@ owned (lent.Rx rx) = Rx (record {
   payload = rx.payload.now;
 })
 owned (lent.NoSession refused) = Refusal refused
+owned (lent.Tx tx) = Tx (record { moment = tx.moment; bus = tx.bus; ident = tx.ident; bytes = tx.bytes.now })
+owned (lent.Full full) = Full full
 
 -- the line that is told, if there is one
 abbrev pub told_lines : Option LineRef → List Line

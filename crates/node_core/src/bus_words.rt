@@ -78,7 +78,7 @@ impl BusWords {
     }
 
     /// Puts the name of a bus behind a text.
-    fn put_name(&self, text: &mut TextBuffer, bus: u8)
+    pub fn put_name(&self, text: &mut TextBuffer, bus: u8)
         requires { 16 ≤ room_of text.old }
         ensures text { Puts (bus_text self.now.buses bus) text.old text.new }
         ensures room { room_of text.old ≤ room_of text.new + 15 }

@@ -1,4 +1,5 @@
-ghost use Rattle.std.specs.Prelude.{◌≡◌, IfSome, option_map};
+ghost use Rattle.std.specs.Prelude.{◌≡◌, ◌<◌, true, IfSome, option_map};
+ghost use Rattle.can_id.specs.Identifiers.{IsIdent};
 ghost use Rattle.tail_frame.specs.Frames.{seen};
 ghost use Rattle.rx_table.specs.Heard.{is_for, frame_for};
 ghost use Rattle.node_core.specs.Heard.{subject_in};
@@ -12,6 +13,8 @@ use tail_frame::{Frame, Record, frame_of};
 pub fn frame_for(node: u8, rec: &Record) -> Option<Frame<'_>>
     ensures value { option_map seen result ≡ frame_for node rec.now }
     ensures moment { IfSome result (λ frame. frame.moment ≡ rec.now.moment) }
+    ensures ranges { IfSome result (λ frame. (frame.tail.tid < 32) × IsIdent frame.ident) }
+    ensures own { IfSome result (λ frame. is_for node frame.ident ≡ true) }
 {
     let frame = frame_of(rec)?;
     if is_for(node, frame.ident) {

@@ -1,6 +1,9 @@
-//! The node: what one record gives, line by line, and the text of these lines.
+//! The node: what one record or one tick gives, line by line, what it sends, and the text of these
+//! lines.
 #![tactic(auto)]
 
+mod bus_queue;
+mod bus_queues;
 mod bus_words;
 pub mod came;
 mod compiled_shape;
@@ -16,18 +19,25 @@ pub mod numbers;
 pub mod port_shape;
 mod port_word;
 mod ports;
+mod pushes;
 mod raw_shape;
+mod request;
 mod second;
+mod sending;
+mod transfer;
 mod word;
 mod words;
 
+pub use bus_queue::BusQueue;
+pub use bus_queues::BusQueues;
 pub use came::Came;
 pub use compiled_shape::CompiledShape;
-pub use line::{Line, Reading, Refused, Rx};
-pub use line_ref::{LineRef, RxRef};
+pub use line::{FullLine, Line, Reading, Refused, Rx, Tx};
+pub use line_ref::{LineRef, RxRef, TxRef};
 pub use line_sink::{KeptLines, LineSink, NoLines};
 pub use line_writer::LineWriter;
 pub use node::{Node, Stepped};
 pub use numbers::Numbers;
 pub use port_shape::PortShape;
 pub use raw_shape::RawShape;
+pub use request::Request;

@@ -1,5 +1,5 @@
 use can_id::Key;
-use cy_bits::{Bytes, Text};
+use cy_bits::{Bytes, ShortList, Text};
 use dsdl_types::{ReadWhy, Value};
 
 /// One line of the report.
@@ -9,6 +9,10 @@ pub enum Line {
     Rx(Rx),
     /// A start frame came from a source that its port has no session for.
     NoSession(Refused),
+    /// A frame left the node.
+    Tx(Tx),
+    /// A bus had no places for a transfer that the node sends.
+    Full(FullLine),
 }
 
 /// A transfer that was received.
@@ -67,4 +71,32 @@ pub struct Refused {
     pub key: Key,
     /// The line of the log, counted from 1.
     pub line: u64,
+}
+
+/// A frame that left the node.
+#[derive(Drop)]
+pub struct Tx {
+    /// The moment of the step behind which it left, in microseconds.
+    pub moment: u64,
+    /// The bus on which it left: its place among the buses of the plan, counted from 0.
+    pub bus: u8,
+    /// Its identifier, of 29 bits.
+    pub ident: u32,
+    /// Its data bytes, with the tail.
+    pub bytes: ShortList<u8, 64>,
+}
+
+/// A bus has fewer places free than a transfer has frames. None of them leaves on it.
+#[derive(Clone, Copy, Debug, Default, PartialEq, Eq)]
+pub struct FullLine {
+    /// The moment of the step that sends the transfer, in microseconds.
+    pub moment: u64,
+    /// The bus: its place among the buses of the plan, counted from 0.
+    pub bus: u8,
+    /// The port of the transfer.
+    pub port: u16,
+    /// The number of the transfer's frames on this bus.
+    pub needed: u64,
+    /// The number of places that are free.
+    pub free: u64,
 }

@@ -3,9 +3,9 @@ ghost use Rattle.std.specs.Prelude.{◌≡◌, IfOk};
 ghost use Rattle.node_core.specs.Told.{owned, reading_in};
 
 use crate::compiled_shape::CompiledShape;
-use crate::line::{Line, Reading, Refused, Rx};
+use crate::line::{FullLine, Line, Reading, Refused, Rx, Tx};
 use can_id::Key;
-use cy_bits::{Bytes, NoMemory};
+use cy_bits::{Bytes, NoMemory, ShortList};
 use std::alloc::Global;
 
 /// One line of the report, with its payload lent.
@@ -15,6 +15,23 @@ pub enum LineRef<'a> {
     Rx(RxRef<'a>),
     /// A start frame came from a source that its port has no session for.
     NoSession(Refused),
+    /// A frame left the node.
+    Tx(TxRef<'a>),
+    /// A bus had no places for a transfer that the node sends.
+    Full(FullLine),
+}
+
+/// A frame that left the node, with its data bytes lent.
+#[derive(Clone, Copy)]
+pub struct TxRef<'a> {
+    /// The moment of the step behind which it left, in microseconds.
+    pub moment: u64,
+    /// The bus on which it left: its place among the buses of the plan, counted from 0.
+    pub bus: u8,
+    /// Its identifier, of 29 bits.
+    pub ident: u32,
+    /// Its data bytes, with the tail.
+    pub bytes: &'a ShortList<u8, 64>,
 }
 
 /// A transfer that was received, with its payload lent. What that says isn't read before it is asked for.
@@ -38,6 +55,22 @@ pub struct RxRef<'a> {
     pub last: u64,
     /// The payload, cut to the extent of the port.
     pub payload: &'a [u8],
+}
+
+impl TxRef<'_> {
+    ghost use Rattle.node_core.specs.declared.line_ref.LineRef.{LineRef as Lent};
+
+    /// The same line, with a copy of the data bytes. Takes no memory.
+    fn copy(&self) -> Line
+        ensures { result ≡ owned (Lent.Tx self.now) }
+    {
+        Line::Tx(Tx {
+            moment: self.moment,
+            bus: self.bus,
+            ident: self.ident,
+            bytes: copy_of(self.bytes),
+        })
+    }
 }
 
 impl RxRef<'_> {
@@ -70,6 +103,19 @@ impl<'a> LineRef<'a> {
                 payload: Bytes::from_slice(alloc, rx.payload)?,
             })),
             LineRef::NoSession(refused) => Ok(Line::NoSession(*refused)),
+            LineRef::Tx(tx) => Ok(tx.copy()),
+            LineRef::Full(full) => Ok(Line::Full(*full)),
         }
     }
+}
+
+/// The same bytes.
+fn copy_of(bytes: &ShortList<u8, 64>) -> ShortList<u8, 64>
+    ensures { result ≡ bytes.now }
+{
+    let mut copied = ShortList::new();
+    for byte in bytes.as_slice() {
+        copied.push(*byte);
+    }
+    copied
 }

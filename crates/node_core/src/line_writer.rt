@@ -5,14 +5,14 @@ ghost use Rattle.node_core.specs.Puts.{Puts};
 ghost use Rattle.node_core.specs.Text.{end_text};
 
 use crate::bus_words::BusWords;
-use crate::line::Refused;
-use crate::line_ref::{LineRef, RxRef};
+use crate::line::{FullLine, Refused};
+use crate::line_ref::{LineRef, RxRef, TxRef};
 use crate::numbers::Numbers;
 use crate::port_word::PortWord;
 use crate::second::Second;
 use crate::words::{
-    LINE, put_key, put_label, put_payload, put_raw, put_reading, put_received, put_transfer,
-    reserve_for, reserve_with,
+    LINE, put_key, put_label, put_payload, put_place, put_raw, put_reading, put_received,
+    put_transfer, reserve_for, reserve_with,
 };
 use cy_bits::{NoMemory, ShortList};
 use line_text::TextBuffer;
@@ -61,6 +61,8 @@ impl LineWriter {
         match line {
             LineRef::Rx(rx) => self.push_rx(text, rx),
             LineRef::NoSession(refused) => self.push_refused(text, *refused),
+            LineRef::Tx(tx) => self.push_tx(text, *tx),
+            LineRef::Full(full) => self.push_full(text, *full),
         }
     }
 
@@ -149,6 +151,41 @@ impl LineWriter {
         text.put_moment(refused.moment);
         put_key(&self.names, &mut self.port, text, refused.bus, &refused.key);
         text.put_number(refused.line);
+        text.put_slice(b"\n");
+        Ok(())
+    }
+
+    /// Appends the text of a frame that left the node.
+    #[inline(never)]
+    fn push_tx(&self, text: &mut TextBuffer, tx: TxRef<'_>) -> Result<(), NoMemory>
+        ensures ok { OnOk result (Writes self.now (LineRef.Tx tx.entry) text.old text.new) }
+        ensures err { OnErr result (text_of text.new ≡ text_of text.old) }
+    {
+        text.reserve(LINE)?;
+        text.put_slice(b"tx ");
+        put_place(&self.names, text, tx.moment, tx.bus);
+        text.put_ident(tx.ident);
+        text.put_slice(b" ");
+        text.put_hex(tx.bytes.as_slice());
+        text.put_slice(b"\n");
+        Ok(())
+    }
+
+    /// Appends the text of a bus that had no places for a transfer.
+    #[cold]
+    #[inline(never)]
+    fn push_full(&self, text: &mut TextBuffer, full: FullLine) -> Result<(), NoMemory>
+        ensures ok { OnOk result (Writes self.now (LineRef.Full full) text.old text.new) }
+        ensures err { OnErr result (text_of text.new ≡ text_of text.old) }
+    {
+        text.reserve(LINE)?;
+        text.put_slice(b"full ");
+        put_place(&self.names, text, full.moment, full.bus);
+        text.put_number(full.port as u64);
+        text.put_slice(b" ");
+        text.put_number(full.needed);
+        text.put_slice(b" ");
+        text.put_number(full.free);
         text.put_slice(b"\n");
         Ok(())
     }

@@ -1,7 +1,10 @@
+ghost use Rattle.std.specs.Prelude.{◌≡◌, ◌<◌, ◌≤◌};
+ghost use Rattle.node_status.specs.Status.{info_payload};
 ghost use Rattle.rx_table.specs.Table.{states, HeardBy};
 ghost use Rattle.node_core.specs.InTime.{HeardBy-prop};
 ghost use Rattle.node_core.specs.Shapes.{shape_extent};
 
+use crate::bus_queues::BusQueues;
 use crate::came::{Came, Heard};
 use crate::fed::{is_bad, line_on};
 use crate::heard::{frame_for, subject_in};
@@ -9,9 +12,11 @@ use crate::line::Line;
 use crate::line_ref::LineRef;
 use crate::port_shape::PortShape;
 use crate::ports::table_of;
+use crate::pushes::push_told;
 use can_id::Kind;
-use cy_bits::{List, NoMemory};
+use cy_bits::{List, NoMemory, ShortList};
 use node_plan::Plan;
+use node_status::info_payload;
 use rx_table::{Met, Table};
 use std::alloc::Global;
 use tail_frame::{Frame, Record};
@@ -25,7 +30,18 @@ pub struct Node {
     pub table: Table<PortShape>,
     /// When it last heard a frame, in microseconds, or 0.
     pub latest: u64,
+    /// The frames that wait on each bus.
+    pub queues: BusQueues,
+    /// The transfer-ID of the next heartbeat, 0 to 31.
+    pub tid: u8,
+    /// What it says of itself where it is asked: the payload of each reply of GetInfo.
+    pub info: ShortList<u8, 128>,
     alloc: Global,
+    pub ghost node_id: { plan.node < 128 },
+    pub ghost health: { plan.status.health ≤ 3 },
+    pub ghost mode: { plan.status.mode ≤ 3 },
+    pub ghost few_ids: { tid < 32 },
+    pub ghost tells: { info ≡ info_payload plan.info },
     ghost in_time: { HeardBy latest (states shape_extent table.ports.items) } by { HeardBy-prop latest (states shape_extent table.ports.items) },
 }
 
@@ -37,7 +53,8 @@ pub struct Stepped {
 }
 
 impl Node {
-    ghost use Rattle.std.specs.Prelude.{◌≡◌, ◌≤◌, [], List as ListOf, IfOk, OnOk, OnErr, length, take};
+    ghost use Rattle.std.specs.Prelude.{[], List as ListOf, IfOk, OnOk, OnErr, length, take};
+    ghost use Rattle.std.specs.Option.{ForSome};
     ghost use Rattle.tail_frame.specs.Frames.{seen};
     ghost use Rattle.tail_frame.specs.declared.logged.Record.{Record as RecordOf};
     ghost use Rattle.node_plan.specs.Bound.{bound_of};
@@ -46,8 +63,12 @@ impl Node {
     ghost use Rattle.rx_table.specs.Views.{subscriptions};
     ghost use Rattle.node_core.specs.Heard.{IsElsewhere};
     ghost use Rattle.node_core.specs.Shapes.{port_schema};
-    ghost use Rattle.node_core.specs.Came.{answer_in, heard_is_bad, came_lines, met_lines};
-    ghost use Rattle.node_core.specs.Stands.{Stands, Takes, StandsAsBefore, Gives, Appends, TellsBadCrc};
+    ghost use Rattle.node_core.specs.Came.{answer_in, heard_is_bad, came_lines, came_request, met_lines, TellsRequest};
+    ghost use Rattle.node_core.specs.Keeps.{Appends, KeepsOf, keeps};
+    ghost use Rattle.node_core.specs.Sending.{IsRequestTo};
+    ghost use Rattle.node_core.specs.Steps.{kept};
+    ghost use Rattle.node_core.specs.declared.line.Line.{Line as LineOf};
+    ghost use Rattle.node_core.specs.Stands.{Stands, Takes, StandsAsBefore, Gives, TellsBadCrc};
     ghost use Rattle.node_core.specs.Stands.{TakesFrame, KeepsSessions, FrameGives, FrameTellsBadCrc};
     ghost use Rattle.node_core.specs.Stands.{Holds, IsWithinBound};
     ghost use Rattle.node_core.specs.Told.{answer_is_bad, told_lines};
@@ -58,36 +79,51 @@ impl Node {
         ensures plan { IfOk result (λ node. node.plan ≡ plan) }
         ensures stands { IfOk result (λ node. Stands node []) }
         ensures latest { IfOk result (λ node. node.latest ≡ 0) }
+        ensures keeps { IfOk result (λ node. keeps node ≡ kept plan []) }
     {
         let table = table_of(alloc, &plan)?;
+        let queues = BusQueues::new(alloc, &plan)?;
+        let info = info_payload(&plan.info);
         Ok(Node {
             plan,
             table,
             latest: 0,
+            queues,
+            tid: 0,
+            info,
             alloc,
         })
     }
 
-    /// Takes the next record of the log, at a moment not before the last one, and appends the lines on what
-    /// it gives. Memory is taken for these lines, and for a new source's session; where it is wanting, the
-    /// lines are left as they were, and the node is not to be used further.
+    /// Takes the next record of the log, at a moment not before the last one, and appends the lines on
+    /// what it gives, and those on the buses that have no room for its reply. Memory is taken for these
+    /// lines, and for a new source's session; where it is wanting, the lines are left as they were, and
+    /// the node is not to be used further.
     pub fn frame(&mut self, rec: &Record, lines: &mut List<Line>) -> Result<Stepped, NoMemory>
         requires { self.old.latest ≤ rec.now.moment }
         ensures plan { self.new.plan ≡ self.old.plan }
         ensures latest { self.new.latest ≤ rec.now.moment }
         ensures stands { OnOk result (Takes rec.now self.old self.new) }
+        ensures keeps { OnOk result (KeepsOf rec.now self.old self.new) }
         ensures lines { OnOk result (Appends self.old rec.now lines.old lines.new) }
         ensures badcrc { IfOk result (λ step. TellsBadCrc self.old rec.now step.badcrc) }
         ensures behind { take (length lines.old) lines.new ≡ lines.old }
         ensures err { OnErr result (lines.new ≡ lines.old) }
     {
         let came = self.step(rec)?;
-        if let Some(line) = self.told(rec, came) {
-            lines.push(line.copy(self.alloc)?)?;
+        let told = self.told(rec, came);
+        let request = came.request(told);
+        let before = lines.len();
+        push_told(self.alloc, lines, told)?;
+        match self.answer(rec.moment, request, lines) {
+            Ok(()) => Ok(Stepped {
+                badcrc: came.badcrc,
+            }),
+            Err(refused) => {
+                lines.cut_back(before);
+                Err(refused)
+            }
         }
-        Ok(Stepped {
-            badcrc: came.badcrc,
-        })
     }
 
     /// Takes the next record of the log, at a moment not before the last one. Memory is taken for a new
@@ -100,6 +136,10 @@ impl Node {
         ensures stands { OnOk result (Takes rec.now self.old self.new) }
         ensures lines { IfOk result (λ came. Gives self.old rec.now (came_lines self.new rec.now came)) }
         ensures badcrc { IfOk result (λ came. TellsBadCrc self.old rec.now came.badcrc) }
+        ensures keeps { keeps self.new ≡ keeps self.old }
+        ensures request { IfOk result (λ came. TellsRequest self.old rec.now came) }
+        ensures asks { let node = self.old.plan.node in IfOk result (λ came.
+            (lines : ListOf LineOf) → ForSome (came_request came lines) (IsRequestTo node)) }
         ensures err { OnErr result (StandsAsBefore self.old self.new) }
     {
         if self.passes_by(rec) {
@@ -156,6 +196,7 @@ impl Node {
         requires { self.old.latest ≤ frame.now.moment }
         ensures plan { self.new.plan ≡ self.old.plan }
         ensures latest { self.new.latest ≤ frame.now.moment }
+        ensures keeps { keeps self.new ≡ keeps self.old }
         ensures stands { OnOk result (TakesFrame (seen frame.now) self.old self.new) }
         ensures lines { let f = seen frame.now in
             IfOk result (λ met. FrameGives self.old f (met_lines self.new f met)) }

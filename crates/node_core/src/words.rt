@@ -1,9 +1,9 @@
 //! The words of a line.
 ghost use Rattle.std.specs.Prelude.{◌≡◌, ◌≤◌, ◌+◌, ◌*◌, ◌++◌, ◌∷◌, [], OnOk, codes, decimal, length};
 ghost use Rattle.line_text.specs.Buffer.{text_of, room_of};
-ghost use Rattle.line_text.specs.Text.{spaced};
+ghost use Rattle.line_text.specs.Text.{moment_text, spaced};
 ghost use Rattle.node_core.specs.Puts.{Puts};
-ghost use Rattle.node_core.specs.Text.{kind_text, source_text, payload_text, reading_text};
+ghost use Rattle.node_core.specs.Text.{bus_text, kind_text, source_text, payload_text, reading_text};
 ghost use Rattle.node_core.specs.Text.{key_words, transfer_words, received_words};
 ghost use Rattle.node_core.specs.Words.{long_part};
 ghost use Rattle.node_core.specs.declared.line.Reading.TheVariants.{Raw};
@@ -80,6 +80,19 @@ pub fn put_key(names: &BusWords, port: &mut PortWord, text: &mut TextBuffer, bus
     names.put(text, bus, key.kind);
     port.put(text, key.port);
     put_source(text, key.source);
+}
+
+/// Appends a moment and the name of a bus, each with a space behind.
+pub fn put_place(names: &BusWords, text: &mut TextBuffer, moment: u64, bus: u8)
+    requires { 64 ≤ room_of text.old }
+    ensures text { let name = bus_text names.now.buses bus in
+        Puts (spaced (moment_text moment ∷ name ∷ [])) text.old text.new }
+    ensures room { room_of text.old ≤ room_of text.new + 38 }
+{
+    text.put_moment(moment);
+    text.put_slice(b" ");
+    names.put_name(text, bus);
+    text.put_slice(b" ");
 }
 
 /// Appends priority, transfer-ID and the lines of the first and the last frame, each with a space behind.

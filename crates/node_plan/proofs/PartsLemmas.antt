@@ -1,10 +1,12 @@
 -- Lemmas on the parts of a text.
-use Rattle.std.proofs.Common.{◌≡◌, ◌==◌, Bool, true, false, List, [], ◌∷◌, ◌++◌, ℕ, refl}
+use Rattle.std.proofs.Common.{◌≡◌, ◌==◌, Bool, true, false, List, [], ◌∷◌, ◌++◌, ◌∙◌, ℕ, refl, sym, ap}
 use Rattle.std.specs.Prelude.{if◌then◌else◌}
+use Rattle.std.proofs.lemmas.Bool.{eqb-true}
 use Rattle.dsdl_types.specs.declared.namespace.Namespace.{Namespace}
-use Rattle.node_plan.specs.declared.line.Said.TheVariants as said
-use Rattle.node_plan.specs.Line.{said_of_words}
-use Rattle.node_plan.specs.Words.{parts_of, with_first}
+use Rattle.node_plan.specs.declared.info.VersionWord.TheVariants as word
+use Rattle.node_plan.specs.Info.{version_of_parts}
+use Rattle.node_plan.specs.Line.{said_of_many, said_of_words}
+use Rattle.node_plan.specs.Words.{joined, parts_of, with_first}
 
 -- bytes in front of the first part
 abbrev pub with_front : List ℕ → List (List ℕ) → List (List ℕ)
@@ -21,10 +23,37 @@ with_front-none b (x ∷ s) = of_test (x == b) (parts_of b s)
     of_test false [] = refl
     of_test false (p ∷ ps) = refl
 
--- six words or more have no form
-pub said_of_words-many : (names : Namespace) (a b c d e s : List ℕ) → said_of_words names (a ∷ b ∷ c ∷ d ∷ e ∷ parts_of 32 s) ≡ said.NoForm
-said_of_words-many names a b c d e s = of_parts (parts_of 32 s) (with_front-none 32 s)
+-- a byte in front of the first part stands in front of the whole
+joined-first : (c b : ℕ) (parts : List (List ℕ)) → joined c (with_first b parts) ≡ b ∷ joined c parts
+joined-first c b [] = refl
+joined-first c b (p ∷ []) = refl
+joined-first c b (p ∷ q ∷ ps) = refl
+
+-- the parts of a text with the byte between them are the text
+pub joined-parts : (c : ℕ) (s : List ℕ) → joined c (parts_of c s) ≡ s
+joined-parts c [] = refl
+joined-parts c (b ∷ s) = of_test (b == c) (eqb-true b c) (parts_of c s) (with_front-none c s) (joined-parts c s)
   where
-    of_parts : (ps : List (List ℕ)) → ps ≡ with_front [] ps → said_of_words names (a ∷ b ∷ c ∷ d ∷ e ∷ ps) ≡ said.NoForm
+    of_parts : (ps : List (List ℕ)) → ps ≡ with_front [] ps → joined c ps ≡ s → joined c ([] ∷ ps) ≡ c ∷ s
+    of_parts [] h e = absurd cc
+    of_parts (p ∷ ps) h e = ap (λ t. c ∷ t) e
+
+    of_test : (t : Bool) → (t ≡ true → b ≡ c) → (ps : List (List ℕ)) → ps ≡ with_front [] ps → joined c ps ≡ s → joined c (if t then [] ∷ ps else with_first b ps) ≡ b ∷ s
+    of_test true same ps h e = of_parts ps h e ∙ ap (λ x. x ∷ s) (sym (same refl))
+    of_test false same ps h e = joined-first c b ps ∙ ap (λ t. b ∷ t) e
+
+-- six words or more say what a node is, or nothing
+pub said_of_words-many : (names : Namespace) (two : Bool) (a b c d e s : List ℕ) → said_of_words names two (a ∷ b ∷ c ∷ d ∷ e ∷ parts_of 32 s) ≡ said_of_many a b c d e s
+said_of_words-many names two a b c d e s = of_parts (parts_of 32 s) (with_front-none 32 s) ∙ ap (said_of_many a b c d e) (joined-parts 32 s)
+  where
+    of_parts : (ps : List (List ℕ)) → ps ≡ with_front [] ps → said_of_words names two (a ∷ b ∷ c ∷ d ∷ e ∷ ps) ≡ said_of_many a b c d e (joined 32 ps)
+    of_parts [] h = absurd cc
+    of_parts (p ∷ ps) h = refl
+
+-- three numbers or more are no version
+pub version_of_parts-many : (a b s : List ℕ) → version_of_parts (a ∷ b ∷ parts_of 46 s) ≡ word.NoVersion
+version_of_parts-many a b s = of_parts (parts_of 46 s) (with_front-none 46 s)
+  where
+    of_parts : (ps : List (List ℕ)) → ps ≡ with_front [] ps → version_of_parts (a ∷ b ∷ ps) ≡ word.NoVersion
     of_parts [] h = absurd cc
     of_parts (p ∷ ps) h = refl

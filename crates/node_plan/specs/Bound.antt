@@ -1,21 +1,23 @@
 -- The memory bound of a plan.
-use Rattle.std.specs.Prelude.{ℕ, ◌*◌, ◌/◌, sum_by}
-use Rattle.dsdl_types.specs.Schemas as S
-use Rattle.dsdl_types.specs.Views.{sch}
+use Rattle.std.specs.Prelude.{ℕ, ◌*◌, sum_by}
 use Rattle.node_plan.specs.declared.plan.Plan.{Plan}
 use Rattle.node_plan.specs.declared.plan.Sub.{Sub}
-use Rattle.node_plan.specs.declared.plan.SubShape.{SubShape}
-use Rattle.node_plan.specs.declared.plan.SubShape.TheVariants as shape
+use Rattle.node_plan.specs.declared.services.Service.{Service}
+use Rattle.node_plan.specs.Ports.{PlanPort, extent_of, ports, service_extent}
+pub use Rattle.node_plan.specs.Ports.{extent_of}
 
--- the extent of a subject in bytes
-abbrev pub extent_of : SubShape → ℕ
-extent_of (shape.Raw n) = n
-extent_of (shape.Named id s) = S.extent_of (sch s) / 8
+-- what a port may hold at most, in bytes
+abbrev pub port_bound : PlanPort → ℕ
+port_bound p = p.sources * p.extent
 
 -- what a subscription may hold at most, in bytes
 abbrev pub sub_bound : Sub → ℕ
 sub_bound s = s.sources * extent_of s.shape
 
--- what all subscriptions may hold at most, in bytes
+-- what the requests of a service may hold at most, in bytes
+abbrev pub service_bound : Service → ℕ
+service_bound s = s.sources * service_extent s
+
+-- what all ports of a plan may hold at most, in bytes
 abbrev pub bound_of : Plan → ℕ
-bound_of plan = sum_by sub_bound plan.subs
+bound_of plan = sum_by port_bound (ports plan)

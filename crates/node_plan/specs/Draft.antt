@@ -1,19 +1,42 @@
 -- The plan as far as its lines were read, and what a line makes of it.
-use Rattle.std.specs.Prelude.{ℕ, Bool, true, false, List, [], ◌∷◌, ◌++◌, ◌==◌, ◌&&◌, Option, None, Some, Result, Ok, Err, if◌then◌else◌, is_some, length, nat_le, nat_lt, unwrap_or}
+use Rattle.std.specs.Prelude.{ℕ, Bool, true, false, List, [], ◌∷◌, ◌++◌, ◌==◌, ◌&&◌, Option, None, Some, Result, Ok, Err, if◌then◌else◌, is_some, length, map, nat_le, nat_lt, unwrap_or}
 use Rattle.std.specs.List.{list_any}
 use Rattle.std.specs.Str.{bytes_eq}
 use Rattle.node_plan.specs.declared.draft.Draft.{Draft}
+use Rattle.node_plan.specs.declared.line.PlanVersion.{PlanVersion}
+use Rattle.node_plan.specs.declared.line.PlanVersion.TheVariants as version
 use Rattle.node_plan.specs.declared.line.Said.{Said}
 use Rattle.node_plan.specs.declared.line.Said.TheVariants as said
 use Rattle.node_plan.specs.declared.plan.BusPlan.{BusPlan}
+use Rattle.node_plan.specs.declared.plan.NodeStatus.{NodeStatus}
 use Rattle.node_plan.specs.declared.plan.Plan.{Plan}
 use Rattle.node_plan.specs.declared.plan.PlanWhy.{PlanWhy}
 use Rattle.node_plan.specs.declared.plan.PlanWhy.TheVariants as why
 use Rattle.node_plan.specs.declared.plan.Sub.{Sub}
+use Rattle.node_plan.specs.Info.{blank_info}
 
 -- no line yet
 abbrev pub start : Draft
-start = record { has_version = false; node = None; buses = []; timeout = None; silent = false; subs = [] }
+start = record {
+  version = None;
+  node = None;
+  buses = [];
+  mtu = None;
+  rate = None;
+  timeout = None;
+  silent = false;
+  subs = [];
+  clients = None;
+  status = None;
+  info = None;
+  queue = None;
+}
+
+-- whether the lines are those of version 2
+abbrev pub is_two : Option PlanVersion → Bool
+is_two None = false
+is_two (Some version.One) = false
+is_two (Some version.Two) = true
 
 -- whether a bus has this name
 abbrev pub has_bus : List ℕ → List BusPlan → Bool
@@ -27,10 +50,17 @@ has_subject port subs = list_any (λ s. s.port == port) subs
 abbrev pub once : Bool → Draft → Result Draft PlanWhy
 once stands new = if stands then Err why.Repeated else Ok new
 
+-- the version's line; that of another version is none
+abbrev pub with_version : Draft → Option PlanVersion → PlanVersion → Result Draft PlanWhy
+with_version d None v = Ok (record d { version = Some v })
+with_version d (Some version.One) version.One = Err why.Repeated
+with_version d (Some version.Two) version.Two = Err why.Repeated
+with_version d (Some was) v = Err why.Line
+
 -- a bus behind the others, of which there are at most 3
-abbrev pub with_bus : Draft → List ℕ → Result Draft PlanWhy
-with_bus d name = if nat_le 3 (length d.buses) then Err why.Range
-    else once (has_bus name d.buses) (record d { buses = d.buses ++ (record { name = name; mtu = 8; rate = 4096 }) ∷ [] })
+abbrev pub with_bus : Draft → BusPlan → Result Draft PlanWhy
+with_bus d bus = if nat_le 3 (length d.buses) then Err why.Range
+    else once (has_bus bus.name d.buses) (record d { buses = d.buses ++ bus ∷ [] })
 
 -- a subscription behind the others, of which there are at most 64
 abbrev pub with_sub : Draft → Sub → Result Draft PlanWhy
@@ -42,24 +72,56 @@ abbrev pub without_type : Draft → ℕ → PlanWhy → Result Draft PlanWhy
 without_type d port cause = if nat_le 64 (length d.subs) then Err why.Range
     else (if has_subject port d.subs then Err why.Repeated else Err cause)
 
--- a line behind `plan 1`: range comes before repetition, that before an unknown type, and that
--- before the range of a type's extent
+-- a line behind that of the version: range comes before repetition, that before an unknown type, and
+-- that before the range of a type's extent
 abbrev pub with_line : Draft → Said → Result Draft PlanWhy
 with_line d (said.Node n) = once (is_some d.node) (record d { node = Some n })
-with_line d (said.Bus name) = with_bus d name
+with_line d (said.Bus bus) = with_bus d bus
+with_line d (said.Mtu n) = once (is_some d.mtu) (record d { mtu = Some n })
+with_line d (said.Rate n) = once (is_some d.rate) (record d { rate = Some n })
 with_line d (said.Timeout t) = once (is_some d.timeout) (record d { timeout = Some t })
 with_line d said.Silent = once d.silent (record d { silent = true })
 with_line d (said.Sub s) = with_sub d s
 with_line d (said.UnknownType port) = without_type d port why.UnknownType
 with_line d (said.LongType port) = without_type d port why.Range
+with_line d (said.Clients n) = once (is_some d.clients) (record d { clients = Some n })
+with_line d (said.Status status) = once (is_some d.status) (record d { status = Some status })
+with_line d (said.Info info) = once (is_some d.info) (record d { info = Some info })
+with_line d (said.Queue n) = once (is_some d.queue) (record d { queue = Some n })
 with_line d other = Err why.Range
 
--- a line: `plan 1` is the first that says something
+-- a line: that of the version is the first that says something
 abbrev pub step : Draft → Said → Result Draft PlanWhy
 step d said.NoForm = Err why.Line
 step d said.Nothing = Ok d
-step d said.Version = once d.has_version (record d { has_version = true })
-step d says = if d.has_version then with_line d says else Err why.Line
+step d (said.Version v) = with_version d d.version v
+step d says = if is_some d.version then with_line d says else Err why.Line
+
+-- a bus, where an MTU and a rate that were said count for all buses
+abbrev pub on_bus : Option ℕ → Option ℕ → BusPlan → BusPlan
+on_bus mtu rate bus = record { name = bus.name; mtu = unwrap_or mtu bus.mtu; rate = unwrap_or rate bus.rate }
+
+-- the status of a node of which nothing is said
+abbrev pub no_status : NodeStatus
+no_status = record { health = 0; mode = 0; code = 0 }
+
+-- the plan of a node, with what counts where nothing is said
+abbrev pub plan_with : Draft → ℕ → Plan
+plan_with d node = record {
+  node = node;
+  buses = map (on_bus d.mtu d.rate) d.buses;
+  timeout = unwrap_or d.timeout 2_000_000;
+  silent = d.silent;
+  subs = d.subs;
+  clients = unwrap_or d.clients 4;
+  status = unwrap_or d.status no_status;
+  info = unwrap_or d.info blank_info;
+  queue = unwrap_or d.queue 64;
+}
+
+-- whether the lines are there that must be there, beside `node`
+abbrev pub has_all : Draft → Bool
+has_all d = is_some d.version && nat_lt 0 (length d.buses)
 
 -- the plan, where no line is missing that must be there
 abbrev pub complete : Draft → Option Plan
@@ -67,6 +129,4 @@ complete d = of_node d.node
   where
     of_node : Option ℕ → Option Plan
     of_node None = None
-    of_node (Some node) = if d.has_version && d.silent && nat_lt 0 (length d.buses)
-        then Some (record { node = node; buses = d.buses; timeout = unwrap_or d.timeout 2_000_000; silent = d.silent; subs = d.subs })
-        else None
+    of_node (Some node) = if has_all d then Some (plan_with d node) else None

@@ -1,5 +1,5 @@
 -- What holds of each plan that a text gives.
-use Rattle.std.specs.Prelude.{◌≡◌, ◌≢◌, ◌≤◌, ◌<◌, true, length, All, AllPairs, IsTrue}
+use Rattle.std.specs.Prelude.{◌≡◌, ◌≢◌, ◌≤◌, ◌<◌, ◌⊎◌, ℕ, [], length, All, AllPairs, IsTrue}
 use Rattle.std.specs.Option.{ForSome}
 use Rattle.dsdl_types.specs.Definitions.{IsType}
 use Rattle.node_plan.specs.declared.draft.Draft.{Draft}
@@ -8,15 +8,40 @@ use Rattle.node_plan.specs.declared.plan.Plan.{Plan}
 use Rattle.node_plan.specs.declared.plan.Sub.{Sub}
 use Rattle.node_plan.specs.declared.plan.SubShape.{SubShape}
 use Rattle.node_plan.specs.declared.plan.SubShape.TheVariants as shape
-use Rattle.node_plan.specs.Bound.{extent_of}
+use Rattle.std_types.specs.Node.{FitsNodeInfo}
+use Rattle.std_types.specs.declared.node.NodeInfo.{NodeInfo}
+use Rattle.node_plan.specs.declared.plan.NodeStatus.{NodeStatus}
+use Rattle.node_plan.specs.Ports.{extent_of}
 use Rattle.node_plan.specs.Names.{is_bus_name}
 
--- a bus of a plan, of which frames carry 8 bytes, and 4,096 frames are sent in a second
+-- frames carry at most 8 bytes, or 64
+abbrev pub IsMtu : ℕ → Type 0
+IsMtu n = (n ≡ 8) ⊎ (n ≡ 64)
+
+-- from 1 to 4,096 frames leave the queue of a bus after a step
+abbrev pub IsRate : ℕ → Type 0
+IsRate n = (1 ≤ n) × (n ≤ 4096)
+
+-- a bus in its ranges
 pub record IsBus (bus : BusPlan) : Type 0 where
   pub some_byte : 1 ≤ length bus.name
   pub bytes : IsTrue (is_bus_name bus.name)
-  pub mtu : bus.mtu ≡ 8
-  pub rate : bus.rate ≡ 4096
+  pub mtu : IsMtu bus.mtu
+  pub some_rate : 1 ≤ bus.rate
+  pub low_rate : bus.rate ≤ 4096
+
+-- a status in its ranges
+pub record IsStatus (status : NodeStatus) : Type 0 where
+  pub health : status.health ≤ 3
+  pub mode : status.mode ≤ 3
+  pub code : status.code < 256
+
+-- what a node says that it is: the protocol is 1.0, and there is neither a CRC of the software nor a certificate
+pub record IsInfo (info : NodeInfo) : Type 0 where
+  pub fits : FitsNodeInfo info
+  pub protocol : info.protocol_version ≡ record { major = 1; minor = 0 }
+  pub no_crc : info.software_image_crc ≡ []
+  pub no_certificate : info.certificate_of_authenticity ≡ []
 
 -- a type is a composite that keeps the rules
 abbrev pub IsShape : SubShape → Type 0
@@ -40,10 +65,15 @@ pub record IsPlan (plan : Plan) : Type 0 where
   pub names : AllPairs (λ a b. a.name ≢ b.name) plan.buses
   pub some_timeout : 1 ≤ plan.timeout
   pub short_timeout : plan.timeout ≤ 60_000_000
-  pub silent : plan.silent ≡ true
   pub few_subs : length plan.subs ≤ 64
   pub subs : All IsSub plan.subs
   pub subjects : AllPairs (λ a b. a.port ≢ b.port) plan.subs
+  pub some_client : 1 ≤ plan.clients
+  pub few_clients : plan.clients ≤ 128
+  pub status : IsStatus plan.status
+  pub info : IsInfo plan.info
+  pub some_place : 1 ≤ plan.queue
+  pub few_places : plan.queue ≤ 4096
 
 -- what holds of the plan as far as its lines were read
 pub record IsDraft (draft : Draft) : Type 0 where
@@ -51,10 +81,16 @@ pub record IsDraft (draft : Draft) : Type 0 where
   pub few_buses : length draft.buses ≤ 3
   pub buses : All IsBus draft.buses
   pub names : AllPairs (λ a b. a.name ≢ b.name) draft.buses
+  pub mtu : ForSome draft.mtu IsMtu
+  pub rate : ForSome draft.rate IsRate
   pub timeout : ForSome draft.timeout (λ t. (1 ≤ t) × (t ≤ 60_000_000))
   pub few_subs : length draft.subs ≤ 64
   pub subs : All IsSub draft.subs
   pub subjects : AllPairs (λ a b. a.port ≢ b.port) draft.subs
+  pub clients : ForSome draft.clients (λ n. (1 ≤ n) × (n ≤ 128))
+  pub status : ForSome draft.status IsStatus
+  pub info : ForSome draft.info IsInfo
+  pub queue : ForSome draft.queue (λ n. (1 ≤ n) × (n ≤ 4096))
 
 -- the types of a plan's subscriptions keep the rules
 abbrev pub TypesKeepRules : Plan → Type 0

@@ -1,10 +1,13 @@
 pub mod Words
 pub mod Names
 pub mod Types
+pub mod Info
 pub mod Line
+pub mod Limit
 pub mod Draft
 pub mod Plan
 pub mod Answers
 pub mod IsPlan
+pub mod Ports
 pub mod Bound
 pub mod Laws

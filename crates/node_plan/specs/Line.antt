@@ -1,22 +1,25 @@
 -- What a line of a plan says.
-use Rattle.std.specs.Prelude.{ℕ, List, [], ◌∷◌, ◌==◌, ◌≤◌, ◌<◌, IsTrue, Option, Some, None, if◌then◌else◌, length, codes, nat_lt}
+use Rattle.std.specs.Prelude.{ℕ, Bool, List, [], ◌∷◌, ◌==◌, ◌&&◌, ◌≤◌, ◌<◌, Option, Some, None, if◌then◌else◌, length, codes, nat_lt}
 use Rattle.std.specs.Str.{bytes_eq}
 use Rattle.dsdl_types.specs.declared.namespace.Namespace.{Namespace}
+use Rattle.node_plan.specs.declared.line.PlanVersion.TheVariants as version
 use Rattle.node_plan.specs.declared.line.Said.{Said}
 use Rattle.node_plan.specs.declared.line.Said.TheVariants as said
 use Rattle.node_plan.specs.declared.plan.SubShape.{SubShape}
 use Rattle.node_plan.specs.declared.plan.SubShape.TheVariants as shape
 use Rattle.node_plan.specs.declared.words.Number.{Number}
 use Rattle.node_plan.specs.declared.words.Number.TheVariants as number
-use Rattle.node_plan.specs.Bound.{extent_of}
-use Rattle.node_plan.specs.IsPlan.{IsSub}
+use Rattle.node_plan.specs.Info.{said_of_info, version_in}
+use Rattle.node_plan.specs.IsPlan.{IsBus, IsInfo, IsMtu, IsRate, IsStatus, IsSub}
 use Rattle.node_plan.specs.Names.{is_bus_name}
+use Rattle.node_plan.specs.Ports.{extent_of}
 use Rattle.node_plan.specs.Types.{shape_named}
-use Rattle.node_plan.specs.Words.{number_in, words_of}
+use Rattle.node_plan.specs.Words.{joined, mtu_in, number_in, words_of}
 
--- `plan 1`: there is no other version
+-- `plan 1` and `plan 2`: there is no other version
 abbrev pub said_of_version : List ℕ → Said
-said_of_version word = if bytes_eq word (codes "1") then said.Version else said.NoForm
+said_of_version word = if bytes_eq word (codes "1") then said.Version version.One
+    else (if bytes_eq word (codes "2") then said.Version version.Two else said.NoForm)
 
 -- `node N`
 abbrev pub said_of_node : Number → Said
@@ -24,16 +27,60 @@ said_of_node number.NoNumber = said.NoForm
 said_of_node number.Outside = said.Outside
 said_of_node (number.Within n) = said.Node n
 
--- `bus NAME`; an empty word is none
-abbrev pub said_of_bus : List ℕ → Said
-said_of_bus [] = said.NoForm
-said_of_bus (b ∷ s) = if is_bus_name (b ∷ s) then said.Bus (b ∷ s) else said.Outside
-
 -- `timeout N`
 abbrev pub said_of_timeout : Number → Said
 said_of_timeout number.NoNumber = said.NoForm
 said_of_timeout number.Outside = said.Outside
 said_of_timeout (number.Within n) = said.Timeout n
+
+-- `clients N`
+abbrev pub said_of_clients : Number → Said
+said_of_clients number.NoNumber = said.NoForm
+said_of_clients number.Outside = said.Outside
+said_of_clients (number.Within n) = said.Clients n
+
+-- `queue N`
+abbrev pub said_of_queue : Number → Said
+said_of_queue number.NoNumber = said.NoForm
+said_of_queue number.Outside = said.Outside
+said_of_queue (number.Within n) = said.Queue n
+
+-- `mtu N`
+abbrev pub said_of_mtu : Number → Said
+said_of_mtu number.NoNumber = said.NoForm
+said_of_mtu number.Outside = said.Outside
+said_of_mtu (number.Within n) = said.Mtu n
+
+-- `rate N`
+abbrev pub said_of_rate : Number → Said
+said_of_rate number.NoNumber = said.NoForm
+said_of_rate number.Outside = said.Outside
+said_of_rate (number.Within n) = said.Rate n
+
+-- `status HEALTH MODE CODE`
+abbrev pub said_of_status : Number → Number → Number → Said
+said_of_status number.NoNumber mode code = said.NoForm
+said_of_status health number.NoNumber code = said.NoForm
+said_of_status health mode number.NoNumber = said.NoForm
+said_of_status (number.Within h) (number.Within m) (number.Within c) =
+    said.Status (record { health = h; mode = m; code = c })
+said_of_status health mode code = said.Outside
+
+-- a bus with a name
+abbrev pub said_of_name : List ℕ → ℕ → ℕ → Said
+said_of_name name mtu rate =
+    if is_bus_name name then said.Bus (record { name = name; mtu = mtu; rate = rate }) else said.Outside
+
+-- `bus NAME MTU RATE`
+abbrev pub said_of_numbers : List ℕ → Number → Number → Said
+said_of_numbers name number.NoNumber rate = said.NoForm
+said_of_numbers name mtu number.NoNumber = said.NoForm
+said_of_numbers name (number.Within m) (number.Within r) = said_of_name name m r
+said_of_numbers name mtu rate = said.Outside
+
+-- an empty word is no name
+abbrev pub said_of_bus : List ℕ → Number → Number → Said
+said_of_bus name mtu rate = if length name == 0 then said.NoForm else said_of_numbers name mtu rate
 
 -- a subject, sources and what a type stands for, if any; no extent is above 65,536 bytes
 abbrev pub said_of_shape : ℕ → ℕ → Option SubShape → Said
@@ -48,6 +95,11 @@ said_of_sub port number.NoNumber type = said.NoForm
 said_of_sub (number.Within p) (number.Within s) type = said_of_shape p s type
 said_of_sub port sources type = said.Outside
 
+-- a subscription to a type, whose name is not empty
+abbrev pub said_of_type : Namespace → List ℕ → List ℕ → List ℕ → Said
+said_of_type names port sources name = if length name == 0 then said.NoForm
+    else said_of_sub (number_in 0 8191 port) (number_in 1 128 sources) (shape_named names name)
+
 -- `sub PORT SOURCES raw N`
 abbrev pub said_of_raw : Number → Number → Number → Said
 said_of_raw number.NoNumber sources extent = said.NoForm
@@ -61,22 +113,32 @@ said_of_raw port sources extent = said.Outside
 abbrev pub said_of_one : List ℕ → Said
 said_of_one word = if bytes_eq word (codes "silent") then said.Silent else said.NoForm
 
--- `plan`, `node`, `bus` and `timeout` with what they set
-abbrev pub said_of_two : List ℕ → List ℕ → Said
-said_of_two word value =
+-- `bus`, `mtu` and `rate` of version 1, where the last two count for all buses
+abbrev pub said_of_all : List ℕ → List ℕ → Said
+said_of_all word value =
+    if bytes_eq word (codes "bus") then said_of_bus value (number.Within 8) (number.Within 4096)
+    else (if bytes_eq word (codes "mtu") then said_of_mtu (mtu_in value)
+    else (if bytes_eq word (codes "rate") then said_of_rate (number_in 1 4096 value)
+    else said.NoForm))
+
+-- a word and what it sets
+abbrev pub said_of_two : Bool → List ℕ → List ℕ → Said
+said_of_two two word value =
     if bytes_eq word (codes "plan") then said_of_version value
     else (if bytes_eq word (codes "node") then said_of_node (number_in 0 127 value)
-    else (if bytes_eq word (codes "bus") then said_of_bus value
     else (if bytes_eq word (codes "timeout") then said_of_timeout (number_in 1 60_000_000 value)
-    else said.NoForm)))
+    else (if bytes_eq word (codes "clients") then said_of_clients (number_in 1 128 value)
+    else (if bytes_eq word (codes "queue") then said_of_queue (number_in 1 4096 value)
+    else (if two then said.NoForm else said_of_all word value)))))
 
--- a subscription to a type, whose name is not empty
-abbrev pub said_of_four : Namespace → List ℕ → List ℕ → List ℕ → List ℕ → Said
-said_of_four names word port sources name =
-    if bytes_eq word (codes "sub")
-    then (if length name == 0 then said.NoForm
-    else said_of_sub (number_in 0 8191 port) (number_in 1 128 sources) (shape_named names name))
-    else said.NoForm
+-- a subscription to a type, a status, and a bus of version 2
+abbrev pub said_of_four : Namespace → Bool → List ℕ → List ℕ → List ℕ → List ℕ → Said
+said_of_four names two word a b c =
+    if bytes_eq word (codes "sub") then said_of_type names a b c
+    else (if bytes_eq word (codes "status")
+    then said_of_status (number_in 0 3 a) (number_in 0 3 b) (number_in 0 255 c)
+    else (if two && bytes_eq word (codes "bus") then said_of_bus a (mtu_in b) (number_in 1 4096 c)
+    else said.NoForm))
 
 -- a subscription to bytes
 abbrev pub said_of_five : List ℕ → List ℕ → List ℕ → List ℕ → List ℕ → Said
@@ -87,23 +149,37 @@ said_of_five word port sources raw extent =
     else said.NoForm)
     else said.NoForm
 
--- no line has three words, or more than five
-abbrev pub said_of_words : Namespace → List (List ℕ) → Said
-said_of_words names (a ∷ []) = said_of_one a
-said_of_words names (a ∷ b ∷ []) = said_of_two a b
-said_of_words names (a ∷ b ∷ c ∷ d ∷ []) = said_of_four names a b c d
-said_of_words names (a ∷ b ∷ c ∷ d ∷ e ∷ []) = said_of_five a b c d e
-said_of_words names words = said.NoForm
+-- what a node is
+abbrev pub said_of_many : List ℕ → List ℕ → List ℕ → List ℕ → List ℕ → List ℕ → Said
+said_of_many word hardware software revision unique_id name =
+    if bytes_eq word (codes "info")
+    then said_of_info (version_in hardware) (version_in software) revision unique_id name
+    else said.NoForm
 
--- an empty line says nothing, and none that begins with `#`
-abbrev pub said_of : Namespace → List ℕ → Said
-said_of names [] = said.Nothing
-said_of names (b ∷ s) = if b == 35 then said.Nothing else said_of_words names (words_of (b ∷ s))
+-- no line has three words; the name of a node is all that stands behind the fifth
+abbrev pub said_of_words : Namespace → Bool → List (List ℕ) → Said
+said_of_words names two (a ∷ []) = said_of_one a
+said_of_words names two (a ∷ b ∷ []) = said_of_two two a b
+said_of_words names two (a ∷ b ∷ c ∷ d ∷ []) = said_of_four names two a b c d
+said_of_words names two (a ∷ b ∷ c ∷ d ∷ e ∷ []) = said_of_five a b c d e
+said_of_words names two (a ∷ b ∷ c ∷ d ∷ e ∷ f ∷ more) = said_of_many a b c d e (joined 32 (f ∷ more))
+said_of_words names two words = said.NoForm
+
+-- a line, of version 2 or not; an empty line says nothing, and none that begins with `#`
+abbrev pub said_of : Namespace → Bool → List ℕ → Said
+said_of names two [] = said.Nothing
+said_of names two (b ∷ s) = if b == 35 then said.Nothing else said_of_words names two (words_of (b ∷ s))
 
 -- what is said lies in its ranges
 abbrev pub IsSaid : Said → Type 0
 IsSaid (said.Node n) = n < 128
-IsSaid (said.Bus name) = (1 ≤ length name) × IsTrue (is_bus_name name)
+IsSaid (said.Bus bus) = IsBus bus
+IsSaid (said.Mtu n) = IsMtu n
+IsSaid (said.Rate n) = IsRate n
 IsSaid (said.Timeout t) = (1 ≤ t) × (t ≤ 60_000_000)
 IsSaid (said.Sub s) = IsSub s
+IsSaid (said.Clients n) = (1 ≤ n) × (n ≤ 128)
+IsSaid (said.Status status) = IsStatus status
+IsSaid (said.Info info) = IsInfo info
+IsSaid (said.Queue n) = (1 ≤ n) × (n ≤ 4096)
 IsSaid other = Unit {0}

@@ -1,5 +1,5 @@
 -- The plan of a text.
-use Rattle.std.specs.Prelude.{ℕ, List, [], ◌∷◌, ◌+◌, ◌^◌, Option, None, Some, Result, Ok, Err, if◌then◌else◌, length, nat_lt, take}
+use Rattle.std.specs.Prelude.{ℕ, List, [], ◌∷◌, ◌+◌, Option, None, Some, Result, Ok, Err, if◌then◌else◌, length, nat_lt, take}
 use Rattle.dsdl_types.specs.declared.namespace.Namespace.{Namespace}
 use Rattle.node_plan.specs.declared.draft.Draft.{Draft}
 use Rattle.node_plan.specs.declared.plan.Plan.{Plan}
@@ -7,7 +7,8 @@ use Rattle.node_plan.specs.declared.plan.PlanWhy.{PlanWhy}
 use Rattle.node_plan.specs.declared.plan.PlanWhy.TheVariants as why
 use Rattle.node_plan.specs.Words.{parts_of}
 use Rattle.node_plan.specs.Line.{said_of}
-use Rattle.node_plan.specs.Draft.{start, step, complete}
+use Rattle.node_plan.specs.Draft.{start, step, complete, is_two}
+use Rattle.node_plan.specs.Limit.{limit_of}
 
 -- a plan, or the number of the line that is refused and why
 pub data PlanIs : Type 0 where
@@ -31,7 +32,7 @@ followed (Ok d) n others = others d
 abbrev pub last_line : Namespace → Draft → ℕ → List ℕ → PlanIs
 last_line names d n [] = finished d n
 last_line names d n (b ∷ s) =
-    followed (step d (said_of names (b ∷ s))) n (λ new. finished new (n + 1))
+    followed (step d (said_of names (is_two d.version) (b ∷ s))) n (λ new. finished new (n + 1))
 
 -- a line that reaches past the greatest number of bytes
 abbrev pub long_line : Draft → ℕ → List ℕ → PlanIs
@@ -43,7 +44,7 @@ abbrev pub plan_of_parts : Namespace → (Draft → ℕ → List ℕ → PlanIs)
 plan_of_parts names last d n [] = last d n []
 plan_of_parts names last d n (part ∷ []) = last d n part
 plan_of_parts names last d n (line ∷ part ∷ parts) =
-    followed (step d (said_of names line)) n
+    followed (step d (said_of names (is_two d.version) line)) n
     (λ new. plan_of_parts names last new (n + 1) (part ∷ parts))
 
 -- the plan of a text of which so many bytes count
@@ -54,4 +55,4 @@ plan_within names most text =
 
 -- the plan of a text, with the types of a namespace
 abbrev pub plan_of : Namespace → List ℕ → PlanIs
-plan_of names text = plan_within names (2 ^ 20) text
+plan_of names text = plan_within names (limit_of text) text

@@ -1,5 +1,5 @@
 -- Lines, words and numbers of a text.
-use Rattle.std.specs.Prelude.{ℕ, List, [], ◌∷◌, ◌+◌, ◌*◌, ◌-◌, ◌≤◌, ◌==◌, ◌||◌, Option, Some, None, if◌then◌else◌, nat_lt}
+use Rattle.std.specs.Prelude.{◌≡◌, ◌⊎◌, ℕ, List, [], ◌∷◌, ◌++◌, ◌+◌, ◌*◌, ◌-◌, ◌≤◌, ◌==◌, ◌||◌, Option, Some, None, if◌then◌else◌, nat_lt}
 use Rattle.node_plan.specs.declared.words.Number.{Number}
 use Rattle.node_plan.specs.declared.words.Number.TheVariants as number
 
@@ -41,3 +41,23 @@ number_in low high word = ranged low high (number_of word)
 abbrev pub IsWithin : ℕ → ℕ → Number → Type 0
 IsWithin low high (number.Within n) = (low ≤ n) × (n ≤ high)
 IsWithin low high other = Unit {0}
+
+-- a number, where an MTU stands: 8 or 64
+abbrev pub mtu_of : Number → Number
+mtu_of (number.Within n) = if n == 8 || n == 64 then number.Within n else number.Outside
+mtu_of other = other
+
+-- a word, where an MTU stands
+abbrev pub mtu_in : List ℕ → Number
+mtu_in word = mtu_of (number_in 0 64 word)
+
+-- a number that was found is an MTU
+abbrev pub IsMtuWord : Number → Type 0
+IsMtuWord (number.Within n) = (n ≡ 8) ⊎ (n ≡ 64)
+IsMtuWord other = Unit {0}
+
+-- parts with a byte c between each two
+abbrev pub joined : ℕ → List (List ℕ) → List ℕ
+joined c [] = []
+joined c (part ∷ []) = part
+joined c (part ∷ next ∷ parts) = part ++ c ∷ joined c (next ∷ parts)

@@ -1,34 +1,52 @@
 //! The plan as far as its lines were read.
-ghost use Rattle.std.specs.Prelude.{◌≡◌};
-ghost use Rattle.node_plan.specs.Draft.{has_bus, has_subject};
+ghost use Rattle.std.specs.Prelude.{◌≡◌, map, unwrap_or};
+ghost use Rattle.node_plan.specs.Info.{blank_info};
+ghost use Rattle.node_plan.specs.Draft.{has_bus, has_subject, on_bus};
 
-use crate::line::Said;
-use crate::plan::{BusPlan, Plan, PlanError, PlanWhy, Sub};
+use crate::info::blank_info;
+use crate::line::{PlanVersion, Said};
+use crate::plan::{BusPlan, NodeStatus, Plan, PlanError, PlanWhy, Sub};
 use cy_bits::{BusName, List, ShortList};
 use std::alloc::Global;
+use std_types::node::NodeInfo;
 
 const MAX_BUSES: usize = 3;
 
 const MAX_SUBS: usize = 64;
 
+/// The status of a node of which nothing is said.
+const NO_STATUS: NodeStatus = NodeStatus {
+    health: 0,
+    mode: 0,
+    code: 0,
+};
+
 /// What the lines said so far.
 #[derive(Drop)]
 pub struct Draft {
-    /// Whether `plan 1` was there.
-    pub has_version: bool,
+    /// The version of the lines, where `plan 1` or `plan 2` was there.
+    pub version: Option<PlanVersion>,
     pub node: Option<u8>,
     pub buses: ShortList<BusPlan, 3>,
+    /// The MTU of all buses, in version 1.
+    pub mtu: Option<u8>,
+    /// The rate of all buses, in version 1.
+    pub rate: Option<u32>,
     pub timeout: Option<u64>,
     pub silent: bool,
     pub subs: List<Sub>,
+    pub clients: Option<u16>,
+    pub status: Option<NodeStatus>,
+    pub info: Option<NodeInfo>,
+    pub queue: Option<u32>,
 }
 
 impl Draft {
     ghost use Rattle.std.specs.Prelude.{◌≡◌, ◌<◌, ◌≤◌, IsTrue, IfSome, is_some, length, true};
     ghost use Rattle.node_plan.specs.Names.{is_bus_name};
     ghost use Rattle.node_plan.specs.Answers.{IsStep};
-    ghost use Rattle.node_plan.specs.Draft.{start, complete, once, with_bus, with_sub, without_type, with_line, step};
-    ghost use Rattle.node_plan.specs.IsPlan.{IsDraft, IsPlan, IsSub};
+    ghost use Rattle.node_plan.specs.Draft.{start, complete, is_two, once, plan_with, with_bus, with_sub, with_version, without_type, with_line, step};
+    ghost use Rattle.node_plan.specs.IsPlan.{IsBus, IsDraft, IsInfo, IsMtu, IsPlan, IsRate, IsStatus, IsSub};
     ghost use Rattle.node_plan.specs.Line.{IsSaid};
 
     /// Nothing was said yet.
@@ -37,28 +55,45 @@ impl Draft {
         ensures sound { IsDraft result }
     {
         Draft {
-            has_version: false,
+            version: None,
             node: None,
             buses: ShortList::new(),
+            mtu: None,
+            rate: None,
             timeout: None,
             silent: false,
             subs: List::empty(alloc),
+            clients: None,
+            status: None,
+            info: None,
+            queue: None,
         }
     }
 
-    fn set_version(&mut self, n: u32) -> Result<(), PlanError>
+    /// Whether the lines are those of version 2.
+    pub fn is_two(&self) -> bool
+        ensures { result ≡ is_two self.now.version }
+    {
+        matches!(self.version, Some(PlanVersion::Two))
+    }
+
+    fn set_version(&mut self, n: u32, version: PlanVersion) -> Result<(), PlanError>
         requires { IsDraft self.old }
-        ensures value { IsStep (once self.old.has_version (record self.old { has_version = true })) n self.new result }
+        ensures value { IsStep (with_version self.old self.old.version version) n self.new result }
         ensures sound { IsDraft self.new }
     {
-        if self.has_version {
-            return Err(PlanError::Refused {
+        match (self.version, version) {
+            (None, _) => {
+                self.version = Some(version);
+                Ok(())
+            }
+            (Some(PlanVersion::One), PlanVersion::One) => Err(repeated(n)),
+            (Some(PlanVersion::Two), PlanVersion::Two) => Err(repeated(n)),
+            _ => Err(PlanError::Refused {
                 n,
-                why: PlanWhy::Repeated,
-            });
+                why: PlanWhy::Line,
+            }),
         }
-        self.has_version = true;
-        Ok(())
     }
 
     fn set_node(&mut self, n: u32, node: u8) -> Result<(), PlanError>
@@ -68,12 +103,35 @@ impl Draft {
         ensures sound { IsDraft self.new }
     {
         if self.node.is_some() {
-            return Err(PlanError::Refused {
-                n,
-                why: PlanWhy::Repeated,
-            });
+            return Err(repeated(n));
         }
         self.node = Some(node);
+        Ok(())
+    }
+
+    fn set_mtu(&mut self, n: u32, mtu: u8) -> Result<(), PlanError>
+        requires sound { IsDraft self.old }
+        requires fits { IsMtu mtu }
+        ensures value { IsStep (once (is_some self.old.mtu) (record self.old { mtu = Some mtu })) n self.new result }
+        ensures sound { IsDraft self.new }
+    {
+        if self.mtu.is_some() {
+            return Err(repeated(n));
+        }
+        self.mtu = Some(mtu);
+        Ok(())
+    }
+
+    fn set_rate(&mut self, n: u32, rate: u32) -> Result<(), PlanError>
+        requires sound { IsDraft self.old }
+        requires fits { IsRate rate }
+        ensures value { IsStep (once (is_some self.old.rate) (record self.old { rate = Some rate })) n self.new result }
+        ensures sound { IsDraft self.new }
+    {
+        if self.rate.is_some() {
+            return Err(repeated(n));
+        }
+        self.rate = Some(rate);
         Ok(())
     }
 
@@ -85,12 +143,63 @@ impl Draft {
         ensures sound { IsDraft self.new }
     {
         if self.timeout.is_some() {
-            return Err(PlanError::Refused {
-                n,
-                why: PlanWhy::Repeated,
-            });
+            return Err(repeated(n));
         }
         self.timeout = Some(timeout);
+        Ok(())
+    }
+
+    fn set_clients(&mut self, n: u32, clients: u16) -> Result<(), PlanError>
+        requires sound { IsDraft self.old }
+        requires low { 1 ≤ clients }
+        requires high { clients ≤ 128 }
+        ensures value { IsStep (once (is_some self.old.clients) (record self.old { clients = Some clients })) n self.new result }
+        ensures sound { IsDraft self.new }
+    {
+        if self.clients.is_some() {
+            return Err(repeated(n));
+        }
+        self.clients = Some(clients);
+        Ok(())
+    }
+
+    fn set_status(&mut self, n: u32, status: NodeStatus) -> Result<(), PlanError>
+        requires sound { IsDraft self.old }
+        requires fits { IsStatus status }
+        ensures value { IsStep (once (is_some self.old.status) (record self.old { status = Some status })) n self.new result }
+        ensures sound { IsDraft self.new }
+    {
+        if self.status.is_some() {
+            return Err(repeated(n));
+        }
+        self.status = Some(status);
+        Ok(())
+    }
+
+    fn set_info(&mut self, n: u32, info: NodeInfo) -> Result<(), PlanError>
+        requires sound { IsDraft self.old }
+        requires fits { IsInfo info }
+        ensures value { IsStep (once (is_some self.old.info) (record self.old { info = Some info })) n self.new result }
+        ensures sound { IsDraft self.new }
+    {
+        if self.info.is_some() {
+            return Err(repeated(n));
+        }
+        self.info = Some(info);
+        Ok(())
+    }
+
+    fn set_queue(&mut self, n: u32, queue: u32) -> Result<(), PlanError>
+        requires sound { IsDraft self.old }
+        requires low { 1 ≤ queue }
+        requires high { queue ≤ 4096 }
+        ensures value { IsStep (once (is_some self.old.queue) (record self.old { queue = Some queue })) n self.new result }
+        ensures sound { IsDraft self.new }
+    {
+        if self.queue.is_some() {
+            return Err(repeated(n));
+        }
+        self.queue = Some(queue);
         Ok(())
     }
 
@@ -100,20 +209,16 @@ impl Draft {
         ensures sound { IsDraft self.new }
     {
         if self.silent {
-            return Err(PlanError::Refused {
-                n,
-                why: PlanWhy::Repeated,
-            });
+            return Err(repeated(n));
         }
         self.silent = true;
         Ok(())
     }
 
-    fn add_bus(&mut self, n: u32, name: BusName) -> Result<(), PlanError>
+    fn add_bus(&mut self, n: u32, bus: BusPlan) -> Result<(), PlanError>
         requires sound { IsDraft self.old }
-        requires some_byte { 1 ≤ length name }
-        requires bytes { IsTrue (is_bus_name name) }
-        ensures value { IsStep (with_bus self.old name) n self.new result }
+        requires fits { IsBus bus }
+        ensures value { IsStep (with_bus self.old bus) n self.new result }
         ensures sound { IsDraft self.new }
     {
         if self.buses.len() >= MAX_BUSES {
@@ -122,17 +227,10 @@ impl Draft {
                 why: PlanWhy::Range,
             });
         }
-        if has_bus(self.buses.as_slice(), &name) {
-            return Err(PlanError::Refused {
-                n,
-                why: PlanWhy::Repeated,
-            });
+        if has_bus(self.buses.as_slice(), &bus.name) {
+            return Err(repeated(n));
         }
-        self.buses.push(BusPlan {
-            name,
-            mtu: 8,
-            rate: 4096,
-        });
+        self.buses.push(bus);
         Ok(())
     }
 
@@ -149,10 +247,7 @@ impl Draft {
             });
         }
         if has_subject(self.subs.as_slice(), sub.port) {
-            return Err(PlanError::Refused {
-                n,
-                why: PlanWhy::Repeated,
-            });
+            return Err(repeated(n));
         }
         match self.subs.push(sub) {
             Ok(()) => Ok(()),
@@ -173,7 +268,7 @@ impl Draft {
         }
     }
 
-    /// Takes what line `n` says, behind `plan 1`.
+    /// Takes what line `n` says, behind the line of the version.
     fn take_behind(&mut self, n: u32, said: Said) -> Result<(), PlanError>
         requires sound { IsDraft self.old }
         requires fits { IsSaid said }
@@ -182,10 +277,16 @@ impl Draft {
     {
         match said {
             Said::Node(node) => self.set_node(n, node),
-            Said::Bus(name) => self.add_bus(n, name),
+            Said::Bus(bus) => self.add_bus(n, bus),
+            Said::Mtu(mtu) => self.set_mtu(n, mtu),
+            Said::Rate(rate) => self.set_rate(n, rate),
             Said::Timeout(timeout) => self.set_timeout(n, timeout),
             Said::Silent => self.set_silent(n),
             Said::Sub(sub) => self.add_sub(n, sub),
+            Said::Clients(clients) => self.set_clients(n, clients),
+            Said::Status(status) => self.set_status(n, status),
+            Said::Info(info) => self.set_info(n, info),
+            Said::Queue(queue) => self.set_queue(n, queue),
             Said::UnknownType { port } => Err(PlanError::Refused {
                 n,
                 why: self.why_no_type(port, PlanWhy::UnknownType),
@@ -214,9 +315,9 @@ impl Draft {
                 why: PlanWhy::Line,
             }),
             Said::Nothing => Ok(()),
-            Said::Version => self.set_version(n),
+            Said::Version(version) => self.set_version(n, version),
             _ => {
-                if !self.has_version {
+                if self.version.is_none() {
                     return Err(PlanError::Refused {
                         n,
                         why: PlanWhy::Line,
@@ -227,32 +328,98 @@ impl Draft {
         }
     }
 
+    /// The plan of this node, with what counts where nothing is said.
+    fn plan_with(self, alloc: Global, node: u8) -> Plan
+        ensures { result ≡ plan_with self node }
+    {
+        let Draft {
+            version: _,
+            node: _,
+            buses,
+            mtu,
+            rate,
+            timeout,
+            silent,
+            subs,
+            clients,
+            status,
+            info,
+            queue,
+        } = self;
+        Plan {
+            node,
+            buses: on_buses(&buses, mtu, rate),
+            timeout: timeout.unwrap_or(2_000_000),
+            silent,
+            subs,
+            clients: clients.unwrap_or(4),
+            status: status.unwrap_or(NO_STATUS),
+            info: info_or_blank(alloc, info),
+            queue: queue.unwrap_or(64),
+        }
+    }
+
     /// The plan, where no line is missing that must be there.
-    pub fn finish(self) -> Option<Plan>
+    pub fn finish(self, alloc: Global) -> Option<Plan>
         requires { IsDraft self }
         ensures value { result ≡ complete self }
         ensures sound { IfSome result IsPlan }
     {
-        let Draft {
-            has_version,
-            node,
-            buses,
-            timeout,
-            silent,
-            subs,
-        } = self;
-        let node = node?;
-        if !has_version || !silent || buses.is_empty() {
+        let node = self.node?;
+        if self.version.is_none() || self.buses.is_empty() {
             return None;
         }
-        Some(Plan {
-            node,
-            buses,
-            timeout: timeout.unwrap_or(2_000_000),
-            silent,
-            subs,
-        })
+        Some(self.plan_with(alloc, node))
     }
+}
+
+/// What the node is, where it was said.
+fn info_or_blank(alloc: Global, info: Option<NodeInfo>) -> NodeInfo
+    ensures { result ≡ unwrap_or info blank_info }
+{
+    match info {
+        Some(info) => info,
+        None => blank_info(alloc),
+    }
+}
+
+/// That line `n` says again what may be said once.
+fn repeated(n: u32) -> PlanError
+    ensures { result ≡ PlanError.Refused n PlanWhy.Repeated }
+{
+    PlanError::Refused {
+        n,
+        why: PlanWhy::Repeated,
+    }
+}
+
+/// The bus, where an MTU and a rate that were said count for all buses.
+fn on_bus(bus: &BusPlan, mtu: Option<u8>, rate: Option<u32>) -> BusPlan
+    ensures { result ≡ on_bus mtu rate bus.now }
+{
+    let Some(name) = BusName::new(bus.name.as_str()) else {
+        unreachable!()
+    };
+    BusPlan {
+        name,
+        mtu: mtu.unwrap_or(bus.mtu),
+        rate: rate.unwrap_or(bus.rate),
+    }
+}
+
+/// The buses, where an MTU and a rate that were said count for all of them.
+fn on_buses(
+    buses: &ShortList<BusPlan, 3>,
+    mtu: Option<u8>,
+    rate: Option<u32>,
+) -> ShortList<BusPlan, 3>
+    ensures { result ≡ map (on_bus mtu rate) buses.now }
+{
+    let mut made = ShortList::new();
+    for bus in buses.as_slice() {
+        made.push(on_bus(bus, mtu, rate));
+    }
+    made
 }
 
 fn has_bus(buses: &[BusPlan], name: &BusName) -> bool

@@ -1,14 +1,24 @@
-//! The plan of a node: which node it is, its buses, and the subjects it subscribes to
-//! with their types.
+//! The plan of a node: which node it is, its buses, the subjects it subscribes to with their types,
+//! and what it says of itself.
 #![tactic(auto)]
 
+mod bus;
 mod draft;
+mod info;
 pub mod laws;
+mod limit;
 mod line;
+mod memory;
+mod numbers;
 pub mod plan;
 mod read;
+pub mod services;
+mod sub;
 mod types;
 mod words;
 
-pub use plan::{BusPlan, Plan, PlanError, PlanWhy, Sub, SubShape, bound};
-pub use read::{MAX_TEXT, read_plan};
+pub use limit::MAX_TEXT;
+pub use memory::bound;
+pub use plan::{BusPlan, NodeStatus, Plan, PlanError, PlanWhy, Sub, SubShape};
+pub use read::read_plan;
+pub use services::Service;

@@ -1,26 +1,48 @@
 //! What a plan has.
-ghost use Rattle.std.specs.Prelude.{◌≡◌, ◌≤◌, ◌^◌};
-ghost use Rattle.node_plan.specs.Bound.{bound_of, extent_of, sub_bound};
-ghost use Rattle.node_plan.specs.IsPlan.{IsPlan, IsShape, IsSub};
+ghost use Rattle.std.specs.Prelude.{◌≡◌};
+ghost use Rattle.node_plan.specs.Bound.{extent_of};
+ghost use Rattle.node_plan.specs.IsPlan.{IsShape};
 
 use cy_bits::{BusName, List, NoMemory, ShortList};
 use dsdl_names::TypeId;
 use dsdl_types::Schema;
+use std_types::node::NodeInfo;
 
-/// How a node is set up, and what it listens to. It has the types of its subscriptions, so that it
-/// needs no namespace any more.
+/// How a node is set up, what it listens to, and what it says of itself. It has the types of its
+/// subscriptions, so that it needs no namespace any more.
 #[derive(Drop)]
 pub struct Plan {
     /// The node's ID, below 128.
     pub node: u8,
     /// The node's buses, 1 to 3 with distinct names.
     pub buses: ShortList<BusPlan, 3>,
-    /// The transfer-ID timeout, in microseconds: 1 to 60,000,000.
+    /// The transfer-ID timeout, in microseconds: 1 to 60,000,000 (Cyphal Specification, section
+    /// 4.1.2.4).
     pub timeout: u64,
-    /// Whether the node never sends.
+    /// Whether the node neither publishes a heartbeat nor answers what it is.
     pub silent: bool,
     /// The subjects that the node subscribes to, at most 64 and all distinct.
     pub subs: List<Sub>,
+    /// From how many nodes at a time a request of each service is received: 1 to 128.
+    pub clients: u16,
+    /// How the node is, by its heartbeat.
+    pub status: NodeStatus,
+    /// What the node is. The protocol is 1.0, and there is neither a CRC of the software nor a
+    /// certificate.
+    pub info: NodeInfo,
+    /// The greatest number of frames that wait to be sent on a bus: 1 to 4,096.
+    pub queue: u32,
+}
+
+/// How a node is, by its heartbeat (Cyphal Specification, section 5.3.2).
+#[derive(Clone, Copy)]
+pub struct NodeStatus {
+    /// 0 nominal, 1 advisory, 2 caution, 3 warning.
+    pub health: u8,
+    /// 0 operational, 1 initialization, 2 maintenance, 3 software update.
+    pub mode: u8,
+    /// A number of the vendor's.
+    pub code: u8,
 }
 
 /// A bus of a node.
@@ -28,9 +50,9 @@ pub struct Plan {
 pub struct BusPlan {
     /// The name of the bus in the log: 1 to 15 letters, digits and `_`.
     pub name: BusName,
-    /// The largest number of data bytes of a frame that is sent on the bus.
+    /// The largest number of data bytes of a frame that is sent on the bus: 8, or 64 for CAN FD.
     pub mtu: u8,
-    /// The largest number of frames that are sent on the bus in a second.
+    /// The largest number of frames that leave the bus's queue after a step: 1 to 4,096.
     pub rate: u32,
 }
 
@@ -103,27 +125,4 @@ impl From<NoMemory> for PlanError {
     fn from(_: NoMemory) -> PlanError {
         PlanError::NoMemory
     }
-}
-
-/// The greatest number of payload bytes that a subscription may hold at a time.
-fn sub_bound(sub: &Sub) -> u64
-    requires { IsSub sub.now }
-    ensures value { result ≡ sub_bound sub.now }
-    ensures most { result ≤ 2 ^ 23 }
-{
-    sub.sources as u64 * sub.shape.extent() as u64
-}
-
-/// The greatest number of payload bytes that the subscriptions may hold at a time: the sum of their sources times
-/// their extent. Takes no memory.
-pub fn bound(plan: &Plan) -> u64
-    requires { IsPlan plan.now }
-    ensures value { result ≡ bound_of plan.now }
-    ensures most { result ≤ 2 ^ 29 }
-{
-    let mut total = 0u64;
-    for sub in plan.subs.as_slice() {
-        total += sub_bound(sub);
-    }
-    total
 }

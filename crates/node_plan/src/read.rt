@@ -10,22 +10,20 @@ ghost use Rattle.node_plan.specs.Words.{parts_of};
 ghost use Rattle.node_plan.specs.declared.plan.PlanWhy.{PlanWhy as Why};
 
 use crate::draft::Draft;
+use crate::limit::{MAX_TEXT, limit_of};
 use crate::line::read_line;
 use crate::plan::{Plan, PlanError, PlanWhy};
 use crate::words::cut;
 use dsdl_types::Namespace;
 use std::alloc::Global;
 
-/// The greatest number of bytes of a plan's text. The line with the first byte behind them is refused.
-pub const MAX_TEXT: usize = 1 << 20;
-
 /// The plan of all lines, where `n` is the number of the line that would follow.
-fn finished(draft: Draft, n: u32) -> Result<Plan, PlanError>
+fn finished(alloc: Global, draft: Draft, n: u32) -> Result<Plan, PlanError>
     requires { IsDraft draft }
     ensures value { IsPlanAnswer (finished draft n) result }
     ensures sound { IfOk result IsPlan }
 {
-    draft.finish().ok_or(PlanError::Refused {
+    draft.finish(alloc).ok_or(PlanError::Refused {
         n,
         why: PlanWhy::Line,
     })
@@ -46,11 +44,11 @@ fn read_last(
     ensures sound { IfOk result IsPlan }
 {
     if line.is_empty() {
-        return finished(draft, n);
+        return finished(alloc, draft, n);
     }
-    let said = read_line(alloc, names, line)?;
+    let said = read_line(alloc, names, draft.is_two(), line)?;
     draft.take(n, said)?;
-    finished(draft, n + 1)
+    finished(alloc, draft, n + 1)
 }
 
 /// The plan of lines, with what stands behind the last newline, which is refused where it is long.
@@ -61,7 +59,7 @@ fn read_lines(
     is_long: bool,
 ) -> Result<Plan, PlanError>
     requires types { IsNamespace names.now }
-    requires few { length text.now ≤ 2 ^ 20 }
+    requires few { length text.now ≤ MAX_TEXT }
     ensures value { let last = (if is_long then long_line else last_line names.now) in
         IsPlanAnswer (plan_of_parts names.now last start 1 (parts_of 10 text.now)) result }
     ensures sound { IfOk result IsPlan }
@@ -70,7 +68,7 @@ fn read_lines(
     let mut draft = Draft::new(alloc);
     let mut n = 1;
     while let Some((line, rest)) = cut(b'\n', behind) {
-        let said = read_line(alloc, names, line)?;
+        let said = read_line(alloc, names, draft.is_two(), line)?;
         draft.take(n, said)?;
         n += 1;
         behind = rest;
@@ -84,16 +82,17 @@ fn read_lines(
     read_last(alloc, names, draft, n, behind)
 }
 
-/// Reads a plan, whose types are messages of a namespace. Line `n` is refused as
-/// `Line` where it is no line of a plan, where it reaches past the first `MAX_TEXT` bytes, or where it would stand
-/// behind the last line of a text that lacks `plan 1`, `node`, `bus` or `silent`;
-/// `Range` where a number or a name is outside its range, or for a fourth bus and a 65th subscription;
+/// Reads a plan of version 1 or 2, whose types are messages of a namespace. Line `n` is refused as
+/// `Line` where it is no line of a plan of its version, where it reaches past the bytes that a text may have, or where it would stand
+/// behind the last line of a text that lacks `plan`, `node` or `bus`;
+/// `Range` where a number, a name or hex is outside its range, or for a fourth bus and a 65th subscription;
 /// `Repeated` where it says again what may be said once, or names a bus or a subject again;
 /// `UnknownType` where it subscribes to a type that is no message of the namespace;
 /// `Range` where it subscribes to a type whose extent is above 65,536 bytes.
 /// The first line that is refused is told, and the first of these that holds of it.
 ///
-/// The first `MAX_TEXT + 1` bytes of a text give the same answer as all of it.
+/// A text may have 2^20 bytes, and 32 more where its first line that isn't skipped is `plan 2` and begins
+/// among the first 2^20. The first `MAX_TEXT + 1` bytes of a text give the same answer as all of it.
 pub fn read_plan(alloc: Global, text: &[u8], names: &Namespace) -> Result<Plan, PlanError>
     requires { IsNamespace names.now }
     ensures plan { IfOk result (λ p. plan_of names.now text.now ≡ Good p) }
@@ -103,6 +102,7 @@ pub fn read_plan(alloc: Global, text: &[u8], names: &Namespace) -> Result<Plan, 
     ensures enough { (names : Names) (all : List ℕ)
         → plan_of names (take (MAX_TEXT + 1) all) ≡ plan_of names all }
 {
-    let first = &text[..text.len().min(MAX_TEXT)];
-    read_lines(alloc, names, first, text.len() > MAX_TEXT)
+    let most = limit_of(text);
+    let first = &text[..text.len().min(most)];
+    read_lines(alloc, names, first, text.len() > most)
 }

@@ -1,5 +1,5 @@
 -- The serialized form of structures whose fields are whole bytes
-use Rattle.std.proofs.Common.{◌≡◌, ℕ, zero, suc, ◌+◌, ◌*◌, ◌-◌, ◌/◌, ◌%◌, ◌^◌, ◌<◌, ◌≤◌, min, Bool, true, false, List, [], ◌∷◌, ◌++◌, length, drop, refl, sym, ap, ◌∙◌, arith}
+use Rattle.std.proofs.Common.{◌≡◌, ℕ, zero, suc, ◌+◌, ◌*◌, ◌/◌, ◌%◌, ◌^◌, ◌<◌, Bool, true, false, List, [], ◌∷◌, ◌++◌, length, drop, refl, sym, ap, ◌∙◌, arith}
 use Rattle.std.proofs.Math.Nat.{min-eq_left, pow-suc}
 use Rattle.std.proofs.Math.Pow.{le_ones}
 use Rattle.std.proofs.lemmas.List.{append-nil}
@@ -13,7 +13,7 @@ use Rattle.cy_bits.proofs.BitPlaces.{bits_of_low, bits_of_split, length_bits}
 use Rattle.dsdl_types.specs.Encoding.{counted, each, field_bits, lead, own_bits, padded}
 use Rattle.dsdl_types.specs.Laws.{encoding}
 use Rattle.dsdl_types.specs.Schemas.{Sch, Flds, Outline, End, Field, Fixed, Struct, Var, is_aligned, is_delimited, prefix}
-use Rattle.dsdl_types.specs.Values.{Val, Vals, Empty, Items, More, Parts, count}
+use Rattle.dsdl_types.specs.Values.{Val, Vals, Empty, More, Parts, count}
 use Rattle.dsdl_types.proofs.Lengths.{gap_none}
 use Rattle.std_types.specs.Held.{natural_value, naturals_value, row_of}
 use Rattle.std_types.specs.Schemas.{uint}

@@ -1,21 +1,21 @@
 -- The bytes of a heartbeat and of the reply of GetInfo
 use Rattle.std.proofs.Common.{◌≡◌, ℕ, zero, suc, ◌^◌, ◌<◌, ◌≤◌, ◌-◌, min, List, [], ◌∷◌, ◌++◌, length, refl, sym, ap, ◌∙◌, arith, append_assoc, lit<, lit≤}
-use Rattle.std.specs.Prelude.{codes, pos}
+use Rattle.std.specs.Prelude.{pos}
 use Rattle.std.proofs.Math.Nat.{min-eq_left}
 use Rattle.std.proofs.Math.Pow.{le_ones}
 use Rattle.std.proofs.lemmas.List.Elements.{All-append, All-cons, All-nil}
 use Rattle.std.proofs.lemmas.Nat.{mod_below}
-use Rattle.std.specs.Int.{byte_at, bytes_low_first, w32, w64, to_le_bytes}
+use Rattle.std.specs.Int.{byte_at, bytes_low_first}
 use Rattle.std.specs.List.{All}
 use Rattle.cy_bits.specs.Bits.{bits_of}
 use Rattle.dsdl_types.specs.Cast.{cast}
 use Rattle.dsdl_types.specs.Laws.{encoding}
-use Rattle.dsdl_types.specs.Schemas.{Flds, End, Field, Fixed, Var}
-use Rattle.dsdl_types.specs.Values.{Vals, Empty, Num, Parts}
+use Rattle.dsdl_types.specs.Schemas.{Var}
+use Rattle.dsdl_types.specs.Values.{Num, Parts}
 use Rattle.dsdl_types.specs.Views.{in_row}
 use Rattle.std_types.specs.Held.{naturals_value}
-use Rattle.std_types.specs.Node.{FitsHeartbeat, FitsNodeInfo, FitsVersion, health_value, heartbeat_value, mode_value, node_info_value, version_value}
-use Rattle.std_types.specs.Schemas.{bytes, health, heartbeat, mode, node_info, uint, version}
+use Rattle.std_types.specs.Node.{FitsNodeInfo, FitsVersion, health_value, heartbeat_value, mode_value, node_info_value, version_value}
+use Rattle.std_types.specs.Schemas.{health, heartbeat, mode, node_info, uint, version}
 use Rattle.std_types.specs.declared.node.NodeInfo.{NodeInfo}
 use Rattle.std_types.specs.declared.node.Version.{Version}
 use Rattle.node_status.specs.Status.{heartbeat_bytes, heartbeat_in, info_bytes, info_of, version_bytes}

@@ -1,7 +1,7 @@
 ghost use Rattle.std.specs.Prelude.{◌≡◌, ◌<◌, ◌≤◌, ◌^◌};
 ghost use Rattle.dsdl_types.specs.Cast.{cast};
 ghost use Rattle.dsdl_types.specs.Laws.{encoding};
-ghost use Rattle.node_status.specs.Status.{heartbeat_bytes, heartbeat_in};
+ghost use Rattle.node_status.specs.Status.{heartbeat_bytes, heartbeat_in, heartbeat_payload};
 ghost use Rattle.std_types.specs.Node.{FitsHeartbeat, heartbeat_value};
 ghost use Rattle.std_types.specs.Schemas.{heartbeat};
 
@@ -26,4 +26,19 @@ pub fn heartbeat_at(health: u8, mode: u8, code: u8, tick: u64) -> Heartbeat
         mode: Mode { value: mode },
         vendor_specific_status_code: code,
     }
+}
+
+/// The payload of the heartbeat that a node publishes so many seconds after its start (Cyphal
+/// Specification, section 5.3.2): `health` of 0 to 3, `mode` of 0 to 3, and the vendor's `code`.
+/// The uptime that it says stays at 2^32 - 1 seconds.
+pub fn heartbeat_payload(health: u8, mode: u8, code: u8, seconds: u64) -> [u8; 7]
+    requires health { health ≤ 3 }
+    requires mode { mode ≤ 3 }
+    ensures { result ≡ heartbeat_payload health mode code seconds }
+{
+    let uptime = seconds.min(u32::MAX as u64) as u32;
+    let seconds = uptime.to_le_bytes();
+    [
+        seconds[0], seconds[1], seconds[2], seconds[3], health, mode, code,
+    ]
 }

@@ -6,5 +6,5 @@ mod info;
 #[cfg(test)]
 mod tests;
 
-pub use heartbeat::heartbeat_at;
-pub use info::info_reply;
+pub use heartbeat::{heartbeat_at, heartbeat_payload};
+pub use info::{info_payload, info_reply};

@@ -1,4 +1,4 @@
-use crate::{heartbeat_at, info_reply};
+use crate::{heartbeat_at, heartbeat_payload, info_payload, info_reply};
 use cy_bits::{Bytes, List};
 use std::test::Fail;
 use std_types::node::{NodeInfo, Version};
@@ -41,5 +41,31 @@ fn the_reply_is_the_nodes_own(rt: HostRuntime) -> Result<(), Fail> {
     assert_eq!(rt; reply.name.as_slice(), b"rover".as_slice());
     assert!(rt; reply.software_image_crc.is_empty());
     assert!(rt; reply.certificate_of_authenticity.is_empty());
+    Ok(())
+}
+
+#[test]
+fn payloads(rt: HostRuntime) -> Result<(), Fail> {
+    let blank = NodeInfo {
+        protocol_version: Version { major: 1, minor: 0 },
+        hardware_version: Version { major: 0, minor: 0 },
+        software_version: Version { major: 0, minor: 0 },
+        software_vcs_revision_id: 0,
+        unique_id: [0; 16],
+        name: Bytes::from_slice(rt.alloc(), b"")?,
+        software_image_crc: List::empty(rt.alloc()),
+        certificate_of_authenticity: Bytes::from_slice(rt.alloc(), b"")?,
+    };
+    let mut reply = [0; 33];
+    reply[0] = 1;
+    assert_eq!(rt; info_payload(&blank).as_slice(), reply.as_slice());
+    for (seconds, want) in [
+        (0, [0, 0, 0, 0, 1, 2, 3]),
+        (258, [2, 1, 0, 0, 1, 2, 3]),
+        (u32::MAX as u64, [255, 255, 255, 255, 1, 2, 3]),
+        (u64::MAX, [255, 255, 255, 255, 1, 2, 3]),
+    ] {
+        assert_eq!(rt; heartbeat_payload(1, 2, 3, seconds), want);
+    }
     Ok(())
 }

@@ -2,8 +2,11 @@ use crate::node_log::{Logged, no_types, record, text_of};
 use can_id::{Key, Kind};
 use cy_bits::{BusName, List, NoMemory, ShortList};
 use dsdl_types::{Schema, Shape};
+use frag::Frames;
 use line_text::TextBuffer;
-use node_core::{LineRef, LineWriter, Node, Numbers, PortShape, RawShape, Refused, RxRef};
+use node_core::{
+    FullLine, LineRef, LineWriter, Node, Numbers, PortShape, RawShape, Refused, RxRef, TxRef,
+};
 use node_plan::{BusPlan, read_plan};
 
 /// The buses `can0` and `can1`.
@@ -41,10 +44,9 @@ fn received<'a>(
     })
 }
 
-#[test]
-fn lines_have_their_text(rt: HostRuntime) -> Result<(), NoMemory> {
-    let alloc = rt.alloc();
-    let refused = LineRef::NoSession(Refused {
+/// A start frame of a response, which found no session.
+fn refused<'a>() -> LineRef<'a> {
+    LineRef::NoSession(Refused {
         moment: 1_000_002,
         bus: 0,
         key: Key {
@@ -53,8 +55,41 @@ fn lines_have_their_text(rt: HostRuntime) -> Result<(), NoMemory> {
             source: Some(3),
         },
         line: 3,
-    });
+    })
+}
+
+/// The data bytes of the frame of a transfer of seven zeros.
+fn eight_bytes() -> ShortList<u8, 64> {
+    let mut frames = Frames::new(&[0; 7], 0, 8);
+    frames.next().unwrap_or_else(ShortList::new)
+}
+
+/// A heartbeat of node 42 with these data bytes, which left on the first bus.
+fn sent(bytes: &ShortList<u8, 64>) -> LineRef<'_> {
+    LineRef::Tx(TxRef {
+        moment: 5_000_000,
+        bus: 0,
+        ident: 0x107D_552A,
+        bytes,
+    })
+}
+
+/// A reply of five frames, for which the first bus had four places.
+fn full<'a>() -> LineRef<'a> {
+    LineRef::Full(FullLine {
+        moment: 5_000_000,
+        bus: 0,
+        port: 430,
+        needed: 5,
+        free: 4,
+    })
+}
+
+#[test]
+fn lines_have_their_text(rt: HostRuntime) -> Result<(), NoMemory> {
+    let alloc = rt.alloc();
     let heartbeat = [1, 0, 0, 0, 0, 0, 0, 0xAB, 0xCD];
+    let bytes = eight_bytes();
     let rows = [
         (
             received((0, 0), (7509, Some(42)), 0, (1, 1), &heartbeat[..7]),
@@ -68,7 +103,9 @@ fn lines_have_their_text(rt: HostRuntime) -> Result<(), NoMemory> {
             received((1_000_000, 0), (100, None), 7, (1, 1), &[0xAA]),
             "rx 1.000000 can0 msg 100 - 4 7 1 1 AA raw\n",
         ),
-        (refused, "nosession 1.000002 can0 res 100 3 3\n"),
+        (refused(), "nosession 1.000002 can0 res 100 3 3\n"),
+        (sent(&bytes), "tx 5.000000 can0 107D552A 00000000000000E0\n"),
+        (full(), "full 5.000000 can0 430 5 4\n"),
         (
             received((99_999_999_999, 1), (0, Some(0)), 31, (1, 1), &[]),
             "rx 99999.999999 can1 msg 0 0 4 31 1 1 - raw\n",

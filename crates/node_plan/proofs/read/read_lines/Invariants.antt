@@ -11,7 +11,7 @@ abbrev pub invariant-loop-line : goal.invariant-loop-line
 invariant-loop-line l = record {
   plan : (last : Draft → ℕ → List ℕ → PlanIs) → plan_of_parts l.names last start 1 (parts_of 10 l.text) ≡ plan_of_parts l.names last l.draft l.n (parts_of 10 l.behind);
   sound : IsDraft l.draft;
-  few : l.n + length l.behind ≤ 2 ^ 20 + 1;
+  few : l.n + length l.behind ≤ 2 ^ 20 + 33;
 }
 
 abbrev pub decreases-loop-line : goal.decreases-loop-line

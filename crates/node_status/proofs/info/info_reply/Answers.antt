@@ -1,4 +1,4 @@
-use Rattle.std.proofs.Common.{rules, ◌≡◌, ◌∙◌, [], sym}
+use Rattle.std.proofs.Common.{rules, ◌≡◌, ◌∙◌, []}
 use Rattle.dsdl_types.specs.Laws.{encoding}
 use Rattle.std_types.specs.Node.{node_info_value}
 use Rattle.std_types.specs.Schemas.{node_info}

@@ -12,7 +12,7 @@ step-requires c = heard_later _ _ _ c.requires c.args.self.now.in_time
 pub returns-clause-stands : goal.returns-clause-stands
 returns-clause-stands c = λ log s. record {
   timeout = c.in_ok-met.ensures.keeps.timeout ∙ s.timeout;
-  ports = c.in_ok-met.ensures.keeps.ports ∙ s.ports;
+  ports_are = c.in_ok-met.ensures.keeps.ports ∙ s.ports_are;
   types = types_stay _ _ _ c.in_ok-met.ensures.keeps.shapes s.types;
   sessions = stands_again _ _ _ _ _ _ s.timeout (c.in_ok-met.ensures.stands log) s.sessions;
 }
@@ -28,7 +28,7 @@ returns-clause-badcrc c = λ log s.
 pub returns-in_err-met-clause-err : goal.returns-in_err-met-clause-err
 returns-in_err-met-clause-err c = on_err _ c.from_residual.result (λ log s. record {
   timeout = c.in_err-met.ensures.keeps.timeout ∙ s.timeout;
-  ports = c.in_err-met.ensures.keeps.ports ∙ s.ports;
+  ports_are = c.in_err-met.ensures.keeps.ports ∙ s.ports_are;
   types = types_stay _ _ _ c.in_err-met.ensures.keeps.shapes s.types;
   sessions = subst (λ (ps : List PortState). StandsFor c.args.self.now.plan.timeout log ps) (sym c.in_err-met.ensures.err) s.sessions;
 })

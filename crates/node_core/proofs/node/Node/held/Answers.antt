@@ -12,4 +12,4 @@ returns-clause-bound c = λ past s.
     let log = frames node.plan.node past in
     let held = states shape_extent node.table.ports.items in
     let stands : StandsFor node.table.timeout log held = subst (λ t. StandsFor t log held) (sym s.timeout) s.sessions in
-    subst (λ n. c.held.result ≤ n) (ap bound s.ports ∙ bound_of_ports node.plan) (c.held.ensures.bound log stands)
+    subst (λ n. c.held.result ≤ n) (ap bound s.ports_are ∙ bound_of_ports node.plan) (c.held.ensures.bound log stands)

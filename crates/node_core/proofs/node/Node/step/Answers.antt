@@ -1,6 +1,6 @@
 use Rattle.node_core.specs.Came.{came_lines}
 use Rattle.node_core.proofs.Elsewhere.{takes_by, gives_none, ends_none}
-use Rattle.node_core.proofs.HeardRecords.{heard_got, none_got}
+use Rattle.node_core.proofs.HeardRecords.{asks, heard_got, none_got}
 use Rattle.node_core.proofs.Steps.{frame_stands, stands_as_before, on_err}
 use Rattle.node_core.proofs.node.Node.step.Goals as goal
 
@@ -28,3 +28,8 @@ returns-in_err-met-in-Some-clause-err c =
 
 pub returns-in-None-clause-lines : goal.returns-in-None-clause-lines
 returns-in-None-clause-lines c = λ past _. none_got c.args.self.now c.args.rec.now _ c.in-None.ensures.value past
+
+pub returns-in_ok-met-in-Some-clause-asks : goal.returns-in_ok-met-in-Some-clause-asks
+returns-in_ok-met-in-Some-clause-asks c = λ lines request.
+    let ranges = c.in-Some.ensures.ranges in
+    asks c.args.self.now.plan.node c.ends_badly.result c.in-Some.frame.ident c.in-Some.frame.tail c.in_ok-met-in-Some.met lines request ranges.1 c.in-Some.ensures.own ranges.0

@@ -1,0 +1,40 @@
+use Rattle.std.proofs.Common.{◌≡◌, ◌∙◌, ◌∷◌, ◌++◌, length, take, ap}
+use Rattle.std.proofs.Math.Seq.{take-length}
+use Rattle.std.specs.Option.{option_and_then}
+use Rattle.node_plan.specs.declared.plan.Plan.{Plan}
+use Rattle.node_core.specs.Keeps.{keeps}
+use Rattle.node_core.specs.Queues.{fulls}
+use Rattle.node_core.specs.Sending.{reply_to}
+use Rattle.node_core.specs.Steps.{Kept, records}
+use Rattle.node_core.specs.Told.{told_lines}
+use Rattle.node_core.proofs.Frames.{cut_again, lines_as}
+use Rattle.node_core.proofs.node.Node.frame.Goals as goal
+
+pub returns-in-Err-clause-behind : goal.returns-in-Err-clause-behind
+returns-in-Err-clause-behind c =
+    let old = c.args.lines.now in
+    let back : c.cut_back.new.self ≡ old =
+    c.cut_back.ensures ∙ (ap (λ n. take n c.answer.new.lines) c.len-before.ensures ∙ cut_again old _ c.push_told.new.lines c.answer.new.lines c.in_ok-push_told.ensures.ok c.in-Err.ensures.behind) in
+    ap (take (length old)) back ∙ take-length old
+
+pub returns-in-Err-clause-err : goal.returns-in-Err-clause-err
+returns-in-Err-clause-err c =
+    c.cut_back.ensures
+    ∙ (ap (λ n. take n c.answer.new.lines) c.len-before.ensures
+    ∙ cut_again c.args.lines.now _ c.push_told.new.lines c.answer.new.lines c.in_ok-push_told.ensures.ok c.in-Err.ensures.behind)
+
+pub returns-in-Ok-clause-stands : goal.returns-in-Ok-clause-stands
+returns-in-Ok-clause-stands c = λ past s. c.in-Ok.ensures.stands (c.args.rec.now ∷ past) (c.in_ok-came.ensures.stands past s)
+
+pub returns-in-Ok-clause-lines : goal.returns-in-Ok-clause-lines
+returns-in-Ok-clause-lines c = λ past s.
+    let node = c.args.self.now in
+    let rec = c.args.rec.now in
+    let request = c.request-request.result in
+    let told = c.push_told.new.lines in
+    let answered : c.answer.new.lines ≡ told ++ fulls rec.moment (option_and_then (reply_to node.plan) request) (keeps node).queues =
+    c.in-Ok.ensures.lines
+    ∙ (ap (λ (p : Plan). told ++ fulls rec.moment (option_and_then (reply_to p) request) (keeps c.step.new.self).queues) c.in_ok-came.ensures.plan
+    ∙ ap (λ (k : Kept). told ++ fulls rec.moment (option_and_then (reply_to node.plan) request) k.queues) c.in_ok-came.ensures.keeps) in
+    lines_as node rec c.in_ok-came.came (told_lines c.told-told.result) request c.request-request.ensures c.in_ok-came.ensures.request past s
+    (c.told-told.ensures ∙ c.in_ok-came.ensures.lines (records past) s) (keeps node) c.args.lines.now told c.answer.new.lines c.in_ok-push_told.ensures.ok answered

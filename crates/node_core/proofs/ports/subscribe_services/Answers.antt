@@ -1,0 +1,42 @@
+use Rattle.std.proofs.Common.{◌≡◌, ◌∙◌, ℕ, ◌+◌, ◌<◌, List, [], ◌∷◌, ◌++◌, get_or, length, take, ap, subst, arith}
+use Rattle.std.proofs.lemmas.List.{get_or_default}
+use Rattle.node_plan.specs.Ports.{PlanPort, port_of_service, ports, services}
+use Rattle.node_plan.specs.declared.plan.Plan.{Plan}
+use Rattle.node_plan.specs.declared.services.Service.{Service}
+use Rattle.std_types.specs.declared.std_name.StdName.TheVariants.{Health}
+use Rattle.node_core.specs.Tables.{IsTableOf}
+use Rattle.node_core.proofs.Tables.{count_of_ports, not_taken, of_service, one_more, same_port}
+use Rattle.node_core.proofs.ports.subscribe_services.Goals as goal
+
+-- an item of a list that is the services
+item_is : (plan : Plan) (items : List Service) (n : ℕ) (d : Service) → items ≡ services plan → n < length items → get_or items n d ≡ get_or (services plan) n (get_or items n d)
+item_is plan items n d e within =
+    get_or_default items n d (get_or items n d) within ∙ ap (λ (t : List Service). get_or t n (get_or items n d)) e
+
+pub subscribe-requires-clause-other : goal.subscribe-requires-clause-other
+subscribe-requires-clause-other c =
+    let plan = c.args.plan.now in
+    let n = c.loop-service.service-index in
+    let items = c.as_slice-service-items.result.now in
+    let service = get_or items n (record { port = 0; sources = 0; request = Health }) in
+    let e : items ≡ services plan = c.as_slice-service-items.ensures.value ∙ c.services.ensures.value in
+    let within : n < length (services plan) = omega (arith, c.loop-service-test.true, ap length e) in
+    not_taken plan.timeout (ports plan) (length plan.subs + n) (port_of_service service) c.loop-service.table
+    (of_service plan n service (item_is plan items n (record { port = 0; sources = 0; request = Health }) e c.loop-service-test.true) within) (omega (arith, within, count_of_ports plan))
+    (c.ports_are_fit.ensures.differ plan c.requires.plan) c.loop-service.invariant
+
+pub loop-service-preserved : goal.loop-service-preserved
+loop-service-preserved c =
+    let plan = c.args.plan.now in
+    let n = c.loop-service.service-index in
+    let items = c.as_slice-service-items.result.now in
+    let service = get_or items n (record { port = 0; sources = 0; request = Health }) in
+    let e : items ≡ services plan = c.as_slice-service-items.ensures.value ∙ c.services.ensures.value in
+    let within : n < length (services plan) = omega (arith, c.loop-service-test.true, ap length e) in
+    let made = same_port (port_of_service service) c.in_ok-shape.shape c.in_ok-shape.ensures.extent c.in_ok-shape.ensures.port_type in
+    let next : length plan.subs + n + 1 ≡ length plan.subs + (n + 1) = omega arith in
+    subst (λ k. IsTableOf plan.timeout (take k (ports plan)) c.subscribe.new.table) next
+    (one_more plan.timeout (ports plan) (length plan.subs + n) (port_of_service service) c.subscribe.new.table
+    (of_service plan n service (item_is plan items n (record { port = 0; sources = 0; request = Health }) e c.loop-service-test.true) within) (omega (arith, within, count_of_ports plan))
+    (subst (λ (p : PlanPort). IsTableOf plan.timeout (take (length plan.subs + n) (ports plan) ++ p ∷ []) c.subscribe.new.table) made
+    (c.in_ok-subscribe.ensures plan.timeout (take (length plan.subs + n) (ports plan)) c.loop-service.invariant)))

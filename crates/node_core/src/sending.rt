@@ -1,0 +1,135 @@
+//! What a node sends.
+ghost use Rattle.std.specs.Prelude.{◌≡◌, ◌<◌, ◌++◌, OnOk, Some, length, map, take};
+ghost use Rattle.std.specs.Option.{ForSome, option_and_then};
+ghost use Rattle.node_core.specs.Keeps.{beaten, keeps, sent};
+ghost use Rattle.node_core.specs.Pops.{Pops, queue_at};
+ghost use Rattle.node_core.specs.Queues.{fulls, waiting};
+ghost use Rattle.node_core.specs.Sending.{IsRequestTo, beat, reply_to};
+ghost use Rattle.node_core.specs.Stands.{StandsAsBefore};
+ghost use Rattle.node_core.specs.declared.line.Line.TheVariants.{Full};
+
+use crate::line::{FullLine, Line};
+use crate::node::Node;
+use crate::pushes::push_fulls;
+use crate::request::Request;
+use crate::transfer::{GET_INFO, HEARTBEAT, Transfer, beat_ident};
+use cy_bits::{List, NoMemory, ShortList};
+use node_status::heartbeat_payload;
+use tx_queue::OutFrame;
+
+impl Node {
+    /// Puts the reply to a request behind the frames that wait on each bus: to the one who asks, with
+    /// the request's priority and transfer-ID (Cyphal Specification, section 5.3.3). Tells on which
+    /// buses there is no room for it, at a moment in microseconds. A request of another service than
+    /// GetInfo has no reply. Takes no memory.
+    #[inline(never)]
+    pub fn reply(&mut self, moment: u64, request: Request) -> ShortList<FullLine, 3>
+        requires { IsRequestTo self.old.plan.node request }
+        ensures plan { self.new.plan ≡ self.old.plan }
+        ensures latest { self.new.latest ≡ self.old.latest }
+        ensures stands { StandsAsBefore self.old self.new }
+        ensures keeps { keeps self.new ≡ sent (reply_to self.old.plan request) (keeps self.old) }
+        ensures fulls { let reply = reply_to self.old.plan request in
+            map Full result ≡ fulls moment reply (keeps self.old).queues }
+    {
+        if request.service != GET_INFO {
+            return ShortList::new();
+        }
+        let reply = Transfer {
+            ident: request.reply_ident(self.plan.node),
+            tid: request.tid,
+            port: GET_INFO,
+            payload: self.info.as_slice(),
+        };
+        self.queues.push_all(moment, &reply)
+    }
+
+    /// The same of a request, if there is one, with the lines on full buses put behind others. Where
+    /// memory for these is wanting, some of them are.
+    pub(crate) fn answer(
+        &mut self,
+        moment: u64,
+        request: Option<Request>,
+        lines: &mut List<Line>,
+    ) -> Result<(), NoMemory>
+        requires { ForSome request (IsRequestTo self.old.plan.node) }
+        ensures plan { self.new.plan ≡ self.old.plan }
+        ensures latest { self.new.latest ≡ self.old.latest }
+        ensures stands { StandsAsBefore self.old self.new }
+        ensures keeps { let x = option_and_then (reply_to self.old.plan) request in
+            keeps self.new ≡ sent x (keeps self.old) }
+        ensures lines { let x = option_and_then (reply_to self.old.plan) request in
+            OnOk result (lines.new ≡ lines.old ++ fulls moment x (keeps self.old).queues) }
+        ensures behind { take (length lines.old) lines.new ≡ lines.old }
+    {
+        match request {
+            Some(request) => {
+                let fulls = self.reply(moment, request);
+                push_fulls(lines, &fulls)
+            }
+            None => Ok(()),
+        }
+    }
+
+    /// Puts the heartbeat of a tick behind the frames that wait on each bus (Cyphal Specification,
+    /// section 5.3.2). The tick's number is the uptime in seconds, its moment is in microseconds. Tells
+    /// on which buses there is no room for it; its transfer-ID is used all the same. Takes no memory.
+    #[inline(never)]
+    pub fn tick(&mut self, moment: u64, number: u64) -> ShortList<FullLine, 3>
+        ensures plan { self.new.plan ≡ self.old.plan }
+        ensures latest { self.new.latest ≡ self.old.latest }
+        ensures stands { StandsAsBefore self.old self.new }
+        ensures keeps { let x = beat self.old.plan number (keeps self.old).tid in
+            keeps self.new ≡ beaten x (keeps self.old) }
+        ensures fulls { let x = beat self.old.plan number (keeps self.old).tid in
+            map Full result ≡ fulls moment (Some x) (keeps self.old).queues }
+    {
+        let status = self.plan.status;
+        let payload = heartbeat_payload(status.health, status.mode, status.code, number);
+        let beat = Transfer {
+            ident: beat_ident(self.plan.node),
+            tid: self.tid,
+            port: HEARTBEAT,
+            payload: &payload,
+        };
+        let fulls = self.queues.push_all(moment, &beat);
+        self.tid = (self.tid + 1) % 32;
+        fulls
+    }
+
+    /// Takes the first of the frames with the least identifier that wait on a bus; `None` where nothing
+    /// waits there.
+    pub fn pop_out(&mut self, bus: u8) -> Option<OutFrame>
+        requires { bus < length (keeps self.old).queues }
+        ensures plan { self.new.plan ≡ self.old.plan }
+        ensures latest { self.new.latest ≡ self.old.latest }
+        ensures stands { StandsAsBefore self.old self.new }
+        ensures pops { Pops bus (keeps self.old) (keeps self.new) result }
+    {
+        self.queues.pop(bus)
+    }
+
+    /// How many frames wait on all buses.
+    #[inline(always)]
+    pub fn waiting(&self) -> u64
+        ensures { result ≡ waiting (keeps self.now).queues }
+    {
+        self.queues.waiting()
+    }
+
+    /// The number of buses, 1 to 3.
+    #[inline(always)]
+    pub fn buses(&self) -> u8
+        ensures { result ≡ length (keeps self.now).queues }
+    {
+        self.queues.buses.len() as u8
+    }
+
+    /// How many frames leave a bus after a step at most.
+    pub fn rate(&self, bus: u8) -> u32
+        requires { bus < length (keeps self.now).queues }
+        ensures { result ≡ (queue_at (keeps self.now).queues bus).rate }
+    {
+        self.queues.buses[bus as usize].rate
+    }
+}

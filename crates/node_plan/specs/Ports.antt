@@ -1,0 +1,95 @@
+-- The ports of a plan: what a node receives, from how many nodes, and what it is read as.
+use Rattle.std.specs.Prelude.{◌≡◌, ◌≢◌, ℕ, ◌/◌, ◌<◌, ◌≤◌, true, List, [], ◌∷◌, ◌++◌, Option, Some, None, IfSome, map, if◌then◌else◌}
+use Rattle.can_id.specs.declared.key.Kind.{Kind}
+use Rattle.can_id.specs.declared.key.Kind.TheVariants as kind
+use Rattle.dsdl_types.specs.Rules.{IsSchema}
+use Rattle.dsdl_types.specs.Schemas as S
+use Rattle.dsdl_types.specs.Schemas.{Sch, is_composite}
+use Rattle.dsdl_types.specs.Views.{sch}
+use Rattle.std_types.specs.Types.{schema_of}
+use Rattle.std_types.specs.declared.std_name.StdName.{StdName}
+use Rattle.std_types.specs.declared.std_name.StdName.TheVariants as N
+use Rattle.node_plan.specs.declared.plan.Plan.{Plan}
+use Rattle.node_plan.specs.declared.plan.Sub.{Sub}
+use Rattle.node_plan.specs.declared.plan.SubShape.{SubShape}
+use Rattle.node_plan.specs.declared.plan.SubShape.TheVariants as shape
+use Rattle.node_plan.specs.declared.services.Service.{Service}
+
+-- a port, its extent in bytes, and its type; a port without a type is read as bytes
+pub record PlanPort : Type 0 where
+  pub kind : Kind
+  pub port : ℕ
+  pub sources : ℕ
+  pub extent : ℕ
+  pub type : Option Sch
+
+-- the extent of a subject in bytes
+abbrev pub extent_of : SubShape → ℕ
+extent_of (shape.Raw n) = n
+extent_of (shape.Named id s) = S.extent_of (sch s) / 8
+
+-- the type that payloads are read as; bytes have none
+abbrev pub type_in : SubShape → Option Sch
+type_in (shape.Raw extent) = None
+type_in (shape.Named id s) = Some (sch s)
+
+-- the port of a subscription
+abbrev pub port_of_sub : Sub → PlanPort
+port_of_sub s = record {
+  kind = kind.Message;
+  port = s.port;
+  sources = s.sources;
+  extent = extent_of s.shape;
+  type = type_in s.shape;
+}
+
+-- the services that a node answers
+abbrev pub services : Plan → List Service
+services plan = if plan.silent then [] else (record { port = 430; sources = plan.clients; request = N.NodeInfoRequest }) ∷ []
+
+-- the extent of a service's requests in bytes
+abbrev pub service_extent : Service → ℕ
+service_extent s = S.extent_of (schema_of s.request) / 8
+
+-- the port of a service's requests
+abbrev pub port_of_service : Service → PlanPort
+port_of_service s = record {
+  kind = kind.Request;
+  port = s.port;
+  sources = s.sources;
+  extent = service_extent s;
+  type = Some (schema_of s.request);
+}
+
+-- the ports of a plan: its subscriptions, and then its services
+abbrev pub ports : Plan → List PlanPort
+ports plan = map port_of_sub plan.subs ++ map port_of_service (services plan)
+
+-- the types of the requests of the services that a node answers
+abbrev pub IsRequest : StdName → Type 0
+IsRequest name = name ≡ N.NodeInfoRequest
+
+-- a service in its ranges
+pub record IsService (s : Service) : Type 0 where
+  pub port : s.port < 512
+  pub some_source : 1 ≤ s.sources
+  pub few_sources : s.sources ≤ 128
+  pub request : IsRequest s.request
+
+-- the greatest number of a port of a kind: 8,191 of a subject, 511 of a service
+abbrev pub max_port : Kind → ℕ
+max_port kind.Message = 8191
+max_port kind.Request = 511
+max_port kind.Response = 511
+
+-- a port in its ranges, whose type is a composite that keeps the rules
+pub record IsPort (p : PlanPort) : Type 0 where
+  pub port : p.port ≤ max_port p.kind
+  pub some_source : 1 ≤ p.sources
+  pub few_sources : p.sources ≤ 128
+  pub extent : p.extent ≤ 65536
+  pub type : IfSome p.type (λ s. IsSchema s × (is_composite s ≡ true))
+
+-- two ports that no key fits both of
+abbrev pub Differ : PlanPort → PlanPort → Type 0
+Differ a b = a.kind ≡ b.kind → a.port ≢ b.port
