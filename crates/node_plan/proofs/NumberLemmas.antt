@@ -35,7 +35,7 @@ ranged-min low high most h (b ∷ s) n =
     of_test true x y e = refl
     of_test false x y e = e
 
-digit-yes : (b n : ℕ) (s : List ℕ) → 48 ≤ b → b ≤ 57 → decimal_from n (b ∷ s) ≡ decimal_from (n * 10 + (b - 48)) s
+pub digit-yes : (b n : ℕ) (s : List ℕ) → 48 ≤ b → b ≤ 57 → decimal_from n (b ∷ s) ≡ decimal_from (n * 10 + (b - 48)) s
 digit-yes b n s low high = grind (arith, nat_tests)
 
 digit-no : (b n : ℕ) (s : List ℕ) → (b < 48) ⊎ (57 < b) → decimal_from n (b ∷ s) ≡ None

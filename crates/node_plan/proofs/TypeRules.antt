@@ -1,6 +1,6 @@
 -- The types of a plan's subscriptions keep the rules.
 use Rattle.std.proofs.Common.{◌==◌, ◌&&◌, ◌+◌, ℕ, Bool, true, List, [], ◌∷◌, ◌++◌, Option, Some, None, length, take, subst}
-use Rattle.std.specs.Prelude.{◌||◌, IfOk, IfSome, Result, Ok, Err, codes, if◌then◌else◌, is_some, nat_le, nat_lt, unwrap_or}
+use Rattle.std.specs.Prelude.{◌||◌, IfOk, IfSome, Result, Ok, Err, codes, if◌then◌else◌, is_some, nat_le, nat_lt}
 use Rattle.std.specs.List.{All}
 use Rattle.std.specs.Str.{bytes_eq}
 use Rattle.std.proofs.lemmas.Bool.{cond_both}
@@ -22,7 +22,6 @@ use Rattle.node_plan.specs.declared.line.PlanVersion.{PlanVersion}
 use Rattle.node_plan.specs.declared.line.PlanVersion.TheVariants as version
 use Rattle.node_plan.specs.declared.line.Said.{Said}
 use Rattle.node_plan.specs.declared.line.Said.TheVariants as said
-use Rattle.node_plan.specs.declared.plan.BusPlan.{BusPlan}
 use Rattle.node_plan.specs.declared.plan.Plan.{Plan}
 use Rattle.node_plan.specs.declared.plan.PlanWhy.{PlanWhy}
 use Rattle.node_plan.specs.declared.plan.PlanWhy.TheVariants as why

@@ -1,11 +1,14 @@
 -- What the answers of the calls say.
-use Rattle.std.specs.Prelude.{◌≡◌, ℕ, Result, Ok, Err}
+use Rattle.std.specs.Prelude.{◌≡◌, ℕ, List, true, Result, Ok, Err}
+use Rattle.dsdl_types.specs.declared.namespace.Namespace.{Namespace}
 use Rattle.node_plan.specs.declared.draft.Draft.{Draft}
 use Rattle.node_plan.specs.declared.plan.Plan.{Plan}
 use Rattle.node_plan.specs.declared.plan.PlanError.{PlanError}
 use Rattle.node_plan.specs.declared.plan.PlanError.TheVariants as error
 use Rattle.node_plan.specs.declared.plan.PlanWhy.{PlanWhy}
-use Rattle.node_plan.specs.Plan.{PlanIs, Good, Bad}
+use Rattle.node_plan.specs.Limit.{is_version_two}
+use Rattle.node_plan.specs.Migrate.{migrated}
+use Rattle.node_plan.specs.Plan.{PlanIs, Good, Bad, plan_of}
 
 -- the draft after line n is the step's, unless memory was wanted
 abbrev pub IsStep : Result Draft PlanWhy → ℕ → Draft → Result (Unit {0}) PlanError → Type 0
@@ -18,3 +21,8 @@ abbrev pub IsPlanAnswer : PlanIs → Result Plan PlanError → Type 0
 IsPlanAnswer is (Ok plan) = is ≡ Good plan
 IsPlanAnswer is (Err (error.Refused n why)) = is ≡ Bad n why
 IsPlanAnswer is (Err error.NoMemory) = Unit {0}
+
+-- t is what the text of a plan becomes: of version 2, and a text of the same plan
+abbrev pub IsMigrated : Namespace → List ℕ → List ℕ → Type 0
+IsMigrated names text t = (plan : Plan) × (plan_of names text ≡ Good plan) × (t ≡ migrated plan text)
+    × (plan_of names t ≡ Good plan) × (is_version_two t ≡ true)

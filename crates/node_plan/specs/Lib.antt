@@ -6,6 +6,7 @@ pub mod Line
 pub mod Limit
 pub mod Draft
 pub mod Plan
+pub mod Migrate
 pub mod Answers
 pub mod IsPlan
 pub mod Ports

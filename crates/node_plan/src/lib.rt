@@ -9,6 +9,7 @@ pub mod laws;
 mod limit;
 mod line;
 mod memory;
+mod migration;
 mod numbers;
 pub mod plan;
 mod read;
@@ -19,6 +20,7 @@ mod words;
 
 pub use limit::MAX_TEXT;
 pub use memory::bound;
+pub use migration::migrate;
 pub use plan::{BusPlan, NodeStatus, Plan, PlanError, PlanWhy, Sub, SubShape};
 pub use read::read_plan;
 pub use services::Service;
