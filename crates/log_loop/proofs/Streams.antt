@@ -1,6 +1,6 @@
 -- How far the input was taken before what is said on it was written.
 use Rattle.std.proofs.Common.{◌≡◌, ◌∙◌, ◌⊎◌, inl, inr, ◌+◌, ◌<◌, ◌≤◌, ◌^◌, ℕ, Bool, true, false, List, [], ◌∷◌, ◌++◌, length, take, drop, Option, Some, None, Result, Ok, Err, refl, sym, ap, subst, append_assoc, append-nil, length-append, arith}
-use Rattle.std.specs.Prelude.{◌==◌, if◌then◌else◌}
+use Rattle.std.specs.Prelude.{◌==◌, ◌≢◌, if◌then◌else◌}
 use Rattle.std.proofs.lemmas.List.{take-append-drop}
 use mathlib.Core.List.{reverse_aux}
 use Rattle.tail_frame.specs.declared.logged.Record.{Record}
@@ -25,7 +25,7 @@ use Rattle.log_loop.specs.declared.ended.Ended.{Ended}
 use Rattle.log_loop.specs.declared.ended.Ended.TheVariants as end
 use Rattle.log_loop.specs.Voice.{Voice, said}
 use Rattle.log_loop.specs.Streamed.{HasWritten, HasHeard, IsStreamed}
-use Rattle.log_loop.specs.Gone.{IsFinish, stopped}
+use Rattle.log_loop.specs.Gone.{HeardOrEnded, IsFinish, stopped}
 
 pub said_front : (v : Voice) (past rest : List Record) → (more : List ℕ) × (said v (reverse_aux rest past) ≡ said v past ++ more)
 said_front v past [] = ([], sym (append-nil (said v past)))
@@ -271,54 +271,54 @@ open_before old new before after answer g e = by_end (saw_end old) refl
 -- A whole run.
 
 -- of each front the records were heard
-abbrev AllHeard : Voice → (List Record → Type 0) → List ℕ → Type 0
-AllHeard v heard taken = (front more : List ℕ) → taken ≡ front ++ more → 8192 < length more → HasHeard heard (whole_records v.names front)
+abbrev AllHeard : Voice → (List Record → Type 0) → (List Record → Type 0) → List ℕ → Type 0
+AllHeard v heard ended taken = (front more : List ℕ) → taken ≡ front ++ more → 8192 < length more → HasHeard heard ended (whole_records v.names front)
 
-all_heard : (v : Voice) (heard : List Record → Type 0) (past : List Record) (taken : List ℕ) (before after : Option (List ℕ)) → heard past → AllFar v taken past before after → AllHeard v heard taken
-all_heard v heard past taken before after k far front more e long = let f = far front more e long in (f.newer, subst heard f.parts k)
+all_heard : (v : Voice) (heard ended : List Record → Type 0) (past : List Record) (taken : List ℕ) (before after : Option (List ℕ)) → HeardOrEnded heard ended past → AllFar v taken past before after → AllHeard v heard ended taken
+all_heard v heard ended past taken before after k far front more e long = let f = far front more e long in (f.newer, subst (HeardOrEnded heard ended) f.parts k)
 
-streamed : (v : Voice) (heard : List Record → Type 0) (told left : Option (List ℕ)) (stat : Ended) (past : List Record) (taken : List ℕ) (before after : Option (List ℕ)) → Took told left taken → ((stat ≡ end.NoMemory → ⊥) → heard past) → AllFar v taken past before after
-    → IsStreamed v heard told left stat before after
-streamed v heard told left stat past taken before after t k far = record {
+streamed : (v : Voice) (heard ended : List Record → Type 0) (told left : Option (List ℕ)) (stat : Ended) (past : List Record) (taken : List ℕ) (before after : Option (List ℕ)) → Took told left taken → ((stat ≡ end.NoMemory → ⊥) → HeardOrEnded heard ended past) → AllFar v taken past before after
+    → IsStreamed v heard ended told left stat before after
+streamed v heard ended told left stat past taken before after t k far = record {
   taken = taken;
   took = t;
   written = λ front more e long. (far front more e long).written;
-  hears = λ n. all_heard v heard past taken before after (k n) far;
+  hears = λ n. all_heard v heard ended past taken before after (k n) far;
 }
 
 -- a run that took nothing
-pub streamed_none : (v : Voice) (heard : List Record → Type 0) (left : Option (List ℕ)) (stat : Ended) (before after : Option (List ℕ)) → IsStreamed v heard left left stat before after
-streamed_none v heard left stat before after = record {
+pub streamed_none : (v : Voice) (heard ended : List Record → Type 0) (left : Option (List ℕ)) (stat : Ended) (before after : Option (List ℕ)) → IsStreamed v heard ended left left stat before after
+streamed_none v heard ended left stat before after = record {
   taken = [];
   took = Took-none left;
   written = λ front more e long. absurd (no_front front more e long);
   hears = λ n front more e long. absurd (no_front front more e long);
 }
 
-module _ (v : Voice) (heard : List Record → Type 0) (told left next_left : Option (List ℕ)) (old new : LogReader) (past : List Record) (gathered rest : List ℕ) (before mid after : Option (List ℕ)) where
+module _ (v : Voice) (heard ended : List Record → Type 0) (told left next_left : Option (List ℕ)) (old new : LogReader) (past : List Record) (gathered rest : List ℕ) (before mid after : Option (List ℕ)) where
   abbrev all_text : List ℕ
   all_text = said v past
 
   pub streamed_stopped : (halt : Stop) → Streams v told left old past before mid → ComesBehind old new left next_left rest (Err halt) → heard past → Gathered all_text gathered before mid → Writes gathered rest mid after (Err halt)
-      → IsStreamed v heard told next_left (stopped halt) before after
+      → IsStreamed v heard ended told next_left (stopped halt) before after
   streamed_stopped (stop.Log error) s c k g w =
-      streamed v heard told next_left (stopped (stop.Log error)) past (s.taken ++ c.came) before after (took_more told left next_left s.taken c.came s.took c.took) (λ n. k)
+      streamed v heard ended told next_left (stopped (stop.Log error)) past (s.taken ++ c.came) before after (took_more told left next_left s.taken c.came s.took c.took) (λ n. inl k)
       (far_comes v told left next_left old new past rest before mid after (Err error) s c (grew_gathered gathered rest mid after w.0) (gathered_less all_text gathered rest before mid after g w.0))
   streamed_stopped stop.Write s c k g w =
-      streamed v heard told next_left end.WriteFault past s.taken before after (subst (λ (o : Option (List ℕ)). Took told o s.taken) (sym c) s.took) (λ n. k)
+      streamed v heard ended told next_left end.WriteFault past s.taken before after (subst (λ (o : Option (List ℕ)). Took told o s.taken) (sym c) s.took) (λ n. inl k)
       (λ front more e long. far_later v _ past before mid after (s.far front more e long) (grew_begins gathered mid after w))
 
   pub streamed_wanting : (rec : Record) → Streams v told left old past before mid → Comes old new left next_left rest (Ok (Some rec)) → Gathered all_text gathered before mid → Gathered gathered rest mid after
-      → IsStreamed v heard told next_left end.NoMemory before after
+      → IsStreamed v heard ended told next_left end.NoMemory before after
   streamed_wanting rec s c g w =
-      streamed v heard told next_left end.NoMemory past (s.taken ++ c.came) before after (took_more told left next_left s.taken c.came s.took c.took) (λ n. absurd (n refl))
+      streamed v heard ended told next_left end.NoMemory past (s.taken ++ c.came) before after (took_more told left next_left s.taken c.came s.took c.took) (λ n. absurd (n refl))
       (far_comes v told left next_left old new past rest before mid after (Ok (Some rec)) s c (grew_gathered gathered rest mid after w) (gathered_less all_text gathered rest before mid after g w))
 
-  pub streamed_finished : (stat : Ended) (last : Option (List ℕ)) (tail : List ℕ) → Streams v told left old past before mid → Comes old new left next_left rest (Ok None) → heard past → Gathered all_text gathered before mid → Gathered gathered rest mid after
+  pub streamed_finished : (stat : Ended) (last : Option (List ℕ)) (tail : List ℕ) → Streams v told left old past before mid → Comes old new left next_left rest (Ok None) → (stat ≢ end.NoMemory → ended past) → Gathered all_text gathered before mid → Gathered gathered rest mid after
       → IsFinish stat → (stat ≡ end.Ok → last ≡ behind after tail) → (stat ≡ end.WriteFault → Begins tail after last) → (stat ≡ end.NoMemory → last ≡ after)
-      → IsStreamed v heard told next_left stat before last
+      → IsStreamed v heard ended told next_left stat before last
   streamed_finished stat last tail s c k g w f ok write memory =
-      streamed v heard told next_left stat past (s.taken ++ c.came) before last (took_more told left next_left s.taken c.came s.took c.took) (λ n. k)
+      streamed v heard ended told next_left stat past (s.taken ++ c.came) before last (took_more told left next_left s.taken c.came s.took c.took) (λ n. inr (k n))
       (λ front more e long. far_later v _ past before after last
       (far_comes v told left next_left old new past rest before mid after (Ok None) s c (grew_gathered gathered rest mid after w) (gathered_less all_text gathered rest before mid after g w) front more e long)
       (grew_last stat f ok write memory))

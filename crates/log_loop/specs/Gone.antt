@@ -1,5 +1,5 @@
 -- What a loop over a log has done, by how it ended.
-use Rattle.std.specs.Prelude.{◌≡◌, ℕ, List, Option, Some, None, IfSome, ⊤}
+use Rattle.std.specs.Prelude.{◌≡◌, ◌⊎◌, ℕ, List, Option, Some, None, IfSome, ⊤}
 use mathlib.Core.List.{reverse_aux}
 use Rattle.tail_frame.specs.declared.logged.Record.{Record}
 use Rattle.cy_outside.specs.Written.{behind, Begins}
@@ -14,9 +14,13 @@ use Rattle.log_loop.specs.declared.ended.Ended.TheVariants as end
 use Rattle.log_loop.specs.declared.next.Stop.{Stop}
 use Rattle.log_loop.specs.declared.next.Stop.TheVariants as stop
 
--- the whole log was heard, and all that is said of it was written
-pub record Settled (v : Voice) (heard : List Record → Type 0) (log : Log) (before after : Option (List ℕ)) : Type 0 where
-  pub hears : heard (newest_first log)
+-- a listener heard these records, or has said its last words behind them
+abbrev pub HeardOrEnded : (List Record → Type 0) → (List Record → Type 0) → List Record → Type 0
+HeardOrEnded heard ended past = heard past ⊎ ended past
+
+-- this holds of the whole log, and all that is said of it was written
+pub record Settled (v : Voice) (done : List Record → Type 0) (log : Log) (before after : Option (List ℕ)) : Type 0 where
+  pub hears : done (newest_first log)
   pub written : after ≡ behind before (whole_text v log)
 
 -- the first records of a log were heard, and exactly what is said on them was written
@@ -35,20 +39,21 @@ pub record Begun (v : Voice) (done : List Record → Type 0) (log : Log) (before
   pub is : done came
   pub written : Begins (whole_text v log) before after
 
--- what was done over a log
-abbrev pub Gone : Voice → (List Record → Type 0) → (List Record → Type 0) → Log → Ended → Option (List ℕ) → Option (List ℕ) → Type 0
-Gone v heard broke log end.Ok before after = (log.refusal ≡ None) × Settled v heard log before after
-Gone v heard broke log (end.Log line why) before after = (log.refusal ≡ Some (refusal_of line why)) × Settled v heard log before after
-Gone v heard broke log end.LogLong before after = (log.refusal ≡ Some error.LogLong) × Settled v heard log before after
-Gone v heard broke log end.ReadFault before after = Upto v heard log before after
-Gone v heard broke log end.WriteFault before after = Begun v heard log before after
-Gone v heard broke log end.NoMemory before after = Begun v broke log before after
+-- What was done over a log: at its end the listener has said its last words behind all records. Where the output failed, it
+-- heard the first records, or has said its last words behind all of them.
+abbrev pub Gone : Voice → (List Record → Type 0) → (List Record → Type 0) → (List Record → Type 0) → Log → Ended → Option (List ℕ) → Option (List ℕ) → Type 0
+Gone v heard ended broke log end.Ok before after = (log.refusal ≡ None) × Settled v ended log before after
+Gone v heard ended broke log (end.Log line why) before after = (log.refusal ≡ Some (refusal_of line why)) × Settled v heard log before after
+Gone v heard ended broke log end.LogLong before after = (log.refusal ≡ Some error.LogLong) × Settled v heard log before after
+Gone v heard ended broke log end.ReadFault before after = Upto v heard log before after
+Gone v heard ended broke log end.WriteFault before after = Begun v (HeardOrEnded heard ended) log before after
+Gone v heard ended broke log end.NoMemory before after = Begun v broke log before after
 
 -- the same over the log of an input, which is the told one where the input tells its bytes
-pub record HasGone (v : Voice) (heard broke : List Record → Type 0) (told : Option (List ℕ)) (ended : Ended) (before after : Option (List ℕ)) : Type 0 where
+pub record HasGone (v : Voice) (heard ended broke : List Record → Type 0) (told : Option (List ℕ)) (how : Ended) (before after : Option (List ℕ)) : Type 0 where
   pub bytes : List ℕ
   pub is : IfSome told (λ (left : List ℕ). bytes ≡ left)
-  pub gone : Gone v heard broke (log_of v.names bytes) ended before after
+  pub gone : Gone v heard ended broke (log_of v.names bytes) how before after
 
 -- how a loop ends that the log ended
 abbrev pub refused : LogError → Ended

@@ -4,6 +4,7 @@ use mathlib.Core.List.{reverse_aux}
 use Rattle.tail_frame.specs.declared.logged.Record.{Record}
 use Rattle.cy_outside.specs.Written.{behind}
 use Rattle.frame_log.specs.Input.{Took}
+use Rattle.log_loop.specs.Gone.{HeardOrEnded}
 use Rattle.log_loop.specs.Voice.{Voice, said}
 use Rattle.log_loop.specs.Taken.{whole_records}
 use Rattle.log_loop.specs.declared.ended.Ended.{Ended}
@@ -13,14 +14,14 @@ use Rattle.log_loop.specs.declared.ended.Ended.TheVariants as end
 abbrev pub HasWritten : List ℕ → Option (List ℕ) → Option (List ℕ) → Type 0
 HasWritten text before after = (more : List ℕ) × (after ≡ behind before (text ++ more))
 
--- these records at least were heard, the first of all
-abbrev pub HasHeard : (List Record → Type 0) → List Record → Type 0
-HasHeard heard first = (newer : List Record) × heard (reverse_aux newer first)
+-- these records at least, the first of all, were heard; behind them and newer ones the last words may have been said
+abbrev pub HasHeard : (List Record → Type 0) → (List Record → Type 0) → List Record → Type 0
+HasHeard heard ended first = (newer : List Record) × HeardOrEnded heard ended (reverse_aux newer first)
 
 -- However it ended: of each front of the bytes that were taken, behind which more than 8,192 bytes were taken, what is said
 -- is written. Its records were heard too, unless memory was wanting.
-pub record IsStreamed (v : Voice) (heard : List Record → Type 0) (left new : Option (List ℕ)) (ended : Ended) (before after : Option (List ℕ)) : Type 0 where
+pub record IsStreamed (v : Voice) (heard ended : List Record → Type 0) (left new : Option (List ℕ)) (how : Ended) (before after : Option (List ℕ)) : Type 0 where
   pub taken : List ℕ
   pub took : Took left new taken
   pub written : (front more : List ℕ) → taken ≡ front ++ more → 8192 < length more → HasWritten (said v (whole_records v.names front)) before after
-  pub hears : (ended ≡ end.NoMemory → ⊥) → (front more : List ℕ) → taken ≡ front ++ more → 8192 < length more → HasHeard heard (whole_records v.names front)
+  pub hears : (how ≡ end.NoMemory → ⊥) → (front more : List ℕ) → taken ≡ front ++ more → 8192 < length more → HasHeard heard ended (whole_records v.names front)

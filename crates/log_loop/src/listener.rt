@@ -11,6 +11,9 @@ pub trait Listener {
     /// What it was at first, what it is, and the records that it heard in between.
     ghost heard: { Self → Self → List Record → Type 0 };
 
+    /// The same where it has said its last words behind these records.
+    ghost ended: { Self → Self → List Record → Type 0 };
+
     /// The same where it broke off on the newest of these records, or at their end.
     ghost broke: { Self → Self → List Record → Type 0 };
 
@@ -43,11 +46,16 @@ pub trait Listener {
 
     /// Gathers what it says at the end.
     fn finish(&mut self, gathered: &mut TextBuffer) -> Result<(), NoMemory>
-        ensures heard { (first : Self) (past : List Record)
-            → heard first self.old past → heard first self.new past }
+        ensures ended { OnOk result ((first : Self) (past : List Record)
+            → heard first self.old past → ended first self.new past) }
+        ensures broke { OnErr result ((first : Self) (past : List Record)
+            → heard first self.old past → broke first self.new past) }
         ensures text { OnOk result ((first : Self) (past : List Record) → heard first self.old past
             → text_of gathered.new ≡ text_of gathered.old ++ last_text first past) };
 
     /// Whoever heard all may break off there.
     ghost heard_broke: { (first now : Self) (past : List Record) → heard first now past → broke first now past };
+
+    /// Whoever said its last words may break off behind them.
+    ghost ended_broke: { (first now : Self) (past : List Record) → ended first now past → broke first now past };
 }

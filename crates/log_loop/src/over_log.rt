@@ -1,4 +1,4 @@
-ghost use Rattle.std.specs.Prelude.{◌≡◌, ◌++◌, ℕ, List, [], None, false, OnOk, OnErr};
+ghost use Rattle.std.specs.Prelude.{◌≡◌, ◌≢◌, ◌++◌, ℕ, List, [], None, false, OnOk, OnErr};
 ghost use Rattle.cy_outside.specs.Outside.{Rose};
 ghost use Rattle.tail_frame.specs.declared.logged.Record.{Record};
 ghost use Rattle.cy_outside.specs.Written.{behind, Begins};
@@ -33,13 +33,13 @@ pub fn listen<M: Listener, L: Source, O: Sink>(
     requires heard { M.heard listener.old listener.old [] }
     requires fresh { (M.latest listener.old ≡ 0) × (M.line listener.old ≡ 0) }
     ensures gone { let v = voice buses (M.step_text listener.old) (M.last_text listener.old) in
-        HasGone v (M.heard listener.old listener.new) (M.broke listener.old listener.new)
-        (L.left input.old) result (O.written out.old) (O.written out.new) }
+        HasGone v (M.heard listener.old listener.new) (M.ended listener.old listener.new)
+        (M.broke listener.old listener.new) (L.left input.old) result (O.written out.old) (O.written out.new) }
     ensures taken { let v = voice buses (M.step_text listener.old) (M.last_text listener.old) in
         result ≡ Ended.ReadFault → IsOfTaken v (M.heard listener.old listener.new)
         (L.left input.old) (L.left input.new) (O.written out.old) (O.written out.new) }
     ensures streamed { let v = voice buses (M.step_text listener.old) (M.last_text listener.old) in
-        IsStreamed v (M.heard listener.old listener.new)
+        IsStreamed v (M.heard listener.old listener.new) (M.ended listener.old listener.new)
         (L.left input.old) (L.left input.new) result (O.written out.old) (O.written out.new) }
     ensures read { result ≡ Ended.ReadFault → Rose (L.faults input.old) (L.faults input.new) }
     ensures write { result ≡ Ended.WriteFault → Rose (O.faults out.old) (O.faults out.new) }
@@ -67,13 +67,13 @@ fn hear_all<M: Listener, L: Source, O: Sink>(
     requires heard { M.heard listener.old listener.old [] }
     requires fresh { (M.latest listener.old ≡ 0) × (M.line listener.old ≡ 0) }
     ensures gone { let v = voice (buses_of reader.old) (M.step_text listener.old) (M.last_text listener.old) in
-        HasGone v (M.heard listener.old listener.new) (M.broke listener.old listener.new)
-        (L.left input.old) result (O.written out.old) (O.written out.new) }
+        HasGone v (M.heard listener.old listener.new) (M.ended listener.old listener.new)
+        (M.broke listener.old listener.new) (L.left input.old) result (O.written out.old) (O.written out.new) }
     ensures taken { let v = voice (buses_of reader.old) (M.step_text listener.old) (M.last_text listener.old) in
         result ≡ Ended.ReadFault → IsOfTaken v (M.heard listener.old listener.new)
         (L.left input.old) (L.left input.new) (O.written out.old) (O.written out.new) }
     ensures streamed { let v = voice (buses_of reader.old) (M.step_text listener.old) (M.last_text listener.old) in
-        IsStreamed v (M.heard listener.old listener.new)
+        IsStreamed v (M.heard listener.old listener.new) (M.ended listener.old listener.new)
         (L.left input.old) (L.left input.new) result (O.written out.old) (O.written out.new) }
     ensures read { result ≡ Ended.ReadFault → Rose (L.faults input.old) (L.faults input.new) }
     ensures write { result ≡ Ended.WriteFault → Rose (O.faults out.old) (O.faults out.new) }
@@ -113,7 +113,10 @@ fn end<M: Listener, O: Sink>(listener: &mut M, out: &mut O, gathered: &mut TextB
         → Begins (text_of gathered.old ++ M.last_text first past) (O.written out.old) (O.written out.new) }
     ensures write { result ≡ Ended.WriteFault → Rose (O.faults out.old) (O.faults out.new) }
     ensures memory { result ≡ Ended.NoMemory → O.written out.new ≡ O.written out.old }
-    ensures heard { (first : M) (past : List Record) → M.heard first listener.old past → M.heard first listener.new past }
+    ensures ended { result ≢ Ended.NoMemory
+        → (first : M) (past : List Record) → M.heard first listener.old past → M.ended first listener.new past }
+    ensures broke { result ≡ Ended.NoMemory
+        → (first : M) (past : List Record) → M.heard first listener.old past → M.broke first listener.new past }
     ensures only { IsFinish result }
 {
     let Ok(()) = listener.finish(gathered) else {

@@ -8,14 +8,13 @@ use Rattle.rx_table.specs.Admitted.{key_of}
 use Rattle.rx_table.specs.Heard.{frame_for, with_frame, frames}
 use Rattle.rx_table.specs.Keys.{KeyedFrame}
 use Rattle.rx_table.specs.Laws.{OutcomeTells}
-use Rattle.rx_table.specs.Places.{table_answer}
-use Rattle.rx_table.specs.Ports.{Port, PortState, ports_of}
+use Rattle.rx_table.specs.Ports.{Answer, Port, PortState, ports_of}
 use Rattle.rx_table.specs.Table.{StandsFor, keyed, with_source, logged, Told}
 use Rattle.rx_table.specs.Views.{subscriptions}
-use Rattle.rx_table.specs.declared.fed.Met.{Met}
 use Rattle.node_reach.specs.declared.ear.Ear.{Ear}
-use Rattle.node_reach.specs.Ears.{states_in, AllUpTo, Hears, told_of, told}
+use Rattle.node_reach.specs.Ears.{states_in, AllUpTo, Hears}
 use Rattle.node_reach.specs.PortTypes.{type_schema}
+use Rattle.node_reach.specs.Told.{answered}
 use Rattle.node_reach.specs.Transfers.{Ears, of_frame, transfer_at}
 use Rattle.node_reach.proofs.Answered.{told_transfer}
 
@@ -33,6 +32,21 @@ keyed_some f key source is e = ap (λ (k : Key). with_source k.kind k.port k.sou
 
 pub keyed_none : (f : FrameOf) (key : Key) → key ≡ key_of_ident f.ident → key.source ≡ None → keyed f ≡ None
 keyed_none f key is e = ap (λ (k : Key). with_source k.kind k.port k.source f) (sym is) ∙ ap (λ (o : Option ℕ). with_source key.kind key.port o f) e
+
+-- of a record that is no frame for the node it tells nothing
+pub told_none : (ear : Ear) (rec : Record) (ears : Ears) (past : List Record) → Hears ears ear past → None ≡ frame_for ear.own rec → None ≡ transfer_at ears rec past
+told_none ear rec ears past h is = ap (of_frame ears (frames ears.own past)) (is ∙ ap (λ n. frame_for n rec) h.own)
+
+-- of one that is, it tells what its table tells
+pub told_some : (ear : Ear) (rec : Record) (ears : Ears) (past : List Record) → Hears ears ear past → OutcomeTells → (f : FrameOf) (answer : Answer) → Some f ≡ frame_for ear.own rec
+    → ((log : List KeyedFrame) → StandsFor ear.table.timeout log (states_in ear) → Told ear.table.timeout (subscriptions type_schema ear.table) f log answer)
+    → answered (keyed f) answer ≡ transfer_at ears rec past
+told_some ear rec ears past h tells f answer is says =
+    let log = frames ears.own past in
+    let theirs : frame_for ears.own rec ≡ Some f = ap (λ n. frame_for n rec) (sym h.own) ∙ sym is in
+    let now : Told ear.table.timeout (subscriptions type_schema ear.table) f log answer = says log (subst (λ t. StandsFor t log (states_in ear)) (sym h.timeout) h.sessions) in
+    let its : Told ears.timeout ears.ports f log answer = subst (λ (ps : List Port). Told ears.timeout ps f log answer) h.ports (subst (λ t. Told t (subscriptions type_schema ear.table) f log answer) h.timeout now) in
+    told_transfer tells ears.timeout log answer ears.ports f its ∙ sym (ap (of_frame ears log) theirs)
 
 -- an ear that took a record
 pub record Stepped (old new : Ear) (rec : Record) : Type 0 where
@@ -69,26 +83,3 @@ module _ (old new : Ear) (rec : Record) (takes : Stepped old new rec) (ears : Ea
       let log = frames ears.own past in
       hears_with (Some f) is
       (subst (λ t. StandsFor t (logged f log) (states_in new)) h.timeout (step log (subst (λ t. StandsFor t log (states_in old)) (sym h.timeout) h.sessions)))
-
-  -- and what it tells of it
-  pub told_none : (met : Met) → None ≡ frame_for old.own rec → told new rec met ≡ transfer_at ears rec past
-  unfolding told
-  told_none met is =
-      let mine : frame_for new.own rec ≡ None = ap (λ n. frame_for n rec) takes.own ∙ sym is in
-      let theirs : frame_for ears.own rec ≡ None = ap (λ n. frame_for n rec) (sym h.own) ∙ sym is in
-      ap (λ (o : Option FrameOf). told_of new o met) mine ∙ sym (ap (of_frame ears (frames ears.own past)) theirs)
-
-  pub told_some : OutcomeTells → (f : FrameOf) (met : Met) → Some f ≡ frame_for old.own rec
-      → ((log : List KeyedFrame) → StandsFor old.table.timeout log (states_in old) → Told old.table.timeout (subscriptions type_schema old.table) f log (table_answer (states_in new) f.body met))
-      → told new rec met ≡ transfer_at ears rec past
-  unfolding told
-  told_some tells f met is says =
-      let log = frames ears.own past in
-      let answer = table_answer (states_in new) f.body met in
-      let mine : frame_for new.own rec ≡ Some f = ap (λ n. frame_for n rec) takes.own ∙ sym is in
-      let theirs : frame_for ears.own rec ≡ Some f = ap (λ n. frame_for n rec) (sym h.own) ∙ sym is in
-      let now : Told old.table.timeout (subscriptions type_schema old.table) f log answer = says log (subst (λ t. StandsFor t log (states_in old)) (sym h.timeout) h.sessions) in
-      let its : Told ears.timeout ears.ports f log answer = subst (λ (ps : List Port). Told ears.timeout ps f log answer) h.ports (subst (λ t. Told t (subscriptions type_schema old.table) f log answer) h.timeout now) in
-      ap (λ (o : Option FrameOf). told_of new o met) mine
-      ∙ (told_transfer tells ears.timeout log answer ears.ports f its
-      ∙ sym (ap (of_frame ears log) theirs))

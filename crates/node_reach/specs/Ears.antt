@@ -1,17 +1,18 @@
 -- What a node that listens has heard, and what it tells of a record.
-use Rattle.std.specs.Prelude.{◌≡◌, ◌≤◌, ℕ, List, [], ◌∷◌, Option, Some, None, ⊤}
-use Rattle.rx_table.specs.Heard.{frames, frame_for}
+use Rattle.std.specs.Prelude.{◌≡◌, ◌≤◌, ℕ, List, [], ◌∷◌, Option, Some, None, option_map, ⊤}
+use Rattle.rx_table.specs.Heard.{frames}
 use Rattle.rx_table.specs.Places.{table_answer}
 use Rattle.rx_table.specs.Ports.{PortState}
 use Rattle.rx_table.specs.Table.{StandsFor, keyed}
 use Rattle.rx_table.specs.Views.{states_of, subscriptions}
 use Rattle.rx_table.specs.declared.fed.Met.{Met}
-use Rattle.tail_frame.specs.Frames.{FrameOf}
+use Rattle.tail_frame.specs.Frames.{FrameOf, seen}
 use Rattle.tail_frame.specs.declared.logged.Record.{Record}
 use Rattle.node_reach.specs.PortTypes.{type_schema}
 use Rattle.node_reach.specs.Told.{answered}
 use Rattle.node_reach.specs.Transfers.{Transfer, Ears, transfer_at}
 use Rattle.node_reach.specs.declared.ear.Ear.{Ear}
+use Rattle.node_reach.specs.declared.ear.Heard.{Heard}
 
 abbrev pub states_in : Ear → List PortState
 states_in ear = states_of type_schema ear.table
@@ -42,5 +43,5 @@ told_of ear None met = None
 told_of ear (Some f) met = answered (keyed f) (table_answer (states_in ear) f.body met)
 
 -- the transfer that the ear tells of a record, by what that came to
-unfoldable pub told : Ear → Record → Met → Option Transfer
-told ear rec met = told_of ear (frame_for ear.own rec) met
+abbrev pub told : Ear → Heard → Option Transfer
+told ear heard = told_of ear (option_map seen heard.frame) heard.met

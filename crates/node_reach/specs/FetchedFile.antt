@@ -11,7 +11,7 @@ use Rattle.node_reach.specs.Buses.{bus_names}
 use Rattle.node_reach.specs.Fetched.{events, file_limit, file_line, fetch_voice}
 use Rattle.node_reach.specs.declared.client.Client.{Client}
 
--- each reply of a log is fair for a file, and with the last one the client is done
+-- each reply of a log is fair for a file, and behind all its events the client has ended with the whole file
 pub record IsFetched (client : Client) (file : List ℕ) (log : Log) : Type 0 where
   pub fair : IsFair file file_limit (events client (newest_first log))
   pub done : end_after file_limit (events client (newest_first log)) ≡ Some Done

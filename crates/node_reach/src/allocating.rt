@@ -187,6 +187,8 @@ impl Listener for Allocating {
 
     ghost heard = { λ first now past. Allocates first.own now past };
 
+    ghost ended = { λ first now past. Allocates first.own now past };
+
     ghost broke = { λ first now past. Unit {0} };
 
     ghost step_text = { λ first rec past. step_text first.own rec past };
@@ -214,4 +216,6 @@ impl Listener for Allocating {
     }
 
     ghost heard_broke = { λ first now past h. tt };
+
+    ghost ended_broke = { λ first now past h. tt };
 }

@@ -37,7 +37,7 @@ impl Asking {
 
     /// To such a client no event came yet.
     pub(crate) fn new(alloc: Global, client: Client) -> Result<Asking, NoMemory>
-        requires { IsClient client }
+        requires client { IsClient client }
         ensures client { IfOk result (λ it. it.client ≡ client) }
         ensures asked { IfOk result (λ it. HasAsked [] it) }
     {
@@ -51,13 +51,14 @@ impl Asking {
 
     /// Whether an end came: then nothing is said on any event.
     pub(crate) fn has_ended(&self) -> bool
-        ensures { (past : List Event) → HasAsked past self.now
+        ensures ended { (past : List Event) → HasAsked past self.now
             → result ≡ is_some (end_after file_limit past) }
     {
         self.fetch.end().is_some()
     }
 
-    /// Gathers what is said on a request, with a transfer-ID of 0 to 31, for the bytes from an offset on.
+    /// Gathers what is said on a request, with a transfer-ID of 0 to 31, for the bytes from an
+    /// offset on.
     pub(crate) fn ask(
         &self,
         moment: u64,
@@ -65,8 +66,8 @@ impl Asking {
         offset: u64,
         gathered: &mut TextBuffer,
     ) -> Result<(), NoMemory>
-        requires { tid < 32 }
-        ensures { OnOk result (text_of gathered.new
+        requires tid { tid < 32 }
+        ensures text { OnOk result (text_of gathered.new
             ≡ text_of gathered.old ++ request_text self.now.client moment tid offset) }
     {
         self.client
@@ -80,7 +81,7 @@ impl Asking {
         event: FetchEvent<'_>,
         gathered: &mut TextBuffer,
     ) -> Result<(), NoMemory>
-        requires { IsShort (event_of event) }
+        requires short { IsShort (event_of event) }
         ensures client { self.new.client ≡ self.old.client }
         ensures asked { OnOk result ((past : List Event) → HasAsked past self.old
             → HasAsked (event_of event.entry ∷ past) self.new) }
@@ -94,8 +95,8 @@ impl Asking {
         }
     }
 
-    /// Goes through the ticks of a log behind one, up to another: each of them is a Late. Those behind an end are skipped,
-    /// since nothing is said on them.
+    /// Goes through the ticks of a log behind one, up to another: each of them is a Late. Those
+    /// behind an end are skipped, since nothing is said on them.
     pub(crate) fn wait(
         &mut self,
         first: u64,
@@ -103,7 +104,7 @@ impl Asking {
         last: u64,
         gathered: &mut TextBuffer,
     ) -> Result<(), NoMemory>
-        requires { tick < last → tick_moment first last < 2 ^ 64 }
+        requires low { tick < last → tick_moment first last < 2 ^ 64 }
         ensures client { self.new.client ≡ self.old.client }
         ensures asked { OnOk result ((past : List Event) → HasAsked past self.old
             → HasAsked (lates (last - tick) past) self.new) }
@@ -123,7 +124,7 @@ impl Asking {
 
     /// Gathers what is said at the end.
     pub(crate) fn finish(&self, gathered: &mut TextBuffer) -> Result<(), NoMemory>
-        ensures { OnOk result ((past : List Event) → HasAsked past self.now
+        ensures text { OnOk result ((past : List Event) → HasAsked past self.now
             → text_of gathered.new ≡ text_of gathered.old ++ outcome_text past) }
     {
         put_outcome(gathered, self.fetch.bytes(), self.fetch.end())

@@ -1,7 +1,5 @@
 //! What a node hears on ports of standard types.
-ghost use Rattle.rx_table.specs.Table.{HeardBy};
-ghost use Rattle.node_reach.specs.InTime.{HeardBy-prop};
-ghost use Rattle.rx_table.specs.Views.{states_of};
+ghost use Rattle.node_reach.specs.InTime.{IsInTime, IsInTime-prop};
 ghost use Rattle.node_reach.specs.PortTypes.{type_schema};
 
 use crate::frames::frame_for;
@@ -23,13 +21,23 @@ pub struct Ear {
     pub table: Table<StdType>,
     /// The moment of the last record, in microseconds, or 0.
     pub latest: u64,
-    ghost in_time: { HeardBy latest (states_of type_schema table) } by { HeardBy-prop latest (states_of type_schema table) },
+    ghost in_time: { IsInTime latest table } by { IsInTime-prop latest table },
+}
+
+/// What a record came to.
+#[derive(Clone, Copy)]
+pub struct Heard<'a> {
+    /// The frame that it is, where that is one for the node.
+    pub frame: Option<Frame<'a>>,
+    /// What the frame came to in the table.
+    pub met: Met,
 }
 
 /// The sources that get a session on a port.
 const SOURCES: u16 = 128;
 
-/// The silence of a bus, in microseconds, after which another takes over, where nothing else is said.
+/// The silence of a bus, in microseconds, after which another takes over, where nothing else is
+/// said.
 pub(crate) const TIMEOUT: u64 = 2_000_000;
 
 impl Ear {
@@ -45,7 +53,8 @@ impl Ear {
     ghost use Rattle.node_reach.specs.Ears.{Hears, Takes, Tells, states_in, told};
     ghost use Rattle.node_reach.specs.Told.{owned, answered};
 
-    /// A node with this node-ID that listens on no port, and takes a bus as silent after so many microseconds.
+    /// A node with this node-ID that listens on no port, and takes a bus as silent after so many
+    /// microseconds.
     pub(crate) fn new(alloc: Global, own: u8, timeout: u64) -> Result<Ear, NoMemory>
         ensures hears { IfOk result (λ ear.
             Hears (record { own = own; timeout = timeout; ports = [] }) ear []) }
@@ -60,8 +69,8 @@ impl Ear {
         })
     }
 
-    /// Listens on a port for transfers of a standard type, before it hears a record. It doesn't listen on that port yet,
-    /// and on fewer than 2^16.
+    /// Listens on a port for transfers of a standard type, before it hears a record. It doesn't
+    /// listen on that port yet, and on fewer than 2^16.
     pub(crate) fn subscribe(
         &mut self,
         alloc: Global,
@@ -87,37 +96,49 @@ impl Ear {
         }
     }
 
-    /// Takes the next record of a log, at a moment not before the last one. Memory is taken for a new source's session
-    /// alone.
-    pub(crate) fn hear(&mut self, rec: &Record) -> Result<Met, NoMemory>
-        requires { self.old.latest ≤ rec.now.moment }
+    /// Takes the next record of a log, at a moment not before the last one. Memory is taken for a
+    /// new source's session alone.
+    pub(crate) fn hear<'a>(&mut self, rec: &'a Record) -> Result<Heard<'a>, NoMemory>
+        requires moment { self.old.latest ≤ rec.now.moment }
         ensures own { self.new.own ≡ self.old.own }
         ensures latest { self.new.latest ≡ rec.now.moment }
         ensures hears { OnOk result (Takes rec.now self.old self.new) }
-        ensures told { IfOk result (λ met. Tells self.old rec.now (told self.new rec.now met)) }
+        ensures told { IfOk result (λ heard. Tells self.old rec.now (told self.new heard)) }
+        ensures ident { IfOk result (λ heard. IfSome heard.frame (λ frame. IsIdent frame.ident)) }
     {
         outcome_tells();
         self.latest = rec.moment;
         match frame_for(self.own, rec) {
-            Some(frame) => self.table.step(&frame),
-            None => Ok(Met::NoPort),
+            Some(frame) => {
+                let met = self.table.step(&frame)?;
+                Ok(Heard {
+                    frame: Some(frame),
+                    met,
+                })
+            }
+            None => Ok(Heard {
+                frame: None,
+                met: Met::NoPort,
+            }),
         }
     }
 
-    /// The transfer that ended at a record, if one did, by what the record came to: it was the last that was taken.
-    pub(crate) fn transfer<'a>(&'a self, rec: &'a Record, met: Met) -> Option<Transfer<'a>>
-        ensures told { option_map owned result ≡ told self.now rec.now met }
+    /// The transfer that ended at a record, if one did, by what that came to: it was the last that
+    /// was taken.
+    pub(crate) fn transfer<'a>(&'a self, heard: Heard<'a>) -> Option<Transfer<'a>>
+        requires ident { IfSome heard.frame (λ frame. IsIdent frame.ident) }
+        ensures told { option_map owned result ≡ told self.now heard.entry }
         ensures source { IfSome result (λ transfer. transfer.source < 128) }
     {
-        match frame_for(self.own, rec) {
-            Some(frame) => self.transfer_in(&frame, met),
+        match heard.frame {
+            Some(frame) => self.transfer_in(&frame, heard.met),
             None => None,
         }
     }
 
     /// The transfer that ended at a frame, if one did.
     fn transfer_in<'a>(&'a self, frame: &Frame<'a>, met: Met) -> Option<Transfer<'a>>
-        requires { IsIdent frame.now.ident }
+        requires ident { IsIdent frame.now.ident }
         ensures told { let f = seen frame.now in
             let answer = table_answer (states_in self.now) f.body met in
             option_map owned result ≡ answered (keyed f) answer }

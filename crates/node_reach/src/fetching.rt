@@ -78,6 +78,8 @@ impl Listener for Fetching {
 
     ghost heard = { λ first now past. Fetches first.asking.client now past };
 
+    ghost ended = { λ first now past. Fetches first.asking.client now past };
+
     ghost broke = { λ first now past. Unit {0} };
 
     ghost step_text = { λ first rec past. step_text first.asking.client rec past };
@@ -105,4 +107,6 @@ impl Listener for Fetching {
     }
 
     ghost heard_broke = { λ first now past h. tt };
+
+    ghost ended_broke = { λ first now past h. tt };
 }

@@ -17,13 +17,14 @@ use file_client::fetch_laws;
 use log_loop::{Ended, listen};
 use std::alloc::Global;
 
-/// Fetches a file of at most 2^20 bytes of the node `server` for the node `own`, by the service `uavcan.file.Read` over a
-/// log of the buses `can0`, `can1` and `can2`.
+/// Fetches a file of at most 2^20 bytes of the node `server` for the node `own`, by the service
+/// `uavcan.file.Read` over a log of the buses `can0`, `can1` and `can2`.
 ///
-/// The first request is made at the first record. At each whole second behind it the request that is out is late: it is
-/// made anew, but for the eighth time at one offset, which ends the fetch. A response with 256 bytes is followed by the
-/// next request; fewer bytes end the fetch, and so do an error of the server and bytes above the limit. Each request is
-/// written with its frames, and at the log's end the file, why there is none, or that a request is still out.
+/// The first request is made at the first record. At each whole second behind it the request that
+/// is out is late: it is made anew, but for the eighth time at one offset, which ends the fetch. A
+/// response with 256 bytes is followed by the next request; fewer bytes end the fetch, and so do an
+/// error of the server and bytes above the limit. Each request is written with its frames, and at
+/// the log's end the file, why there is none, or that a request is still out.
 ///
 /// The node-IDs are at most 127 and differ; the path is 1 to 255 bytes 0x20 to 0x7E.
 pub fn fetch<L: Source, O: Sink>(
@@ -38,12 +39,14 @@ pub fn fetch<L: Source, O: Sink>(
     requires server { server ≤ 127 }
     requires other { server ≢ own }
     requires path { length path.now ≤ 255 }
-    ensures gone { HasGone (fetch_voice (client_of own server path.now)) Anything Anything
+    ensures gone { let voice = fetch_voice (client_of own server path.now) in
+        HasGone voice Anything Anything Anything
         (L.left input.old) result (O.written out.old) (O.written out.new) }
     ensures taken { let voice = fetch_voice (client_of own server path.now) in
         result ≡ Ended.ReadFault → IsOfTaken voice Anything
         (L.left input.old) (L.left input.new) (O.written out.old) (O.written out.new) }
-    ensures streamed { IsStreamed (fetch_voice (client_of own server path.now)) Anything
+    ensures streamed { let voice = fetch_voice (client_of own server path.now) in
+        IsStreamed voice Anything Anything
         (L.left input.old) (L.left input.new) result (O.written out.old) (O.written out.new) }
     ensures fetched { WritesFile (client_of own server path.now)
         (L.left input.old) result (O.written out.old) (O.written out.new) }

@@ -63,6 +63,8 @@ fn listening(alloc: Global, own: u8) -> Result<Ear, NoMemory>
 impl Listener for Monitoring {
     ghost heard = { λ first now past. Monitors first.ear.own now past };
 
+    ghost ended = { λ first now past. Monitors first.ear.own now past };
+
     ghost broke = { λ first now past. Unit {0} };
 
     ghost step_text = { λ first rec past. step_text rec past };
@@ -76,8 +78,8 @@ impl Listener for Monitoring {
     fn hear(&mut self, rec: &Record, _gathered: &mut TextBuffer) -> Result<(), NoMemory> {
         // No number of records passes the line of the last one.
         let _line = rec.line;
-        let met = self.ear.hear(rec)?;
-        let transfer = self.ear.transfer(rec, met);
+        let heard = self.ear.hear(rec)?;
+        let transfer = self.ear.transfer(heard);
         self.network.hear(rec.moment, transfer)?;
         self.records += 1;
         Ok(())
@@ -93,6 +95,8 @@ impl Listener for Monitoring {
     }
 
     ghost heard_broke = { λ first now past h. tt };
+
+    ghost ended_broke = { λ first now past h. tt };
 }
 
 /// Gathers the lines of nodes, of which these are online.

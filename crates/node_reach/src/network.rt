@@ -49,7 +49,7 @@ impl Network {
 
     /// A network of which nothing is known.
     pub(crate) fn new(alloc: Global) -> Result<Network, NoMemory>
-        ensures { IfOk result (λ network. Knows network [] []) }
+        ensures knows { IfOk result (λ network. Knows network [] []) }
     {
         let beat_type = std_type(alloc, StdName::Heartbeat)?;
         let message_type = std_type(alloc, StdName::Synchronization)?;
@@ -72,7 +72,7 @@ impl Network {
     ) -> Result<(), NoMemory>
         requires moment { moment < 10 ^ 18 }
         requires source { IfSome transfer (λ t. t.source < 128) }
-        ensures { let t = option_map owned transfer.entry in
+        ensures learns { let t = option_map owned transfer.entry in
             OnOk result (Learns moment t self.old self.new) }
     {
         match transfer {
@@ -85,7 +85,7 @@ impl Network {
     fn take(&mut self, moment: u64, transfer: Transfer<'_>) -> Result<(), NoMemory>
         requires moment { moment < 10 ^ 18 }
         requires source { transfer.source < 128 }
-        ensures { let t = Some (owned transfer.entry) in
+        ensures learns { let t = Some (owned transfer.entry) in
             OnOk result (Learns moment t self.old self.new) }
     {
         match transfer.port {
@@ -97,8 +97,8 @@ impl Network {
 
     /// Takes the payload of a transfer as a heartbeat, if it can be read.
     fn take_beat(&mut self, transfer: Transfer<'_>) -> Result<(), NoMemory>
-        requires { transfer.source < 128 }
-        ensures { OnOk result (LearnsBeat (owned transfer.entry) self.old self.new) }
+        requires source { transfer.source < 128 }
+        ensures learns { OnOk result (LearnsBeat (owned transfer.entry) self.old self.new) }
     {
         let Some(value) = reading(self.alloc, &self.beat_type, transfer.payload)? else {
             return Ok(());
@@ -110,19 +110,20 @@ impl Network {
         Ok(())
     }
 
-    /// Takes the payload of a transfer that ended at a moment as a message of time, if it can be read.
+    /// Takes the payload of a transfer that ended at a moment as a message of time, if it can be
+    /// read.
     fn take_message(&mut self, moment: u64, transfer: Transfer<'_>) -> Result<(), NoMemory>
         requires moment { moment < 10 ^ 18 }
         requires source { transfer.source < 128 }
-        ensures { let t = owned transfer.entry in
+        ensures learns { let t = owned transfer.entry in
             OnOk result (LearnsMessage moment t self.old self.new) }
     {
         let Some(value) = reading(self.alloc, &self.message_type, transfer.payload)? else {
             return Ok(());
         };
         let message = Synchronization::of_value(self.alloc, &value)?;
-        // These change no number: a transfer begins no later than it ends, its transfer-ID is at most 31, and the stamp
-        // has 56 bits.
+        // These change no number: a transfer begins no later than it ends, its transfer-ID is at
+        // most 31, and the stamp has 56 bits.
         let began = transfer.moment.min(moment);
         let tid = transfer.tid % 32;
         let stamp = message.previous_transmission_timestamp_microsecond % STAMPS;

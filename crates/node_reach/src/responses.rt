@@ -69,16 +69,16 @@ impl Responses {
         Ok(Responses { alloc, ear })
     }
 
-    /// Takes the next record of a log, at a moment not before the last one, and answers the response of a server that
-    /// ends at it, if one does and it can be read.
+    /// Takes the next record of a log, at a moment not before the last one, and answers the response
+    /// of a server that ends at it, if one does and it can be read.
     pub(crate) fn hear(&mut self, rec: &Record, server: u8) -> Result<Option<Response>, NoMemory>
         requires { self.old.ear.latest ≤ rec.now.moment }
         ensures latest { self.new.ear.latest ≤ rec.now.moment }
         ensures hears { OnOk result (Takes rec.now self.old.ear self.new.ear) }
         ensures reply { IfOk result (TellsReply self.old.ear server rec.now) }
     {
-        let met = self.ear.hear(rec)?;
-        let Some(transfer) = self.ear.transfer(rec, met) else {
+        let heard = self.ear.hear(rec)?;
+        let Some(transfer) = self.ear.transfer(heard) else {
             return Ok(None);
         };
         if transfer.source == server {

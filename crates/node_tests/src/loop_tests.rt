@@ -11,7 +11,8 @@ use std::alloc::Global;
 use std::test::Fail;
 use tail_frame::Record;
 
-/// Says on each record how many came before it, in one byte, and a newline at the end.
+/// Says on each record how many came before it, in one byte, and a newline at the end, where it
+/// forgets them.
 #[derive(Drop)]
 struct Count {
     n: u64,
@@ -19,6 +20,8 @@ struct Count {
 
 impl Listener for Count {
     ghost heard = { λ first now past. now.n ≡ first.n + length past };
+
+    ghost ended = { λ first now past. now.n ≡ 0 };
 
     ghost broke = { λ first now past. now.n ≤ first.n + length past };
 
@@ -38,10 +41,14 @@ impl Listener for Count {
     }
 
     fn finish(&mut self, gathered: &mut TextBuffer) -> Result<(), NoMemory> {
-        gathered.push(b"\n")
+        gathered.push(b"\n")?;
+        self.n = 0;
+        Ok(())
     }
 
     ghost heard_broke = { λ first now past e. Prim.search rules };
+
+    ghost ended_broke = { λ first now past e. Prim.search rules };
 }
 
 /// Says the bus of each record as a digit, and has memory for so many alone.
@@ -52,6 +59,8 @@ struct Buses {
 
 impl Listener for Buses {
     ghost heard = { λ first now past. now.left + length past ≡ first.left };
+
+    ghost ended = { λ first now past. now.left + length past ≡ first.left };
 
     ghost broke = { λ first now past. now.left + length past ≤ first.left + 1 };
 
@@ -77,6 +86,8 @@ impl Listener for Buses {
     }
 
     ghost heard_broke = { λ first now past e. Prim.search rules };
+
+    ghost ended_broke = { λ first now past e. Prim.search rules };
 }
 
 /// The buses `can0` and `can1`.
@@ -90,7 +101,8 @@ fn two_buses() -> ShortList<BusName, 3> {
     buses
 }
 
-/// A log, the numbers of the reads and of the writes that fail, and what comes of it.
+/// A log, the numbers of the reads and of the writes that fail, and what comes of it: how the loop
+/// ends, what is written, and how many records a `Count` has counted.
 #[derive(Drop)]
 struct Row<'a> {
     log: &'a [u8],
@@ -98,6 +110,7 @@ struct Row<'a> {
     writes: &'a [u64],
     ended: Ended,
     written: &'a [u8],
+    counted: u64,
 }
 
 const GOOD: &[u8] = b"(0.000000) can0 107D552A#01\n(1.000000) can1 107D552A#02\n";
@@ -116,6 +129,7 @@ fn a_listener_is_heard_as_far_as_the_log_goes(rt: HostRuntime) -> Result<(), Fai
             writes: &[],
             ended: Ended::Ok,
             written: b"\x00\x01\n",
+            counted: 0,
         },
         Row {
             log: back,
@@ -123,6 +137,7 @@ fn a_listener_is_heard_as_far_as_the_log_goes(rt: HostRuntime) -> Result<(), Fai
             writes: &[],
             ended: refused,
             written: b"\x00",
+            counted: 1,
         },
         Row {
             log: GOOD,
@@ -130,6 +145,7 @@ fn a_listener_is_heard_as_far_as_the_log_goes(rt: HostRuntime) -> Result<(), Fai
             writes: &[],
             ended: Ended::ReadFault,
             written: b"\x00\x01",
+            counted: 2,
         },
         Row {
             log: GOOD,
@@ -137,6 +153,7 @@ fn a_listener_is_heard_as_far_as_the_log_goes(rt: HostRuntime) -> Result<(), Fai
             writes: &[0],
             ended: Ended::WriteFault,
             written: b"",
+            counted: 2,
         },
     ];
     for row in rows {
@@ -146,6 +163,7 @@ fn a_listener_is_heard_as_far_as_the_log_goes(rt: HostRuntime) -> Result<(), Fai
         let ended = listen(rt.alloc(), &mut count, two_buses(), &mut input, &mut out);
         assert_eq!(rt; ended, row.ended);
         assert_eq!(rt; out.written.as_slice(), row.written);
+        assert_eq!(rt; count.n, row.counted);
     }
     Ok(())
 }

@@ -19,8 +19,8 @@ returns-in-Err-clause-gone g c =
     let v = voice (buses_of c.args.reader.now) (m.step_text c.args.listener.now) (m.last_text c.args.listener.now) in
     let left = g.L.Source.left in
     let written = g.O.Sink.written in
-    subst (λ (s : Ended). HasGone v (m.heard c.args.listener.now c.records.listener) (m.broke c.args.listener.now c.records.listener) (left c.args.input.now) s (written c.args.out.now) (written c.next.new.out)) (sym c.stopped.ensures)
-    (has_stopped v (m.heard c.args.listener.now c.records.listener) (m.broke c.args.listener.now c.records.listener) (left c.args.input.now) (left c.records.input) (left c.next.new.input) c.records.reader c.next.new.reader i.past c.in-Err.stop (text_of c.records.gathered) (text_of c.next.new.gathered)
+    subst (λ (s : Ended). HasGone v (m.heard c.args.listener.now c.records.listener) (m.ended c.args.listener.now c.records.listener) (m.broke c.args.listener.now c.records.listener) (left c.args.input.now) s (written c.args.out.now) (written c.next.new.out)) (sym c.stopped.ensures)
+    (has_stopped v (m.heard c.args.listener.now c.records.listener) (m.ended c.args.listener.now c.records.listener) (m.broke c.args.listener.now c.records.listener) (left c.args.input.now) (left c.records.input) (left c.next.new.input) c.records.reader c.next.new.reader i.past c.in-Err.stop (text_of c.records.gathered) (text_of c.next.new.gathered)
     (written c.args.out.now) (written c.records.out) (written c.next.new.out) i.reads c.in-Err.ensures.log c.in-Err.ensures.end i.heard i.gathered c.in-Err.ensures.text)
 
 pub returns-in-Err-clause-taken : goal.returns-in-Err-clause-taken
@@ -40,8 +40,8 @@ returns-in-Err-clause-streamed g c =
     let v = voice (buses_of c.args.reader.now) (m.step_text c.args.listener.now) (m.last_text c.args.listener.now) in
     let left = g.L.Source.left in
     let written = g.O.Sink.written in
-    subst (λ (s : Ended). IsStreamed v (m.heard c.args.listener.now c.records.listener) (left c.args.input.now) (left c.next.new.input) s (written c.args.out.now) (written c.next.new.out)) (sym c.stopped.ensures)
-    (streamed_stopped v (m.heard c.args.listener.now c.records.listener) (left c.args.input.now) (left c.records.input) (left c.next.new.input) c.records.reader c.next.new.reader i.past (text_of c.records.gathered) (text_of c.next.new.gathered)
+    subst (λ (s : Ended). IsStreamed v (m.heard c.args.listener.now c.records.listener) (m.ended c.args.listener.now c.records.listener) (left c.args.input.now) (left c.next.new.input) s (written c.args.out.now) (written c.next.new.out)) (sym c.stopped.ensures)
+    (streamed_stopped v (m.heard c.args.listener.now c.records.listener) (m.ended c.args.listener.now c.records.listener) (left c.args.input.now) (left c.records.input) (left c.next.new.input) c.records.reader c.next.new.reader i.past (text_of c.records.gathered) (text_of c.next.new.gathered)
     (written c.args.out.now) (written c.records.out) (written c.next.new.out) c.in-Err.stop i.streams c.in-Err.ensures.came i.heard i.gathered c.in-Err.ensures.text)
 
 pub hear-requires-clause-moment : goal.hear-requires-clause-moment
@@ -106,7 +106,7 @@ returns-in_default-clause-gone g c =
     let written = g.O.Sink.written in
     let more = reads_more v.names (left c.args.input.now) (left c.records.input) (left c.next.new.input) c.records.reader c.next.new.reader i.past rec i.reads (rw c.in-Ok-true.field-0-test at c.in-Ok-true.ensures.log) c.in-Ok-true.ensures.end in
     let less = gathered_less _ _ _ (written c.args.out.now) (written c.records.out) (written c.next.new.out) i.gathered (rw c.in-Ok-true.field-0-test at c.in-Ok-true.ensures.text) in
-    has_wanted v (m.heard c.args.listener.now c.hear.new.self) (m.broke c.args.listener.now c.hear.new.self) (left c.args.input.now) (rec ∷ i.past) _ (written c.args.out.now) (written c.next.new.out)
+    has_wanted v (m.heard c.args.listener.now c.hear.new.self) (m.ended c.args.listener.now c.hear.new.self) (m.broke c.args.listener.now c.hear.new.self) (left c.args.input.now) (rec ∷ i.past) _ (written c.args.out.now) (written c.next.new.out)
     (has_log v.names (left c.args.input.now) (left c.next.new.input) c.next.new.reader (rec ∷ i.past) more) (c.in_default.ensures.broke c.args.listener.now i.past i.heard)
     (begins_step v i.past rec (text_of c.next.new.gathered) (written c.args.out.now) (written c.next.new.out) less)
 
@@ -117,7 +117,7 @@ returns-in_default-clause-streamed g c =
     let v = voice (buses_of c.args.reader.now) (m.step_text c.args.listener.now) (m.last_text c.args.listener.now) in
     let left = g.L.Source.left in
     let written = g.O.Sink.written in
-    streamed_wanting v (m.heard c.args.listener.now c.hear.new.self) (left c.args.input.now) (left c.records.input) (left c.next.new.input) c.records.reader c.next.new.reader i.past (text_of c.records.gathered) (text_of c.next.new.gathered)
+    streamed_wanting v (m.heard c.args.listener.now c.hear.new.self) (m.ended c.args.listener.now c.hear.new.self) (left c.args.input.now) (left c.records.input) (left c.next.new.input) c.records.reader c.next.new.reader i.past (text_of c.records.gathered) (text_of c.next.new.gathered)
     (written c.args.out.now) (written c.records.out) (written c.next.new.out) c.next.new.written i.streams (rw c.in-Ok-true.field-0-test at c.in-Ok-true.ensures.came) i.gathered (rw c.in-Ok-true.field-0-test at c.in-Ok-true.ensures.text)
 
 pub returns-clause-gone : goal.returns-clause-gone
@@ -128,10 +128,9 @@ returns-clause-gone g c =
     let left = g.L.Source.left in
     let written = g.O.Sink.written in
     let w = rw c.in-Ok-false.field-0-test at c.in-Ok-false.ensures.text in
-    let heard = c.end.ensures.heard c.args.listener.now i.past i.heard in
-    has_finished v (m.heard c.args.listener.now c.end.new.listener) (m.broke c.args.listener.now c.end.new.listener) (left c.args.input.now) i.past (written c.args.out.now) (written c.end.new.out) c.end.result
+    has_finished v (m.heard c.args.listener.now c.end.new.listener) (m.ended c.args.listener.now c.end.new.listener) (m.broke c.args.listener.now c.end.new.listener) (left c.args.input.now) i.past (written c.args.out.now) (written c.end.new.out) c.end.result
     (has_next v.names (left c.args.input.now) (left c.records.input) (left c.next.new.input) c.records.reader c.next.new.reader i.past _ i.reads (rw c.in-Ok-false.field-0-test at c.in-Ok-false.ensures.log) c.in-Ok-false.ensures.end)
-    c.end.ensures.only heard (g.met.M.Listener.heard_broke c.args.listener.now c.end.new.listener i.past heard) (written c.next.new.out) (text_of c.next.new.gathered)
+    c.end.ensures.only (λ e. c.end.ensures.ended e c.args.listener.now i.past i.heard) (λ e. c.end.ensures.broke e c.args.listener.now i.past i.heard) (written c.next.new.out) (text_of c.next.new.gathered)
     (gathered_less _ _ _ (written c.args.out.now) (written c.records.out) (written c.next.new.out) i.gathered w.0)
     (λ e. c.end.ensures.ok e c.args.listener.now i.past i.heard) (λ e. c.end.ensures.begins e c.args.listener.now i.past i.heard) c.end.ensures.memory
 
@@ -142,8 +141,8 @@ returns-clause-streamed g c =
     let v = voice (buses_of c.args.reader.now) (m.step_text c.args.listener.now) (m.last_text c.args.listener.now) in
     let left = g.L.Source.left in
     let written = g.O.Sink.written in
-    streamed_finished v (m.heard c.args.listener.now c.end.new.listener) (left c.args.input.now) (left c.records.input) (left c.next.new.input) c.records.reader c.next.new.reader i.past (text_of c.records.gathered) (text_of c.next.new.gathered)
-    (written c.args.out.now) (written c.records.out) (written c.next.new.out) c.end.result (written c.end.new.out) (text_of c.next.new.gathered ++ m.last_text c.args.listener.now i.past) i.streams (rw c.in-Ok-false.field-0-test at c.in-Ok-false.ensures.came) (c.end.ensures.heard c.args.listener.now i.past i.heard) i.gathered
+    streamed_finished v (m.heard c.args.listener.now c.end.new.listener) (m.ended c.args.listener.now c.end.new.listener) (left c.args.input.now) (left c.records.input) (left c.next.new.input) c.records.reader c.next.new.reader i.past (text_of c.records.gathered) (text_of c.next.new.gathered)
+    (written c.args.out.now) (written c.records.out) (written c.next.new.out) c.end.result (written c.end.new.out) (text_of c.next.new.gathered ++ m.last_text c.args.listener.now i.past) i.streams (rw c.in-Ok-false.field-0-test at c.in-Ok-false.ensures.came) (λ e. c.end.ensures.ended e c.args.listener.now i.past i.heard) i.gathered
     (rw c.in-Ok-false.field-0-test at c.in-Ok-false.ensures.text).0 c.end.ensures.only (λ e. c.end.ensures.ok e c.args.listener.now i.past i.heard) (λ e. c.end.ensures.begins e c.args.listener.now i.past i.heard) c.end.ensures.memory
 
 pub records-init : goal.records-init

@@ -35,7 +35,7 @@ returns-then-has_ended-clause-asked c = λ past h.
     let n = c.loop-n.n in
     let rest = c.args.last - c.args.tick - n in
     let all : c.args.last - c.args.tick ≡ n + rest = omega arith in
-    let end = ended_with (end_after file_limit (lates n past)) (c.if-has_ended.ensures (lates n past) (i.asked past h)) in
+    let end = ended_with (end_after file_limit (lates n past)) (c.if-has_ended.ensures.ended (lates n past) (i.asked past h)) in
     let same = ap (λ (k : ℕ). fetched file_limit (lates k past)) all ∙ rest_stays file_limit n rest past end.0 end.1 in
     subst (λ (s : State). Keeps file_limit s c.loop-n.self.fetch) (sym same) (i.asked past h)
 
@@ -46,7 +46,7 @@ returns-then-has_ended-clause-text c = λ past h.
     let client = c.args.self.now.client in
     let rest = c.args.last - c.args.tick - n in
     let all : c.args.last - c.args.tick ≡ n + rest = omega arith in
-    let end = ended_with (end_after file_limit (lates n past)) (c.if-has_ended.ensures (lates n past) (i.asked past h)) in
+    let end = ended_with (end_after file_limit (lates n past)) (c.if-has_ended.ensures.ended (lates n past) (i.asked past h)) in
     let same =
     ap (λ (k : ℕ). lates_text client c.args.first c.args.tick k past) all
     ∙ rest_quiet c.fetch_laws.ensures client c.args.first c.args.tick n rest past end.0 end.1 in

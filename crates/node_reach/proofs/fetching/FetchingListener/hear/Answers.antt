@@ -17,7 +17,7 @@ use Rattle.node_reach.proofs.fetching.FetchingListener.hear.Goals as goal
 pub returns-then-has_ended-clause-heard : goal.returns-then-has_ended-clause-heard
 returns-then-has_ended-clause-heard c = λ first past h.
     let client = first.asking.client in
-    let end = ended_with (end_after file_limit (events client past)) (c.if-has_ended.ensures (events client past) h.asked) in
+    let end = ended_with (end_after file_limit (events client past)) (c.if-has_ended.ensures.ended (events client past) h.asked) in
     let stays = record_stays client c.args.rec.now past end.0 end.1 in
     record {
       same = h.same;
@@ -29,7 +29,7 @@ pub returns-then-has_ended-clause-text : goal.returns-then-has_ended-clause-text
 returns-then-has_ended-clause-text c = λ first past h.
     let client = first.asking.client in
     let old = text_of c.args.gathered.now in
-    let end = ended_with (end_after file_limit (events client past)) (c.if-has_ended.ensures (events client past) h.asked) in
+    let end = ended_with (end_after file_limit (events client past)) (c.if-has_ended.ensures.ended (events client past) h.asked) in
     sym (append-nil old) ∙ ap (λ (t : List ℕ). old ++ t) (sym (record_quiet c.fetch_laws.ensures client c.args.rec.now past end.0 end.1))
 
 pub returns-in-None-clause-heard : goal.returns-in-None-clause-heard
@@ -44,7 +44,7 @@ returns-in-None-clause-heard c = λ first past h.
       tick = c.wait.new.self.tick;
     } in
     let next : Fetches a now past → Fetches a new (rec ∷ past) = λ k.
-    let waits = k.waits (not_ended (end_after file_limit (events a past)) (c.if-has_ended.ensures (events a past) k.asked)) in
+    let waits = k.waits (not_ended (end_after file_limit (events a past)) (c.if-has_ended.ensures.ended (events a past) k.asked)) in
     let ear = subst (λ (r : Responses). Hears (file_ears a.own) r.ear past) (sym c.wait.ensures.responses) waits.hears in
     let ticked = (c.in_ok-wait.ensures {u = tt}).ticks past waits.ticked in
     let is = reply_is a c.wait.new.self.asking.client rec past _ None c.wait.ensures.client ((c.in_ok-response.ensures {u = tt}).reply a.own past ear) (ap (option_map event_in) c.in-None.is) in
@@ -59,7 +59,7 @@ returns-in-None-clause-text c = λ first past h.
     let old = text_of c.args.gathered.now in
     let new = text_of c.wait.new.gathered in
     let next : Fetches a now past → new ≡ old ++ step_text a rec past = λ k.
-    let waits = k.waits (not_ended (end_after file_limit (events a past)) (c.if-has_ended.ensures (events a past) k.asked)) in
+    let waits = k.waits (not_ended (end_after file_limit (events a past)) (c.if-has_ended.ensures.ended (events a past) k.asked)) in
     let ear = subst (λ (r : Responses). Hears (file_ears a.own) r.ear past) (sym c.wait.ensures.responses) waits.hears in
     let is = reply_is a c.wait.new.self.asking.client rec past _ None c.wait.ensures.client ((c.in_ok-response.ensures {u = tt}).reply a.own past ear) (ap (option_map event_in) c.in-None.is) in
     said_none a rec past old new is ((c.in_ok-wait.ensures {u = tt}).text past waits.ticked k.asked) in
@@ -78,7 +78,7 @@ returns-in-Some-clause-heard c = on_ok _ _ c.take.result (λ taken first past h.
     } in
     let next : Fetches a now past → Fetches a new (rec ∷ past) = λ k.
     let before = events_before a rec past in
-    let waits = k.waits (not_ended (end_after file_limit (events a past)) (c.if-has_ended.ensures (events a past) k.asked)) in
+    let waits = k.waits (not_ended (end_after file_limit (events a past)) (c.if-has_ended.ensures.ended (events a past) k.asked)) in
     let ear = subst (λ (r : Responses). Hears (file_ears a.own) r.ear past) (sym c.wait.ensures.responses) waits.hears in
     let ticked = (c.in_ok-wait.ensures {u = tt}).ticks past waits.ticked in
     let e = event_in c.in-Some.response in
@@ -99,7 +99,7 @@ returns-in-Some-clause-text c = on_ok _ _ c.take.result (λ taken first past h.
     let new = text_of c.take.new.gathered in
     let next : Fetches a now past → new ≡ old ++ step_text a rec past = λ k.
     let before = events_before a rec past in
-    let waits = k.waits (not_ended (end_after file_limit (events a past)) (c.if-has_ended.ensures (events a past) k.asked)) in
+    let waits = k.waits (not_ended (end_after file_limit (events a past)) (c.if-has_ended.ensures.ended (events a past) k.asked)) in
     let ear = subst (λ (r : Responses). Hears (file_ears a.own) r.ear past) (sym c.wait.ensures.responses) waits.hears in
     let e = event_in c.in-Some.response in
     let is = reply_is a c.wait.new.self.asking.client rec past _ (Some e) c.wait.ensures.client ((c.in_ok-response.ensures {u = tt}).reply a.own past ear) (ap (option_map event_in) c.in-Some.is) in

@@ -12,10 +12,10 @@ returns-clause-heard c = λ first past h.
     let own = first.ear.own in
     let ears = monitor_ears own in
     let rec = c.args.rec.now in
-    let ok = c.in_ok-met.ensures {u = tt} in
+    let ok = c.in_ok-heard.ensures {u = tt} in
     let told : option_map owned c.transfer-transfer.result ≡ transfer_at ears rec past = c.transfer-transfer.ensures.told ∙ ok.told ears past h.hears in
     let begun = transfer_begun ears rec past (up_to_later c.args.self.now.ear.latest rec.moment past c.requires.moment h.hears.moments) in
-    let knows = c.in_ok-hear.ensures {u = tt} (beats own past) (messages own past) (subst (λ (t : Option Transfer). HasBegunBy rec.moment t) (sym told) begun) h.knows in
+    let knows = (c.in_ok-hear.ensures {u = tt}).learns (beats own past) (messages own past) (subst (λ (t : Option Transfer). HasBegunBy rec.moment t) (sym told) begun) h.knows in
     record {
       hears = ok.hears ears past h.hears;
       knows = subst (λ (t : Option Transfer). Knows c.hear-2.new.self (with_beat t (beats own past)) (with_message t (messages own past))) told knows;
