@@ -24,7 +24,7 @@ use Rattle.log_loop.proofs.Came.{took_more, log_after, Reads, Has, HasNext, has_
 use Rattle.log_loop.specs.declared.ended.Ended.{Ended}
 use Rattle.log_loop.specs.declared.ended.Ended.TheVariants as end
 use Rattle.log_loop.specs.Voice.{Voice, said, newest_first, end_part, whole_text}
-use Rattle.log_loop.specs.Gone.{HeardOrEnded, Settled, Begun, Gone, HasGone, IsFinish, refused, stopped}
+use Rattle.log_loop.specs.Gone.{Settled, Begun, BegunWhole, Gone, HasGone, IsFinish, refused, stopped}
 use Rattle.log_loop.proofs.Streams.{said_front}
 
 -- the records of a log, of which some came
@@ -40,18 +40,18 @@ begun v past behind before after b log e =
     (sym (ap (λ s. s ++ tail) (ap (said v) (newest past behind log e) ∙ f.1) ∙ append_assoc (said v past) f.0 tail))
     (begins_more (said v past) (f.0 ++ tail) before after b)
 
-has_begun : (v : Voice) (heard ended broke done : List Record → Type 0) (told : Option (List ℕ)) (past : List Record) (behind : Log) (stat : Ended) (before after : Option (List ℕ)) → Has v.names told past behind → done past → Begins (said v past) before after
-    → ((log : Log) → Begun v done log before after → Gone v heard ended broke log stat before after) → HasGone v heard ended broke told stat before after
-has_begun v heard ended broke done told past behind stat before after h k b f = record {
+has_begun : (v : Voice) (heard ended broke cut_short done : List Record → Type 0) (told : Option (List ℕ)) (past : List Record) (behind : Log) (stat : Ended) (before after : Option (List ℕ)) → Has v.names told past behind → done past → Begins (said v past) before after
+    → ((log : Log) → Begun v done log before after → Gone v heard ended broke cut_short log stat before after) → HasGone v heard ended broke cut_short told stat before after
+has_begun v heard ended broke cut_short done told past behind stat before after h k b f = record {
   bytes = h.bytes;
   is = h.is;
   gone = f (log_of v.names h.bytes) (record { came = past; left = behind.records; parts = ap (λ (l : Log). l.records) h.log; is = k; written = begun v past behind before after b (log_of v.names h.bytes) h.log });
 }
 
 -- memory was wanting
-pub has_wanted : (v : Voice) (heard ended broke : List Record → Type 0) (told : Option (List ℕ)) (past : List Record) (behind : Log) (before after : Option (List ℕ)) → Has v.names told past behind → broke past → Begins (said v past) before after
-    → HasGone v heard ended broke told end.NoMemory before after
-has_wanted v heard ended broke told past behind before after h k b = has_begun v heard ended broke broke told past behind end.NoMemory before after h k b (λ log g. g)
+pub has_wanted : (v : Voice) (heard ended broke cut_short : List Record → Type 0) (told : Option (List ℕ)) (past : List Record) (behind : Log) (before after : Option (List ℕ)) → Has v.names told past behind → broke past → Begins (said v past) before after
+    → HasGone v heard ended broke cut_short told end.NoMemory before after
+has_wanted v heard ended broke cut_short told past behind before after h k b = has_begun v heard ended broke cut_short broke told past behind end.NoMemory before after h k b (λ log g. inl g)
 
 said_all : (v : Voice) (past : List Record) (refusal : Option LogError) (log : Log) → log ≡ onto past (ended_by refusal) → said v (newest_first log) ≡ said v past
 said_all v past refusal log e = ap (said v) (newest past (ended_by refusal) log e)
@@ -67,9 +67,9 @@ settled v done past refusal log before after e k s = record {
   written = s ∙ ap (behind before) (sym (whole_all v past refusal log e));
 }
 
-module _ (v : Voice) (heard ended broke : List Record → Type 0) (told : Option (List ℕ)) (past : List Record) (before after : Option (List ℕ)) where
+module _ (v : Voice) (heard ended broke cut_short : List Record → Type 0) (told : Option (List ℕ)) (past : List Record) (before after : Option (List ℕ)) where
   gone_refused : (e : LogError) (stat : Ended) → (h : HasNext v.names told past (Err e)) → (e ≡ error.Failed → ⊥) → heard past → after ≡ behind before (said v past)
-      → ((log : Log) → (log.refusal ≡ Some e) × Settled v heard log before after → Gone v heard ended broke log stat before after) → HasGone v heard ended broke told stat before after
+      → ((log : Log) → (log.refusal ≡ Some e) × Settled v heard log before after → Gone v heard ended broke cut_short log stat before after) → HasGone v heard ended broke cut_short told stat before after
   gone_refused e stat h differs k s f =
       let is : h.behind ≡ ended_by (Some e) = elim h.next [ inl x ↦ x | inr x ↦ absurd (differs x.0) ] in
       let log = h.has.log ∙ ap (onto past) is in
@@ -79,7 +79,7 @@ module _ (v : Voice) (heard ended broke : List Record → Type 0) (told : Option
         gone = f of_log (ap (λ (l : Log). l.refusal) log, settled v heard past (Some e) of_log before after log k (s ∙ ap (behind before) (sym (append-nil (said v past)))));
       }
 
-  pub has_refused : (e : LogError) → HasNext v.names told past (Err e) → heard past → after ≡ behind before (said v past) → HasGone v heard ended broke told (refused e) before after
+  pub has_refused : (e : LogError) → HasNext v.names told past (Err e) → heard past → after ≡ behind before (said v past) → HasGone v heard ended broke cut_short told (refused e) before after
   has_refused (error.BadLine n) h k s = gone_refused (error.BadLine n) (refused (error.BadLine n)) h (λ e. cc) k s (λ _ x. x)
   has_refused (error.TimeBack n) h k s = gone_refused (error.TimeBack n) (refused (error.TimeBack n)) h (λ e. cc) k s (λ _ x. x)
   has_refused (error.UnknownBus n) h k s = gone_refused (error.UnknownBus n) (refused (error.UnknownBus n)) h (λ e. cc) k s (λ _ x. x)
@@ -91,10 +91,18 @@ module _ (v : Voice) (heard ended broke : List Record → Type 0) (told : Option
     gone = record { came = past; left = h.behind.records; parts = ap (λ (l : Log). l.records) h.has.log; hears = k; written = s };
   }
 
-  pub has_finished : (stat : Ended) → HasNext v.names told past (Ok None) → IsFinish stat → (stat ≢ end.NoMemory → ended past) → (stat ≡ end.NoMemory → broke past) → (mid : Option (List ℕ)) (gathered : List ℕ)
+  -- this holds of all of it
+  whole_begun : (done : List Record → Type 0) {log : Log} → log ≡ onto past (ended_by None) → done past → Begins (whole_text v log) before after → BegunWhole v done log before after
+  whole_begun done e k b = record {
+    begun = record { came = past; left = []; parts = ap (λ (l : Log). l.records) e; is = k; written = b };
+    all = refl;
+    read = ap (λ (l : Log). l.refusal) e;
+  }
+
+  pub has_finished : (stat : Ended) → HasNext v.names told past (Ok None) → IsFinish stat → (stat ≢ end.NoMemory → ended past) → (stat ≡ end.NoMemory → cut_short past) → (mid : Option (List ℕ)) (gathered : List ℕ)
       → Gathered (said v past) gathered before mid
       → (stat ≡ end.Ok → after ≡ behind mid (gathered ++ v.last past)) → (stat ≡ end.WriteFault → Begins (gathered ++ v.last past) mid after)
-      → (stat ≡ end.NoMemory → after ≡ mid) → HasGone v heard ended broke told stat before after
+      → (stat ≡ end.NoMemory → after ≡ mid) → HasGone v heard ended broke cut_short told stat before after
   has_finished end.Ok h f k b mid gathered g ok write memory =
       let log = h.has.log ∙ ap (onto past) h.next in
       let of_log = log_of v.names h.has.bytes in record {
@@ -109,31 +117,30 @@ module _ (v : Voice) (heard ended broke : List Record → Type 0) (told : Option
       let log = h.has.log ∙ ap (onto past) h.next in record {
         bytes = h.has.bytes;
         is = h.has.is;
-        gone = record {
-          came = past;
-          left = [];
-          parts = ap (λ (l : Log). l.records) log;
-          is = inr (k (λ e. cc));
-          written = subst (λ s. Begins s before after) (sym (whole_all v past None (log_of v.names h.has.bytes) log)) (begins_end (said v past) gathered (v.last past) before mid after g (write refl));
-        };
+        gone = inr (whole_begun ended log (k (λ e. cc)) (subst (λ s. Begins s before after) (sym (whole_all v past None (log_of v.names h.has.bytes) log)) (begins_end (said v past) gathered (v.last past) before mid after g (write refl))));
       }
   has_finished end.NoMemory h f k b mid gathered g ok write memory =
-      has_wanted v heard ended broke told past h.behind before after h.has (b refl) (subst (λ o. Begins (said v past) before o) (sym (memory refl)) (begins_front (said v past) gathered before mid g))
+      let log = h.has.log ∙ ap (onto past) h.next in
+      let of_log = log_of v.names h.has.bytes in record {
+        bytes = h.has.bytes;
+        is = h.has.is;
+        gone = inr (whole_begun cut_short log (b refl) (begun v past (ended_by None) before after (subst (λ o. Begins (said v past) before o) (sym (memory refl)) (begins_front (said v past) gathered before mid g)) of_log log));
+      }
   has_finished (end.Log line why) h f k b mid gathered g ok write memory = absurd f
   has_finished end.LogLong h f k b mid gathered g ok write memory = absurd f
   has_finished end.ReadFault h f k b mid gathered g ok write memory = absurd f
 
 -- a loop that came to no further record
-pub has_stopped : (v : Voice) (heard ended broke : List Record → Type 0) (told left next_left : Option (List ℕ)) (old new : LogReader) (past : List Record) (halt : Stop) (gathered rest : List ℕ) (before mid after : Option (List ℕ))
+pub has_stopped : (v : Voice) (heard ended broke cut_short : List Record → Type 0) (told left next_left : Option (List ℕ)) (old new : LogReader) (past : List Record) (halt : Stop) (gathered rest : List ℕ) (before mid after : Option (List ℕ))
     → Reads v.names told left old past → GoesOn old new left next_left (Err halt) → (saw_end old ≡ false → saw_end new ≡ true → IsAtEnd next_left)
     → heard past → Gathered (said v past) gathered before mid → Writes gathered rest mid after (Err halt)
-    → HasGone v heard ended broke told (stopped halt) before after
-has_stopped v heard ended broke told left next_left old new past (stop.Log error) gathered rest before mid after r l e k g w =
+    → HasGone v heard ended broke cut_short told (stopped halt) before after
+has_stopped v heard ended broke cut_short told left next_left old new past (stop.Log error) gathered rest before mid after r l e k g w =
     let whole = said v past in
     let none : Gathered whole [] before after = subst (λ (t : List ℕ). Gathered whole t before after) w.1 (gathered_less whole gathered rest before mid after g w.0) in
-    has_refused v heard ended broke told past before after error (has_next v.names told left next_left old new past (Err error) r l e) k (all_written whole before after none)
-has_stopped v heard ended broke told left next_left old new past stop.Write gathered rest before mid after r l e k g w =
-    has_begun v heard ended broke (HeardOrEnded heard ended) told past _ end.WriteFault before after (has_log v.names told left old past r) (inl k) (begins_gathered (said v past) gathered before mid after g w) (λ log b. b)
+    has_refused v heard ended broke cut_short told past before after error (has_next v.names told left next_left old new past (Err error) r l e) k (all_written whole before after none)
+has_stopped v heard ended broke cut_short told left next_left old new past stop.Write gathered rest before mid after r l e k g w =
+    has_begun v heard ended broke cut_short heard told past _ end.WriteFault before after (has_log v.names told left old past r) k (begins_gathered (said v past) gathered before mid after g w) (λ log b. inl b)
 
 -- a record is behind those before it
 pub next_order : ((buses : List (List ℕ)) (bytes : List ℕ) → IsAhead 0 0 (log_of buses bytes).records) → (names : List (List ℕ)) (told left : Option (List ℕ)) (reader : LogReader) (past : List Record) (rec : Record)
@@ -202,5 +209,5 @@ told_none None = tt
 told_none (Some left) = refl
 
 -- a run for whose reader memory was wanting
-pub has_none : (v : Voice) (heard ended broke : List Record → Type 0) (told before : Option (List ℕ)) → broke [] → HasGone v heard ended broke told end.NoMemory before before
-has_none v heard ended broke told before k = has_wanted v heard ended broke told [] (log_of v.names (unwrap_or told [])) before before (record { bytes = unwrap_or told []; is = told_none told; log = refl }) k (begins_none [] before)
+pub has_none : (v : Voice) (heard ended broke cut_short : List Record → Type 0) (told before : Option (List ℕ)) → broke [] → HasGone v heard ended broke cut_short told end.NoMemory before before
+has_none v heard ended broke cut_short told before k = has_wanted v heard ended broke cut_short told [] (log_of v.names (unwrap_or told [])) before before (record { bytes = unwrap_or told []; is = told_none told; log = refl }) k (begins_none [] before)

@@ -18,6 +18,7 @@ use Rattle.log_loop.specs.Next.{Goes, Comes, ComesBehind, Writes}
 use Rattle.log_loop.specs.Taken.{whole_records}
 use Rattle.log_loop.specs.declared.next.Stop.{Stop}
 use Rattle.log_loop.specs.declared.next.Stop.TheVariants as stop
+use Rattle.frame_log.specs.declared.error.LogError.TheVariants as error
 use Rattle.log_loop.proofs.Came.{took_more}
 use Rattle.log_loop.proofs.Logs.{onto, newest_onto}
 use Rattle.log_loop.proofs.Written.{behind_none, behind_more, all_written, gathered_less}
@@ -277,13 +278,14 @@ AllHeard v heard ended taken = (front more : List ℕ) → taken ≡ front ++ mo
 all_heard : (v : Voice) (heard ended : List Record → Type 0) (past : List Record) (taken : List ℕ) (before after : Option (List ℕ)) → HeardOrEnded heard ended past → AllFar v taken past before after → AllHeard v heard ended taken
 all_heard v heard ended past taken before after k far front more e long = let f = far front more e long in (f.newer, subst (HeardOrEnded heard ended) f.parts k)
 
-streamed : (v : Voice) (heard ended : List Record → Type 0) (told left : Option (List ℕ)) (stat : Ended) (past : List Record) (taken : List ℕ) (before after : Option (List ℕ)) → Took told left taken → ((stat ≡ end.NoMemory → ⊥) → HeardOrEnded heard ended past) → AllFar v taken past before after
+streamed : (v : Voice) (heard ended : List Record → Type 0) (told left : Option (List ℕ)) (stat : Ended) (past : List Record) (taken : List ℕ) (before after : Option (List ℕ)) → Took told left taken → ((stat ≡ end.NoMemory → ⊥) → HeardOrEnded heard ended past) → (stat ≡ end.Ok → ended past) → AllFar v taken past before after
     → IsStreamed v heard ended told left stat before after
-streamed v heard ended told left stat past taken before after t k far = record {
+streamed v heard ended told left stat past taken before after t k last far = record {
   taken = taken;
   took = t;
   written = λ front more e long. (far front more e long).written;
   hears = λ n. all_heard v heard ended past taken before after (k n) far;
+  ends = λ o front more e long. let f = far front more e long in (f.newer, subst ended f.parts (last o));
 }
 
 -- a run that took nothing
@@ -293,7 +295,17 @@ streamed_none v heard ended left stat before after = record {
   took = Took-none left;
   written = λ front more e long. absurd (no_front front more e long);
   hears = λ n front more e long. absurd (no_front front more e long);
+  ends = λ o front more e long. absurd (no_front front more e long);
 }
+
+stopped_there : (halt : Stop) → stopped halt ≡ end.Ok → ⊥
+stopped_there (stop.Log (error.BadLine n)) o = absurd cc
+stopped_there (stop.Log (error.TimeBack n)) o = absurd cc
+stopped_there (stop.Log (error.UnknownBus n)) o = absurd cc
+stopped_there (stop.Log (error.TooFar n)) o = absurd cc
+stopped_there (stop.Log error.LogLong) o = absurd cc
+stopped_there (stop.Log error.Failed) o = absurd cc
+stopped_there stop.Write o = absurd cc
 
 module _ (v : Voice) (heard ended : List Record → Type 0) (told left next_left : Option (List ℕ)) (old new : LogReader) (past : List Record) (gathered rest : List ℕ) (before mid after : Option (List ℕ)) where
   abbrev all_text : List ℕ
@@ -302,23 +314,23 @@ module _ (v : Voice) (heard ended : List Record → Type 0) (told left next_left
   pub streamed_stopped : (halt : Stop) → Streams v told left old past before mid → ComesBehind old new left next_left rest (Err halt) → heard past → Gathered all_text gathered before mid → Writes gathered rest mid after (Err halt)
       → IsStreamed v heard ended told next_left (stopped halt) before after
   streamed_stopped (stop.Log error) s c k g w =
-      streamed v heard ended told next_left (stopped (stop.Log error)) past (s.taken ++ c.came) before after (took_more told left next_left s.taken c.came s.took c.took) (λ n. inl k)
+      streamed v heard ended told next_left (stopped (stop.Log error)) past (s.taken ++ c.came) before after (took_more told left next_left s.taken c.came s.took c.took) (λ n. inl k) (λ o. absurd (stopped_there (stop.Log error) o))
       (far_comes v told left next_left old new past rest before mid after (Err error) s c (grew_gathered gathered rest mid after w.0) (gathered_less all_text gathered rest before mid after g w.0))
   streamed_stopped stop.Write s c k g w =
-      streamed v heard ended told next_left end.WriteFault past s.taken before after (subst (λ (o : Option (List ℕ)). Took told o s.taken) (sym c) s.took) (λ n. inl k)
+      streamed v heard ended told next_left end.WriteFault past s.taken before after (subst (λ (o : Option (List ℕ)). Took told o s.taken) (sym c) s.took) (λ n. inl k) (λ o. absurd (stopped_there stop.Write o))
       (λ front more e long. far_later v _ past before mid after (s.far front more e long) (grew_begins gathered mid after w))
 
   pub streamed_wanting : (rec : Record) → Streams v told left old past before mid → Comes old new left next_left rest (Ok (Some rec)) → Gathered all_text gathered before mid → Gathered gathered rest mid after
       → IsStreamed v heard ended told next_left end.NoMemory before after
   streamed_wanting rec s c g w =
-      streamed v heard ended told next_left end.NoMemory past (s.taken ++ c.came) before after (took_more told left next_left s.taken c.came s.took c.took) (λ n. absurd (n refl))
+      streamed v heard ended told next_left end.NoMemory past (s.taken ++ c.came) before after (took_more told left next_left s.taken c.came s.took c.took) (λ n. absurd (n refl)) (λ o. absurd cc)
       (far_comes v told left next_left old new past rest before mid after (Ok (Some rec)) s c (grew_gathered gathered rest mid after w) (gathered_less all_text gathered rest before mid after g w))
 
   pub streamed_finished : (stat : Ended) (last : Option (List ℕ)) (tail : List ℕ) → Streams v told left old past before mid → Comes old new left next_left rest (Ok None) → (stat ≢ end.NoMemory → ended past) → Gathered all_text gathered before mid → Gathered gathered rest mid after
       → IsFinish stat → (stat ≡ end.Ok → last ≡ behind after tail) → (stat ≡ end.WriteFault → Begins tail after last) → (stat ≡ end.NoMemory → last ≡ after)
       → IsStreamed v heard ended told next_left stat before last
   streamed_finished stat last tail s c k g w f ok write memory =
-      streamed v heard ended told next_left stat past (s.taken ++ c.came) before last (took_more told left next_left s.taken c.came s.took c.took) (λ n. inr (k n))
+      streamed v heard ended told next_left stat past (s.taken ++ c.came) before last (took_more told left next_left s.taken c.came s.took c.took) (λ n. inr (k n)) (λ o. k (λ n. let bad : end.Ok ≡ end.NoMemory = sym o ∙ n in absurd cc))
       (λ front more e long. far_later v _ past before after last
       (far_comes v told left next_left old new past rest before mid after (Ok None) s c (grew_gathered gathered rest mid after w) (gathered_less all_text gathered rest before mid after g w) front more e long)
       (grew_last stat f ok write memory))

@@ -19,9 +19,11 @@ abbrev pub HasHeard : (List Record → Type 0) → (List Record → Type 0) → 
 HasHeard heard ended first = (newer : List Record) × HeardOrEnded heard ended (reverse_aux newer first)
 
 -- However it ended: of each front of the bytes that were taken, behind which more than 8,192 bytes were taken, what is said
--- is written. Its records were heard too, unless memory was wanting.
+-- is written. Its records were heard too, unless memory was wanting; and where the log was read to its end and all is
+-- written, the last words are said.
 pub record IsStreamed (v : Voice) (heard ended : List Record → Type 0) (left new : Option (List ℕ)) (how : Ended) (before after : Option (List ℕ)) : Type 0 where
   pub taken : List ℕ
   pub took : Took left new taken
   pub written : (front more : List ℕ) → taken ≡ front ++ more → 8192 < length more → HasWritten (said v (whole_records v.names front)) before after
   pub hears : (how ≡ end.NoMemory → ⊥) → (front more : List ℕ) → taken ≡ front ++ more → 8192 < length more → HasHeard heard ended (whole_records v.names front)
+  pub ends : how ≡ end.Ok → (front more : List ℕ) → taken ≡ front ++ more → 8192 < length more → (newer : List Record) × ended (reverse_aux newer (whole_records v.names front))

@@ -1,9 +1,9 @@
-ghost use Rattle.std.specs.Prelude.{◌≡◌, ◌≢◌, ◌++◌, ℕ, List, [], None, false, OnOk, OnErr};
+ghost use Rattle.std.specs.Prelude.{◌≡◌, ◌≤◌, ◌^◌, ◌≢◌, ◌++◌, ℕ, List, [], None, false, OnOk, OnErr};
 ghost use Rattle.cy_outside.specs.Outside.{Rose};
 ghost use Rattle.tail_frame.specs.declared.logged.Record.{Record};
 ghost use Rattle.cy_outside.specs.Written.{behind, Begins};
 ghost use Rattle.frame_log.specs.Log.{log_of, start};
-ghost use Rattle.frame_log.specs.Reader.{buses_of, place_of, held_of, saw_end, answer_of, log_behind};
+ghost use Rattle.frame_log.specs.Reader.{buses_of, place_of, held_of, bytes_left, saw_end, answer_of, log_behind};
 ghost use Rattle.line_text.specs.Buffer.{text_of};
 ghost use Rattle.log_loop.specs.Voice.{voice};
 ghost use Rattle.log_loop.specs.Taken.{IsOfTaken};
@@ -22,7 +22,7 @@ use std::alloc::Global;
 use tail_frame::{FrameData, Record};
 
 /// Lets a listener hear the log of an input, and writes what it says on each record, and at the log's end its last
-/// words. It has heard nothing, and hears from moment 0 and line 0 on.
+/// words. It has heard nothing, and hears from moment 0 on.
 pub fn listen<M: Listener, L: Source, O: Sink>(
     alloc: Global,
     listener: &mut M,
@@ -31,10 +31,11 @@ pub fn listen<M: Listener, L: Source, O: Sink>(
     out: &mut O,
 ) -> Ended
     requires heard { M.heard listener.old listener.old [] }
-    requires fresh { (M.latest listener.old ≡ 0) × (M.line listener.old ≡ 0) }
+    requires fresh { (M.latest listener.old ≡ 0) × (M.count listener.old ≡ 0) }
     ensures gone { let v = voice buses (M.step_text listener.old) (M.last_text listener.old) in
         HasGone v (M.heard listener.old listener.new) (M.ended listener.old listener.new)
-        (M.broke listener.old listener.new) (L.left input.old) result (O.written out.old) (O.written out.new) }
+        (M.broke listener.old listener.new) (M.cut_short listener.old listener.new)
+        (L.left input.old) result (O.written out.old) (O.written out.new) }
     ensures taken { let v = voice buses (M.step_text listener.old) (M.last_text listener.old) in
         result ≡ Ended.ReadFault → IsOfTaken v (M.heard listener.old listener.new)
         (L.left input.old) (L.left input.new) (O.written out.old) (O.written out.new) }
@@ -64,11 +65,13 @@ fn hear_all<M: Listener, L: Source, O: Sink>(
     requires reading { answer_of reader.old ≡ None }
     requires open { saw_end reader.old ≡ false }
     requires start { (place_of reader.old ≡ start) × (held_of reader.old ≡ []) }
+    requires room { bytes_left reader.old ≤ 2 ^ 28 }
     requires heard { M.heard listener.old listener.old [] }
-    requires fresh { (M.latest listener.old ≡ 0) × (M.line listener.old ≡ 0) }
+    requires fresh { (M.latest listener.old ≡ 0) × (M.count listener.old ≡ 0) }
     ensures gone { let v = voice (buses_of reader.old) (M.step_text listener.old) (M.last_text listener.old) in
         HasGone v (M.heard listener.old listener.new) (M.ended listener.old listener.new)
-        (M.broke listener.old listener.new) (L.left input.old) result (O.written out.old) (O.written out.new) }
+        (M.broke listener.old listener.new) (M.cut_short listener.old listener.new)
+        (L.left input.old) result (O.written out.old) (O.written out.new) }
     ensures taken { let v = voice (buses_of reader.old) (M.step_text listener.old) (M.last_text listener.old) in
         result ≡ Ended.ReadFault → IsOfTaken v (M.heard listener.old listener.new)
         (L.left input.old) (L.left input.new) (O.written out.old) (O.written out.new) }
@@ -115,8 +118,8 @@ fn end<M: Listener, O: Sink>(listener: &mut M, out: &mut O, gathered: &mut TextB
     ensures memory { result ≡ Ended.NoMemory → O.written out.new ≡ O.written out.old }
     ensures ended { result ≢ Ended.NoMemory
         → (first : M) (past : List Record) → M.heard first listener.old past → M.ended first listener.new past }
-    ensures broke { result ≡ Ended.NoMemory
-        → (first : M) (past : List Record) → M.heard first listener.old past → M.broke first listener.new past }
+    ensures cut_short { result ≡ Ended.NoMemory
+        → (first : M) (past : List Record) → M.heard first listener.old past → M.cut_short first listener.new past }
     ensures only { IsFinish result }
 {
     let Ok(()) = listener.finish(gathered) else {

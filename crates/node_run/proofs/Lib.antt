@@ -1,4 +1,10 @@
+pub mod Tells
+pub mod Drains
+pub mod Waits
 pub mod Steps
+pub mod Counts
+pub mod Goes
+pub mod Ticks
 pub mod Starts
 pub mod Runs
 pub mod Streams

@@ -1,32 +1,38 @@
 -- The text of the memory bound of a plan.
-use Rattle.std.specs.Prelude.{◌≡◌, ℕ, List, [], ◌∷◌, ◌++◌, Option, codes, decimal}
+use Rattle.std.specs.Prelude.{◌≡◌, ℕ, List, [], ◌∷◌, ◌++◌, ◌*◌, Option, codes, decimal}
 use Rattle.std.specs.List.{flat_map}
-use Rattle.can_id.specs.declared.key.Kind.TheVariants.{Message}
 use Rattle.cy_outside.specs.Written.{behind, Begins}
-use Rattle.node_plan.specs.Bound.{extent_of, sub_bound, bound_of}
+use Rattle.node_plan.specs.Bound.{port_bound, bound_of}
+use Rattle.node_plan.specs.Ports.{PlanPort, ports}
 use Rattle.node_plan.specs.declared.plan.Plan.{Plan}
-use Rattle.node_plan.specs.declared.plan.Sub.{Sub}
 use Rattle.node_core.specs.Text.{kind_text, line_of}
 use Rattle.node_run.specs.declared.status.Status.{Status}
 use Rattle.node_run.specs.declared.status.Status.TheVariants as status
 
 -- a port, from how many sources it is received, its extent in bytes, and how many bytes it may hold at most
-abbrev pub port_words : Sub → List (List ℕ)
-port_words sub =
-    codes "port" ∷ kind_text Message ∷ decimal sub.port ∷ codes "sources" ∷ decimal sub.sources
-    ∷ codes "extent" ∷ decimal (extent_of sub.shape) ∷ codes "bytes" ∷ decimal (sub_bound sub) ∷ []
+abbrev pub port_words : PlanPort → List (List ℕ)
+port_words p =
+    codes "port" ∷ kind_text p.kind ∷ decimal p.port ∷ codes "sources" ∷ decimal p.sources
+    ∷ codes "extent" ∷ decimal p.extent ∷ codes "bytes" ∷ decimal (port_bound p) ∷ []
 
 -- the line of a port
-abbrev pub port_line : Sub → List ℕ
-port_line sub = line_of (port_words sub)
+abbrev pub port_line : PlanPort → List ℕ
+port_line p = line_of (port_words p)
+
+-- the words of such a line behind its kind
+abbrev pub port_numbers : ℕ → ℕ → ℕ → List ℕ
+port_numbers port sources extent = line_of (
+    decimal port ∷ codes "sources" ∷ decimal sources ∷ codes "extent" ∷ decimal extent
+    ∷ codes "bytes" ∷ decimal (sources * extent) ∷ []
+    )
 
 -- the line of the memory bound
 abbrev pub bound_line : ℕ → List ℕ
 bound_line bound = line_of (codes "bound" ∷ decimal bound ∷ [])
 
--- the line of each port in the order of the plan, and that of the memory bound
+-- the line of each port of the plan, its subscriptions before its services, and that of the memory bound
 abbrev pub bound_text : Plan → List ℕ
-bound_text plan = flat_map port_line plan.subs ++ bound_line (bound_of plan)
+bound_text plan = flat_map port_line (ports plan) ++ bound_line (bound_of plan)
 
 -- what is written of the memory bound of a plan, by the status
 abbrev pub HasBound : Plan → Status → Option (List ℕ) → Option (List ℕ) → Type 0

@@ -4,6 +4,7 @@ use Rattle.cy_outside.specs.Written.{behind, Begins}
 use Rattle.line_text.specs.Text.{line_of}
 use Rattle.log_gen.specs.Rules.{transfers}
 use Rattle.log_gen.specs.Laws.{records_by}
+use Rattle.node_plan.specs.Draft.{blank_info}
 use Rattle.node_plan.specs.declared.plan.BusPlan.{BusPlan}
 use Rattle.node_plan.specs.declared.plan.Plan.{Plan}
 use Rattle.node_plan.specs.declared.plan.SubShape.TheVariants.{Raw}
@@ -25,6 +26,10 @@ generated_plan = record {
   timeout = 2000000;
   silent = true;
   subs = record { port = 100; sources = 4; shape = Raw 64 } ∷ [];
+  clients = 4;
+  status = record { health = 0; mode = 0; code = 0 };
+  info = blank_info;
+  queue = 64;
 }
 
 -- the numbers of a report on the log of a number

@@ -1,49 +1,73 @@
 -- What a node that runs has heard, and what it has reported.
-use Rattle.std.specs.Prelude.{◌≡◌, ◌≤◌, ◌+◌, ℕ, Bool, List, count_by}
+use Rattle.std.specs.Prelude.{◌≡◌, ◌≤◌, ◌+◌, ◌*◌, ◌-◌, ◌^◌, ◌++◌, ℕ, List, [], ◌∷◌, Option, None, count_by, length, if◌then◌else◌}
 use Rattle.tail_frame.specs.declared.logged.Record.{Record}
 use Rattle.log_loop.specs.Voice.{Voice, voice}
 use Rattle.node_plan.specs.Bound.{bound_of}
-use Rattle.node_plan.specs.declared.plan.BusPlan.{BusPlan}
 use Rattle.node_plan.specs.declared.plan.Plan.{Plan}
 use Rattle.node_core.specs.declared.line.Line.{Line}
-use Rattle.node_core.specs.declared.node.Node.{Node}
 use Rattle.node_core.specs.declared.numbers.Numbers.{Numbers}
-use Rattle.node_core.specs.Stands.{Stands}
-use Rattle.node_core.specs.Steps.{steps, got, is_rx, is_nosession, one_if, numbers}
+use Rattle.node_core.specs.Queues.{rounds, waiting}
+use Rattle.node_core.specs.Steps.{first_of, ticks_done, steps, kept, emptying, lines_on, all_lines, is_tx, end_numbers}
 use Rattle.node_core.specs.Text.{text, end_text}
-use Rattle.node_run.specs.Ran.{Reported, At, AtFirst, names_of}
+use Rattle.node_run.specs.declared.log.clock.Clock.{Clock}
+use Rattle.node_run.specs.declared.log.tally.Seen.{Seen}
+use Rattle.node_run.specs.Ran.{Reported, AtFirst, Emptied, names_of}
+use Rattle.node_run.specs.Goes.{State, Runs, Broke}
 
--- a node of this plan stands for these records, its lines have the names of the plan's buses, and their steps are reported
-pub record Hears (plan : Plan) (node : Node) (buses : List BusPlan) (r : Reported) (past : List Record) : Type 0 where
-  pub same : node.plan ≡ plan
-  pub stands : Stands node past
-  pub names : buses ≡ plan.buses
-  pub at : At plan (steps plan past) r
+-- the number and the moment of the first tick that isn't before these records; a silent node has none
+abbrev pub IsNextTick : Plan → List Record → ℕ → ℕ → Type 0
+IsNextTick plan [] number next =
+    (number ≡ 0) × (next ≡ (if plan.silent then 2 ^ 64 - 1 else 0))
+IsNextTick plan (rec ∷ past) number next =
+    if plan.silent then (number ≡ 0) × (next ≡ 2 ^ 64 - 1)
+    else (number ≡ ticks_done (rec ∷ past)) × (next ≡ first_of rec past + number * 1000000)
+
+-- a clock behind these records: where frames wait, it has the moment behind which frames left last
+pub record IsClock (plan : Plan) (past : List Record) (clock : Clock) : Type 0 where
+  pub next : IsNextTick plan past clock.number clock.next
+  pub last : let qs = (kept plan (steps plan past)).queues in
+      rounds (waiting qs) clock.last qs ≡ emptying plan (steps plan past)
+
+-- a run is behind these records, the newest first
+pub record Hears (plan : Plan) (before : Option (List Line)) (s : State) (clock : Clock) (past : List Record) : Type 0 where
+  pub runs : Runs plan before s (steps plan past)
+  pub clock_is : IsClock plan past clock
+  pub few : length (steps plan past) ≤ s.numbers.records + clock.number
+
+-- it broke off in a step of the newest of these records, or behind them
+abbrev pub BrokeOff : Plan → Reported → List Record → Type 0
+BrokeOff plan r past = Broke plan r (steps plan past)
+
+-- the last line is said, and so many frames were sent in all
+pub record HasEnded (plan : Plan) (r : Reported) (sent : ℕ) (past : List Record) : Type 0 where
+  pub at : Emptied plan (steps plan past) r
+  pub sent_is : sent ≡ count_by is_tx (all_lines plan (steps plan past))
   pub within : r.numbers.held ≤ bound_of plan
 
--- it broke off on the newest of these records, or behind them
-pub record BrokeOff (plan : Plan) (r : Reported) (past : List Record) : Type 0 where
-  pub first : AtFirst plan (steps plan past) r
+-- it broke off behind the last of these records, the last of the log
+pub record CutShort (plan : Plan) (r : Reported) (past : List Record) : Type 0 where
+  pub first : AtFirst plan (steps plan past) None r
   pub within : r.numbers.held ≤ bound_of plan
 
--- the text of what a record gives
+-- the text of what a record gives, with the ticks before it
 abbrev pub step_text : Plan → Record → List Record → List ℕ
-step_text plan rec past = text plan.buses (got plan rec past)
+step_text plan rec past = text plan.buses (lines_on plan rec past)
 
--- the last line
+-- the text of what leaves at the end, and the last line
 abbrev pub last_text : Plan → List Record → List ℕ
-last_text plan past = end_text (numbers plan (steps plan past))
+last_text plan past =
+    text plan.buses (emptying plan (steps plan past)) ++ end_text (end_numbers plan (steps plan past))
 
 -- what a run of a plan says over a log
 abbrev pub run_voice : Plan → Voice
 run_voice plan = voice (names_of plan) (step_text plan) (last_text plan)
 
--- the numbers behind one more record, which gave these lines
-abbrev pub counted : Numbers → List Line → Bool → ℕ → Numbers
-counted n told bad held = record n {
+-- the numbers behind one more record, of which this is counted
+abbrev pub counted : Numbers → Seen → ℕ → Numbers
+counted n seen held = record n {
   records = n.records + 1;
-  delivered = n.delivered + count_by is_rx told;
-  badcrc = n.badcrc + one_if bad;
-  nosession = n.nosession + count_by is_nosession told;
+  delivered = n.delivered + seen.delivered;
+  badcrc = n.badcrc + seen.badcrc;
+  nosession = n.nosession + seen.nosession;
   held = held;
 }

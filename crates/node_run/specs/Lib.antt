@@ -1,11 +1,14 @@
 pub mod BoundText
 pub mod Generated
+pub mod Goes
 pub mod Hears
 pub mod Compared
 pub mod Layouts
+pub mod Leaves
 pub mod Loaded
 pub mod NamedTypes
 pub mod Ran
 pub mod Streamed
 pub mod Taken
+pub mod Tells
 pub mod ValueLines

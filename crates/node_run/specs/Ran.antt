@@ -1,5 +1,5 @@
 -- What a run over a log has reported and written.
-use Rattle.std.specs.Prelude.{◌≡◌, ◌++◌, ℕ, List, [], Option, Some, None, IfSome, map}
+use Rattle.std.specs.Prelude.{◌≡◌, ◌++◌, ℕ, List, [], ◌∷◌, Option, Some, None, IfSome, map}
 use mathlib.Core.List.{reverse_aux}
 use Rattle.tail_frame.specs.declared.logged.Record.{Record}
 use Rattle.cy_outside.specs.Written.{behind, Begins}
@@ -14,7 +14,7 @@ pub use Rattle.log_loop.specs.Voice.{newest_first}
 use Rattle.node_core.specs.declared.line.Line.{Line}
 use Rattle.node_core.specs.declared.numbers.Numbers.{Numbers}
 use Rattle.node_core.specs.LineSinks.{put_behind}
-use Rattle.node_core.specs.Steps.{Step, steps, lines, numbers}
+use Rattle.node_core.specs.Steps.{Step, steps, lines, lines_at, emptying, all_lines, numbers, end_numbers}
 use Rattle.node_core.specs.Text.{text, end_text}
 use Rattle.log_loop.specs.declared.ended.Ended.{Ended}
 use Rattle.log_loop.specs.declared.ended.Ended.TheVariants as end
@@ -56,35 +56,72 @@ pub record IsEmpty (r : Report) : Type 0 where
   pub counted : numbers_of r ≡ no_numbers
   pub failed : r.failed ≡ []
 
--- these are the lines and the numbers of these steps
-pub record At (plan : Plan) (all : List Step) (r : Reported) : Type 0 where
-  pub reported : r.new ≡ put_behind r.old (lines plan all)
-  pub counted : r.numbers ≡ numbers plan all
+-- these lines are reported, and these are the numbers
+pub record Tells (told : List Line) (counted_as : Numbers) (r : Reported) : Type 0 where
+  pub reported : r.new ≡ put_behind r.old told
+  pub counted : r.numbers ≡ counted_as
 
--- these are the lines and the numbers of the first of these steps, and of no other
-pub record AtFirst (plan : Plan) (all : List Step) (r : Reported) : Type 0 where
+-- these steps are reported and counted
+abbrev pub At : Plan → List Step → Reported → Type 0
+At plan all r = Tells (lines plan all) (numbers plan all) r
+
+-- and behind them what left when a log was read to its end
+abbrev pub AtEnd : Plan → List Step → Reported → Type 0
+AtEnd plan all r = Tells (all_lines plan all) (end_numbers plan all) r
+
+-- that is reported, but not yet counted
+abbrev pub Emptied : Plan → List Step → Reported → Type 0
+Emptied plan all r = Tells (all_lines plan all) (numbers plan all) r
+
+-- all lines that are due on a log with these steps that ends so
+abbrev pub due_lines : Plan → List Step → Option LogError → List Line
+due_lines plan all None = all_lines plan all
+due_lines plan all (Some refusal) = lines plan all
+
+-- and the numbers
+abbrev pub due_numbers : Plan → List Step → Option LogError → Numbers
+due_numbers plan all None = end_numbers plan all
+due_numbers plan all (Some refusal) = numbers plan all
+
+-- the lines of the first of these steps, the first of which stands last
+abbrev pub first_lines : Plan → Step → List Step → List Step → List Line
+first_lines plan step [] past = lines_at plan step past
+first_lines plan step (older ∷ newer) past = first_lines plan older newer past
+
+-- the lines that come next: those of the first of the newer steps, or behind the last one those of what leaves at the end
+abbrev pub next_lines : Plan → List Step → List Step → Option LogError → List Line
+next_lines plan [] past None = emptying plan past
+next_lines plan [] past (Some refusal) = []
+next_lines plan (step ∷ newer) past refusal = first_lines plan step newer past
+
+-- The first of these steps are reported and counted, and of what comes next the first lines are reported, and nothing is
+-- counted.
+pub record AtFirst (plan : Plan) (all : List Step) (refusal : Option LogError) (r : Reported) : Type 0 where
   pub newer : List Step
   pub past : List Step
   pub parts : all ≡ newer ++ past
-  pub at : At plan past r
+  pub told : List Line
+  pub rest : List Line
+  pub next : next_lines plan newer past refusal ≡ told ++ rest
+  pub at : Tells (lines plan past ++ told) (numbers plan past) r
 
 -- the last line comes only where the log was read to its end
 abbrev pub end_part : Plan → List Step → Option LogError → List ℕ
-end_part plan all None = end_text (numbers plan all)
+end_part plan all None = end_text (end_numbers plan all)
 end_part plan all (Some refusal) = []
 
 -- all that is written of a log with these steps that ends so
 abbrev pub whole_text : Plan → List Step → Option LogError → List ℕ
-whole_text plan all refusal = text plan.buses (lines plan all) ++ end_part plan all refusal
+whole_text plan all refusal = text plan.buses (due_lines plan all refusal) ++ end_part plan all refusal
 
--- all is reported and written
+-- all is reported, counted and written
 pub record Settled (plan : Plan) (all : List Step) (refusal : Option LogError) (r : Reported) (before after : Option (List ℕ)) : Type 0 where
-  pub at : At plan all r
+  pub at : Tells (due_lines plan all refusal) (due_numbers plan all refusal) r
   pub written : after ≡ behind before (whole_text plan all refusal)
 
 -- the first steps are reported and counted, and a beginning of it is written
 pub record Begun (plan : Plan) (all : List Step) (refusal : Option LogError) (r : Reported) (before after : Option (List ℕ)) : Type 0 where
-  pub first : AtFirst plan all r
+  pub first : AtFirst plan all refusal r
   pub written : Begins (whole_text plan all refusal) before after
 
 -- exactly the first records are reported and written, each of them whole
@@ -133,3 +170,8 @@ status_of end.LogLong = status.LogLong
 status_of end.ReadFault = status.ReadFault
 status_of end.WriteFault = status.WriteFault
 status_of end.NoMemory = status.NoMemory
+
+-- the numbers of a run, by how its loop over the log ended: those of its steps, and at the end so many frames sent
+abbrev pub end_sent : Ended → Numbers → ℕ → Numbers
+end_sent end.Ok numbers sent = record numbers { sent = sent }
+end_sent other numbers sent = numbers

@@ -1,5 +1,5 @@
 -- How far the input was taken before the lines on what it gave were written.
-use Rattle.std.specs.Prelude.{◌≡◌, ◌<◌, ◌++◌, ℕ, List, Option, length}
+use Rattle.std.specs.Prelude.{◌≡◌, ◌<◌, ◌⊎◌, ◌++◌, ℕ, List, Option, length}
 use mathlib.Core.List.{reverse_aux}
 use Rattle.tail_frame.specs.declared.logged.Record.{Record}
 use Rattle.frame_log.specs.Input.{Took}
@@ -7,9 +7,9 @@ use Rattle.log_loop.specs.Streamed.{HasWritten}
 use Rattle.log_loop.specs.Taken.{whole_records}
 use Rattle.node_plan.specs.declared.plan.Plan.{Plan}
 use Rattle.node_core.specs.declared.line.Line.{Line}
-use Rattle.node_core.specs.Steps.{steps, lines}
+use Rattle.node_core.specs.Steps.{Step, steps, lines}
 use Rattle.node_core.specs.Text.{text}
-use Rattle.node_run.specs.Ran.{Reported, At, names_of}
+use Rattle.node_run.specs.Ran.{Reported, At, AtEnd, Emptied, names_of}
 use Rattle.node_run.specs.declared.status.Status.{Status}
 use Rattle.node_run.specs.declared.status.Status.TheVariants as status
 
@@ -21,9 +21,14 @@ records_of_front plan bytes = whole_records (names_of plan) bytes
 abbrev pub lines_of_front : Plan → List ℕ → List Line
 lines_of_front plan bytes = lines plan (steps plan (records_of_front plan bytes))
 
+-- these steps are reported and counted; so is what left behind them, where the log was read to its end, but that the last
+-- line may not be written, and this not be counted
+abbrev pub IsReported : Plan → List Step → Reported → Type 0
+IsReported plan all r = At plan all r ⊎ (AtEnd plan all r ⊎ Emptied plan all r)
+
 -- the steps of these records, the first of all, are reported and counted, with those of some newer ones
 abbrev pub HasReported : Plan → List Record → Reported → Type 0
-HasReported plan first r = (newer : List Record) × At plan (steps plan (reverse_aux newer first)) r
+HasReported plan first r = (newer : List Record) × IsReported plan (steps plan (reverse_aux newer first)) r
 
 -- However a run ended: of each front of the bytes that it took, behind which it took more than 8,192 bytes, the lines are
 -- written. They are reported and counted too, unless memory was wanting.

@@ -3,10 +3,11 @@ ghost use Rattle.std.specs.Prelude.{◌≡◌, ◌≤◌, [], map};
 ghost use Rattle.cy_outside.specs.Outside.{Rose};
 ghost use Rattle.node_plan.specs.Bound.{bound_of};
 ghost use Rattle.node_plan.specs.IsPlan.{IsPlan};
-ghost use Rattle.node_run.specs.Ran.{IsEmpty, HasRun, reported, of_report, names_of, status_of};
+ghost use Rattle.node_run.specs.Ran.{IsEmpty, HasRun, end_sent, reported, of_report, names_of, status_of};
 ghost use Rattle.node_run.specs.Taken.{IsOfTaken};
 ghost use Rattle.node_run.specs.Streamed.{IsStreamed};
 
+use crate::log::clock::Clock;
 use crate::log::running::Running;
 use crate::log::tally::Tally;
 use crate::report::Report;
@@ -52,13 +53,15 @@ pub fn run_over<L: Source, O: Sink, K: LineSink>(
         return Status::NoMemory;
     };
     let mut run = Running {
+        clock: Clock::new(node.plan.silent),
         tally: Tally::new(node.held(), bound),
+        sent: 0,
         node: &mut node,
         writer: &mut writer,
         lines,
     };
     let ended = listen(alloc, &mut run, names, input, out);
-    *numbers = run.tally.numbers;
+    *numbers = numbers_of(ended, &run.tally.numbers, run.sent);
     status_of(ended)
 }
 
@@ -93,6 +96,17 @@ pub fn run_log<L: Source, O: Sink>(
     report.lines = kept.into_list();
     report.count(&numbers);
     status
+}
+
+/// The numbers of a run, by how its loop over the log ended: those of its steps, and where the last line was written with
+/// all frames that were sent.
+fn numbers_of(ended: Ended, numbers: &Numbers, sent: u64) -> Numbers
+    ensures { result ≡ end_sent ended numbers.now sent }
+{
+    match ended {
+        Ended::Ok => Numbers { sent, ..*numbers },
+        _ => *numbers,
+    }
 }
 
 /// The status of a command that hears a log, by how its loop over the log ended.

@@ -1,20 +1,31 @@
-//! A node that runs: the listener that reports what it hears.
-ghost use Rattle.std.specs.Prelude.{◌≡◌, ◌≤◌, ◌++◌, ◌∷◌, [], refl, ℕ, List, OnOk, OnErr};
+//! A node that runs: the listener that reports what it hears and what it sends.
+ghost use Rattle.std.specs.Prelude.{◌≡◌, ◌≤◌, ◌<◌, ◌+◌, ◌*◌, ◌^◌, ◌++◌, ◌∷◌, [], refl, ℕ, List, OnOk, OnErr, length, map};
+ghost use Rattle.std.specs.Option.{ForSome, option_and_then};
+ghost use Rattle.std.proofs.Common.{◌∙◌, ap, sym, append-nil};
 ghost use Rattle.tail_frame.specs.declared.logged.Record.{Record};
 ghost use Rattle.line_text.specs.Buffer.{text_of};
-ghost use Rattle.node_core.specs.LineSinks.{put_behind};
-ghost use Rattle.node_core.specs.Steps.{steps};
-ghost use Rattle.node_core.specs.Text.{text};
-ghost use Rattle.node_core.specs.Told.{told_lines};
+ghost use Rattle.node_core.specs.Keeps.{keeps, sent};
+ghost use Rattle.node_core.specs.LineSinks.{BeginsList, put_behind};
+ghost use Rattle.node_core.specs.Queues.{fulls, leaving, push_all};
+ghost use Rattle.node_core.specs.Sending.{IsRequestTo, reply_to};
+ghost use Rattle.node_core.specs.Stands.{StandsAsBefore};
+ghost use Rattle.node_core.specs.Steps.{Heard, Tick, left, lines, steps, ticks_from};
 ghost use Rattle.node_core.specs.Writer.{writes_for};
-ghost use Rattle.node_run.specs.Ran.{reported};
-ghost use Rattle.node_run.specs.Hears.{Hears, BrokeOff, step_text, last_text};
+ghost use Rattle.node_core.specs.declared.line.Line.TheVariants.{Full};
+ghost use Rattle.node_run.specs.Goes.{BreaksOff, GoesOn, IsLast};
+ghost use Rattle.node_run.specs.Goes.{begun_next, last_tick, latest_of, state, ticks_due, with_sent};
+ghost use Rattle.node_run.specs.Hears.{BrokeOff, CutShort, HasEnded, Hears, last_text, step_text};
+ghost use Rattle.node_run.specs.Ran.{next_lines, reported};
+ghost use Rattle.node_run.specs.Tells.{HasTold};
 
-use crate::log::tally::Tally;
-use cy_bits::NoMemory;
+use crate::log::clock::Clock;
+use crate::log::sending::{empty, send};
+use crate::log::tally::{Seen, Tally};
+use crate::log::telling::tell;
+use cy_bits::{NoMemory, ShortList};
 use line_text::TextBuffer;
 use log_loop::Listener;
-use node_core::{LineRef, LineSink, LineWriter, Node};
+use node_core::{FullLine, LineSink, LineWriter, Node, Numbers, Request};
 use tail_frame::Record;
 
 /// A node, the numbers of its run, and where its lines go.
@@ -22,76 +33,310 @@ use tail_frame::Record;
 pub struct Running<'a, K> {
     /// The node.
     pub node: &'a mut Node,
+    /// When it ticks.
+    pub clock: Clock,
     /// What puts the text of lines together.
     pub writer: &'a mut LineWriter,
-    /// The numbers.
+    /// The numbers of the steps.
     pub tally: Tally,
+    /// How many frames were sent in all, once the last line is said.
+    pub sent: u64,
     /// Where the lines go.
     pub lines: &'a mut K,
 }
 
 impl<'a, K: LineSink> Listener for Running<'a, K> {
     ghost heard = { λ first now past.
-        let r = reported (K.lines first.lines.now) (K.lines now.lines.now) now.tally.numbers in
+        let s = state now.node.now (writes_for now.writer.now) (K.lines now.lines.now) now.tally.numbers in
         (now.lines.ghost_name ≡ first.lines.ghost_name)
-        × Hears first.node.now.plan now.node.now (writes_for now.writer.now) r past };
+        × Hears first.node.now.plan (K.lines first.lines.now) s now.clock past };
+
+    ghost ended = { λ first now past.
+        let r = reported (K.lines first.lines.now) (K.lines now.lines.now) now.tally.numbers in
+        (now.lines.ghost_name ≡ first.lines.ghost_name) × HasEnded first.node.now.plan r now.sent past };
 
     ghost broke = { λ first now past.
         let r = reported (K.lines first.lines.now) (K.lines now.lines.now) now.tally.numbers in
         (now.lines.ghost_name ≡ first.lines.ghost_name) × BrokeOff first.node.now.plan r past };
 
+    ghost cut_short = { λ first now past.
+        let r = reported (K.lines first.lines.now) (K.lines now.lines.now) now.tally.numbers in
+        (now.lines.ghost_name ≡ first.lines.ghost_name) × CutShort first.node.now.plan r past };
+
     ghost step_text = { λ first rec past. step_text first.node.now.plan rec past };
 
     ghost last_text = { λ first past. last_text first.node.now.plan past };
 
-    ghost latest = { λ run. run.node.now.latest };
+    ghost latest = { λ run. latest_of run.node.now run.clock };
 
-    ghost line = { λ run. run.tally.numbers.records };
+    ghost count = { λ run. run.tally.numbers.records };
 
+    /// The ticks up to the record, and its step. The text of all of them is gathered before any of it is written, that
+    /// of 100,000 ticks too where records are so far apart.
     #[inline(always)]
     fn hear(&mut self, rec: &Record, gathered: &mut TextBuffer) -> Result<(), NoMemory> {
-        // No number of records passes the line of the last one.
-        let _line = rec.line;
-        let came = self.node.step(rec)?;
-        let told = self.node.told(rec, came);
-        tell(self.writer, self.lines, gathered, told)?;
-        self.tally.count(told, came.badcrc, self.node.held());
-        Ok(())
+        if rec.moment >= self.clock.next {
+            self.ticks(rec.moment, gathered)?;
+        }
+        self.take(rec, gathered)
     }
 
+    /// What still waits leaves, and then the last line comes.
     fn finish(&mut self, gathered: &mut TextBuffer) -> Result<(), NoMemory> {
-        LineWriter::push_end(gathered, &self.tally.numbers)
+        let emptied = empty(self.node, self.clock.last, self.writer, self.lines, gathered)?;
+        let sent = self.tally.numbers.sent.saturating_add(emptied);
+        let numbers = Numbers {
+            sent,
+            ..self.tally.numbers
+        };
+        LineWriter::push_end(gathered, &numbers)?;
+        self.sent = sent;
+        Ok(())
     }
 
     ghost heard_broke = { λ first now past h. (
       h.0,
       record {
-        first = record { newer = []; past = steps first.node.now.plan past; parts = refl; at = h.1.at };
-        within = h.1.within;
+        first = λ refusal. record {
+          newer = [];
+          past = steps first.node.now.plan past;
+          parts = refl;
+          told = [];
+          rest = next_lines first.node.now.plan [] (steps first.node.now.plan past) refusal;
+          next = refl;
+          at = record {
+            reported = h.1.runs.at.reported
+                ∙ ap (put_behind (K.lines first.lines.now)) (sym (append-nil (lines first.node.now.plan (steps first.node.now.plan past))));
+            counted = h.1.runs.at.counted;
+          };
+        };
+        within = h.1.runs.within;
       },
     ) };
 }
 
-/// Gathers the text of a line, if there is one, and hands the line to the sink.
-#[inline(always)]
-fn tell<K: LineSink>(
-    writer: &mut LineWriter,
-    lines: &mut K,
-    gathered: &mut TextBuffer,
-    told: Option<LineRef<'_>>,
-) -> Result<(), NoMemory>
-    ensures buses { writes_for writer.new ≡ writes_for writer.old }
-    ensures text { OnOk result
-        (text_of gathered.new ≡ text_of gathered.old ++ text (writes_for writer.old) (told_lines told.entry)) }
-    ensures adds { OnOk result
-        (K.lines lines.new ≡ put_behind (K.lines lines.old) (told_lines told.entry)) }
-    ensures err { OnErr result (K.lines lines.new ≡ K.lines lines.old) }
-{
-    match told {
-        Some(line) => {
-            writer.push(gathered, &line)?;
-            lines.put(&line)
+impl<'a, K: LineSink> Running<'a, K> {
+    /// The step of a record.
+    #[inline(always)]
+    fn take(&mut self, rec: &Record, gathered: &mut TextBuffer) -> Result<(), NoMemory>
+        requires moment { self.old.node.now.latest ≤ rec.now.moment }
+        requires few { self.old.tally.numbers.records < 2 ^ 28 }
+        ensures same_reference { self.new.lines.ghost_name ≡ self.old.lines.ghost_name }
+        ensures latest { self.new.node.now.latest ≤ rec.now.moment }
+        ensures count { self.new.tally.numbers.records ≤ self.old.tally.numbers.records + 1 }
+        ensures number { self.new.clock.number ≡ self.old.clock.number }
+        ensures next { self.new.clock.next ≡ self.old.clock.next }
+        ensures last { OnOk result (IsLast rec.now.moment (keeps self.new.node.now).queues self.new.clock.last) }
+        ensures ok {
+            let old = state self.old.node.now (writes_for self.old.writer.now)
+                (K.lines self.old.lines.now) self.old.tally.numbers in
+            let new = state self.new.node.now (writes_for self.new.writer.now)
+                (K.lines self.new.lines.now) self.new.tally.numbers in
+            OnOk result (GoesOn (Heard rec.now ∷ []) old new (text_of gathered.old) (text_of gathered.new)) }
+        ensures err {
+            let old = state self.old.node.now (writes_for self.old.writer.now)
+                (K.lines self.old.lines.now) self.old.tally.numbers in
+            let new = state self.new.node.now (writes_for self.new.writer.now)
+                (K.lines self.new.lines.now) self.new.tally.numbers in
+            OnErr result (BreaksOff (Heard rec.now ∷ []) old new) }
+    {
+        let came = self.node.step(rec)?;
+        let told = self.node.told(rec, came);
+        tell(self.writer, self.lines, gathered, told)?;
+        let seen = Seen::of(told, came.badcrc);
+        let request = came.request(told);
+        self.follow(rec.moment, request, gathered)?;
+        self.tally.count(seen, self.node.held());
+        Ok(())
+    }
+
+    /// Answers a request, if there is one, and lets frames leave behind the step of a record. A node that has nothing to
+    /// send does nothing.
+    #[inline(always)]
+    fn follow(
+        &mut self,
+        moment: u64,
+        request: Option<Request>,
+        gathered: &mut TextBuffer,
+    ) -> Result<(), NoMemory>
+        requires { ForSome request (IsRequestTo self.old.node.now.plan.node) }
+        ensures same_reference { self.new.lines.ghost_name ≡ self.old.lines.ghost_name }
+        ensures plan { self.new.node.now.plan ≡ self.old.node.now.plan }
+        ensures latest { self.new.node.now.latest ≡ self.old.node.now.latest }
+        ensures stands { StandsAsBefore self.old.node.now self.new.node.now }
+        ensures buses { writes_for self.new.writer.now ≡ writes_for self.old.writer.now }
+        ensures number { self.new.clock.number ≡ self.old.clock.number }
+        ensures next { self.new.clock.next ≡ self.old.clock.next }
+        ensures keeps { let reply = option_and_then (reply_to self.old.node.now.plan) request in
+            OnOk result (keeps self.new.node.now ≡ left (sent reply (keeps self.old.node.now))) }
+        ensures told {
+            let reply = option_and_then (reply_to self.old.node.now.plan) request in
+            let qs = (keeps self.old.node.now).queues in
+            OnOk result (HasTold (writes_for self.old.writer.now)
+            (fulls moment reply qs ++ leaving moment (push_all reply qs)) (text_of gathered.old) (text_of gathered.new)
+            (K.lines self.old.lines.now) (K.lines self.new.lines.now)) }
+        ensures numbers {
+            let reply = option_and_then (reply_to self.old.node.now.plan) request in
+            let more = length (leaving moment (push_all reply (keeps self.old.node.now).queues)) in
+            OnOk result (self.new.tally.numbers ≡ with_sent self.old.tally.numbers more) }
+        ensures last { OnOk result (IsLast moment (keeps self.new.node.now).queues self.new.clock.last) }
+        ensures err {
+            let reply = option_and_then (reply_to self.old.node.now.plan) request in
+            let qs = (keeps self.old.node.now).queues in
+            OnErr result (BeginsList (fulls moment reply qs ++ leaving moment (push_all reply qs))
+            (K.lines self.old.lines.now) (K.lines self.new.lines.now)) }
+        ensures uncounted { OnErr result (self.new.tally.numbers ≡ self.old.tally.numbers) }
+    {
+        if request.is_none() && self.node.waiting() == 0 {
+            return Ok(());
         }
-        None => Ok(()),
+        self.answer(moment, request, gathered)
+    }
+
+    /// The same, where there is something to send.
+    #[inline(never)]
+    fn answer(
+        &mut self,
+        moment: u64,
+        request: Option<Request>,
+        gathered: &mut TextBuffer,
+    ) -> Result<(), NoMemory>
+        requires { ForSome request (IsRequestTo self.old.node.now.plan.node) }
+        ensures same_reference { self.new.lines.ghost_name ≡ self.old.lines.ghost_name }
+        ensures plan { self.new.node.now.plan ≡ self.old.node.now.plan }
+        ensures latest { self.new.node.now.latest ≡ self.old.node.now.latest }
+        ensures stands { StandsAsBefore self.old.node.now self.new.node.now }
+        ensures buses { writes_for self.new.writer.now ≡ writes_for self.old.writer.now }
+        ensures number { self.new.clock.number ≡ self.old.clock.number }
+        ensures next { self.new.clock.next ≡ self.old.clock.next }
+        ensures keeps { let reply = option_and_then (reply_to self.old.node.now.plan) request in
+            OnOk result (keeps self.new.node.now ≡ left (sent reply (keeps self.old.node.now))) }
+        ensures told {
+            let reply = option_and_then (reply_to self.old.node.now.plan) request in
+            let qs = (keeps self.old.node.now).queues in
+            OnOk result (HasTold (writes_for self.old.writer.now)
+            (fulls moment reply qs ++ leaving moment (push_all reply qs)) (text_of gathered.old) (text_of gathered.new)
+            (K.lines self.old.lines.now) (K.lines self.new.lines.now)) }
+        ensures numbers {
+            let reply = option_and_then (reply_to self.old.node.now.plan) request in
+            let more = length (leaving moment (push_all reply (keeps self.old.node.now).queues)) in
+            OnOk result (self.new.tally.numbers ≡ with_sent self.old.tally.numbers more) }
+        ensures last { OnOk result (self.new.clock.last ≡ moment) }
+        ensures err {
+            let reply = option_and_then (reply_to self.old.node.now.plan) request in
+            let qs = (keeps self.old.node.now).queues in
+            OnErr result (BeginsList (fulls moment reply qs ++ leaving moment (push_all reply qs))
+            (K.lines self.old.lines.now) (K.lines self.new.lines.now)) }
+        ensures uncounted { OnErr result (self.new.tally.numbers ≡ self.old.tally.numbers) }
+    {
+        let full = put_reply(self.node, moment, request);
+        let sent = send(
+            self.node,
+            moment,
+            &full,
+            self.writer,
+            self.lines,
+            gathered,
+        )?;
+        self.tally.send(sent);
+        self.clock.last = moment;
+        Ok(())
+    }
+
+    /// The ticks up to a moment, of which one at least is due.
+    #[inline(never)]
+    fn ticks(&mut self, moment: u64, gathered: &mut TextBuffer) -> Result<(), NoMemory>
+        requires due { self.old.clock.next ≤ moment }
+        requires low { moment < 10 ^ 18 }
+        ensures same_reference { self.new.lines.ghost_name ≡ self.old.lines.ghost_name }
+        ensures latest { self.new.node.now.latest ≡ self.old.node.now.latest }
+        ensures records { self.new.tally.numbers.records ≡ self.old.tally.numbers.records }
+        ensures last { last_tick self.new.clock.number self.new.clock.next ≤ moment }
+        ensures number {
+            let next = begun_next self.old.clock.number self.old.clock.next moment in
+            OnOk result (self.new.clock.number ≡ self.old.clock.number + ticks_due next moment) }
+        ensures next {
+            let next = begun_next self.old.clock.number self.old.clock.next moment in
+            OnOk result (self.new.clock.next ≡ next + ticks_due next moment * 1000000) }
+        ensures ok {
+            let old = state self.old.node.now (writes_for self.old.writer.now)
+                (K.lines self.old.lines.now) self.old.tally.numbers in
+            let new = state self.new.node.now (writes_for self.new.writer.now)
+                (K.lines self.new.lines.now) self.new.tally.numbers in
+            let next = begun_next self.old.clock.number self.old.clock.next moment in
+            OnOk result ((first : ℕ) → next ≡ first + self.old.clock.number * 1000000
+            → GoesOn (ticks_from first self.old.clock.number (ticks_due next moment)) old new
+            (text_of gathered.old) (text_of gathered.new)) }
+        ensures err {
+            let old = state self.old.node.now (writes_for self.old.writer.now)
+                (K.lines self.old.lines.now) self.old.tally.numbers in
+            let new = state self.new.node.now (writes_for self.new.writer.now)
+                (K.lines self.new.lines.now) self.new.tally.numbers in
+            let next = begun_next self.old.clock.number self.old.clock.next moment in
+            OnErr result ((first : ℕ) → next ≡ first + self.old.clock.number * 1000000
+            → BreaksOff (ticks_from first self.old.clock.number (ticks_due next moment)) old new) }
+    {
+        self.clock.begin(moment);
+        let due = (moment - self.clock.next) / Clock::SECOND + 1;
+        for _ in 0..due {
+            self.tick(gathered)?;
+        }
+        Ok(())
+    }
+
+    /// The step of the next tick.
+    fn tick(&mut self, gathered: &mut TextBuffer) -> Result<(), NoMemory>
+        requires low { self.old.clock.next < 10 ^ 18 }
+        ensures same_reference { self.new.lines.ghost_name ≡ self.old.lines.ghost_name }
+        ensures latest { self.new.node.now.latest ≡ self.old.node.now.latest }
+        ensures records { self.new.tally.numbers.records ≡ self.old.tally.numbers.records }
+        ensures number { OnOk result (self.new.clock.number ≡ self.old.clock.number + 1) }
+        ensures next { OnOk result (self.new.clock.next ≡ self.old.clock.next + 1000000) }
+        ensures ok {
+            let old = state self.old.node.now (writes_for self.old.writer.now)
+                (K.lines self.old.lines.now) self.old.tally.numbers in
+            let new = state self.new.node.now (writes_for self.new.writer.now)
+                (K.lines self.new.lines.now) self.new.tally.numbers in
+            OnOk result (GoesOn (Tick self.old.clock.number self.old.clock.next ∷ []) old new
+            (text_of gathered.old) (text_of gathered.new)) }
+        ensures err {
+            let old = state self.old.node.now (writes_for self.old.writer.now)
+                (K.lines self.old.lines.now) self.old.tally.numbers in
+            let new = state self.new.node.now (writes_for self.new.writer.now)
+                (K.lines self.new.lines.now) self.new.tally.numbers in
+            OnErr result (BreaksOff (Tick self.old.clock.number self.old.clock.next ∷ []) old new) }
+        ensures stays { OnErr result ((self.new.clock.number ≡ self.old.clock.number)
+            × (self.new.clock.next ≡ self.old.clock.next)) }
+    {
+        let moment = self.clock.next;
+        let full = self.node.tick(moment, self.clock.number);
+        let sent = send(
+            self.node,
+            moment,
+            &full,
+            self.writer,
+            self.lines,
+            gathered,
+        )?;
+        self.tally.send(sent);
+        self.clock.tick();
+        Ok(())
+    }
+}
+
+/// Puts the reply to a request, if there is one, behind the frames that wait; tells on which buses there was no room.
+fn put_reply(node: &mut Node, moment: u64, request: Option<Request>) -> ShortList<FullLine, 3>
+    requires { ForSome request (IsRequestTo node.old.plan.node) }
+    ensures plan { node.new.plan ≡ node.old.plan }
+    ensures latest { node.new.latest ≡ node.old.latest }
+    ensures stands { StandsAsBefore node.old node.new }
+    ensures keeps { let reply = option_and_then (reply_to node.old.plan) request in
+        keeps node.new ≡ sent reply (keeps node.old) }
+    ensures full { let reply = option_and_then (reply_to node.old.plan) request in
+        map Full result ≡ fulls moment reply (keeps node.old).queues }
+{
+    match request {
+        Some(request) => node.reply(moment, request),
+        None => ShortList::new(),
     }
 }

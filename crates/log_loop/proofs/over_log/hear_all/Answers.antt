@@ -19,8 +19,8 @@ returns-in-Err-clause-gone g c =
     let v = voice (buses_of c.args.reader.now) (m.step_text c.args.listener.now) (m.last_text c.args.listener.now) in
     let left = g.L.Source.left in
     let written = g.O.Sink.written in
-    subst (λ (s : Ended). HasGone v (m.heard c.args.listener.now c.records.listener) (m.ended c.args.listener.now c.records.listener) (m.broke c.args.listener.now c.records.listener) (left c.args.input.now) s (written c.args.out.now) (written c.next.new.out)) (sym c.stopped.ensures)
-    (has_stopped v (m.heard c.args.listener.now c.records.listener) (m.ended c.args.listener.now c.records.listener) (m.broke c.args.listener.now c.records.listener) (left c.args.input.now) (left c.records.input) (left c.next.new.input) c.records.reader c.next.new.reader i.past c.in-Err.stop (text_of c.records.gathered) (text_of c.next.new.gathered)
+    subst (λ (s : Ended). HasGone v (m.heard c.args.listener.now c.records.listener) (m.ended c.args.listener.now c.records.listener) (m.broke c.args.listener.now c.records.listener) (m.cut_short c.args.listener.now c.records.listener) (left c.args.input.now) s (written c.args.out.now) (written c.next.new.out)) (sym c.stopped.ensures)
+    (has_stopped v (m.heard c.args.listener.now c.records.listener) (m.ended c.args.listener.now c.records.listener) (m.broke c.args.listener.now c.records.listener) (m.cut_short c.args.listener.now c.records.listener) (left c.args.input.now) (left c.records.input) (left c.next.new.input) c.records.reader c.next.new.reader i.past c.in-Err.stop (text_of c.records.gathered) (text_of c.next.new.gathered)
     (written c.args.out.now) (written c.records.out) (written c.next.new.out) i.reads c.in-Err.ensures.log c.in-Err.ensures.end i.heard i.gathered c.in-Err.ensures.text)
 
 pub returns-in-Err-clause-taken : goal.returns-in-Err-clause-taken
@@ -61,14 +61,10 @@ hear-requires-clause-moment_low g c =
     let more = reads_more names (left c.args.input.now) (left c.records.input) (left c.next.new.input) c.records.reader c.next.new.reader i.past c.next.new.written i.reads (rw c.in-Ok-true.field-0-test at c.in-Ok-true.ensures.log) c.in-Ok-true.ensures.end in
     next_low c.ordered.ensures.fit names (left c.args.input.now) (left c.next.new.input) c.next.new.reader i.past c.next.new.written more
 
-pub hear-requires-clause-line : goal.hear-requires-clause-line
-hear-requires-clause-line g c =
-    let i = c.records.invariant in
-    let names = buses_of c.args.reader.now in
-    let left = g.L.Source.left in
-    let more = reads_more names (left c.args.input.now) (left c.records.input) (left c.next.new.input) c.records.reader c.next.new.reader i.past c.next.new.written i.reads (rw c.in-Ok-true.field-0-test at c.in-Ok-true.ensures.log) c.in-Ok-true.ensures.end in
-    let order = next_order c.ordered.ensures.order names (left c.args.input.now) (left c.next.new.input) c.next.new.reader i.past c.next.new.written more in
-    omega (arith, order.1, i.line)
+pub hear-requires-clause-count : goal.hear-requires-clause-count
+hear-requires-clause-count g c =
+    let less = (rw c.in-Ok-true.field-0-test at c.in-Ok-true.ensures.reader).0 in
+    omega (arith, less, c.records.invariant.count)
 
 pub records-preserved : goal.records-preserved
 records-preserved g c =
@@ -90,7 +86,7 @@ records-preserved g c =
       reading = (rw c.in-Ok-true.field-0-test at c.in-Ok-true.ensures.reader).1;
       heard = step.heard c.args.listener.now i.past i.heard;
       latest = c.hear.ensures.latest;
-      line = c.hear.ensures.line;
+      count = omega (arith, c.hear.ensures.count, (rw c.in-Ok-true.field-0-test at c.in-Ok-true.ensures.reader).0, i.count);
       gathered = gathered_step v i.past rec _ _ _ _ less (step.text c.args.listener.now i.past i.heard);
       read = (rw c.in-Ok-true.field-0-test at c.in-Ok-true.ensures.cause).0 ∙ i.read;
       write = (rw c.in-Ok-true.field-0-test at c.in-Ok-true.ensures.cause).1 ∙ i.write;
@@ -106,7 +102,7 @@ returns-in_default-clause-gone g c =
     let written = g.O.Sink.written in
     let more = reads_more v.names (left c.args.input.now) (left c.records.input) (left c.next.new.input) c.records.reader c.next.new.reader i.past rec i.reads (rw c.in-Ok-true.field-0-test at c.in-Ok-true.ensures.log) c.in-Ok-true.ensures.end in
     let less = gathered_less _ _ _ (written c.args.out.now) (written c.records.out) (written c.next.new.out) i.gathered (rw c.in-Ok-true.field-0-test at c.in-Ok-true.ensures.text) in
-    has_wanted v (m.heard c.args.listener.now c.hear.new.self) (m.ended c.args.listener.now c.hear.new.self) (m.broke c.args.listener.now c.hear.new.self) (left c.args.input.now) (rec ∷ i.past) _ (written c.args.out.now) (written c.next.new.out)
+    has_wanted v (m.heard c.args.listener.now c.hear.new.self) (m.ended c.args.listener.now c.hear.new.self) (m.broke c.args.listener.now c.hear.new.self) (m.cut_short c.args.listener.now c.hear.new.self) (left c.args.input.now) (rec ∷ i.past) _ (written c.args.out.now) (written c.next.new.out)
     (has_log v.names (left c.args.input.now) (left c.next.new.input) c.next.new.reader (rec ∷ i.past) more) (c.in_default.ensures.broke c.args.listener.now i.past i.heard)
     (begins_step v i.past rec (text_of c.next.new.gathered) (written c.args.out.now) (written c.next.new.out) less)
 
@@ -128,9 +124,9 @@ returns-clause-gone g c =
     let left = g.L.Source.left in
     let written = g.O.Sink.written in
     let w = rw c.in-Ok-false.field-0-test at c.in-Ok-false.ensures.text in
-    has_finished v (m.heard c.args.listener.now c.end.new.listener) (m.ended c.args.listener.now c.end.new.listener) (m.broke c.args.listener.now c.end.new.listener) (left c.args.input.now) i.past (written c.args.out.now) (written c.end.new.out) c.end.result
+    has_finished v (m.heard c.args.listener.now c.end.new.listener) (m.ended c.args.listener.now c.end.new.listener) (m.broke c.args.listener.now c.end.new.listener) (m.cut_short c.args.listener.now c.end.new.listener) (left c.args.input.now) i.past (written c.args.out.now) (written c.end.new.out) c.end.result
     (has_next v.names (left c.args.input.now) (left c.records.input) (left c.next.new.input) c.records.reader c.next.new.reader i.past _ i.reads (rw c.in-Ok-false.field-0-test at c.in-Ok-false.ensures.log) c.in-Ok-false.ensures.end)
-    c.end.ensures.only (λ e. c.end.ensures.ended e c.args.listener.now i.past i.heard) (λ e. c.end.ensures.broke e c.args.listener.now i.past i.heard) (written c.next.new.out) (text_of c.next.new.gathered)
+    c.end.ensures.only (λ e. c.end.ensures.ended e c.args.listener.now i.past i.heard) (λ e. c.end.ensures.cut_short e c.args.listener.now i.past i.heard) (written c.next.new.out) (text_of c.next.new.gathered)
     (gathered_less _ _ _ (written c.args.out.now) (written c.records.out) (written c.next.new.out) i.gathered w.0)
     (λ e. c.end.ensures.ok e c.args.listener.now i.past i.heard) (λ e. c.end.ensures.begins e c.args.listener.now i.past i.heard) c.end.ensures.memory
 
@@ -158,7 +154,7 @@ records-init g c =
       reading = c.requires.reading;
       heard = c.requires.heard;
       latest = omega (arith, c.requires.fresh.0);
-      line = omega (arith, c.requires.fresh.1);
+      count = omega (arith, c.requires.fresh.1, c.requires.room);
       gathered = subst (λ (t : List ℕ). Gathered [] t w w) (sym c.new-gathered.ensures) (gathered_all [] w);
       read = refl;
       write = refl;

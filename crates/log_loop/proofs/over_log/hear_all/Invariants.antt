@@ -1,10 +1,10 @@
-use Rattle.std.proofs.Common.{◌≡◌, ◌≤◌, List, None}
+use Rattle.std.proofs.Common.{◌≡◌, ◌≤◌, ◌+◌, ◌^◌, List, None}
 use Rattle.tail_frame.specs.declared.logged.Record.{Record}
 use Rattle.frame_log.specs.Reader.{answer_of, bytes_left, buses_of}
 use Rattle.line_text.specs.Buffer.{text_of}
 use Rattle.log_loop.specs.Gathered.{Gathered}
 use Rattle.log_loop.specs.Voice.{voice, said}
-use Rattle.log_loop.proofs.Logs.{latest_of, line_of}
+use Rattle.log_loop.proofs.Logs.{latest_of}
 use Rattle.log_loop.proofs.Came.{Reads}
 use Rattle.log_loop.proofs.Streams.{Streams}
 use Rattle.log_loop.proofs.over_log.hear_all.Given as goal
@@ -17,7 +17,7 @@ invariant-records g l = let s = g.L.Source in let o = g.O.Sink in let m = g.M.Li
   reading : answer_of l.reader ≡ None;
   heard : m.heard l.fn.listener l.listener past;
   latest : m.latest l.listener ≤ latest_of past;
-  line : m.line l.listener ≤ line_of past;
+  count : m.count l.listener + bytes_left l.reader ≤ 2 ^ 28;
   gathered : Gathered (said v past) (text_of l.gathered) (o.written l.fn.out) (o.written l.out);
   read : s.faults l.input ≡ s.faults l.fn.input;
   write : o.faults l.out ≡ o.faults l.fn.out;

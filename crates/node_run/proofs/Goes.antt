@@ -1,0 +1,169 @@
+-- How a run goes on, step by step.
+use Rattle.std.proofs.Common.{◌≡◌, ◌∙◌, ℕ, ◌+◌, ◌≤◌, List, [], ◌∷◌, ◌++◌, length, Option, Some, None, refl, sym, ap, ap₂, subst, arith, append_assoc, append-nil}
+use Rattle.tail_frame.specs.declared.logged.Record.{Record}
+use Rattle.frame_log.specs.declared.error.LogError.{LogError}
+use Rattle.frame_log.specs.declared.error.LogError.TheVariants as error
+use Rattle.node_plan.specs.Bound.{bound_of}
+use Rattle.node_plan.specs.declared.plan.Plan.{Plan}
+use Rattle.node_core.specs.declared.line.Line.{Line}
+use Rattle.node_core.specs.declared.numbers.Numbers.{Numbers}
+use Rattle.node_core.specs.Keeps.{keeps}
+use Rattle.node_core.specs.LineSinks.{BeginsList, put_behind}
+use Rattle.node_core.specs.Queues.{fulls, leaving}
+use Rattle.node_core.specs.Stands.{Stands}
+use Rattle.node_core.specs.Steps.{Step, Kept, emptying, kept, left, lines, lines_at, lines_behind, moment_of, numbers, pushed, received_at, records, sends, all_lines}
+use Rattle.node_core.specs.Text.{text}
+use Rattle.node_run.specs.Goes.{Broke, GoesOn, IsFew, Runs, State, report_of}
+use Rattle.node_run.specs.Ran.{AtFirst, Emptied, Reported, Tells, At, first_lines, next_lines}
+use Rattle.node_run.proofs.Steps.{behind_newer, lines_newer}
+use Rattle.node_run.proofs.Tells.{put_more, text_append}
+
+-- a step's lines, from what it received and what it sends
+pub lines_are : (plan : Plan) (s : Step) (past : List Step) (k mid : Kept) (g f : List Line) → k ≡ kept plan past → mid ≡ pushed plan s past k → g ≡ received_at plan s past → f ≡ fulls (moment_of s) (sends plan s past k) k.queues
+    → (g ++ f) ++ leaving (moment_of s) mid.queues ≡ lines_at plan s past
+lines_are plan s past k mid g f e m a b =
+    ap₂ (λ (x : List Line) (y : Kept). x ++ leaving (moment_of s) y.queues)
+    (ap₂ (λ (x y : List Line). x ++ y) a (b ∙ ap (λ (y : Kept). fulls (moment_of s) (sends plan s past y) y.queues) e)) (m ∙ ap (pushed plan s past) e)
+
+pub kept_next : (plan : Plan) (s : Step) (past : List Step) (k mid new : Kept) → k ≡ kept plan past → mid ≡ pushed plan s past k → new ≡ left mid → new ≡ kept plan (s ∷ past)
+kept_next plan s past k mid new e m n = n ∙ ap left (m ∙ ap (pushed plan s past) e)
+
+-- one more step is run
+pub runs_next : (plan : Plan) (before : Option (List Line)) (s : Step) (past : List Step) (old new : State) → Runs plan before old past → new.node.plan ≡ old.node.plan → Stands new.node (records (s ∷ past)) → keeps new.node ≡ kept plan (s ∷ past) → new.buses ≡ old.buses
+    → new.told ≡ put_behind old.told (lines_at plan s past) → new.numbers ≡ numbers plan (s ∷ past) → new.numbers.held ≤ bound_of plan → Runs plan before new (s ∷ past)
+runs_next plan before s past old new h same stands keep buses told counted held = record {
+  is = h.is;
+  same = same ∙ h.same;
+  stands = stands;
+  keeps_are = keep;
+  names = buses ∙ h.names;
+  at = record { reported = told ∙ (ap (λ o. put_behind o (lines_at plan s past)) h.at.reported ∙ put_more before (lines plan past) (lines_at plan s past)); counted = counted };
+  within = held;
+}
+
+-- Where it breaks off.
+
+pub first_none : (plan : Plan) (newer past : List Step) (refusal : Option LogError) (r : Reported) → At plan past r → AtFirst plan (newer ++ past) refusal r
+first_none plan newer past refusal r a = record {
+  newer = newer;
+  past = past;
+  parts = refl;
+  told = [];
+  rest = next_lines plan newer past refusal;
+  next = refl;
+  at = record { reported = a.reported ∙ ap (put_behind r.old) (sym (append-nil (lines plan past))); counted = a.counted };
+}
+
+-- before it told a line of these steps
+pub broke_none : (plan : Plan) (before : Option (List Line)) (newer past : List Step) (old new : State) → Runs plan before old past → new.told ≡ old.told → new.numbers ≡ old.numbers → Broke plan (report_of before new) (newer ++ past)
+broke_none plan before newer past old new h told counted = record {
+  first = λ refusal. first_none plan newer past refusal (report_of before new) (record { reported = told ∙ h.at.reported; counted = counted ∙ h.at.counted });
+  within = subst (λ (n : Numbers). n.held ≤ bound_of plan) (sym counted) h.within;
+}
+
+-- when it had told some lines of a step
+pub broke_in : (plan : Plan) (before : Option (List Line)) (s : Step) (past : List Step) (old new : State) (ls : List Line) → Runs plan before old past → ls ≡ lines_at plan s past → BeginsList ls old.told new.told → new.numbers ≡ old.numbers → Broke plan (report_of before new) (s ∷ past)
+broke_in plan before s past old new ls h e b counted = record {
+  first = λ refusal. record {
+    newer = s ∷ [];
+    past = past;
+    parts = refl;
+    told = b.front;
+    rest = b.rest;
+    next = sym e ∙ b.whole;
+    at = record {
+      reported = b.put ∙ (ap (λ o. put_behind o b.front) h.at.reported ∙ put_more before (lines plan past) b.front);
+      counted = counted ∙ h.at.counted;
+    };
+  };
+  within = subst (λ (n : Numbers). n.held ≤ bound_of plan) (sym counted) h.within;
+}
+
+first_grow : (plan : Plan) (a s : Step) (n t past : List Step) → first_lines plan a (n ++ s ∷ t) past ≡ first_lines plan s t past
+first_grow plan a s [] t past = refl
+first_grow plan a s (b ∷ n) t past = first_grow plan b s n t past
+
+next_grow : (plan : Plan) (n : List Step) (s : Step) (t past : List Step) (x y : Option LogError) → next_lines plan (n ++ s ∷ t) past x ≡ next_lines plan (s ∷ t) past y
+next_grow plan [] s t past x y = refl
+next_grow plan (a ∷ n) s t past x y = first_grow plan a s n t past
+
+nothing : (a b : List Line) → [] ≡ a ++ b → a ≡ []
+nothing [] b e = refl
+nothing (x ∷ a) b e = cc
+
+-- with newer steps that it didn't come to
+pub broke_grow : (plan : Plan) (n all : List Step) (r : Reported) → Broke plan r all → Broke plan r (n ++ all)
+broke_grow plan n all r b = record { first = λ refusal. grow refusal (b.first (Some error.Failed)); within = b.within }
+  where
+    grown : (refusal : Option LogError) (f : AtFirst plan all (Some error.Failed) r) (newer : List Step) → all ≡ newer ++ f.past → next_lines plan newer f.past (Some error.Failed) ≡ f.told ++ f.rest → AtFirst plan (n ++ all) refusal r
+    grown refusal f [] parts next = record {
+      newer = n;
+      past = f.past;
+      parts = ap (λ t. n ++ t) parts;
+      told = f.told;
+      rest = next_lines plan n f.past refusal;
+      next = ap (λ t. t ++ next_lines plan n f.past refusal) (sym (nothing f.told f.rest next));
+      at = f.at;
+    }
+    grown refusal f (s ∷ t) parts next = record {
+      newer = n ++ s ∷ t;
+      past = f.past;
+      parts = ap (λ x. n ++ x) parts ∙ sym (append_assoc n (s ∷ t) f.past);
+      told = f.told;
+      rest = f.rest;
+      next = next_grow plan n s t f.past refusal (Some error.Failed) ∙ next;
+      at = f.at;
+    }
+
+    grow : (refusal : Option LogError) → AtFirst plan all (Some error.Failed) r → AtFirst plan (n ++ all) refusal r
+    grow refusal f = grown refusal f f.newer f.parts f.next
+
+-- what left at the end is reported, and not counted
+pub first_emptied : (plan : Plan) (all : List Step) (r : Reported) → Emptied plan all r → AtFirst plan all None r
+first_emptied plan all r a = record {
+  newer = [];
+  past = all;
+  parts = refl;
+  told = emptying plan all;
+  rest = [];
+  next = sym (append-nil (emptying plan all));
+  at = a;
+}
+
+-- a part of that is reported
+pub first_cut : (plan : Plan) (all : List Step) (r : Reported) (mid : Option (List Line)) → mid ≡ put_behind r.old (lines plan all) → BeginsList (emptying plan all) mid r.new → r.numbers ≡ numbers plan all → AtFirst plan all None r
+first_cut plan all r mid m b counted = record {
+  newer = [];
+  past = all;
+  parts = refl;
+  told = b.front;
+  rest = b.rest;
+  next = b.whole;
+  at = record { reported = b.put ∙ (ap (λ o. put_behind o b.front) m ∙ put_more r.old (lines plan all) b.front); counted = counted };
+}
+
+-- One after the other.
+
+pub goes_none : (old : State) (t : List ℕ) → GoesOn [] old old t t
+goes_none old t plan before past few h = (h, sym (append-nil t))
+
+pub goes_more : (a b : List Step) (old mid new : State) (t now after : List ℕ) → GoesOn a old mid t now → GoesOn b mid new now after → GoesOn (b ++ a) old new t after
+goes_more a b old mid new t now after x y plan before past few h =
+    let all = append_assoc b a past in
+    let less : IsFew (a ++ past) = fewer b a past few in
+    let f = x plan before past less h in
+    let g = y plan before (a ++ past) (subst IsFew all few) f.0 in (
+      subst (λ (l : List Step). Runs plan before new l) (sym all) g.0,
+      g.1 ∙ (ap (λ s. s ++ text plan.buses (lines_behind plan b (a ++ past))) f.1
+      ∙ (append_assoc t (text plan.buses (lines_behind plan a past)) (text plan.buses (lines_behind plan b (a ++ past)))
+      ∙ ap (λ s. t ++ s) (sym (text_append plan.buses (lines_behind plan a past) (lines_behind plan b (a ++ past))) ∙ ap (text plan.buses) (sym (behind_newer plan b a past))))),
+    )
+  where
+    longer : (c d : List Step) → length d ≤ length (c ++ d)
+    longer [] d = omega arith
+    longer (s ∷ c) d = let h = longer c d in omega arith
+
+    fewer : (c d e : List Step) → IsFew ((c ++ d) ++ e) → IsFew (d ++ e)
+    fewer c d e h =
+        let all = ap length (append_assoc c d e) in
+        let less = longer c (d ++ e) in omega arith

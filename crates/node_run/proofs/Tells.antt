@@ -1,0 +1,49 @@
+-- Lines that were told, one after the other.
+use Rattle.std.proofs.Common.{◌≡◌, ◌∙◌, ℕ, List, [], ◌∷◌, ◌++◌, Option, Some, None, refl, sym, ap, subst, append_assoc, append-nil}
+use Rattle.node_plan.specs.declared.plan.BusPlan.{BusPlan}
+use Rattle.node_core.specs.declared.line.Line.{Line}
+use Rattle.node_core.specs.LineSinks.{BeginsList, put_behind}
+use Rattle.node_core.specs.Text.{line_text, text}
+use Rattle.node_run.specs.Tells.{HasTold}
+
+pub text_append : (buses : List BusPlan) (a b : List Line) → text buses (a ++ b) ≡ text buses a ++ text buses b
+text_append buses [] b = refl
+text_append buses (l ∷ a) b = ap (λ t. line_text buses l ++ t) (text_append buses a b) ∙ sym (append_assoc (line_text buses l) (text buses a) (text buses b))
+
+pub put_none : (o : Option (List Line)) → o ≡ put_behind o []
+put_none None = refl
+put_none (Some l) = ap Some (sym (append-nil l))
+
+pub put_more : (o : Option (List Line)) (a b : List Line) → put_behind (put_behind o a) b ≡ put_behind o (a ++ b)
+put_more None a b = refl
+put_more (Some l) a b = ap Some (append_assoc l a b)
+
+-- nothing was told
+pub told_none : (buses : List BusPlan) (t : List ℕ) (o : Option (List Line)) → HasTold buses [] t t o o
+told_none buses t o = record { gathered = sym (append-nil t); put = put_none o }
+
+pub told_more : (buses : List BusPlan) (a b : List Line) (t mid new : List ℕ) (o now after : Option (List Line)) → HasTold buses a t mid o now → HasTold buses b mid new now after → HasTold buses (a ++ b) t new o after
+told_more buses a b t mid new o now after x y = record {
+  gathered = y.gathered ∙ (ap (λ s. s ++ text buses b) x.gathered ∙ (append_assoc t (text buses a) (text buses b) ∙ ap (λ s. t ++ s) (sym (text_append buses a b))));
+  put = y.put ∙ (ap (λ p. put_behind p b) x.put ∙ put_more o a b);
+}
+
+-- no front, a front, and one behind others
+pub begins_none : (items : List Line) (old new : Option (List Line)) → new ≡ old → BeginsList items old new
+begins_none items old new e = record { front = []; rest = items; whole = refl; put = e ∙ put_none old }
+
+pub begins_more : (a b : List Line) (old new : Option (List Line)) → BeginsList a old new → BeginsList (a ++ b) old new
+begins_more a b old new x = record { front = x.front; rest = x.rest ++ b; whole = ap (λ t. t ++ b) x.whole ∙ append_assoc x.front x.rest b; put = x.put }
+
+pub begins_later : (a b : List Line) (old mid new : Option (List Line)) → mid ≡ put_behind old a → BeginsList b mid new → BeginsList (a ++ b) old new
+begins_later a b old mid new e x = record {
+  front = a ++ x.front;
+  rest = x.rest;
+  whole = ap (λ t. a ++ t) x.whole ∙ sym (append_assoc a x.front x.rest);
+  put = x.put ∙ (ap (λ o. put_behind o x.front) e ∙ put_more old a x.front);
+}
+
+-- some of these were told, the next one wasn't
+pub broke_at : (buses : List BusPlan) (all done rest : List Line) (t mid : List ℕ) (old now new : Option (List Line)) → all ≡ done ++ rest → HasTold buses done t mid old now → new ≡ now → BeginsList all old new
+broke_at buses all done rest t mid old now new e x same =
+    subst (λ (a : List Line). BeginsList a old new) (sym e) (begins_later done rest old now new x.put (begins_none rest now new same))

@@ -1,0 +1,88 @@
+-- How a run goes on, step by step.
+use Rattle.std.specs.Prelude.{◌≡◌, ◌≤◌, ◌⊎◌, ◌+◌, ◌-◌, ◌/◌, ◌^◌, ◌==◌, ◌++◌, ℕ, min, max, List, Option, if◌then◌else◌, length}
+use Rattle.node_plan.specs.Bound.{bound_of}
+use Rattle.node_plan.specs.IsPlan.{IsPlan}
+use Rattle.node_plan.specs.declared.plan.BusPlan.{BusPlan}
+use Rattle.node_plan.specs.declared.plan.Plan.{Plan}
+use Rattle.frame_log.specs.declared.error.LogError.{LogError}
+use Rattle.node_core.specs.declared.line.Line.{Line}
+use Rattle.node_core.specs.declared.node.Node.{Node}
+use Rattle.node_core.specs.declared.numbers.Numbers.{Numbers}
+use Rattle.node_core.specs.Keeps.{keeps}
+use Rattle.node_core.specs.Queues.{Queue, waiting}
+use Rattle.node_core.specs.Stands.{Stands}
+use Rattle.node_core.specs.Steps.{Step, records, kept, lines_behind}
+use Rattle.node_core.specs.Text.{text}
+use Rattle.node_run.specs.declared.log.clock.Clock.{Clock}
+use Rattle.node_run.specs.Ran.{Reported, reported, At, AtFirst}
+
+-- what a run has come to: its node, the buses whose names its lines have, the lines that were put, and the numbers
+pub record State : Type 0 where
+  pub node : Node
+  pub buses : List BusPlan
+  pub told : Option (List Line)
+  pub numbers : Numbers
+
+abbrev pub state : Node → List BusPlan → Option (List Line) → Numbers → State
+state node buses told numbers = record { node = node; buses = buses; told = told; numbers = numbers }
+
+-- what it has reported, where these lines were put before
+abbrev pub report_of : Option (List Line) → State → Reported
+report_of before s = reported before s.told s.numbers
+
+-- it is the run of a plan behind these steps, the newest first
+pub record Runs (plan : Plan) (before : Option (List Line)) (s : State) (all : List Step) : Type 0 where
+  pub is : IsPlan plan
+  pub same : s.node.plan ≡ plan
+  pub stands : Stands s.node (records all)
+  pub keeps_are : keeps s.node ≡ kept plan all
+  pub names : s.buses ≡ plan.buses
+  pub at : At plan all (report_of before s)
+  pub within : s.numbers.held ≤ bound_of plan
+
+-- it broke off in one of these steps
+pub record Broke (plan : Plan) (r : Reported) (all : List Step) : Type 0 where
+  pub first : (refusal : Option LogError) → AtFirst plan all refusal r
+  pub within : r.numbers.held ≤ bound_of plan
+
+-- so few steps that what they send can be counted
+abbrev pub IsFew : List Step → Type 0
+IsFew all = length all ≤ 2 ^ 50
+
+-- a run goes on by newer steps: they are reported and counted, and the text of their lines is gathered behind what was
+abbrev pub GoesOn : List Step → State → State → List ℕ → List ℕ → Type 0
+GoesOn newer old new gathered_old gathered_new =
+    (plan : Plan) (before : Option (List Line)) (past : List Step)
+    → IsFew (newer ++ past) → Runs plan before old past
+    → Runs plan before new (newer ++ past)
+    × (gathered_new ≡ gathered_old ++ text plan.buses (lines_behind plan newer past))
+
+-- a run breaks off in one of these newer steps
+abbrev pub BreaksOff : List Step → State → State → Type 0
+BreaksOff newer old new =
+    (plan : Plan) (before : Option (List Line)) (past : List Step)
+    → IsFew (newer ++ past) → Runs plan before old past → Broke plan (report_of before new) (newer ++ past)
+
+-- the numbers with so many more frames that were sent
+abbrev pub with_sent : Numbers → ℕ → Numbers
+with_sent n more = record n { sent = min (n.sent + more) (2 ^ 64 - 1) }
+
+-- the moment of a clock's next tick by its number, where the first one is at this moment
+abbrev pub begun_next : ℕ → ℕ → ℕ → ℕ
+begun_next number next moment = if number == 0 then moment else next
+
+-- how many ticks are due from one at this moment up to another
+abbrev pub ticks_due : ℕ → ℕ → ℕ
+ticks_due next moment = (moment - next) / 1000000 + 1
+
+-- the moment of the last tick by the number and the moment of the next one; 0 where there was none
+abbrev pub last_tick : ℕ → ℕ → ℕ
+last_tick number next = if number == 0 then 0 else next - 1000000
+
+-- no record comes before that, nor before the last frame that the node heard
+abbrev pub latest_of : Node → Clock → ℕ
+latest_of node clock = max node.latest (last_tick clock.number clock.next)
+
+-- nothing waits, or a clock has this moment as the one behind which frames left last
+abbrev pub IsLast : ℕ → List Queue → ℕ → Type 0
+IsLast moment queues last = (waiting queues ≡ 0) ⊎ (last ≡ moment)

@@ -1,0 +1,157 @@
+//! Frames that leave a node, each told as it leaves.
+ghost use Rattle.std.specs.Prelude.{◌≡◌, ◌<◌, ◌++◌, IfOk, OnOk, OnErr, length, map};
+ghost use Rattle.line_text.specs.Buffer.{text_of};
+ghost use Rattle.node_core.specs.Keeps.{keeps};
+ghost use Rattle.node_core.specs.LineSinks.{BeginsList};
+ghost use Rattle.node_core.specs.Pops.{queue_at};
+ghost use Rattle.node_core.specs.Queues.{bus_lines, leaving, rounds, waiting};
+ghost use Rattle.node_core.specs.Stands.{StandsAsBefore};
+ghost use Rattle.node_core.specs.Steps.{left};
+ghost use Rattle.node_core.specs.Writer.{writes_for};
+ghost use Rattle.node_core.specs.declared.line.Line.TheVariants.{Full};
+ghost use Rattle.node_run.specs.Leaves.{bus_left};
+ghost use Rattle.node_run.specs.Tells.{HasTold};
+
+use crate::log::telling::{tell, tell_fulls};
+use cy_bits::{NoMemory, ShortList};
+use line_text::TextBuffer;
+use node_core::{FullLine, LineRef, LineSink, LineWriter, Node, TxRef};
+
+/// Tells on which buses there was no room for what a step sends, and lets frames leave behind it. Answers how many left.
+pub(crate) fn send<K: LineSink>(
+    node: &mut Node,
+    moment: u64,
+    fulls: &ShortList<FullLine, 3>,
+    writer: &mut LineWriter,
+    lines: &mut K,
+    gathered: &mut TextBuffer,
+) -> Result<u64, NoMemory>
+    ensures plan { node.new.plan ≡ node.old.plan }
+    ensures latest { node.new.latest ≡ node.old.latest }
+    ensures stands { StandsAsBefore node.old node.new }
+    ensures buses { writes_for writer.new ≡ writes_for writer.old }
+    ensures keeps { OnOk result (keeps node.new ≡ left (keeps node.old)) }
+    ensures told { let told = map Full fulls.now ++ leaving moment (keeps node.old).queues in
+        OnOk result (HasTold (writes_for writer.old) told
+        (text_of gathered.old) (text_of gathered.new) (K.lines lines.old) (K.lines lines.new)) }
+    ensures sent { IfOk result (λ n. n ≡ length (leaving moment (keeps node.old).queues)) }
+    ensures err { let told = map Full fulls.now ++ leaving moment (keeps node.old).queues in
+        OnErr result (BeginsList told (K.lines lines.old) (K.lines lines.new)) }
+{
+    tell_fulls(writer, lines, gathered, fulls)?;
+    drain(node, moment, writer, lines, gathered)
+}
+
+/// Lets frames leave each bus, in the plan's order: at most its rate, the least identifier first. Tells them with a
+/// moment in microseconds, and answers how many they are. Where it fails, some were told, and the node is not to be
+/// used further.
+fn drain<K: LineSink>(
+    node: &mut Node,
+    moment: u64,
+    writer: &mut LineWriter,
+    lines: &mut K,
+    gathered: &mut TextBuffer,
+) -> Result<u64, NoMemory>
+    ensures plan { node.new.plan ≡ node.old.plan }
+    ensures latest { node.new.latest ≡ node.old.latest }
+    ensures stands { StandsAsBefore node.old node.new }
+    ensures buses { writes_for writer.new ≡ writes_for writer.old }
+    ensures keeps { OnOk result (keeps node.new ≡ left (keeps node.old)) }
+    ensures told { OnOk result (HasTold (writes_for writer.old) (leaving moment (keeps node.old).queues)
+        (text_of gathered.old) (text_of gathered.new) (K.lines lines.old) (K.lines lines.new)) }
+    ensures sent { IfOk result (λ n. n ≡ length (leaving moment (keeps node.old).queues)) }
+    ensures err { OnErr result
+        (BeginsList (leaving moment (keeps node.old).queues) (K.lines lines.old) (K.lines lines.new)) }
+{
+    let before = node.waiting();
+    drain_buses(node, moment, writer, lines, gathered)?;
+    Ok(before - node.waiting())
+}
+
+/// The same, bus by bus.
+fn drain_buses<K: LineSink>(
+    node: &mut Node,
+    moment: u64,
+    writer: &mut LineWriter,
+    lines: &mut K,
+    gathered: &mut TextBuffer,
+) -> Result<(), NoMemory>
+    ensures plan { node.new.plan ≡ node.old.plan }
+    ensures latest { node.new.latest ≡ node.old.latest }
+    ensures stands { StandsAsBefore node.old node.new }
+    ensures buses { writes_for writer.new ≡ writes_for writer.old }
+    ensures keeps { OnOk result (keeps node.new ≡ left (keeps node.old)) }
+    ensures told { OnOk result (HasTold (writes_for writer.old) (leaving moment (keeps node.old).queues)
+        (text_of gathered.old) (text_of gathered.new) (K.lines lines.old) (K.lines lines.new)) }
+    ensures err { OnErr result
+        (BeginsList (leaving moment (keeps node.old).queues) (K.lines lines.old) (K.lines lines.new)) }
+{
+    let buses = node.buses();
+    for bus in 0..buses {
+        drain_bus(node, bus, moment, writer, lines, gathered)?;
+    }
+    Ok(())
+}
+
+/// Lets frames leave one bus.
+fn drain_bus<K: LineSink>(
+    node: &mut Node,
+    bus: u8,
+    moment: u64,
+    writer: &mut LineWriter,
+    lines: &mut K,
+    gathered: &mut TextBuffer,
+) -> Result<(), NoMemory>
+    requires { bus < length (keeps node.old).queues }
+    ensures plan { node.new.plan ≡ node.old.plan }
+    ensures latest { node.new.latest ≡ node.old.latest }
+    ensures stands { StandsAsBefore node.old node.new }
+    ensures buses { writes_for writer.new ≡ writes_for writer.old }
+    ensures keeps { OnOk result (keeps node.new ≡ bus_left (keeps node.old) bus) }
+    ensures told { let q = queue_at (keeps node.old).queues bus in
+        OnOk result (HasTold (writes_for writer.old) (bus_lines moment bus q)
+        (text_of gathered.old) (text_of gathered.new) (K.lines lines.old) (K.lines lines.new)) }
+    ensures err { let q = queue_at (keeps node.old).queues bus in
+        OnErr result (BeginsList (bus_lines moment bus q) (K.lines lines.old) (K.lines lines.new)) }
+{
+    let rate = node.rate(bus);
+    for _ in 0..rate {
+        let Some(frame) = node.pop_out(bus) else {
+            return Ok(());
+        };
+        let tx = TxRef {
+            moment,
+            bus,
+            ident: frame.ident,
+            bytes: &frame.bytes,
+        };
+        tell(writer, lines, gathered, Some(LineRef::Tx(tx)))?;
+    }
+    Ok(())
+}
+
+/// Lets all frames leave that wait, in rounds, and answers how many they are.
+pub(crate) fn empty<K: LineSink>(
+    node: &mut Node,
+    moment: u64,
+    writer: &mut LineWriter,
+    lines: &mut K,
+    gathered: &mut TextBuffer,
+) -> Result<u64, NoMemory>
+    ensures told { let qs = (keeps node.old).queues in
+        OnOk result (HasTold (writes_for writer.old) (rounds (waiting qs) moment qs)
+        (text_of gathered.old) (text_of gathered.new) (K.lines lines.old) (K.lines lines.new)) }
+    ensures sent { let qs = (keeps node.old).queues in
+        IfOk result (λ n. n ≡ length (rounds (waiting qs) moment qs)) }
+    ensures err { let qs = (keeps node.old).queues in
+        OnErr result (BeginsList (rounds (waiting qs) moment qs) (K.lines lines.old) (K.lines lines.new)) }
+{
+    let most = node.waiting();
+    for _ in 0..most {
+        if node.waiting() == 0 {
+            break;
+        }
+        drain(node, moment, writer, lines, gathered)?;
+    }
+    Ok(most - node.waiting())
+}
