@@ -17,11 +17,10 @@ use Rattle.frame_log.specs.Log.{Log, log_of}
 use Rattle.node_plan.specs.declared.plan.Plan.{Plan}
 use Rattle.node_core.specs.declared.line.Line.{Line}
 use Rattle.rx_table.specs.Heard.{heard_as}
-use Rattle.node_core.specs.Steps.{lines}
 use Rattle.node_core.specs.Text.{text}
 use Rattle.session_lines.specs.Reported.{rxs, of_key, IsSession}
 use Rattle.session_lines.specs.Values.{type_of, SayValues, SaysDueValue}
-use Rattle.node_run.specs.Ran.{Reported, names_of, newest_first, steps_of, end_part}
+use Rattle.node_run.specs.Ran.{Reported, names_of, newest_first, steps_of, due_lines, end_part}
 use Rattle.node_run.specs.declared.status.Status.{Status}
 use Rattle.cyphal.specs.Words.{Run, command_of}
 use Rattle.cyphal.specs.Job.{Told, Outcome, is_settled}
@@ -55,9 +54,9 @@ ExplainsIn plan bytes sent key origin =
 abbrev pub log_in : Plan → List ℕ → Log
 log_in plan bytes = log_of (names_of plan) bytes
 
--- its lines
+-- its lines: those of its steps, and where it was read to its end those on the frames that then leave
 abbrev pub lines_of : Plan → List ℕ → List Line
-lines_of plan bytes = lines plan (steps_of plan (log_in plan bytes))
+lines_of plan bytes = due_lines plan (steps_of plan (log_in plan bytes)) (log_in plan bytes).refusal
 
 -- the text of its lines, and where it was read to its end the last line
 abbrev pub report_text : Plan → List ℕ → List ℕ

@@ -6,13 +6,14 @@ use dsdl_resolve::namespaces_keep_rules;
 use frame_log::ordered;
 use node_plan::laws::plans_keep_type_rules;
 use once::{due_in_report, once_in_part, wire_explains_fields};
-use session_lines::laws::{due_values, reported, values};
+use session_lines::laws::{due_values, emptying, reported, values};
 
 /// The laws that the headline rests on.
 pub fn headline_laws()
     ensures { HeadlineLaws }
 {
     reported();
+    emptying();
     wire_explains_fields();
     once_in_part();
     due_in_report();

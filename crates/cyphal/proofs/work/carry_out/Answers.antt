@@ -26,10 +26,10 @@ returns-in-Gen-clause-cause g c =
 
 -- what hears a log without a plan is given no tree
 pub returns-in-Monitor-clause-cause : goal.returns-in-Monitor-clause-cause
-returns-in-Monitor-clause-cause g c = cause_given _ _ c.in-Monitor.is refl _ _ _ (c.monitor_network.ensures.cause (g.T.Tree.faults c.args.tree.now))
+returns-in-Monitor-clause-cause g c = cause_given _ _ c.in-Monitor.is refl _ _ _ (c.hear_log.ensures.cause (g.T.Tree.faults c.args.tree.now))
 
 pub returns-in-Allocate-clause-cause : goal.returns-in-Allocate-clause-cause
-returns-in-Allocate-clause-cause g c = cause_given _ _ c.in-Allocate.is refl _ _ _ (c.allocate_nodes.ensures.cause (g.T.Tree.faults c.args.tree.now))
+returns-in-Allocate-clause-cause g c = cause_given _ _ c.in-Allocate.is refl _ _ _ (c.hear_log-in-Allocate.ensures.cause (g.T.Tree.faults c.args.tree.now))
 
 pub returns-in-Fetch-clause-cause : goal.returns-in-Fetch-clause-cause
 returns-in-Fetch-clause-cause g c = cause_given _ _ c.in-Fetch.is refl _ _ _ (c.fetch_file.ensures.cause (g.T.Tree.faults c.args.tree.now))
