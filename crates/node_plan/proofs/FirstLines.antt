@@ -15,7 +15,8 @@ use Rattle.node_plan.proofs.JoinedLemmas.{Free}
 use Rattle.node_plan.proofs.LimitLemmas.{begins_two-said, begins_two-skip}
 use Rattle.node_plan.proofs.MigratedLines.{word_case}
 use Rattle.node_plan.proofs.PartsLemmas.{joined-parts}
-use Rattle.node_plan.proofs.PlainLines.{Plain, plain_five, plain_four, plain_many, plain_one, plain_two}
+use Rattle.node_plan.proofs.PlainLines.{AnyShape, Plain, plain, plain_four, plain_two}
+use Rattle.node_plan.proofs.SaidTables as tables
 
 -- the draft behind `plan 1`
 abbrev pub begun : Draft
@@ -51,8 +52,11 @@ module _ (names : Namespace) (new : Draft) (b : ℕ) (s : List ℕ) where
   of_second e h = inr (inr (whole (b ∷ s) (codes "plan" ∷ codes "2" ∷ []) e, let same : record start { version = Some version.Two } ≡ new = cc in ap (λ (d : Draft). d.node) (sym same)))
 
   of_plan : (value : List ℕ) → Goes (codes "plan") value
-  of_plan value = elim (word_case value (codes "1")) [ inl e ↦ subst (Goes (codes "plan")) (sym e) of_one | inr not_one ↦
-      elim (word_case value (codes "2")) [ inl e ↦ subst (Goes (codes "plan")) (sym e) of_second | inr not_two ↦ λ e h. absurd (none not_one not_two h) ] ]
+  of_plan value = elim (word_case value (codes "1")) [
+    | inl e ↦ subst (Goes (codes "plan")) (sym e) of_one
+    | inr not_one ↦
+        elim (word_case value (codes "2")) [ inl e ↦ subst (Goes (codes "plan")) (sym e) of_second | inr not_two ↦ λ e h. absurd (none not_one not_two h) ]
+  ]
     where
       none : bytes_eq value (codes "1") ≡ false → bytes_eq value (codes "2") ≡ false → step start (said_of_version value) ≡ Ok new → ⊥
       none o t h = of_tests (bytes_eq value (codes "1")) (bytes_eq value (codes "2")) o t h
@@ -63,18 +67,21 @@ module _ (names : Namespace) (new : Draft) (b : ℕ) (s : List ℕ) where
           of_tests false false e f h = cc
 
   of_two : (word value : List ℕ) → Goes word value
-  of_two word value = elim (word_case word (codes "plan")) [ inl e ↦ subst (λ w. Goes w value) (sym e) (of_plan value) | inr other ↦
-      λ e h. absurd (late (said_of_two false word value) new (plain_two word value other) h) ]
+  of_two word value = elim (word_case word (codes "plan")) [
+    | inl e ↦ subst (λ w. Goes w value) (sym e) (of_plan value)
+    | inr other ↦
+        λ e h. absurd (late (said_of_two false word value) new (plain_two word value other) h)
+  ]
 
   of_words : (words : List (List ℕ)) → words_of (b ∷ s) ≡ words → step start (said_of_words names false words) ≡ Ok new → Begins new (b ∷ s)
   of_words [] e h = absurd cc
-  of_words (a ∷ []) e h = absurd (late (said_of_one a) new (plain_one true a) h)
+  of_words (a ∷ []) e h = absurd (late (said_of_one a) new (tables.of_one (Plain true) AnyShape (plain true) a) h)
   of_words (a ∷ v ∷ []) e h = of_two a v e h
   of_words (a ∷ v ∷ c ∷ []) e h = absurd cc
   of_words (a ∷ v ∷ c ∷ f ∷ []) e h = absurd (late (said_of_four names false a v c f) new (plain_four true names a v c f) h)
-  of_words (a ∷ v ∷ c ∷ f ∷ g ∷ []) e h = absurd (late (said_of_five a v c f g) new (plain_five true a v c f g) h)
+  of_words (a ∷ v ∷ c ∷ f ∷ g ∷ []) e h = absurd (late (said_of_five a v c f g) new (tables.of_five (Plain true) AnyShape (plain true) a v c f g) h)
   of_words (a ∷ v ∷ c ∷ f ∷ g ∷ i ∷ more) e h =
-      absurd (late (said_of_many a v c f g (joined 32 (i ∷ more))) new (plain_many true a v c f g (joined 32 (i ∷ more))) h)
+      absurd (late (said_of_many a v c f g (joined 32 (i ∷ more))) new (tables.of_many (Plain true) AnyShape (plain true) a v c f g (joined 32 (i ∷ more))) h)
 
 pub first_line : (names : Namespace) (new : Draft) (line : List ℕ) → step start (said_of names false line) ≡ Ok new → Begins new line
 first_line names new [] h = inl (tt, let same : start ≡ new = cc in sym same)

@@ -17,7 +17,8 @@ use Rattle.node_plan.specs.Words.{joined, mtu_in, number_in, parts_of, words_of}
 use Rattle.node_plan.proofs.DecimalLemmas.{AreNumbers}
 use Rattle.node_plan.proofs.JoinedLemmas.{parts-append, parts-free}
 use Rattle.node_plan.proofs.MigratedSteps.{Kept, bus_step, first_bus, mtu_step, plain_step, rate_step, two_of, version_step}
-use Rattle.node_plan.proofs.PlainLines.{Plain, plain_clients, plain_five, plain_four, plain_many, plain_node, plain_one, plain_queue, plain_timeout}
+use Rattle.node_plan.proofs.PlainLines.{AnyShape, Plain, plain, plain_four}
+use Rattle.node_plan.proofs.SaidTables as tables
 
 -- buses of version 1 before `mtu` and `rate` count
 abbrev pub AreFirst : List BusPlan → Type 0
@@ -84,16 +85,16 @@ module _ (names : Namespace) (m r : ℕ) (numbers : AreNumbers m r) (d new : Dra
     says word e = said_line names true b s said_something ∙ ap (said_of_words names true) e
 
     of_node : Goes (codes "node")
-    of_node e h = stays (b ∷ s) (said_of_node (number_in 0 127 value)) (says (codes "node") e) (plain_node false (number_in 0 127 value)) h
+    of_node e h = stays (b ∷ s) (said_of_node (number_in 0 127 value)) (says (codes "node") e) (tables.of_node (Plain false) AnyShape (plain false) (number_in 0 127 value)) h
 
     of_timeout : Goes (codes "timeout")
-    of_timeout e h = stays (b ∷ s) (said_of_timeout (number_in 1 60_000_000 value)) (says (codes "timeout") e) (plain_timeout false (number_in 1 60_000_000 value)) h
+    of_timeout e h = stays (b ∷ s) (said_of_timeout (number_in 1 60_000_000 value)) (says (codes "timeout") e) (tables.of_timeout (Plain false) AnyShape (plain false) (number_in 1 60_000_000 value)) h
 
     of_clients : Goes (codes "clients")
-    of_clients e h = stays (b ∷ s) (said_of_clients (number_in 1 128 value)) (says (codes "clients") e) (plain_clients false (number_in 1 128 value)) h
+    of_clients e h = stays (b ∷ s) (said_of_clients (number_in 1 128 value)) (says (codes "clients") e) (tables.of_clients (Plain false) AnyShape (plain false) (number_in 1 128 value)) h
 
     of_queue : Goes (codes "queue")
-    of_queue e h = stays (b ∷ s) (said_of_queue (number_in 1 4096 value)) (says (codes "queue") e) (plain_queue false (number_in 1 4096 value)) h
+    of_queue e h = stays (b ∷ s) (said_of_queue (number_in 1 4096 value)) (says (codes "queue") e) (tables.of_queue (Plain false) AnyShape (plain false) (number_in 1 4096 value)) h
 
     of_mtu : Goes (codes "mtu")
     of_mtu e h =
@@ -127,25 +128,49 @@ module _ (names : Namespace) (m r : ℕ) (numbers : AreNumbers m r) (d new : Dra
         let more : length new.buses ≡ length d.buses + 1 = ap (λ bs. length {A = BusPlan} bs) g.2 ∙ length-append d.buses (first_bus value ∷ []) in
         let long : length ((b ∷ s) ++ numbers_text m r) ≡ length (b ∷ s) + length (numbers_text m r) = length-append (b ∷ s) (numbers_text m r) in
         let short : length (numbers_text m r) ≤ 8 = numbers.short in record {
-      step = ap (step (two_of m r d)) (bus_says e) ∙ g.0;
-      version = g.1 ∙ first;
-      first = subst AreFirst (sym g.2) (first-push d.buses value ones);
-      longer = omega (arith, more, long, short);
-    }
+          step = ap (step (two_of m r d)) (bus_says e) ∙ g.0;
+          version = g.1 ∙ first;
+          first = subst AreFirst (sym g.2) (first-push d.buses value ones);
+          longer = omega (arith, more, long, short);
+        }
 
     at : (word w : List ℕ) → word ≡ w → Goes w → Goes word
     at word w e g = subst Goes (sym e) g
 
     of_two : (word : List ℕ) → Goes word
-    of_two word = elim (word_case word (codes "plan")) [ inl e ↦ at word (codes "plan") e of_plan | inr not_plan ↦
-        elim (word_case word (codes "node")) [ inl e ↦ at word (codes "node") e of_node | inr not_node ↦
-        elim (word_case word (codes "timeout")) [ inl e ↦ at word (codes "timeout") e of_timeout | inr not_timeout ↦
-        elim (word_case word (codes "clients")) [ inl e ↦ at word (codes "clients") e of_clients | inr not_clients ↦
-        elim (word_case word (codes "queue")) [ inl e ↦ at word (codes "queue") e of_queue | inr not_queue ↦
-        elim (word_case word (codes "bus")) [ inl e ↦ at word (codes "bus") e of_bus | inr not_bus ↦
-        elim (word_case word (codes "mtu")) [ inl e ↦ at word (codes "mtu") e of_mtu | inr not_mtu ↦
-        elim (word_case word (codes "rate")) [ inl e ↦ at word (codes "rate") e of_rate | inr not_rate ↦
-        λ e h. absurd (none word not_plan not_node not_timeout not_clients not_queue not_bus not_mtu not_rate h) ] ] ] ] ] ] ] ]
+    of_two word = elim (word_case word (codes "plan")) [
+      | inl e ↦ at word (codes "plan") e of_plan
+      | inr not_plan ↦
+          elim (word_case word (codes "node")) [
+            | inl e ↦ at word (codes "node") e of_node
+            | inr not_node ↦
+                elim (word_case word (codes "timeout")) [
+                  | inl e ↦ at word (codes "timeout") e of_timeout
+                  | inr not_timeout ↦
+                      elim (word_case word (codes "clients")) [
+                        | inl e ↦ at word (codes "clients") e of_clients
+                        | inr not_clients ↦
+                            elim (word_case word (codes "queue")) [
+                              | inl e ↦ at word (codes "queue") e of_queue
+                              | inr not_queue ↦
+                                  elim (word_case word (codes "bus")) [
+                                    | inl e ↦ at word (codes "bus") e of_bus
+                                    | inr not_bus ↦
+                                        elim (word_case word (codes "mtu")) [
+                                          | inl e ↦ at word (codes "mtu") e of_mtu
+                                          | inr not_mtu ↦
+                                              elim (word_case word (codes "rate")) [
+                                                | inl e ↦ at word (codes "rate") e of_rate
+                                                | inr not_rate ↦
+                                                    λ e h. absurd (none word not_plan not_node not_timeout not_clients not_queue not_bus not_mtu not_rate h)
+                                              ]
+                                        ]
+                                  ]
+                            ]
+                      ]
+                ]
+          ]
+    ]
       where
         none : (word : List ℕ) → bytes_eq word (codes "plan") ≡ false → bytes_eq word (codes "node") ≡ false → bytes_eq word (codes "timeout") ≡ false → bytes_eq word (codes "clients") ≡ false
             → bytes_eq word (codes "queue") ≡ false → bytes_eq word (codes "bus") ≡ false → bytes_eq word (codes "mtu") ≡ false → bytes_eq word (codes "rate") ≡ false
@@ -171,15 +196,15 @@ module _ (names : Namespace) (m r : ℕ) (numbers : AreNumbers m r) (d new : Dra
   of_words : (b : ℕ) (s : List ℕ) → (b == 35) ≡ false → (words : List (List ℕ)) → words_of (b ∷ s) ≡ words → step d (said_of_words names false words) ≡ Ok new
       → Moved names m r d new (b ∷ s) (migrated_words (numbers_text m r) (b ∷ s) words)
   of_words b s t [] e h = absurd cc
-  of_words b s t (a ∷ []) e h = stays (b ∷ s) (said_of_one a) (said_line names true b s t ∙ ap (said_of_words names true) e) (plain_one false a) h
+  of_words b s t (a ∷ []) e h = stays (b ∷ s) (said_of_one a) (said_line names true b s t ∙ ap (said_of_words names true) e) (tables.of_one (Plain false) AnyShape (plain false) a) h
   of_words b s t (a ∷ v ∷ []) e h = of_two b s t v a e h
   of_words b s t (a ∷ v ∷ c ∷ []) e h = absurd cc
   of_words b s t (a ∷ v ∷ c ∷ f ∷ []) e h =
       stays (b ∷ s) (said_of_four names false a v c f) (said_line names true b s t ∙ ap (said_of_words names true) e ∙ four_same a v c f h) (plain_four false names a v c f) h
   of_words b s t (a ∷ v ∷ c ∷ f ∷ g ∷ []) e h =
-      stays (b ∷ s) (said_of_five a v c f g) (said_line names true b s t ∙ ap (said_of_words names true) e) (plain_five false a v c f g) h
+      stays (b ∷ s) (said_of_five a v c f g) (said_line names true b s t ∙ ap (said_of_words names true) e) (tables.of_five (Plain false) AnyShape (plain false) a v c f g) h
   of_words b s t (a ∷ v ∷ c ∷ f ∷ g ∷ i ∷ more) e h =
-      stays (b ∷ s) (said_of_many a v c f g (joined 32 (i ∷ more))) (said_line names true b s t ∙ ap (said_of_words names true) e) (plain_many false a v c f g (joined 32 (i ∷ more))) h
+      stays (b ∷ s) (said_of_many a v c f g (joined 32 (i ∷ more))) (said_line names true b s t ∙ ap (said_of_words names true) e) (tables.of_many (Plain false) AnyShape (plain false) a v c f g (joined 32 (i ∷ more))) h
 
   -- a line that is skipped
   of_skipped : (line : List ℕ) → said_of names true line ≡ said.Nothing → step d said.Nothing ≡ Ok new → Moved names m r d new line line

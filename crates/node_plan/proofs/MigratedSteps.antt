@@ -168,8 +168,11 @@ bus_step m r d new v name h = of_tests (length name == 0) (is_bus_name name) h
         let taken = of_once (nat_le 3 (length d.buses)) (has_bus name d.buses) (behind (is_some d.version) (with_line d (said.Bus (first_bus name))) new (ap is_some v) h) in
         let on : BusPlan → BusPlan = on_bus (Some m) (Some r) in
         let bus : BusPlan = record { name = name; mtu = m; rate = r } in
-        let next : List BusPlan → Draft = λ bs. record (two_of m r d) { buses = bs } in
-        (ap (λ n. if nat_le 3 n then Err why.Range else once (has_bus name (map on d.buses)) (next (map on d.buses ++ bus ∷ []))) (length-map d.buses on)
-        ∙ ap (λ t. if nat_le 3 (length d.buses) then Err why.Range else once t (next (map on d.buses ++ bus ∷ []))) (has_bus-on (Some m) (Some r) name d.buses)
-        ∙ ap (λ bs. if nat_le 3 (length d.buses) then Err why.Range else once (has_bus name d.buses) (next bs)) (sym (map-append on d.buses (first_bus name ∷ [])))
-        ∙ taken.0, taken.1, taken.2)
+        let next : List BusPlan → Draft = λ bs. record (two_of m r d) { buses = bs } in (
+          ap (λ n. if nat_le 3 n then Err why.Range else once (has_bus name (map on d.buses)) (next (map on d.buses ++ bus ∷ []))) (length-map d.buses on)
+              ∙ ap (λ t. if nat_le 3 (length d.buses) then Err why.Range else once t (next (map on d.buses ++ bus ∷ []))) (has_bus-on (Some m) (Some r) name d.buses)
+              ∙ ap (λ bs. if nat_le 3 (length d.buses) then Err why.Range else once (has_bus name d.buses) (next bs)) (sym (map-append on d.buses (first_bus name ∷ [])))
+              ∙ taken.0,
+          taken.1,
+          taken.2,
+        )

@@ -72,12 +72,13 @@ completed m r d p first have v h = of_node d.node h
     of_all node true e h =
         let is : plan_with d node ≡ p = cc in
         let buses : map (on_bus d.mtu d.rate) d.buses ≡ p.buses = ap (λ (q : Plan). q.buses) is in
-        let same = made_buses m r d.mtu d.rate d.buses first (subst (Have m r) (sym buses) have) in
-        (ap (λ n. if nat_lt 0 n then Some (plan_with (two_of m r d) node) else None) (length-map d.buses (on_bus (Some m) (Some r)))
-        ∙ ap (λ t. if t then Some (plan_with (two_of m r d) node) else None) (sym e)
-        ∙ ap (λ bs. Some (record (plan_with d node) { buses = bs })) (on_none (map (on_bus (Some m) (Some r)) d.buses) ∙ sym same)
-        ∙ ap Some is,
-        sym (ap (λ bs. length {A = BusPlan} bs) buses) ∙ length-map d.buses (on_bus d.mtu d.rate))
+        let same = made_buses m r d.mtu d.rate d.buses first (subst (Have m r) (sym buses) have) in (
+          ap (λ n. if nat_lt 0 n then Some (plan_with (two_of m r d) node) else None) (length-map d.buses (on_bus (Some m) (Some r)))
+              ∙ ap (λ t. if t then Some (plan_with (two_of m r d) node) else None) (sym e)
+              ∙ ap (λ bs. Some (record (plan_with d node) { buses = bs })) (on_none (map (on_bus (Some m) (Some r)) d.buses) ∙ sym same)
+              ∙ ap Some is,
+          sym (ap (λ bs. length {A = BusPlan} bs) buses) ∙ length-map d.buses (on_bus d.mtu d.rate),
+        )
 
     of_node : (node : Option ℕ) → complete (record d { node = node }) ≡ Some p
         → (complete (record (two_of m r d) { node = node }) ≡ Some p) × (length p.buses ≡ length d.buses)
@@ -141,9 +142,10 @@ module _ (names : Namespace) (m r : ℕ) (numbers : AreNumbers m r) (p : Plan) (
   last_moved (b ∷ s) d n v first h =
       let t = followed_good (step d (said_of names (is_two d.version) (b ∷ s))) n (λ new. finished new (n + 1)) p h in
       let moved = line_moved names m r numbers d t.0 v first (b ∷ s) (sym (ap (λ was. step d (said_of names (is_two was) (b ∷ s))) v) ∙ t.1) in
-      let done = completed m r t.0 p moved.first have moved.version (of_good t.0 (n + 1) p t.2) in
-      (last_two d t.0 n (migrated_line (numbers_text m r) (b ∷ s)) moved.step done.0,
-      let same : length p.buses ≡ length t.0.buses = done.1 in let longer = moved.longer in omega (arith, same, longer))
+      let done = completed m r t.0 p moved.first have moved.version (of_good t.0 (n + 1) p t.2) in (
+        last_two d t.0 n (migrated_line (numbers_text m r) (b ∷ s)) moved.step done.0,
+        let same : length p.buses ≡ length t.0.buses = done.1 in let longer = moved.longer in omega (arith, same, longer),
+      )
 
   lines_moved : (parts : List (List ℕ)) (d : Draft) (n : ℕ) → d.version ≡ Some version.One → AreFirst d.buses
       → plan_of_parts names (last_line names) d n parts ≡ Good p → Goes d n parts
@@ -159,9 +161,10 @@ module _ (names : Namespace) (m r : ℕ) (numbers : AreNumbers m r) (p : Plan) (
       let longer = moved.longer in
       let long = rest.1 in
       let old = length-append line (10 ∷ joined 10 (part ∷ parts)) in
-      let made = length-append (f line) (10 ∷ joined 10 (map f (part ∷ parts))) in
-      (ap (λ next. followed next n (λ new. plan_of_parts names (last_line names) new (n + 1) (map f (part ∷ parts)))) moved.step ∙ rest.0,
-      omega (arith, longer, long, old, made))
+      let made = length-append (f line) (10 ∷ joined 10 (map f (part ∷ parts))) in (
+        ap (λ next. followed next n (λ new. plan_of_parts names (last_line names) new (n + 1) (map f (part ∷ parts)))) moved.step ∙ rest.0,
+        omega (arith, longer, long, old, made),
+      )
 
   -- ---- the lines before that of the version
 
@@ -214,13 +217,14 @@ module _ (names : Namespace) (m r : ℕ) (numbers : AreNumbers m r) (p : Plan) (
               let count : k ≡ length line + suc (k - (length line + 1)) = omega (arith, old, low) in
               inr (
                 ap (λ l. followed (step start (said_of names false l)) n (λ next. plan_of_parts names (last_line names) next (n + 1) (map f (part ∷ parts)))) kept
-                ∙ ap (λ u. followed u n (λ next. plan_of_parts names (last_line names) next (n + 1) (map f (part ∷ parts)))) (e ∙ ap Ok first.1)
-                ∙ rest.0,
+                    ∙ ap (λ u. followed u n (λ next. plan_of_parts names (last_line names) next (n + 1) (map f (part ∷ parts)))) (e ∙ ap Ok first.1)
+                    ∙ rest.0,
                 ap (λ l. begins_two false k (l ++ 10 ∷ joined 10 (map f (part ∷ parts)))) kept
-                ∙ ap (λ j. begins_two false j (line ++ 10 ∷ joined 10 (map f (part ∷ parts)))) count
-                ∙ line_passed (k - (length line + 1)) line (joined 10 (map f (part ∷ parts))) first.0 free.0
-                ∙ rest.1,
-                omega (arith, old, made, same, long))
+                    ∙ ap (λ j. begins_two false j (line ++ 10 ∷ joined 10 (map f (part ∷ parts)))) count
+                    ∙ line_passed (k - (length line + 1)) line (joined 10 (map f (part ∷ parts))) first.0 free.0
+                    ∙ rest.1,
+                omega (arith, old, made, same, long),
+              )
       of_first new e g (inr (inl first)) again =
           let f : List ℕ → List ℕ = migrated_line (numbers_text m r) in
           let rest = lines_moved (part ∷ parts) begun (n + 1) refl tt (ap (λ d. plan_of_parts names (last_line names) d (n + 1) (part ∷ parts)) (sym first.1) ∙ g) in
@@ -234,9 +238,10 @@ module _ (names : Namespace) (m r : ℕ) (numbers : AreNumbers m r) (p : Plan) (
           inr (
             ap (λ l. followed (step start (said_of names false l)) n (λ next. plan_of_parts names (last_line names) next (n + 1) (map f (part ∷ parts)))) becomes ∙ rest.0,
             ap (λ l. begins_two false k (l ++ 10 ∷ joined 10 (map f (part ∷ parts)))) becomes
-            ∙ ap (λ j. begins_two false j (codes "plan 2" ++ 10 ∷ joined 10 (map f (part ∷ parts)))) count
-            ∙ line_two (k - 1) (joined 10 (map f (part ∷ parts))),
-            omega (arith, old, made, six, six_made, long))
+                ∙ ap (λ j. begins_two false j (codes "plan 2" ++ 10 ∷ joined 10 (map f (part ∷ parts)))) count
+                ∙ line_two (k - 1) (joined 10 (map f (part ∷ parts))),
+            omega (arith, old, made, six, six_made, long),
+          )
       of_first new e g (inr (inr first)) again =
           let old = length-append line (10 ∷ joined 10 (part ∷ parts)) in
           let six : length line ≡ 6 = ap (λ l. length {A = ℕ} l) first.0 in
@@ -301,10 +306,12 @@ module _ (names : Namespace) (m r : ℕ) (numbers : AreNumbers m r) (p : Plan) (
           let whole : length (joined 10 (parts_of 10 text)) ≡ length text = ap (λ t. length {A = ℕ} t) (joined-parts 10 text) in
           let long = moved.2 in
           let most : limit_of made ≡ 2 ^ 20 + 32 = ap (λ t. if t then 2 ^ 20 + 32 else 2 ^ 20) moved.1 in
-          let short : length made ≤ 2 ^ 20 + 32 = omega (arith, whole, long, few, low) in
-          (within (2 ^ 20 + 32) made most short
-          ∙ ap (plan_of_parts names (last_line names) start 1) (moved_parts (parts_of 10 text) (with_front-none 10 text) (parts_are_free 10 text))
-          ∙ moved.0, moved.1)
+          let short : length made ≤ 2 ^ 20 + 32 = omega (arith, whole, long, few, low) in (
+            within (2 ^ 20 + 32) made most short
+                ∙ ap (plan_of_parts names (last_line names) start 1) (moved_parts (parts_of 10 text) (with_front-none 10 text) (parts_are_free 10 text))
+                ∙ moved.0,
+            moved.1,
+          )
 
       of_long : (t : Bool) → nat_lt (2 ^ 20) (length text) ≡ t → Migrates (migrated_text (numbers_text m r) text)
       of_long true e = absurd (long_never names (parts_of 10 (take (limit_of text) text)) start 1 p

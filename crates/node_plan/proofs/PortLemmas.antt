@@ -18,7 +18,7 @@ use Rattle.node_plan.specs.declared.plan.SubShape.TheVariants as shape
 use Rattle.node_plan.specs.declared.services.Service.{Service}
 use Rattle.node_plan.specs.Bound.{port_bound, service_bound, sub_bound, bound_of}
 use Rattle.node_plan.specs.IsPlan.{IsPlan, IsShape, IsSub}
-use Rattle.node_plan.specs.Ports.{Differ, IsPort, IsService, port_of_service, port_of_sub, ports, service_extent, services, type_in}
+use Rattle.node_plan.specs.Ports.{Differ, IsPort, IsService, get_info, port_of_service, port_of_sub, ports, service_extent, services, type_in}
 
 -- the requests of GetInfo have no bytes
 pub info_extent : S.extent_of (schema_of N.NodeInfoRequest) / 8 ≡ 0
@@ -32,9 +32,9 @@ service_extent-low s h = ap (λ name. S.extent_of (schema_of name) / 8) h.reques
 pub services_fit : (plan : Plan) → IsPlan plan → All IsService (services plan)
 services_fit plan h = of_silent plan.silent
   where
-    of_silent : (t : Bool) → All IsService (if t then [] else (record { port = 430; sources = plan.clients; request = N.NodeInfoRequest }) ∷ [])
+    of_silent : (t : Bool) → All IsService (if t then [] else get_info plan.clients ∷ [])
     of_silent true = All-nil IsService
-    of_silent false = All-cons IsService (record { port = 430; sources = plan.clients; request = N.NodeInfoRequest }) []
+    of_silent false = All-cons IsService (get_info plan.clients) []
         (record { port = omega arith; some_source = h.some_client; few_sources = h.few_clients; request = refl }) (All-nil IsService)
 
 -- a sum over what is made of each
@@ -94,7 +94,7 @@ all_subs s ts h = All-map (Differ (port_of_sub s)) port_of_sub ts (λ k t less e
 services_differ : (plan : Plan) → AllPairs Differ (map port_of_service (services plan))
 services_differ plan = of_silent plan.silent
   where
-    of_silent : (t : Bool) → AllPairs Differ (map port_of_service (if t then [] else (record { port = 430; sources = plan.clients; request = N.NodeInfoRequest }) ∷ []))
+    of_silent : (t : Bool) → AllPairs Differ (map port_of_service (if t then [] else get_info plan.clients ∷ []))
     of_silent true = λ i j d less low. absurd (omega arith)
     of_silent false = λ i j d less low. absurd (omega arith)
 
