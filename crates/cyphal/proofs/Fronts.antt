@@ -7,9 +7,10 @@ use Rattle.frame_log.specs.declared.error.LogError.{LogError}
 use Rattle.log_loop.proofs.Logs.{newest_onto}
 use Rattle.node_plan.specs.declared.plan.Plan.{Plan}
 use Rattle.node_core.specs.LineSinks.{put_behind}
-use Rattle.node_core.specs.Steps.{Step, lines, lines_at, emptying, all_lines, steps, new_steps}
+use Rattle.node_core.specs.Steps.{Step, lines, lines_at, emptying, all_lines, steps}
 use Rattle.node_core.specs.declared.line.Line.{Line}
-use Rattle.node_run.specs.Ran.{Reported, Tells, AtFirst, Upto, newest_first, steps_of, due_lines, due_numbers, first_lines, next_lines}
+use Rattle.node_run.specs.Ran.{Reported, Tells, AtFirst, newest_first, steps_of, due_lines, due_numbers, first_lines, next_lines}
+use Rattle.node_run.proofs.Steps.{lines_front}
 
 -- the lines of the steps are the first of those that are due
 pub steps_due : (plan : Plan) (all : List Step) (refusal : Option LogError) → (more : List Line) × (due_lines plan all refusal ≡ lines plan all ++ more)
@@ -27,11 +28,10 @@ next_step plan step [] past = ([], ap (λ t. lines plan past ++ t) (sym (append-
 next_step plan step (older ∷ newer) past =
     let f = next_step plan older newer past in
     let at = lines_at plan step (older ∷ (newer ++ past)) in
-    let first = first_lines plan older newer past in
-    (
+    let first = first_lines plan older newer past in (
       f.0 ++ at,
       ap (λ t. t ++ at) f.1
-      ∙ (append_assoc (lines plan past) (first ++ f.0) at ∙ ap (λ t. lines plan past ++ t) (append_assoc first f.0 at)),
+          ∙ (append_assoc (lines plan past) (first ++ f.0) at ∙ ap (λ t. lines plan past ++ t) (append_assoc first f.0 at)),
     )
 
 -- behind the lines of the first steps come the next ones
@@ -41,12 +41,11 @@ next_due plan [] past (Some refusal) = ([], sym (append-nil (lines plan past)))
 next_due plan (step ∷ newer) past refusal =
     let f = next_step plan step newer past in
     let d = steps_due plan (step ∷ (newer ++ past)) refusal in
-    let first = first_lines plan step newer past in
-    (
+    let first = first_lines plan step newer past in (
       f.0 ++ d.0,
       d.1
-      ∙ (ap (λ t. t ++ d.0) f.1
-      ∙ (append_assoc (lines plan past) (first ++ f.0) d.0 ∙ ap (λ t. lines plan past ++ t) (append_assoc first f.0 d.0))),
+          ∙ (ap (λ t. t ++ d.0) f.1
+          ∙ (append_assoc (lines plan past) (first ++ f.0) d.0 ∙ ap (λ t. lines plan past ++ t) (append_assoc first f.0 d.0))),
     )
 
 -- the first lines of a log were put, and no other
@@ -76,28 +75,15 @@ first_front plan log r f =
 pub whole_front : (plan : Plan) (log : Log) (r : Reported) → Tells (due_lines plan (steps_of plan log) log.refusal) (due_numbers plan (steps_of plan log) log.refusal) r → IsFront plan log r
 whole_front plan log r t = let all = due_lines plan (steps_of plan log) log.refusal in record { mine = all; rest = []; put = t.reported; whole = sym (append-nil all) }
 
--- the steps over the first records are the first steps
-steps_newer : (plan : Plan) (past rest : List Record) → (newer : List Step) × (steps plan (reverse_aux rest past) ≡ newer ++ steps plan past)
-steps_newer plan past [] = ([], refl)
-steps_newer plan past (rec ∷ rest) =
-    let f = steps_newer plan (rec ∷ past) rest in
-    (f.0 ++ new_steps plan rec past, f.1 ∙ sym (append_assoc f.0 (new_steps plan rec past) (steps plan past)))
-
--- so their lines are the first lines
-lines_newer : (plan : Plan) (newer past : List Step) → (more : List Line) × (lines plan (newer ++ past) ≡ lines plan past ++ more)
-lines_newer plan [] past = ([], sym (append-nil (lines plan past)))
-lines_newer plan (step ∷ newer) past = let f = next_step plan step newer past in (first_lines plan step newer past ++ f.0, f.1)
-
 -- the lines of the records that came are the first of a log
 pub came_lines : (plan : Plan) (log : Log) (came left : List Record) → log.records ≡ reverse_aux came left → (rest : List Line) × (due_lines plan (steps_of plan log) log.refusal ≡ lines plan (steps plan came) ++ rest)
 came_lines plan log came left e =
     let first : newest_first log ≡ reverse_aux left came = ap (λ t. reverse_aux t []) e ∙ newest_onto came left in
-    let s = steps_newer plan came left in
-    let f = lines_newer plan s.0 (steps plan came) in
+    let f = lines_front plan came left in
     let d = steps_due plan (steps_of plan log) log.refusal in
     (
       f.0 ++ d.0,
       d.1
-      ∙ (ap (λ t. lines plan t ++ d.0) (ap (steps plan) first ∙ s.1)
+      ∙ (ap (λ t. lines plan (steps plan t) ++ d.0) first
       ∙ (ap (λ t. t ++ d.0) f.1 ∙ append_assoc (lines plan (steps plan came)) f.0 d.0)),
     )

@@ -31,7 +31,7 @@ use Rattle.session_lines.proofs.Sending.{rxs_append}
 use Rattle.node_run.specs.Ran.{Reported, Ran, HasRun, names_of, steps_of, due_lines, end_part, whole_text}
 use Rattle.node_run.specs.declared.status.Status.{Status}
 use Rattle.node_run.specs.declared.status.Status.TheVariants as status
-use Rattle.node_run.proofs.Steps.{records_steps, text_append}
+use Rattle.node_run.proofs.Tells.{text_append}
 use Rattle.cyphal.specs.Words.{Command}
 use Rattle.cyphal.specs.Cause.{Outside}
 use Rattle.cyphal.specs.Job.{Told, Outcome, is_settled, NotDone}
@@ -168,7 +168,7 @@ module _ (law : HeadlineLaws) (plan : Plan) (bytes : List ℕ) (key : SessionKey
   -- what is reported of a session over the whole log
   session : (p : Port) → IsSession plan key past p → rxs key (lines_of plan bytes) ≡ rx_report.reported plan.timeout p.extent (of_key plan key past)
   session p s =
-      let e = records_steps plan past in
+      let e = law.records plan past in
       due_report law.all plan key (steps plan past) (log_in plan bytes).refusal
       ∙ (law.sessions plan key (steps plan past) p (subst (λ t. IsSession plan key t p) (sym e) s) ∙ ap (λ t. rx_report.reported plan.timeout p.extent (of_key plan key t)) e)
 
@@ -183,7 +183,7 @@ module _ (law : HeadlineLaws) (plan : Plan) (bytes : List ℕ) (key : SessionKey
       → IsSentTo plan key past p port sent origin → SayValues key port sent origin (of_key plan key past) mine
   front_values mine rest front p port sent origin =
       subst (λ (t : List Record). IsSentTo plan key t p port sent origin → SayValues key port sent origin (of_key plan key t) mine)
-      (records_steps plan past) (λ x. law.values plan key (steps plan past) p port sent origin mine rest x front)
+      (law.records plan past) (λ x. law.values plan key (steps plan past) p port sent origin mine rest x front)
 
   -- and those of its steps, whatever comes behind them
   behind_values : (behind : List Line) (p : Port) (port : Sch) (sent : Sent) (origin : List Pair) (q : KeyRecord) → IsSentTo plan key past p port sent origin
@@ -191,7 +191,7 @@ module _ (law : HeadlineLaws) (plan : Plan) (bytes : List ℕ) (key : SessionKey
   behind_values behind p port sent origin q =
       subst
       (λ (t : List Record). IsSentTo plan key t p port sent origin → (due : IsDue plan.timeout sent origin (of_key plan key t) q) → SaysDueValue key port (transfer_at sent due.j).payload q (lines plan (steps plan past) ++ behind))
-      (records_steps plan past) (law.due_values plan key (steps plan past) p port sent origin q behind)
+      (law.records plan past) (law.due_values plan key (steps plan past) p port sent origin q behind)
 
 -- of each front of the lines of a log
 once_in : HeadlineLaws → (plan : Plan) (bytes : List ℕ) (mine rest : List Line) → lines_of plan bytes ≡ mine ++ rest → OnceIn plan bytes mine

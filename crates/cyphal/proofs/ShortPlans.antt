@@ -1,5 +1,5 @@
 -- A text that is a plan's is read whole.
-use Rattle.std.proofs.Common.{◌≡◌, ◌∙◌, ◌≤◌, ◌<◌, ◌+◌, ◌^◌, ℕ, Bool, true, false, List, [], ◌∷◌, length, take, Result, Ok, Err, refl, sym, ap, subst, arith}
+use Rattle.std.proofs.Common.{◌≡◌, ◌≤◌, ◌<◌, ◌+◌, ℕ, Bool, true, false, List, [], ◌∷◌, length, take, Result, Ok, Err, refl, arith}
 use Rattle.std.specs.Prelude.{if◌then◌else◌, nat_lt}
 use Rattle.std.proofs.lemmas.Bool.Decides.{nat_tests}
 use Rattle.std.proofs.lemmas.List.{take_all}
@@ -8,10 +8,11 @@ use Rattle.node_plan.specs.declared.draft.Draft.{Draft}
 use Rattle.node_plan.specs.declared.plan.Plan.{Plan}
 use Rattle.node_plan.specs.declared.plan.PlanWhy.{PlanWhy}
 use Rattle.node_plan.specs.Draft.{start, step, is_two}
-use Rattle.node_plan.specs.Limit.{is_version_two, limit_of}
+use Rattle.node_plan.specs.Limit.{limit_of}
 use Rattle.node_plan.specs.Line.{said_of}
 use Rattle.node_plan.specs.Plan.{Good, followed, last_line, long_line, plan_of, plan_of_parts, plan_within}
 use Rattle.node_plan.specs.Words.{parts_of}
+use Rattle.node_plan.proofs.LimitLemmas.{limit_of-low}
 
 -- lines of which one reaches past the bytes that count are no plan
 long_refused : (names : Namespace) (d : Draft) (n : ℕ) (parts : List (List ℕ)) (plan : Plan) → plan_of_parts names long_line d n parts ≡ Good plan → ⊥
@@ -34,15 +35,8 @@ short names most text plan e = by_test (nat_lt most (length text)) refl e
     by_test true h e = absurd (long_refused names start 1 (parts_of 10 (take most text)) plan e)
     by_test false h e = within most text h
 
-limited : (text : List ℕ) → limit_of text < 1048609
-limited text = by_version (is_version_two text)
-  where
-    by_version : (b : Bool) → (if b then 2 ^ 20 + 32 else 2 ^ 20) < 1048609
-    by_version true = omega arith
-    by_version false = omega arith
-
 -- so many first bytes of it are all of it
 pub read_whole : (names : Namespace) (text : List ℕ) (plan : Plan) → plan_of names text ≡ Good plan → take 1048609 text ≡ text
 read_whole names text plan e =
     let few : length text ≤ limit_of text = short names (limit_of text) text plan e in
-    let more : limit_of text < 1048609 = limited text in take_all 1048609 text (omega arith)
+    let more : limit_of text < 1048609 = limit_of-low text in take_all 1048609 text (omega arith)

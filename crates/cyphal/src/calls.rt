@@ -8,8 +8,8 @@ use std::alloc::{AllocError, Global};
 use std::process::Abort;
 use std::test::Fail;
 
-/// The words, the files of the tree by their paths, the input, which calls of the tree, the input and the output fail, and
-/// the status, the output and the line on standard error that come of it.
+/// The words, the files of the tree by their paths, the input, which calls of the tree, the input
+/// and the output fail, and the status, the output and the line on standard error that come of it.
 #[derive(Clone, Copy)]
 pub struct Call {
     pub words: &'static [&'static str],

@@ -19,8 +19,8 @@ use std::alloc::Global;
 /// How much is read of a plan's file: more bytes than a plan has.
 const MOST: usize = MAX_TEXT + 1;
 
-/// The plan at a path, read in the namespace of a root, or how a command ends for want of it. The root comes first: where
-/// it has no namespace, nothing of the plan is read.
+/// The plan at a path, read in the namespace of a root, or how a command ends for want of it. The
+/// root comes first: where it has no namespace, nothing of the plan is read.
 pub fn plan_at<T: Tree>(alloc: Global, root: &str, path: &str, tree: &mut T) -> Result<Plan, Status>
     ensures plan { IfOk result (PlanAt root.now path.now (T.files tree.old)) }
     ensures sound { IfOk result IsPlan }

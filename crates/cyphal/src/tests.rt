@@ -75,10 +75,7 @@ fn a_fault_ends_a_run_and_leaves_a_beginning(rt: HostRuntime) -> Result<(), Fail
     come_to(&rt, rt.alloc(), &calls)
 }
 
-const NUM: &[(&str, &[u8])] = &[(
-    "types/demo/Num.1.0.dsdl",
-    b"uint8 a\nuint12 b\n@sealed\n",
-)];
+const NUM: &[(&str, &[u8])] = &[("types/demo/Num.1.0.dsdl", b"uint8 a\nuint12 b\n@sealed\n")];
 
 const LAYOUTS: &[u8] = b"type demo.Num.1.0 message - extent 24 sealed lengths {24}\n\
       field a saturated uint8 at {0} size {8}\n\

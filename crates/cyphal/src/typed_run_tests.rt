@@ -2,8 +2,8 @@
 use crate::calls::{CALL, Call, come_to};
 use std::test::Fail;
 
-/// A heartbeat's types, a type whose extent no plan takes, a file that is refused, and plans: of heartbeats, of that type,
-/// of version 1, and refused.
+/// A heartbeat's types, a type whose extent no plan takes, a file that is refused, and plans: of
+/// heartbeats, of that type, of version 1, and refused.
 const FILES: &[(&str, &[u8])] = &[
     (
         "types/uavcan/node/Health.1.0.dsdl",

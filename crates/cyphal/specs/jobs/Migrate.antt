@@ -11,8 +11,8 @@ use Rattle.node_run.specs.declared.status.Status.TheVariants as status
 use Rattle.cyphal.specs.Job.{Job, Printed, ReportsNothing, print_of}
 use Rattle.cyphal.specs.jobs.Bound.{bound_job}
 
--- in a namespace, where the files are told, the file at a path is the text of a plan, and becomes this text of version 2,
--- which is a text of the same plan
+-- in a namespace, where the files are told, the file at a path is the text of a plan, and becomes
+-- this text of version 2, which is a text of the same plan
 abbrev pub Becomes : Namespace → List ℕ → Option Files → List ℕ → Type 0
 Becomes names path files new = IfSome files (λ tree.
     (text : List ℕ) × (map.get tree path ≡ Some text) × IsMigrated names text new)

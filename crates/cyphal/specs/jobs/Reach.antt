@@ -1,4 +1,5 @@
--- `monitor NODE` and `allocate NODE`: what hears the log of the input, of fixed buses and without a plan, and what it says.
+-- `monitor NODE` and `allocate NODE`: what hears the log of the input, of fixed buses and without a
+-- plan, and what it says.
 use Rattle.std.specs.Prelude.{◌≡◌, ℕ, true, false, is_some}
 use Rattle.log_loop.specs.Gone.{HasGone}
 use Rattle.log_loop.specs.Streamed.{IsStreamed}
@@ -23,9 +24,10 @@ abbrev pub voice_of : Hearing → ℕ → Voice
 voice_of hearing.Monitor own = monitor_voice own
 voice_of hearing.Allocate own = allocate_voice own
 
--- The log of an input was heard until it ended so, and what was written is what a voice says of its records: all of it, or
--- the beginning that the end says; where the input failed, exactly what it says of the lines that were taken whole; and
--- however it ended, it was written before much more was taken.
+-- The log of an input was heard until it ended so, and what was written is what a voice says of its
+-- records: all of it, or the beginning that the end says; where the input failed, exactly what it
+-- says of the lines that were taken whole; and however it ended, it was written before much more
+-- was taken.
 pub record HasListened (said : Voice) (stat : Status) (told : Flow) : Type 0 where
   pub ended : Ended
   pub is : stat ≡ status_of ended

@@ -42,7 +42,8 @@ pub fn migrate_plan<T: Tree, O: Sink>(
     }
 }
 
-/// What the plan at a path becomes, or how the command ends for want of a plan. The root comes first, as in `plan_at`.
+/// What the plan at a path becomes, or how the command ends for want of a plan. The root comes
+/// first, as in `plan_at`.
 fn migrated_at<T: Tree>(
     alloc: Global,
     root: &str,

@@ -1,4 +1,5 @@
-//! `monitor NODE` and `allocate NODE`: what a node does with the log of the input that it hears without a plan.
+//! `monitor NODE` and `allocate NODE`: what a node does with the log of the input that it hears
+//! without a plan.
 ghost use Rattle.std.specs.Prelude.{◌≡◌, ℕ, true, false};
 ghost use Rattle.cy_outside.specs.Outside.{Rose};
 ghost use Rattle.log_loop.specs.Gone.{HasGone};
@@ -27,8 +28,8 @@ pub enum Hearing {
     Allocate,
 }
 
-/// Hears the log of the input as the node `own`, and writes what it tells. It is given no tree, so each count of a tree's
-/// faults stays.
+/// Hears the log of the input as the node `own`, and writes what it tells. It is given no tree, so
+/// each count of a tree's faults stays.
 pub fn hear_log<L: Source, O: Sink>(
     alloc: Global,
     hearing: Hearing,
