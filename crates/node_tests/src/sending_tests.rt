@@ -1,16 +1,20 @@
 //! A node that sends, step by step.
+ghost use Rattle.std.specs.Prelude.{IfOk};
+ghost use Rattle.node_plan.specs.IsPlan.{IsPlan};
 
 use crate::node_log::{no_types, record};
-use cy_bits::{List, NoMemory};
+use cy_bits::{List, NoMemory, ShortList};
 use line_text::TextBuffer;
-use node_core::{LineRef, LineWriter, Node, TxRef};
+use node_core::{FullLine, LineRef, LineWriter, Node, TxRef};
 use node_plan::{Plan, read_plan};
 use std::alloc::Global;
 use std::process::Abort;
 use std::str::from_utf8;
 
 /// A plan of node 42 with a bus and these lines.
-fn plan_of(rt: &impl Abort, alloc: Global, lines: &str) -> Result<Plan, NoMemory> {
+fn plan_of(rt: &impl Abort, alloc: Global, lines: &str) -> Result<Plan, NoMemory>
+    ensures { IfOk result IsPlan }
+{
     let text = format!(in alloc; "plan 1\nnode 42\nbus can0\n{lines}")?;
     let Ok(plan) = read_plan(alloc, text.as_bytes(), &no_types(alloc)) else {
         panic!(rt; "no plan");
@@ -43,6 +47,30 @@ fn leave(
     Ok(())
 }
 
+/// Puts the text of lines on full buses behind others.
+fn push_fulls(
+    writer: &mut LineWriter,
+    text: &mut TextBuffer,
+    fulls: &ShortList<FullLine, 3>,
+) -> Result<(), NoMemory> {
+    for full in fulls.as_slice() {
+        writer.push(text, &LineRef::Full(*full))?;
+    }
+    Ok(())
+}
+
+/// Puts the text of a line behind others, if there is one.
+fn push_told(
+    writer: &mut LineWriter,
+    text: &mut TextBuffer,
+    told: Option<LineRef<'_>>,
+) -> Result<(), NoMemory> {
+    match told {
+        Some(line) => writer.push(text, &line),
+        None => Ok(()),
+    }
+}
+
 /// The text of a tick at 5 seconds and of a request for information on the node at the same moment.
 fn asked_text(rt: &impl Abort, alloc: Global, lines: &str) -> Result<String, NoMemory> {
     let plan = plan_of(rt, alloc, lines)?;
@@ -50,21 +78,15 @@ fn asked_text(rt: &impl Abort, alloc: Global, lines: &str) -> Result<String, NoM
     let mut node = Node::open(alloc, plan)?;
     let mut text = TextBuffer::new(alloc);
     let rec = record(rt, 1, (5_000_000, 0, 0x136B_957B, &[0xE1]));
-    for full in node.tick(rec.moment, 0).as_slice() {
-        writer.push(&mut text, &LineRef::Full(*full))?;
-    }
+    push_fulls(&mut writer, &mut text, &node.tick(rec.moment, 0))?;
     leave(&mut node, &mut writer, &mut text, rec.moment)?;
     assert!(rt; node.latest <= rec.moment);
     let came = node.step(&rec)?;
     let told = node.told(&rec, came);
     let request = came.request(told);
-    if let Some(line) = told {
-        writer.push(&mut text, &line)?;
-    }
+    push_told(&mut writer, &mut text, told)?;
     if let Some(request) = request {
-        for full in node.reply(rec.moment, request).as_slice() {
-            writer.push(&mut text, &LineRef::Full(*full))?;
-        }
+        push_fulls(&mut writer, &mut text, &node.reply(rec.moment, request))?;
     }
     leave(&mut node, &mut writer, &mut text, rec.moment)?;
     String::from_str(alloc, from_utf8(text.as_slice()).unwrap_or("no text")).map_err(|_| NoMemory)
