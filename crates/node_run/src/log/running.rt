@@ -187,6 +187,8 @@ impl<'a, K: LineSink> Running<'a, K> {
             (K.lines self.old.lines.now) (K.lines self.new.lines.now)) }
         ensures uncounted { OnErr result (self.new.tally.numbers ≡ self.old.tally.numbers) }
     {
+        // The number of frames that were sent is one of 64 bits.
+        let _sent = self.tally.numbers.sent;
         if request.is_none() && self.node.waiting() == 0 {
             return Ok(());
         }
