@@ -1,5 +1,5 @@
 -- How a run goes on, step by step.
-use Rattle.std.proofs.Common.{◌≡◌, ◌∙◌, ◌^◌, ℕ, ◌+◌, ◌-◌, ◌<◌, ◌≤◌, min, List, [], ◌∷◌, ◌++◌, length, Option, Some, None, refl, sym, ap, ap₂, subst, arith, append_assoc, append-nil}
+use Rattle.std.proofs.Common.{◌≡◌, ◌∙◌, ◌^◌, ◌*◌, ℕ, ◌+◌, ◌-◌, ◌<◌, ◌≤◌, min, List, [], ◌∷◌, ◌++◌, length, Option, Some, None, refl, sym, ap, ap₂, subst, arith, append_assoc, append-nil}
 use Rattle.tail_frame.specs.declared.logged.Record.{Record}
 use Rattle.frame_log.specs.declared.error.LogError.{LogError}
 use Rattle.frame_log.specs.declared.error.LogError.TheVariants as error
@@ -13,12 +13,12 @@ use Rattle.node_core.specs.Queues.{Queue, fulls, leaving, waiting}
 use Rattle.node_core.proofs.Waits.{all_stay, none_leaves}
 use Rattle.node_plan.specs.declared.plan.BusPlan.{BusPlan}
 use Rattle.node_core.specs.Stands.{Stands}
-use Rattle.node_core.specs.Steps.{Step, Kept, emptying, kept, left, lines, lines_at, lines_behind, moment_of, numbers, pushed, received_at, records, sends, all_lines}
+use Rattle.node_core.specs.Steps.{Step, Tick, Kept, ticks_from, emptying, kept, left, lines, lines_at, lines_behind, moment_of, numbers, pushed, received_at, records, sends, all_lines}
 use Rattle.node_core.specs.Text.{text}
-use Rattle.node_run.specs.Goes.{Broke, GoesOn, IsFew, Runs, State, report_of, with_sent}
+use Rattle.node_run.specs.Goes.{BreaksOff, Broke, GoesOn, IsFew, Runs, State, report_of, with_sent}
 use Rattle.node_run.specs.Tells.{HasTold}
 use Rattle.node_run.specs.Ran.{AtFirst, Emptied, Reported, Tells, At, first_lines, next_lines}
-use Rattle.node_run.proofs.Steps.{behind_newer, lines_newer}
+use Rattle.node_run.proofs.Steps.{behind_newer, length_behind, lines_newer, tick_more, ticks_split}
 use Rattle.node_run.proofs.Tells.{put_more, text_append, told_more, told_none}
 
 -- a step's lines, from what it received and what it sends
@@ -201,3 +201,19 @@ pub none_sent : (moment : ℕ) (qs : List Queue) (n : Numbers) → n.sent < 2 ^ 
 none_sent moment qs n low e =
     let none : length (leaving moment qs) ≡ 0 = ap length (none_leaves moment 0 qs e) in
     let same : n.sent ≡ min (n.sent + length (leaving moment qs)) (2 ^ 64 - 1) = omega arith in ap (λ m. record n { sent = m }) same
+
+-- Ticks, in one of which it broke off.
+
+pub ticks_broke : (first number due n at moment : ℕ) → n < due → at ≡ number + n → moment ≡ first + (number + n) * 1000000 → (old mid new : State) (t now : List ℕ) → GoesOn (ticks_from first number n) old mid t now → BreaksOff (Tick at moment ∷ []) mid new → BreaksOff (ticks_from first number due) old new
+ticks_broke first number due n at moment below e f old mid new t now goes breaks plan before past few h =
+    let size = length_behind first number due past in
+    let done = length_behind first number n past in
+    let few_done : IsFew (ticks_from first number n ++ past) = omega (arith, few, size, done) in
+    let few_more : IsFew (Tick at moment ∷ (ticks_from first number n ++ past)) = omega (arith, few, size, done) in
+    let b = breaks plan before (ticks_from first number n ++ past) few_more (goes plan before past few_done h).0 in
+    let d = due - (n + 1) in
+    let split = ticks_split first number (n + 1) d in
+    let more = ap (λ (ts : List Step). ts ++ past) (tick_more first number n at moment e f) in
+    let all : due ≡ (n + 1) + d = omega arith in
+    let whole = ap (λ (ts : List Step). ts ++ past) (ap (ticks_from first number) all ∙ split.1) ∙ append_assoc split.0 (ticks_from first number (n + 1)) past in
+    subst (Broke plan (report_of before new)) (sym whole) (broke_grow plan split.0 (ticks_from first number (n + 1) ++ past) (report_of before new) (subst (Broke plan (report_of before new)) more b))

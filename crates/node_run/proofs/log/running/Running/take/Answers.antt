@@ -23,11 +23,19 @@ use Rattle.node_run.proofs.log.running.Running.take.Goals as goal
 
 pub returns-in_err-came-clause-err : goal.returns-in_err-came-clause-err
 returns-in_err-came-clause-err g c =
-    on_err _ c.from_residual.result (λ plan before past few h. broke_none plan before (Heard c.args.rec.now ∷ []) past _ _ h refl refl)
+    let lines = g.K.LineSink.lines in
+    let self = c.args.self.now in
+    let old = state self.node.now (writes_for self.writer.now) (lines self.lines.now) self.tally.numbers in
+    let new = state c.step.new.self (writes_for self.writer.now) (lines self.lines.now) self.tally.numbers in
+    on_err _ c.from_residual.result (λ plan before past few h. broke_none plan before (Heard c.args.rec.now ∷ []) past old new h refl refl)
 
 pub returns-in_err-tell-clause-err : goal.returns-in_err-tell-clause-err
 returns-in_err-tell-clause-err g c =
-    on_err _ c.from_residual-in_err-tell.result (λ plan before past few h. broke_none plan before (Heard c.args.rec.now ∷ []) past _ _ h c.in_err-tell.ensures.err refl)
+    let lines = g.K.LineSink.lines in
+    let self = c.args.self.now in
+    let old = state self.node.now (writes_for self.writer.now) (lines self.lines.now) self.tally.numbers in
+    let new = state c.step.new.self (writes_for c.tell.new.writer) (lines c.tell.new.lines) self.tally.numbers in
+    on_err _ c.from_residual-in_err-tell.result (λ plan before past few h. broke_none plan before (Heard c.args.rec.now ∷ []) past old new h c.in_err-tell.ensures.err refl)
 
 pub returns-in_err-follow-clause-err : goal.returns-in_err-follow-clause-err
 returns-in_err-follow-clause-err g c =
@@ -82,7 +90,7 @@ returns-clause-ok g c plan before past few h =
     let first : HasTold old.buses told (text_of c.args.gathered.now) (text_of c.tell.new.gathered) old.told (lines c.tell.new.lines) = record { gathered = c.in_ok-tell.ensures.text; put = c.in_ok-tell.ensures.adds } in
     let next : HasTold old.buses (fulls m reply k.queues ++ leaving m (push_all reply k.queues)) (text_of c.tell.new.gathered) (text_of c.follow.new.gathered) (lines c.tell.new.lines) new.told =
     subst (λ b. HasTold b (fulls m reply k.queues ++ leaving m (push_all reply k.queues)) (text_of c.tell.new.gathered) (text_of c.follow.new.gathered) (lines c.tell.new.lines) new.told) c.tell.ensures.buses follow.told in
-    let all = step_told plan before s past old h k (sent reply k) ek em told (fulls m reply k.queues) lines_are ef (text_of c.args.gathered.now) (text_of c.tell.new.gathered) (text_of c.follow.new.gathered) old.told (lines c.tell.new.lines) new.told first next in
+    let all = step_told plan before s past old h k (sent reply k) ek em told (fulls m reply k.queues) lines_are ef (text_of c.args.gathered.now) (text_of c.tell.new.gathered) (text_of c.follow.new.gathered) (lines c.tell.new.lines) new.told first next in
     let more = sent_is plan before s past old h k (sent reply k) ek em _ refl in
     let stands = c.follow.ensures.stands (rec ∷ records past) (c.in_ok-came.ensures.stands (records past) h.stands) in
     let plan_is = c.follow.ensures.plan ∙ same in

@@ -60,7 +60,7 @@ returns-clause-ended g c first past hh =
     let all = steps plan past in
     let same : _ ≡ emptying plan all = ap (λ (k : Kept). rounds (waiting k.queues) self.clock.last k.queues) h.runs.keeps_are ∙ h.clock_is.last in
     let put = c.in_ok-emptied.ensures.told.put ∙ ap (put_behind (K self.lines.now)) same in
-    let few : length all ≤ 2 ^ 50 = ? in
+    let few : length all ≤ 2 ^ 50 = omega (arith, h.few, h.few_records, h.few_ticks) in
     let sent = sent_at_end plan all h.runs.is few self.tally.numbers.sent (ap (λ (n : Numbers). n.sent) h.runs.at.counted) c.in_ok-emptied.emptied (c.in_ok-emptied.ensures.sent ∙ ap length same) in (
       hh.0,
       record {
@@ -79,7 +79,7 @@ returns-clause-text g c first past hh =
     let all = steps plan past in
     let old = text_of c.args.gathered.now in
     let same : _ ≡ emptying plan all = ap (λ (k : Kept). rounds (waiting k.queues) self.clock.last k.queues) h.runs.keeps_are ∙ h.clock_is.last in
-    let few : length all ≤ 2 ^ 50 = ? in
+    let few : length all ≤ 2 ^ 50 = omega (arith, h.few, h.few_records, h.few_ticks) in
     let sent = sent_at_end plan all h.runs.is few self.tally.numbers.sent (ap (λ (n : Numbers). n.sent) h.runs.at.counted) c.in_ok-emptied.emptied (c.in_ok-emptied.ensures.sent ∙ ap length same) in
     let last = ap₂ (λ (n : Numbers) m. end_text (record n { sent = m })) h.runs.at.counted (c.saturating_add-sent.ensures ∙ sent) in
     let front : text_of c.empty.new.gathered ≡ old ++ text plan.buses (emptying plan all) = c.in_ok-emptied.ensures.told.gathered ∙ ap₂ (λ (b : List BusPlan) (ls : List Line). old ++ text b ls) h.runs.names same in
