@@ -1,17 +1,15 @@
 -- The numbers behind one more step.
-use Rattle.std.proofs.Common.{◌≡◌, ◌∙◌, ◌^◌, ℕ, suc, ◌+◌, ◌*◌, ◌≤◌, min, Bool, true, false, List, [], ◌∷◌, ◌++◌, length, map, Option, Some, None, refl, sym, ap, ap₂, subst, arith, count_by}
+use Rattle.std.proofs.Common.{◌≡◌, ◌∙◌, ◌^◌, ℕ, suc, ◌+◌, ◌-◌, ◌*◌, ◌≤◌, cond, min, Bool, true, false, List, [], ◌∷◌, ◌++◌, length, map, Option, Some, None, refl, sym, ap, ap₂, subst, arith, count_by}
 use Rattle.std.specs.Prelude.{if◌then◌else◌}
 use Rattle.tail_frame.specs.Frames.{FrameOf}
 use Rattle.tail_frame.specs.declared.logged.Record.{Record}
 use Rattle.can_id.specs.declared.key.Key.{Key}
 use Rattle.can_id.specs.Identifiers.{key_of}
 use Rattle.rx_table.specs.Heard.{frame_for, frames}
-use Rattle.rx_table.specs.Keys.{KeyedFrame, history}
+use Rattle.rx_table.specs.Keys.{KeyedFrame}
 use Rattle.rx_table.specs.Ports.{Port, is_admitted}
 use Rattle.rx_table.specs.Received.{Delivery}
-use Rattle.rx_table.specs.Steps.{delivery_at}
 use Rattle.rx_table.specs.Table.{keyed, port_on}
-use Rattle.transfer_crc.specs.Crc.{crc_of}
 use Rattle.node_plan.specs.Bound.{bound_of}
 use Rattle.node_plan.specs.IsPlan.{IsPlan}
 use Rattle.node_plan.specs.declared.plan.Plan.{Plan}
@@ -20,26 +18,26 @@ use Rattle.node_core.specs.declared.line.FullLine.{FullLine}
 use Rattle.node_core.specs.declared.line.Line.TheVariants.{Full}
 use Rattle.node_core.specs.declared.numbers.Numbers.{Numbers}
 use Rattle.node_core.specs.Heard.{ports_of}
-use Rattle.node_core.specs.Queues.{Queue, Sends, full_line, fulls, fulls_from, leaving, push_all, takes}
+use Rattle.node_core.specs.Queues.{Queue, Sends, full_line, fulls, fulls_from, leaving, push_all, takes, waiting}
 use Rattle.node_core.specs.Received.{of_delivery, of_frame, of_session, of_source, on_port, refused_line}
-use Rattle.node_core.specs.Steps.{Step, Heard, Tick, bad_at, badcrcs, got, held_at, is_bad_at, is_nosession, is_rx, is_tx, kept, lines, lines_at, moment_of, node_lines, numbers, one_if, pushed, received_at, records, sends}
+use Rattle.node_core.specs.Steps.{Step, Heard, Tick, all_lines, bad_at, emptying, badcrcs, got, held_at, is_bad_at, is_nosession, is_rx, is_tx, kept, lines, lines_at, moment_of, node_lines, numbers, one_if, pushed, received_at, records, sends}
 use Rattle.node_run.specs.Goes.{IsFew, with_sent}
 use Rattle.node_run.specs.Hears.{counted}
 use Rattle.node_run.specs.declared.log.tally.Seen.{Seen}
-use Rattle.node_run.proofs.Waits.{count_append, few_leave, nosession_leaving, rx_leaving, tx_leaving}
+use Rattle.node_run.proofs.Waits.{count_append, few_leave, few_rounds, few_wait, nosession_leaving, rx_leaving, tx_leaving, tx_rounds}
 
 -- a line on a full bus counts nothing
 
 module _ (p : Line → Bool) (none : (f : FullLine) → p (Full f) ≡ false) where
   one : (f : FullLine) → count_by p (Full f ∷ []) ≡ 0
-  one f = ap (λ b. (if b then 1 else 0) + 0) (none f)
+  one f = ap (λ (b : Bool). 0 + cond {A = ℕ} b 1 0) (none f)
 
   full_one : (moment bus : ℕ) (x : Sends) (q : Queue) → count_by p (full_line moment bus x q) ≡ 0
-  full_one moment bus x q = go (takes x q)
+  full_one moment bus x q = go (takes x q) _
     where
-      go : (b : Bool) → count_by p (if b then [] else Full (record { moment = moment; bus = bus; port = x.port; needed = _; free = _ }) ∷ []) ≡ 0
-      go true = refl
-      go false = one _
+      go : (b : Bool) (f : FullLine) → count_by p (if◌then◌else◌ {A = List Line} b [] (Full f ∷ [])) ≡ 0
+      go true f = refl
+      go false f = one f
 
   from : (moment bus : ℕ) (x : Sends) (qs : List Queue) → count_by p (fulls_from moment bus x qs) ≡ 0
   from moment bus x [] = refl
@@ -57,15 +55,15 @@ tx_delivery plan extent key None = refl
 tx_delivery plan extent key (Some d) = refl
 
 tx_session : (plan : Plan) (p : Port) (key : Key) (k : KeyedFrame) (log : List KeyedFrame) → count_by is_tx (of_session plan p key k log) ≡ 0
-tx_session plan p key k log = go (is_admitted p k log)
+tx_session plan p key k log = go (is_admitted p k log) _
   where
     start : (b : Bool) → count_by is_tx (if b then refused_line key k.rec ∷ [] else []) ≡ 0
     start true = refl
     start false = refl
 
-    go : (b : Bool) → count_by is_tx (if b then of_delivery plan p.extent key (delivery_at crc_of plan.timeout k.rec (history k.key log)) else (if k.rec.start then refused_line key k.rec ∷ [] else [])) ≡ 0
-    go true = tx_delivery plan p.extent key (delivery_at crc_of plan.timeout k.rec (history k.key log))
-    go false = start k.rec.start
+    go : (b : Bool) (d : Option Delivery) → count_by is_tx (if b then of_delivery plan p.extent key d else (if k.rec.start then refused_line key k.rec ∷ [] else [])) ≡ 0
+    go true d = tx_delivery plan p.extent key d
+    go false d = start k.rec.start
 
 tx_source : (plan : Plan) (p : Port) (f : FrameOf) (log : List KeyedFrame) (k : Option KeyedFrame) → count_by is_tx (of_source plan p f log k) ≡ 0
 tx_source plan p f log None = refl
@@ -99,7 +97,7 @@ module _ (plan : Plan) (s : Step) (past : List Step) where
       ∙ (ap (λ n. count_by p (received_at plan s past) + n) (count_fulls p none (moment_of s) k (kept plan past).queues) ∙ omega arith))
 
   pub tx_at : count_by is_tx (lines_at plan s past) ≡ length out
-  tx_at = in_node is_tx (λ f. refl) ∙ ap₂ (λ a b. a + b) (tx_received plan s past) (tx_leaving (moment_of s) (pushed plan s past (kept plan past)).queues)
+  tx_at = in_node is_tx (λ f. refl) ∙ ap₂ (λ a b. a + b) (tx_received plan s past) (tx_leaving (moment_of s) (pushed plan s past (kept plan past)).queues) ∙ omega arith
 
   pub rx_at : count_by is_rx (lines_at plan s past) ≡ count_by is_rx (received_at plan s past)
   rx_at = in_node is_rx (λ f. refl) ∙ (ap (λ n. count_by is_rx (received_at plan s past) + n) (rx_leaving (moment_of s) (pushed plan s past (kept plan past)).queues) ∙ omega arith)
@@ -118,6 +116,17 @@ few_sent plan (s ∷ past) is =
     let here = few_leave plan past (moment_of s) (sends plan s past (kept plan past)) is in
     let all = next plan s past is_tx in
     let sent = tx_at plan s past in omega arith
+
+few_emptied : (plan : Plan) (all : List Step) → IsPlan plan → length (emptying plan all) ≤ 12288
+few_emptied plan [] is = omega arith
+few_emptied plan (s ∷ past) is =
+    let qs = (kept plan (s ∷ past)).queues in
+    let few = few_rounds (waiting qs) (moment_of s) qs in
+    let wait = few_wait plan (s ∷ past) is in omega arith
+
+tx_emptied : (plan : Plan) (all : List Step) → count_by is_tx (emptying plan all) ≡ length (emptying plan all)
+tx_emptied plan [] = refl
+tx_emptied plan (s ∷ past) = let qs = (kept plan (s ∷ past)).queues in tx_rounds (waiting qs) (moment_of s) qs
 
 module _ (plan : Plan) (past : List Step) (is : IsPlan plan) where
   -- so they can be counted
@@ -166,3 +175,11 @@ module _ (plan : Plan) (past : List Step) (is : IsPlan plan) where
       let q4 : m.badcrc + seen.badcrc ≡ badcrcs plan past + one_if (is_bad_at plan rec (records past)) = ap (λ (x : Numbers). x.badcrc + seen.badcrc) (g ∙ ap (λ (x : Numbers). with_sent x more) e) ∙ ap (λ x. badcrcs plan past + x) b in
       let q7 : m.bound ≡ bound_of plan = ap (λ (x : Numbers). x.bound) (g ∙ ap (λ (x : Numbers). with_sent x more) e) in
       λ i. record { records = q1 i; delivered = q2 i; badcrc = q4 i; nosession = q3 i; sent = sent i; held = h i; bound = q7 i }
+
+  -- the frames that left at the end can be counted too
+  pub sent_at_end : length past ≤ 2 ^ 50 → (n : ℕ) → n ≡ count_by is_tx (lines plan past) → (emptied : ℕ) → emptied ≡ length (emptying plan past) → min (n + emptied) (2 ^ 64 - 1) ≡ count_by is_tx (all_lines plan past)
+  sent_at_end few n e emptied f =
+      let most = few_sent plan past is in
+      let last = few_emptied plan past is in
+      let all = count_append is_tx (lines plan past) (emptying plan past) in
+      let here = tx_emptied plan past in omega arith
