@@ -1,17 +1,15 @@
 -- The numbers behind one more step.
-use Rattle.std.proofs.Common.{◌≡◌, ◌∙◌, ◌^◌, ℕ, suc, ◌+◌, ◌*◌, ◌≤◌, min, Bool, true, false, List, [], ◌∷◌, ◌++◌, length, map, Option, Some, None, refl, sym, ap, ap₂, subst, arith, count_by}
+use Rattle.std.proofs.Common.{◌≡◌, ◌∙◌, ◌^◌, ℕ, suc, ◌+◌, ◌-◌, ◌*◌, ◌≤◌, cond, min, Bool, true, false, List, [], ◌∷◌, ◌++◌, length, map, Option, Some, None, refl, sym, ap, ap₂, subst, arith, count_by}
 use Rattle.std.specs.Prelude.{if◌then◌else◌}
 use Rattle.tail_frame.specs.Frames.{FrameOf}
 use Rattle.tail_frame.specs.declared.logged.Record.{Record}
 use Rattle.can_id.specs.declared.key.Key.{Key}
 use Rattle.can_id.specs.Identifiers.{key_of}
 use Rattle.rx_table.specs.Heard.{frame_for, frames}
-use Rattle.rx_table.specs.Keys.{KeyedFrame, history}
+use Rattle.rx_table.specs.Keys.{KeyedFrame}
 use Rattle.rx_table.specs.Ports.{Port, is_admitted}
 use Rattle.rx_table.specs.Received.{Delivery}
-use Rattle.rx_table.specs.Steps.{delivery_at}
 use Rattle.rx_table.specs.Table.{keyed, port_on}
-use Rattle.transfer_crc.specs.Crc.{crc_of}
 use Rattle.node_plan.specs.Bound.{bound_of}
 use Rattle.node_plan.specs.IsPlan.{IsPlan}
 use Rattle.node_plan.specs.declared.plan.Plan.{Plan}
@@ -32,14 +30,14 @@ use Rattle.node_run.proofs.Waits.{count_append, few_leave, nosession_leaving, rx
 
 module _ (p : Line → Bool) (none : (f : FullLine) → p (Full f) ≡ false) where
   one : (f : FullLine) → count_by p (Full f ∷ []) ≡ 0
-  one f = ap (λ b. (if b then 1 else 0) + 0) (none f)
+  one f = ap (λ (b : Bool). 0 + cond {A = ℕ} b 1 0) (none f)
 
   full_one : (moment bus : ℕ) (x : Sends) (q : Queue) → count_by p (full_line moment bus x q) ≡ 0
-  full_one moment bus x q = go (takes x q)
+  full_one moment bus x q = go (takes x q) _
     where
-      go : (b : Bool) → count_by p (if b then [] else Full (record { moment = moment; bus = bus; port = x.port; needed = _; free = _ }) ∷ []) ≡ 0
-      go true = refl
-      go false = one _
+      go : (b : Bool) (f : FullLine) → count_by p (if◌then◌else◌ {A = List Line} b [] (Full f ∷ [])) ≡ 0
+      go true f = refl
+      go false f = one f
 
   from : (moment bus : ℕ) (x : Sends) (qs : List Queue) → count_by p (fulls_from moment bus x qs) ≡ 0
   from moment bus x [] = refl
@@ -57,15 +55,15 @@ tx_delivery plan extent key None = refl
 tx_delivery plan extent key (Some d) = refl
 
 tx_session : (plan : Plan) (p : Port) (key : Key) (k : KeyedFrame) (log : List KeyedFrame) → count_by is_tx (of_session plan p key k log) ≡ 0
-tx_session plan p key k log = go (is_admitted p k log)
+tx_session plan p key k log = go (is_admitted p k log) _
   where
     start : (b : Bool) → count_by is_tx (if b then refused_line key k.rec ∷ [] else []) ≡ 0
     start true = refl
     start false = refl
 
-    go : (b : Bool) → count_by is_tx (if b then of_delivery plan p.extent key (delivery_at crc_of plan.timeout k.rec (history k.key log)) else (if k.rec.start then refused_line key k.rec ∷ [] else [])) ≡ 0
-    go true = tx_delivery plan p.extent key (delivery_at crc_of plan.timeout k.rec (history k.key log))
-    go false = start k.rec.start
+    go : (b : Bool) (d : Option Delivery) → count_by is_tx (if b then of_delivery plan p.extent key d else (if k.rec.start then refused_line key k.rec ∷ [] else [])) ≡ 0
+    go true d = tx_delivery plan p.extent key d
+    go false d = start k.rec.start
 
 tx_source : (plan : Plan) (p : Port) (f : FrameOf) (log : List KeyedFrame) (k : Option KeyedFrame) → count_by is_tx (of_source plan p f log k) ≡ 0
 tx_source plan p f log None = refl
@@ -99,7 +97,7 @@ module _ (plan : Plan) (s : Step) (past : List Step) where
       ∙ (ap (λ n. count_by p (received_at plan s past) + n) (count_fulls p none (moment_of s) k (kept plan past).queues) ∙ omega arith))
 
   pub tx_at : count_by is_tx (lines_at plan s past) ≡ length out
-  tx_at = in_node is_tx (λ f. refl) ∙ ap₂ (λ a b. a + b) (tx_received plan s past) (tx_leaving (moment_of s) (pushed plan s past (kept plan past)).queues)
+  tx_at = in_node is_tx (λ f. refl) ∙ ap₂ (λ a b. a + b) (tx_received plan s past) (tx_leaving (moment_of s) (pushed plan s past (kept plan past)).queues) ∙ omega arith
 
   pub rx_at : count_by is_rx (lines_at plan s past) ≡ count_by is_rx (received_at plan s past)
   rx_at = in_node is_rx (λ f. refl) ∙ (ap (λ n. count_by is_rx (received_at plan s past) + n) (rx_leaving (moment_of s) (pushed plan s past (kept plan past)).queues) ∙ omega arith)

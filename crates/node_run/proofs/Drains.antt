@@ -1,5 +1,5 @@
 -- Frames that leave, one after another and bus by bus.
-use Rattle.std.proofs.Common.{◌≡◌, ◌∙◌, ℕ, zero, suc, ◌+◌, ◌<◌, List, [], ◌∷◌, ◌++◌, length, map, take, drop, Option, Some, None, refl, sym, ap, arith, append_assoc, add-one, length-take}
+use Rattle.std.proofs.Common.{◌≡◌, ◌∙◌, ℕ, zero, suc, ◌+◌, ◌<◌, List, [], ◌∷◌, ◌++◌, length, map, take, drop, Option, Some, None, refl, sym, ap, subst, arith, append_assoc, add-one, length-append, length-drop, length-set, length-take}
 use Rattle.std.specs.Prelude.{set, get_or}
 use Rattle.std.proofs.lemmas.List.{get_or-set_same, set-set, set-get_or, length-map, map-append}
 use Rattle.std.proofs.Math.Seq.{drop-cons, get_or-append_seam, set-append_seam, take-suc}
@@ -77,7 +77,7 @@ stay_none zero = refl
 stay_none (suc n) = refl
 
 -- the buses before one are done
-pub done : ℕ → List Queue → List Queue
+abbrev pub done : ℕ → List Queue → List Queue
 done bus q = map drained (take bus q) ++ drop bus q
 
 module _ (q : List Queue) (bus : ℕ) (h : bus < length q) where
@@ -109,3 +109,16 @@ module _ (q : List Queue) (bus : ℕ) (h : bus < length q) where
 -- one more of these lines was told
 pub line_more : (all front new more rest : List Line) → all ≡ front ++ new → new ≡ more ++ rest → all ≡ (front ++ more) ++ rest
 line_more all front new more rest e f = e ∙ (ap (λ t. front ++ t) f ∙ sym (append_assoc front more rest))
+
+-- a list that is set stands among as many
+pub in_reach : (q : List Queue) (bus tid : ℕ) (w : List OutFrame) (k : Kept) → bus < length q → k ≡ record { queues = with_waiting q bus w; tid = tid } → bus < length k.queues
+in_reach q bus tid w k h e = subst (λ n. bus < n) (sym (ap (λ (x : Kept). length x.queues) e ∙ length-set q bus (record (queue_at q bus) { waiting = w }))) h
+
+-- among those of which some are done
+pub in_done : (q : List Queue) (bus tid : ℕ) (k : Kept) → bus < length q → k ≡ record { queues = done bus q; tid = tid } → bus < length k.queues
+in_done q bus tid k h e =
+    let all = ap (λ (x : Kept). length x.queues) e in
+    let parts = length-append (map drained (take bus q)) (drop bus q) in
+    let front = length-map (take bus q) drained in
+    let taken = length-take bus q in
+    let left = length-drop bus q in omega arith

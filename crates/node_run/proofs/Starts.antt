@@ -1,5 +1,5 @@
 -- A run that heard nothing.
-use Rattle.std.proofs.Common.{◌≡◌, ◌∙◌, ℕ, ◌+◌, ◌*◌, List, [], ◌∷◌, length, take, Option, Some, None, refl, sym, ap, append-nil, arith}
+use Rattle.std.proofs.Common.{◌≡◌, ◌∙◌, ℕ, ◌+◌, ◌*◌, List, [], ◌∷◌, length, take, Option, Some, None, refl, sym, ap, subst, append-nil, arith}
 use Rattle.std.proofs.lemmas.Grind.{common_steps}
 use Rattle.std.specs.Prelude.{unwrap_or}
 use Rattle.rx_table.specs.Ports.{Port, held}
@@ -10,10 +10,11 @@ use Rattle.node_plan.specs.Bound.{bound_of}
 use Rattle.node_plan.specs.declared.plan.Plan.{Plan}
 use Rattle.node_core.specs.declared.line.Line.{Line}
 use Rattle.node_core.specs.Heard.{ports_of}
-use Rattle.node_core.specs.LineSinks.{put_behind}
-use Rattle.node_core.specs.Steps.{held_at}
+use Rattle.node_core.specs.Steps.{Step, held_at}
 use Rattle.node_run.specs.declared.status.Status.TheVariants as status
-use Rattle.node_run.specs.Ran.{names_of, steps_of, reported, no_numbers, At, HasRun, whole_text}
+use Rattle.node_run.specs.Ran.{names_of, steps_of, reported, no_numbers, At, AtFirst, HasRun, whole_text}
+use Rattle.node_run.proofs.Goes.{first_none}
+use Rattle.node_run.proofs.Tells.{put_none}
 
 take_none : (n : ℕ) → take {A = ℕ} n [] ≡ []
 take_none n = grind (arith, common_steps)
@@ -25,10 +26,6 @@ held_before (p ∷ ports) = ap (λ (s : List ℕ). length s * p.extent + held po
 
 pub held_none : (plan : Plan) → held_at plan [] ≡ 0
 held_none plan = held_before (ports_of plan)
-
-pub put_none : (lines : Option (List Line)) → lines ≡ put_behind lines []
-put_none None = refl
-put_none (Some l) = ap Some (sym (append-nil l))
 
 -- the numbers of nothing, but for the bound
 pub at_none : (plan : Plan) (lines : Option (List Line)) (held bound : ℕ) → held ≡ held_at plan [] → bound ≡ bound_of plan → At plan [] (reported lines lines (record no_numbers { held = held; bound = bound }))
@@ -46,7 +43,7 @@ has_none plan told lines bound before b =
       bytes = unwrap_or told [];
       is = told_none told;
       ran = record {
-        first = record { newer = all; past = []; parts = sym (append-nil all); at = at_none plan lines 0 bound (sym (held_none plan)) b };
+        first = subst (λ (ss : List Step). AtFirst plan ss log.refusal (reported lines lines (record no_numbers { bound = bound }))) (append-nil all) (first_none plan all [] log.refusal (reported lines lines (record no_numbers { bound = bound })) (at_none plan lines 0 bound (sym (held_none plan)) b));
         written = begins_none (whole_text plan all log.refusal) before;
       };
     }

@@ -1,5 +1,6 @@
 -- What a run over a generated log came to.
 use Rattle.std.proofs.Common.{◌≡◌, ℕ, ◌⊎◌, List, Option, Some, None, reverse, [], ◌∷◌, ◌++◌, append_assoc, refl, ap, ◌∙◌, subst, inl, inr, arith}
+use Rattle.tail_frame.specs.declared.logged.Record.{Record}
 use Rattle.std.proofs.lemmas.List.{reverse-reverse}
 use Rattle.cy_outside.specs.Outside.{Rose}
 use Rattle.frame_log.specs.Log.{Log, log_of}
@@ -9,7 +10,9 @@ use Rattle.log_gen.specs.Laws.{records_by, IsRead}
 use Rattle.dsdl_types.specs.declared.namespace.Namespace.{Namespace}
 use Rattle.node_plan.specs.Plan.{Good, plan_of}
 use Rattle.node_plan.specs.declared.plan.Plan.{Plan}
-use Rattle.node_core.specs.Steps.{steps, numbers}
+use Rattle.node_core.specs.Steps.{end_numbers, numbers, steps}
+use Rattle.node_core.proofs.Silence.{silent_keep_nothing}
+use Rattle.node_core.proofs.Waits.{nothing_emptied}
 use Rattle.node_run.specs.Generated.{generated_plan, generated_numbers}
 use Rattle.node_run.specs.Ran.{Reported, Ran, HasRun, names_of}
 use Rattle.node_run.specs.declared.status.Status.{Status}
@@ -21,6 +24,10 @@ is_plan names = refl
 
 pub good_is : (p q : Plan) → Good p ≡ Good q → p ≡ q
 good_is p q e = cc
+
+-- its node sends nothing, so its numbers are those of the steps
+same_numbers : (past : List Record) → end_numbers generated_plan (steps generated_plan past) ≡ numbers generated_plan (steps generated_plan past)
+same_numbers past = (nothing_emptied generated_plan (steps generated_plan past) (silent_keep_nothing generated_plan past refl).1).1
 
 -- a count that is always 0 doesn't rise
 pub never : Rose 0 0 → ⊥
@@ -36,7 +43,8 @@ module _ (number : ℕ) (reads : IsRead number) (r : Reported) (before after : O
   -- where all was run, the numbers are those of the log
   numbers_are : Ran generated_plan whole status.Ok r before after → r.numbers ≡ generated_numbers number
   numbers_are h =
-      h.1.at.counted ∙ ap (λ recs. numbers generated_plan (steps generated_plan recs)) (reverse-reverse (records_by number))
+      h.1.at.counted
+      ∙ (ap (λ recs. end_numbers generated_plan (steps generated_plan recs)) (reverse-reverse (records_by number)) ∙ same_numbers (records_by number))
 
   -- and that, or want of memory, is all that can come
   only : (stat : Status) → Ran generated_plan whole stat r before after → (stat ≡ status.ReadFault → ⊥) → (stat ≡ status.WriteFault → ⊥) → (stat ≡ status.Ok) ⊎ (stat ≡ status.NoMemory)

@@ -1,7 +1,12 @@
 -- Lines that were told, one after the other.
-use Rattle.std.proofs.Common.{◌≡◌, ◌∙◌, ℕ, List, [], ◌∷◌, ◌++◌, Option, Some, None, refl, sym, ap, subst, append_assoc, append-nil}
+use Rattle.std.proofs.Common.{◌≡◌, ◌∙◌, ◌+◌, ◌<◌, ℕ, suc, List, [], ◌∷◌, ◌++◌, Option, Some, None, Result, Ok, Err, length, map, take, add-one, refl, sym, ap, subst, append_assoc, append-nil}
+use Rattle.std.specs.Prelude.{OnOk, OnErr, get_or}
+use Rattle.std.proofs.lemmas.List.{map-append}
+use Rattle.std.proofs.Math.Seq.{take-suc}
 use Rattle.node_plan.specs.declared.plan.BusPlan.{BusPlan}
+use Rattle.node_core.specs.declared.line.FullLine.{FullLine}
 use Rattle.node_core.specs.declared.line.Line.{Line}
+use Rattle.node_core.specs.declared.line.Line.TheVariants.{Full}
 use Rattle.node_core.specs.LineSinks.{BeginsList, put_behind}
 use Rattle.node_core.specs.Text.{line_text, text}
 use Rattle.node_run.specs.Tells.{HasTold}
@@ -47,3 +52,20 @@ begins_later a b old mid new e x = record {
 pub broke_at : (buses : List BusPlan) (all done rest : List Line) (t mid : List ℕ) (old now new : Option (List Line)) → all ≡ done ++ rest → HasTold buses done t mid old now → new ≡ now → BeginsList all old new
 broke_at buses all done rest t mid old now new e x same =
     subst (λ (a : List Line). BeginsList a old new) (sym e) (begins_later done rest old now new x.put (begins_none rest now new same))
+
+-- one more line was told
+pub told_next : (buses b : List BusPlan) (a l : List Line) (t mid new : List ℕ) (o now after : Option (List Line)) → b ≡ buses → HasTold buses a t mid o now → new ≡ mid ++ text b l → after ≡ put_behind now l → HasTold buses (a ++ l) t new o after
+told_next buses b a l t mid new o now after same x text_is put_is = told_more buses a l t mid new o now after x (record { gathered = text_is ∙ ap (λ s. mid ++ text s l) same; put = put_is })
+
+-- of lines on full buses
+pub full_next : (fulls : List FullLine) (n : ℕ) (d : FullLine) → n < length fulls → map Full (take n fulls) ++ Full (get_or fulls n d) ∷ [] ≡ map Full (take (n + 1) fulls)
+full_next fulls n d h = sym (ap (λ m. map Full (take m fulls)) (add-one n) ∙ (ap (map Full) (take-suc fulls n d h) ∙ map-append Full (take n fulls) (get_or fulls n d ∷ [])))
+
+-- what a call answers with, and what follows from that
+pub on_ok_by : {A E P Q : Type 0} (r : Result A E) → (P → Q) → OnOk r P → OnOk r Q
+on_ok_by (Ok a) f p = f p
+on_ok_by (Err e) f p = p
+
+pub on_err_by : {A E P Q : Type 0} (r : Result A E) → (P → Q) → OnErr r P → OnErr r Q
+on_err_by (Ok a) f p = p
+on_err_by (Err e) f p = f p

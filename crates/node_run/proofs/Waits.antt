@@ -1,5 +1,5 @@
 -- How many frames wait and leave.
-use Rattle.std.proofs.Common.{◌≡◌, ◌∙◌, ℕ, zero, suc, ◌+◌, ◌*◌, ◌≤◌, Bool, List, [], ◌∷◌, ◌++◌, length, map, Option, Some, None, All, refl, sym, ap, ap₂, subst, arith, count_by, length-append}
+use Rattle.std.proofs.Common.{◌≡◌, ◌∙◌, ℕ, zero, suc, ◌+◌, ◌*◌, ◌≤◌, Bool, true, false, List, [], ◌∷◌, ◌++◌, length, map, Option, Some, None, All, refl, sym, ap, ap₂, subst, arith, count_by, length-append}
 use Rattle.std.specs.Prelude.{sum_by, if◌then◌else◌}
 use Rattle.std.proofs.lemmas.List.{length-map}
 use Rattle.std.proofs.lemmas.List.Sums.{sum_by-append}
@@ -10,19 +10,20 @@ use Rattle.node_plan.specs.declared.plan.BusPlan.{BusPlan}
 use Rattle.node_plan.specs.declared.plan.Plan.{Plan}
 use Rattle.node_core.specs.declared.line.Line.{Line}
 use Rattle.node_core.specs.Queues.{Sends, Queue, takes, push, push_all, leave, stay, tx_line, bus_lines, leaving, leaving_from, drained, rounds, waiting}
-use Rattle.node_core.specs.Steps.{Step, empty_queue, is_rx, is_nosession, is_tx, kept}
+use Rattle.node_core.specs.Steps.{Step, empty_queue, is_rx, is_nosession, is_tx, kept, sends}
+use Rattle.node_core.proofs.Waits.{all_stay, none_leaves}
 
 -- the least and the others are as many as all
 least_all : (f : OutFrame) (fs : List OutFrame) → length (least f fs).1 ≡ length fs
 least_all f [] = refl
-least_all f (g ∷ gs) = go (least g gs) (least_all g gs) (is_less (least g gs).0 f)
+least_all f (g ∷ gs) = go (least g gs) (least_all g gs) (is_less (least g gs).0 f) _ refl
   where
-    go : (m : OutFrame × List OutFrame) → length m.1 ≡ length gs → (b : Bool) → length (if b then (m.0, f ∷ m.1) else (f, g ∷ gs)).1 ≡ length (g ∷ gs)
-    go m e true = ap suc e
-    go m e false = refl
+    go : (m : OutFrame × List OutFrame) → length m.1 ≡ length gs → (b : Bool) (r : OutFrame × List OutFrame) → r ≡ (if b then (m.0, f ∷ m.1) else (f, g ∷ gs)) → length r.1 ≡ length (g ∷ gs)
+    go m e true r is = ap (λ (x : OutFrame × List OutFrame). length x.1) is ∙ ap suc e
+    go m e false r is = ap (λ (x : OutFrame × List OutFrame). length x.1) is
 
 leave_all : (n : ℕ) (w : List OutFrame) → length (leave n w) + length (stay n w) ≡ length w
-leave_all zero w = refl
+leave_all zero w = omega arith
 leave_all (suc n) [] = refl
 leave_all (suc n) (f ∷ fs) =
     let rest = leave_all n (least f fs).1 in
@@ -40,51 +41,32 @@ left_all moment bus (q ∷ qs) =
 pub waiting_left : (moment : ℕ) (qs : List Queue) → length (leaving moment qs) + waiting (map drained qs) ≡ waiting qs
 waiting_left moment qs = left_all moment 0 qs
 
--- where nothing waits nothing leaves
-
-nil : {A : Type 0} (xs : List A) → length xs ≡ 0 → xs ≡ []
-nil [] e = refl
-nil (x ∷ xs) e = absurd (let f : suc (length xs) ≡ 0 = e in omega arith)
-
-none_from : (moment bus : ℕ) (qs : List Queue) → waiting qs ≡ 0 → leaving_from moment bus qs ≡ []
-none_from moment bus qs e = nil (leaving_from moment bus qs) (let all = left_all moment bus qs in omega arith)
-
-pub none_leave : (moment : ℕ) (qs : List Queue) → waiting qs ≡ 0 → leaving moment qs ≡ []
-none_leave moment qs e = none_from moment 0 qs e
-
-stay_nil : (n : ℕ) (w : List OutFrame) → length w ≡ 0 → stay n w ≡ w
-stay_nil zero w e = refl
-stay_nil (suc n) [] e = refl
-stay_nil (suc n) (f ∷ fs) e = absurd (let g : suc (length fs) ≡ 0 = e in omega arith)
-
-pub none_drained : (qs : List Queue) → waiting qs ≡ 0 → map drained qs ≡ qs
-none_drained [] e = refl
-none_drained (q ∷ qs) e =
-    let here : length q.waiting ≡ 0 = omega arith in
-    let rest : waiting qs ≡ 0 = omega arith in
-    ap₂ (λ (w : List OutFrame) (rs : List Queue). record q { waiting = w } ∷ rs) (stay_nil q.rate q.waiting here) (none_drained qs rest)
-
+-- where nothing waits no round gives a line
 pub none_rounds : (n moment : ℕ) (qs : List Queue) → waiting qs ≡ 0 → rounds n moment qs ≡ []
 none_rounds zero moment qs e = refl
 none_rounds (suc n) moment qs e =
-    ap₂ (λ (x : List Line) (rs : List Queue). x ++ rounds n moment rs) (none_leave moment qs e) (none_drained qs e) ∙ none_rounds n moment qs e
+    ap₂ (λ (x : List Line) (rs : List Queue). x ++ rounds n moment rs) (none_leaves moment 0 qs e) (all_stay qs e) ∙ none_rounds n moment qs e
 
 -- each line on a frame counts
 
+pub count_append : (p : Line → Bool) (a b : List Line) → count_by p (a ++ b) ≡ count_by p a + count_by p b
+count_append p a b = sum_by-append _ a b
+
 tx_all : (moment bus : ℕ) (fs : List OutFrame) → count_by is_tx (map (tx_line moment bus) fs) ≡ length fs
 tx_all moment bus [] = refl
-tx_all moment bus (f ∷ fs) = ap (λ n. 1 + n) (tx_all moment bus fs)
+tx_all moment bus (f ∷ fs) =
+    let first = count_append is_tx (tx_line moment bus f ∷ []) (map (tx_line moment bus) fs) in
+    let others = tx_all moment bus fs in first ∙ (ap (λ n. 1 + n) others ∙ omega arith)
 
 rx_none : (moment bus : ℕ) (fs : List OutFrame) → count_by is_rx (map (tx_line moment bus) fs) ≡ 0
 rx_none moment bus [] = refl
-rx_none moment bus (f ∷ fs) = rx_none moment bus fs
+rx_none moment bus (f ∷ fs) =
+    count_append is_rx (tx_line moment bus f ∷ []) (map (tx_line moment bus) fs) ∙ ap (λ n. 0 + n) (rx_none moment bus fs)
 
 nosession_none : (moment bus : ℕ) (fs : List OutFrame) → count_by is_nosession (map (tx_line moment bus) fs) ≡ 0
 nosession_none moment bus [] = refl
-nosession_none moment bus (f ∷ fs) = nosession_none moment bus fs
-
-pub count_append : (p : Line → Bool) (a b : List Line) → count_by p (a ++ b) ≡ count_by p a + count_by p b
-count_append p a b = sum_by-append _ a b
+nosession_none moment bus (f ∷ fs) =
+    count_append is_nosession (tx_line moment bus f ∷ []) (map (tx_line moment bus) fs) ∙ ap (λ n. 0 + n) (nosession_none moment bus fs)
 
 tx_from : (moment bus : ℕ) (qs : List Queue) → count_by is_tx (leaving_from moment bus qs) ≡ length (leaving_from moment bus qs)
 tx_from moment bus [] = refl
@@ -124,6 +106,9 @@ tx_rounds (suc n) moment qs =
 abbrev rates : List Queue → ℕ
 rates qs = sum_by (λ (q : Queue). q.rate) qs
 
+rates_cons : (q : Queue) (qs : List Queue) → rates (q ∷ qs) ≡ q.rate + rates qs
+rates_cons q qs = sum_by-append (λ (x : Queue). x.rate) (q ∷ []) qs ∙ omega arith
+
 leave_few : (n : ℕ) (w : List OutFrame) → length (leave n w) ≤ n
 leave_few zero w = omega arith
 leave_few (suc n) [] = omega arith
@@ -135,42 +120,44 @@ few_from moment bus (q ∷ qs) =
     let here = leave_few q.rate q.waiting in
     let rest = few_from moment (bus + 1) qs in
     let lines = length-map (leave q.rate q.waiting) (tx_line moment bus) in
+    let sum = rates_cons q qs in
     let all = length-append (bus_lines moment bus q) (leaving_from moment (bus + 1) qs) in omega arith
 
 rate_push : (x : Sends) (q : Queue) → (push x q).rate ≡ q.rate
-rate_push x q = go (takes x q)
+rate_push x q = go (takes x q) _
   where
-    go : (b : Bool) → (if b then record q { waiting = _ } else q).rate ≡ q.rate
-    go true = refl
-    go false = refl
+    go : (b : Bool) (fs : List OutFrame) → (if◌then◌else◌ {A = Queue} b (record q { waiting = fs }) q).rate ≡ q.rate
+    go true fs = refl
+    go false fs = refl
 
 rates_push : (x : Option Sends) (qs : List Queue) → rates (push_all x qs) ≡ rates qs
 rates_push None qs = refl
 rates_push (Some x) [] = refl
-rates_push (Some x) (q ∷ qs) = ap₂ (λ a b. a + b) (rate_push x q) (rates_push (Some x) qs)
+rates_push (Some x) (q ∷ qs) =
+    rates_cons (push x q) (push_all (Some x) qs) ∙ (ap₂ (λ a b. a + b) (rate_push x q) (rates_push (Some x) qs) ∙ sym (rates_cons q qs))
 
 rates_drained : (qs : List Queue) → rates (map drained qs) ≡ rates qs
 rates_drained [] = refl
-rates_drained (q ∷ qs) = ap (λ n. q.rate + n) (rates_drained qs)
+rates_drained (q ∷ qs) = rates_cons (drained q) (map drained qs) ∙ (ap (λ n. q.rate + n) (rates_drained qs) ∙ sym (rates_cons q qs))
 
-rates_empty : (plan : Plan) (buses : List BusPlan) → rates (map (empty_queue plan) buses) ≡ sum_by (λ (bus : BusPlan). bus.rate) buses
-rates_empty plan [] = refl
-rates_empty plan (bus ∷ buses) = ap (λ n. bus.rate + n) (rates_empty plan buses)
-
-few_rates : (buses : List BusPlan) → All IsBus buses → sum_by (λ (bus : BusPlan). bus.rate) buses ≤ 4096 * length buses
-few_rates [] all = omega arith
-few_rates (bus ∷ buses) all =
-    let rest = few_rates buses (λ k d below. all (suc k) d (omega arith)) in
+few_rates : (plan : Plan) (buses : List BusPlan) → All IsBus buses → rates (map (empty_queue plan.queue) buses) ≤ 4096 * length buses
+few_rates plan [] all = omega arith
+few_rates plan (bus ∷ buses) all =
+    let rest = few_rates plan buses (λ k d below. all (suc k) d (omega arith)) in
+    let sum = rates_cons (empty_queue plan.queue bus) (map (empty_queue plan.queue) buses) in
     let here = (all 0 bus (omega arith)).low_rate in omega arith
 
 -- and at most 12,288 frames behind a step
 rates_kept : (plan : Plan) (all : List Step) → rates (kept plan all).queues ≡ rates (kept plan []).queues
 rates_kept plan [] = refl
-rates_kept plan (step ∷ past) = rates_drained _ ∙ (rates_push _ (kept plan past).queues ∙ rates_kept plan past)
+rates_kept plan (step ∷ past) =
+    let k = kept plan past in
+    let x = sends plan step past k in
+    rates_drained (push_all x k.queues) ∙ (rates_push x k.queues ∙ rates_kept plan past)
 
 pub few_leave : (plan : Plan) (past : List Step) (moment : ℕ) (x : Option Sends) → IsPlan plan → length (leaving moment (push_all x (kept plan past).queues)) ≤ 12288
 few_leave plan past moment x is =
     let few = few_from moment 0 (push_all x (kept plan past).queues) in
-    let same = rates_push x (kept plan past).queues ∙ (rates_kept plan past ∙ rates_empty plan plan.buses) in
-    let low = few_rates plan.buses is.buses in
+    let same = rates_push x (kept plan past).queues ∙ rates_kept plan past in
+    let low = few_rates plan plan.buses is.buses in
     let buses = is.few_buses in omega arith

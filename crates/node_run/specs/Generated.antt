@@ -4,7 +4,7 @@ use Rattle.cy_outside.specs.Written.{behind, Begins}
 use Rattle.line_text.specs.Text.{line_of}
 use Rattle.log_gen.specs.Rules.{transfers}
 use Rattle.log_gen.specs.Laws.{records_by}
-use Rattle.node_plan.specs.Draft.{blank_info}
+use Rattle.node_plan.specs.Info.{blank_info}
 use Rattle.node_plan.specs.declared.plan.BusPlan.{BusPlan}
 use Rattle.node_plan.specs.declared.plan.Plan.{Plan}
 use Rattle.node_plan.specs.declared.plan.SubShape.TheVariants.{Raw}

@@ -14,17 +14,20 @@ use Rattle.node_run.specs.declared.log.tally.Seen.{Seen}
 use Rattle.node_run.specs.Ran.{Reported, AtFirst, Emptied, names_of}
 use Rattle.node_run.specs.Goes.{State, Runs, Broke}
 
--- the number and the moment of the first tick that isn't before these records; a silent node has none
-abbrev pub IsNextTick : Plan → List Record → ℕ → ℕ → Type 0
-IsNextTick plan [] number next =
-    (number ≡ 0) × (next ≡ (if plan.silent then 2 ^ 64 - 1 else 0))
-IsNextTick plan (rec ∷ past) number next =
-    if plan.silent then (number ≡ 0) × (next ≡ 2 ^ 64 - 1)
-    else (number ≡ ticks_done (rec ∷ past)) × (next ≡ first_of rec past + number * 1000000)
+-- how many ticks come before the newest of these records
+abbrev pub ticks_of : Plan → List Record → ℕ
+ticks_of plan past = if plan.silent then 0 else ticks_done past
+
+-- the moment of the next one; a silent node has none
+abbrev pub next_of : Plan → List Record → ℕ
+next_of plan [] = if plan.silent then 2 ^ 64 - 1 else 0
+next_of plan (rec ∷ past) =
+    if plan.silent then 2 ^ 64 - 1 else first_of rec past + ticks_done (rec ∷ past) * 1000000
 
 -- a clock behind these records: where frames wait, it has the moment behind which frames left last
 pub record IsClock (plan : Plan) (past : List Record) (clock : Clock) : Type 0 where
-  pub next : IsNextTick plan past clock.number clock.next
+  pub number : clock.number ≡ ticks_of plan past
+  pub next : clock.next ≡ next_of plan past
   pub last : let qs = (kept plan (steps plan past)).queues in
       rounds (waiting qs) clock.last qs ≡ emptying plan (steps plan past)
 

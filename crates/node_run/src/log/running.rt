@@ -278,7 +278,7 @@ impl<'a, K: LineSink> Running<'a, K> {
     {
         self.clock.begin(moment);
         let due = (moment - self.clock.next) / Clock::SECOND + 1;
-        for _ in 0..due {
+        for tick in 0..due {
             self.tick(gathered)?;
         }
         Ok(())

@@ -115,7 +115,7 @@ fn drain_bus<K: LineSink>(
         OnErr result (BeginsList (bus_lines moment bus q) (K.lines lines.old) (K.lines lines.new)) }
 {
     let rate = node.rate(bus);
-    for _ in 0..rate {
+    for turn in 0..rate {
         let Some(frame) = node.pop_out(bus) else {
             return Ok(());
         };
@@ -147,10 +147,7 @@ pub(crate) fn empty<K: LineSink>(
         OnErr result (BeginsList (rounds (waiting qs) moment qs) (K.lines lines.old) (K.lines lines.new)) }
 {
     let most = node.waiting();
-    for _ in 0..most {
-        if node.waiting() == 0 {
-            break;
-        }
+    for round in 0..most {
         drain(node, moment, writer, lines, gathered)?;
     }
     Ok(most - node.waiting())

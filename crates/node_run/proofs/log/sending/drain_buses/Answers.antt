@@ -1,0 +1,63 @@
+use Rattle.std.proofs.Common.{◌≡◌, ◌∙◌, ◌+◌, ◌<◌, ◌++◌, ◌∷◌, [], List, map, take, drop, ℕ, refl, sym, ap, subst, arith}
+use Rattle.line_text.specs.Buffer.{text_of}
+use Rattle.node_core.specs.declared.line.Line.{Line}
+use Rattle.node_core.specs.Keeps.{keeps}
+use Rattle.node_core.specs.LineSinks.{BeginsList}
+use Rattle.node_core.specs.Pops.{queue_at}
+use Rattle.node_core.specs.Queues.{Queue, bus_lines, drained, leaving, leaving_from}
+use Rattle.node_core.specs.Steps.{Kept}
+use Rattle.node_core.specs.Writer.{writes_for}
+use Rattle.node_core.proofs.Steps.{on_err}
+use Rattle.node_run.specs.Leaves.{bus_left}
+use Rattle.node_run.specs.Tells.{HasTold}
+use Rattle.node_run.proofs.Drains.{at_bus, in_done, line_more, next_done, next_lines}
+use Rattle.node_run.proofs.Tells.{begins_later, begins_more, told_more, told_none}
+use Rattle.node_run.proofs.log.sending.drain_buses.Goals as goal
+
+pub drain_bus-requires : goal.drain_bus-requires
+drain_bus-requires g c =
+    let old = keeps c.args.node.now in
+    in_done old.queues c.loop-bus.bus old.tid (keeps c.loop-bus.node) (subst (λ n. c.loop-bus.bus < n) c.buses-buses.ensures c.loop-bus-test.true) c.loop-bus.invariant.keeps_are
+
+pub loop-bus-preserved : goal.loop-bus-preserved
+loop-bus-preserved g c =
+    let i = c.loop-bus.invariant in
+    let lines = g.K.LineSink.lines in
+    let old = keeps c.args.node.now in
+    let bus = c.loop-bus.bus in
+    let moment = c.args.moment in
+    let buses = writes_for c.args.writer.now in
+    let within : bus < _ = subst (λ n. bus < n) c.buses-buses.ensures c.loop-bus-test.true in
+    let q : queue_at (keeps c.loop-bus.node).queues bus ≡ queue_at old.queues bus = ap (λ (k : Kept). queue_at k.queues bus) i.keeps_are ∙ at_bus old.queues bus within in
+    let more = bus_lines moment bus (queue_at old.queues bus) in
+    let told : HasTold buses more (text_of c.loop-bus.gathered) (text_of c.drain_bus.new.gathered) (lines c.loop-bus.lines) (lines c.drain_bus.new.lines) =
+    subst (λ (ls : List Line). HasTold buses ls (text_of c.loop-bus.gathered) (text_of c.drain_bus.new.gathered) (lines c.loop-bus.lines) (lines c.drain_bus.new.lines)) (ap (bus_lines moment bus) q)
+    (subst (λ b. HasTold b (bus_lines moment bus (queue_at (keeps c.loop-bus.node).queues bus)) (text_of c.loop-bus.gathered) (text_of c.drain_bus.new.gathered) (lines c.loop-bus.lines) (lines c.drain_bus.new.lines)) i.buses c.in_ok-drain_bus.ensures.told) in record {
+      done = i.done ++ more;
+      plan = c.drain_bus.ensures.plan ∙ i.plan;
+      latest = c.drain_bus.ensures.latest ∙ i.latest;
+      stands = λ past s. c.drain_bus.ensures.stands past (i.stands past s);
+      buses = c.drain_bus.ensures.buses ∙ i.buses;
+      keeps_are = c.in_ok-drain_bus.ensures.keeps ∙ (ap (λ (k : Kept). bus_left k bus) i.keeps_are ∙ next_done old.queues bus within old.tid);
+      told = told_more buses i.done more (text_of c.args.gathered.now) (text_of c.loop-bus.gathered) (text_of c.drain_bus.new.gathered) (lines c.args.lines.now) (lines c.loop-bus.lines) (lines c.drain_bus.new.lines) i.told told;
+      leaves = line_more (leaving moment old.queues) i.done (leaving_from moment bus (drop bus old.queues)) more (leaving_from moment (bus + 1) (drop (bus + 1) old.queues)) i.leaves (next_lines old.queues bus within moment);
+    }
+
+pub returns-in_err-drain_bus-clause-err : goal.returns-in_err-drain_bus-clause-err
+returns-in_err-drain_bus-clause-err g c =
+    let i = c.loop-bus.invariant in
+    let lines = g.K.LineSink.lines in
+    let old = keeps c.args.node.now in
+    let bus = c.loop-bus.bus in
+    let moment = c.args.moment in
+    let within : bus < _ = subst (λ n. bus < n) c.buses-buses.ensures c.loop-bus-test.true in
+    let q : queue_at (keeps c.loop-bus.node).queues bus ≡ queue_at old.queues bus = ap (λ (k : Kept). queue_at k.queues bus) i.keeps_are ∙ at_bus old.queues bus within in
+    let more = bus_lines moment bus (queue_at old.queues bus) in
+    let rest = leaving_from moment (bus + 1) (drop (bus + 1) old.queues) in
+    let b : BeginsList more (lines c.loop-bus.lines) (lines c.drain_bus.new.lines) = subst (λ (x : Queue). BeginsList (bus_lines moment bus x) (lines c.loop-bus.lines) (lines c.drain_bus.new.lines)) q c.in_err-drain_bus.ensures.err in
+    on_err _ c.from_residual.result
+    (subst (λ (ls : List Line). BeginsList ls (lines c.args.lines.now) (lines c.drain_bus.new.lines)) (sym (i.leaves ∙ ap (λ t. i.done ++ t) (next_lines old.queues bus within moment)))
+    (begins_later i.done (more ++ rest) (lines c.args.lines.now) (lines c.loop-bus.lines) (lines c.drain_bus.new.lines) i.told.put (begins_more more rest (lines c.loop-bus.lines) (lines c.drain_bus.new.lines) b)))
+
+pub returns-in_err-drain_bus-clause-stands : goal.returns-in_err-drain_bus-clause-stands
+returns-in_err-drain_bus-clause-stands g c past s = c.drain_bus.ensures.stands past (c.loop-bus.invariant.stands past s)

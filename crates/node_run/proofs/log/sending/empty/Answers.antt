@@ -1,0 +1,90 @@
+use Rattle.std.proofs.Common.{◌≡◌, ◌∙◌, ◌+◌, ◌-◌, ◌++◌, ℕ, suc, List, [], map, length, length-append, refl, sym, ap, subst, arith, append-nil}
+use Rattle.line_text.specs.Buffer.{text_of}
+use Rattle.node_core.specs.declared.line.Line.{Line}
+use Rattle.node_core.specs.Keeps.{keeps}
+use Rattle.node_core.specs.LineSinks.{BeginsList}
+use Rattle.node_core.specs.Queues.{Queue, drained, leaving, rounds, waiting}
+use Rattle.node_core.specs.Steps.{Kept}
+use Rattle.node_core.specs.Writer.{writes_for}
+use Rattle.node_core.proofs.Steps.{on_err}
+use Rattle.node_run.specs.Tells.{HasTold}
+use Rattle.node_run.proofs.Drains.{line_more}
+use Rattle.node_run.proofs.Tells.{begins_later, begins_more, told_more, told_none}
+use Rattle.node_run.proofs.Waits.{waiting_left}
+use Rattle.node_run.proofs.log.sending.empty.Goals as goal
+
+pub loop-round-init : goal.loop-round-init
+loop-round-init g c =
+    let qs = (keeps c.args.node.now).queues in
+    let most : c.waiting-most.result ≡ waiting qs = c.waiting-most.ensures in
+    let n : c.waiting-most.result - 0 ≡ waiting qs = omega arith in record {
+      done = [];
+      most = most;
+      buses = refl;
+      told = told_none (writes_for c.args.writer.now) (text_of c.args.gathered.now) (g.K.LineSink.lines c.args.lines.now);
+      leaves = sym (ap (λ m. rounds m c.args.moment qs) n);
+      left = omega arith;
+    }
+
+pub loop-round-preserved : goal.loop-round-preserved
+loop-round-preserved g c =
+    let i = c.loop-round.invariant in
+    let lines = g.K.LineSink.lines in
+    let moment = c.args.moment in
+    let buses = writes_for c.args.writer.now in
+    let all = (keeps c.args.node.now).queues in
+    let qs = (keeps c.loop-round.node).queues in
+    let test = c.loop-round-test.true in
+    let m = c.waiting-most.result - (c.loop-round.round + 1) in
+    let n : c.waiting-most.result - c.loop-round.round ≡ suc m = omega arith in
+    let more = leaving moment qs in
+    let now : (keeps c.drain.new.node).queues ≡ map drained qs = ap (λ (k : Kept). k.queues) c.in_ok-drain.ensures.keeps in
+    let told : HasTold buses more (text_of c.loop-round.gathered) (text_of c.drain.new.gathered) (lines c.loop-round.lines) (lines c.drain.new.lines) =
+    subst (λ b. HasTold b more (text_of c.loop-round.gathered) (text_of c.drain.new.gathered) (lines c.loop-round.lines) (lines c.drain.new.lines)) i.buses c.in_ok-drain.ensures.told in
+    let stay = waiting_left moment qs in
+    let here = ap waiting now in
+    let size = length-append i.done more in
+    let before = i.left in record {
+      done = i.done ++ more;
+      most = i.most;
+      buses = c.drain.ensures.buses ∙ i.buses;
+      told = told_more buses i.done more (text_of c.args.gathered.now) (text_of c.loop-round.gathered) (text_of c.drain.new.gathered) (lines c.args.lines.now) (lines c.loop-round.lines) (lines c.drain.new.lines) i.told told;
+      leaves = line_more (rounds (waiting all) moment all) i.done (rounds (c.waiting-most.result - c.loop-round.round) moment qs) more (rounds m moment (keeps c.drain.new.node).queues) i.leaves (ap (λ k. rounds k moment qs) n ∙ ap (λ (x : List Queue). more ++ rounds m moment x) (sym now));
+      left = omega (arith, size, stay, here, before);
+    }
+
+pub returns-in_err-drain-clause-err : goal.returns-in_err-drain-clause-err
+returns-in_err-drain-clause-err g c =
+    let i = c.loop-round.invariant in
+    let lines = g.K.LineSink.lines in
+    let moment = c.args.moment in
+    let qs = (keeps c.loop-round.node).queues in
+    let test = c.loop-round-test.true in
+    let m = c.waiting-most.result - (c.loop-round.round + 1) in
+    let n : c.waiting-most.result - c.loop-round.round ≡ suc m = omega arith in
+    let more = leaving moment qs in
+    let rest = rounds m moment (map drained qs) in
+    on_err _ c.from_residual.result
+    (subst (λ (ls : List Line). BeginsList ls (lines c.args.lines.now) (lines c.drain.new.lines)) (sym (i.leaves ∙ ap (λ k. i.done ++ rounds k moment qs) n))
+    (begins_later i.done (more ++ rest) (lines c.args.lines.now) (lines c.loop-round.lines) (lines c.drain.new.lines) i.told.put (begins_more more rest (lines c.loop-round.lines) (lines c.drain.new.lines) c.in_err-drain.ensures.err)))
+
+pub returns-clause-told : goal.returns-clause-told
+returns-clause-told g c =
+    let i = c.loop-round.invariant in
+    let lines = g.K.LineSink.lines in
+    let test = c.loop-round-test.false in
+    let end = c.loop-round.auto.round-end in
+    let n : c.waiting-most.result - c.loop-round.round ≡ 0 = omega arith in
+    let all = i.leaves ∙ (ap (λ k. i.done ++ rounds k c.args.moment (keeps c.loop-round.node).queues) n ∙ append-nil i.done) in
+    subst (λ (ls : List Line). HasTold (writes_for c.args.writer.now) ls (text_of c.args.gathered.now) (text_of c.loop-round.gathered) (lines c.args.lines.now) (lines c.loop-round.lines)) (sym all) i.told
+
+pub returns-clause-sent : goal.returns-clause-sent
+returns-clause-sent g c =
+    let i = c.loop-round.invariant in
+    let test = c.loop-round-test.false in
+    let end = c.loop-round.auto.round-end in
+    let n : c.waiting-most.result - c.loop-round.round ≡ 0 = omega arith in
+    let all = ap length (i.leaves ∙ (ap (λ k. i.done ++ rounds k c.args.moment (keeps c.loop-round.node).queues) n ∙ append-nil i.done)) in
+    let most = i.most in
+    let left = i.left in
+    let now : c.waiting.result ≡ waiting (keeps c.loop-round.node).queues = c.waiting.ensures in omega (arith, all, most, left, now)
