@@ -41,4 +41,4 @@ module _ (v : Voice) (heard : List Record → Type 0) (left new before after : O
   has_taken t = record { taken = t.taken; took = t.took; hears = tt; written = t.written }
 
   pub has_streamed : (ended : List Record → Type 0) (how : Ended) → IsStreamed v heard ended left new how before after → IsStreamed v Anything Anything left new how before after
-  has_streamed ended how s = record { taken = s.taken; took = s.took; written = s.written; hears = λ n front more e long. ([], inl tt) }
+  has_streamed ended how s = record { taken = s.taken; took = s.took; written = s.written; hears = λ n front more e long. ([], inl tt); ends = λ ok front more e long. ([], tt) }
