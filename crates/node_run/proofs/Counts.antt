@@ -18,13 +18,13 @@ use Rattle.node_core.specs.declared.line.FullLine.{FullLine}
 use Rattle.node_core.specs.declared.line.Line.TheVariants.{Full}
 use Rattle.node_core.specs.declared.numbers.Numbers.{Numbers}
 use Rattle.node_core.specs.Heard.{ports_of}
-use Rattle.node_core.specs.Queues.{Queue, Sends, full_line, fulls, fulls_from, leaving, push_all, takes}
+use Rattle.node_core.specs.Queues.{Queue, Sends, full_line, fulls, fulls_from, leaving, push_all, takes, waiting}
 use Rattle.node_core.specs.Received.{of_delivery, of_frame, of_session, of_source, on_port, refused_line}
-use Rattle.node_core.specs.Steps.{Step, Heard, Tick, bad_at, badcrcs, got, held_at, is_bad_at, is_nosession, is_rx, is_tx, kept, lines, lines_at, moment_of, node_lines, numbers, one_if, pushed, received_at, records, sends}
+use Rattle.node_core.specs.Steps.{Step, Heard, Tick, all_lines, bad_at, emptying, badcrcs, got, held_at, is_bad_at, is_nosession, is_rx, is_tx, kept, lines, lines_at, moment_of, node_lines, numbers, one_if, pushed, received_at, records, sends}
 use Rattle.node_run.specs.Goes.{IsFew, with_sent}
 use Rattle.node_run.specs.Hears.{counted}
 use Rattle.node_run.specs.declared.log.tally.Seen.{Seen}
-use Rattle.node_run.proofs.Waits.{count_append, few_leave, nosession_leaving, rx_leaving, tx_leaving}
+use Rattle.node_run.proofs.Waits.{count_append, few_leave, few_rounds, few_wait, nosession_leaving, rx_leaving, tx_leaving, tx_rounds}
 
 -- a line on a full bus counts nothing
 
@@ -117,6 +117,17 @@ few_sent plan (s ∷ past) is =
     let all = next plan s past is_tx in
     let sent = tx_at plan s past in omega arith
 
+few_emptied : (plan : Plan) (all : List Step) → IsPlan plan → length (emptying plan all) ≤ 12288
+few_emptied plan [] is = omega arith
+few_emptied plan (s ∷ past) is =
+    let qs = (kept plan (s ∷ past)).queues in
+    let few = few_rounds (waiting qs) (moment_of s) qs in
+    let wait = few_wait plan (s ∷ past) is in omega arith
+
+tx_emptied : (plan : Plan) (all : List Step) → count_by is_tx (emptying plan all) ≡ length (emptying plan all)
+tx_emptied plan [] = refl
+tx_emptied plan (s ∷ past) = let qs = (kept plan (s ∷ past)).queues in tx_rounds (waiting qs) (moment_of s) qs
+
 module _ (plan : Plan) (past : List Step) (is : IsPlan plan) where
   -- so they can be counted
   pub sent_next : (s : Step) → IsFew (s ∷ past) → (n : ℕ) → n ≡ count_by is_tx (lines plan past) → (more : ℕ) → more ≡ length (leaving (moment_of s) (pushed plan s past (kept plan past)).queues)
@@ -164,3 +175,11 @@ module _ (plan : Plan) (past : List Step) (is : IsPlan plan) where
       let q4 : m.badcrc + seen.badcrc ≡ badcrcs plan past + one_if (is_bad_at plan rec (records past)) = ap (λ (x : Numbers). x.badcrc + seen.badcrc) (g ∙ ap (λ (x : Numbers). with_sent x more) e) ∙ ap (λ x. badcrcs plan past + x) b in
       let q7 : m.bound ≡ bound_of plan = ap (λ (x : Numbers). x.bound) (g ∙ ap (λ (x : Numbers). with_sent x more) e) in
       λ i. record { records = q1 i; delivered = q2 i; badcrc = q4 i; nosession = q3 i; sent = sent i; held = h i; bound = q7 i }
+
+  -- the frames that left at the end can be counted too
+  pub sent_at_end : length past ≤ 2 ^ 50 → (n : ℕ) → n ≡ count_by is_tx (lines plan past) → (emptied : ℕ) → emptied ≡ length (emptying plan past) → min (n + emptied) (2 ^ 64 - 1) ≡ count_by is_tx (all_lines plan past)
+  sent_at_end few n e emptied f =
+      let most = few_sent plan past is in
+      let last = few_emptied plan past is in
+      let all = count_append is_tx (lines plan past) (emptying plan past) in
+      let here = tx_emptied plan past in omega arith

@@ -1,5 +1,5 @@
 -- How a run goes on, step by step.
-use Rattle.std.proofs.Common.{◌≡◌, ◌∙◌, ℕ, ◌+◌, ◌≤◌, List, [], ◌∷◌, ◌++◌, length, Option, Some, None, refl, sym, ap, ap₂, subst, arith, append_assoc, append-nil}
+use Rattle.std.proofs.Common.{◌≡◌, ◌∙◌, ◌^◌, ◌*◌, ℕ, ◌+◌, ◌-◌, ◌<◌, ◌≤◌, min, List, [], ◌∷◌, ◌++◌, length, Option, Some, None, refl, sym, ap, ap₂, subst, arith, append_assoc, append-nil}
 use Rattle.tail_frame.specs.declared.logged.Record.{Record}
 use Rattle.frame_log.specs.declared.error.LogError.{LogError}
 use Rattle.frame_log.specs.declared.error.LogError.TheVariants as error
@@ -9,14 +9,17 @@ use Rattle.node_core.specs.declared.line.Line.{Line}
 use Rattle.node_core.specs.declared.numbers.Numbers.{Numbers}
 use Rattle.node_core.specs.Keeps.{keeps}
 use Rattle.node_core.specs.LineSinks.{BeginsList, put_behind}
-use Rattle.node_core.specs.Queues.{fulls, leaving}
+use Rattle.node_core.specs.Queues.{Queue, fulls, leaving, waiting}
+use Rattle.node_core.proofs.Waits.{all_stay, none_leaves}
+use Rattle.node_plan.specs.declared.plan.BusPlan.{BusPlan}
 use Rattle.node_core.specs.Stands.{Stands}
-use Rattle.node_core.specs.Steps.{Step, Kept, emptying, kept, left, lines, lines_at, lines_behind, moment_of, numbers, pushed, received_at, records, sends, all_lines}
+use Rattle.node_core.specs.Steps.{Step, Tick, Kept, ticks_from, emptying, kept, left, lines, lines_at, lines_behind, moment_of, numbers, pushed, received_at, records, sends, all_lines}
 use Rattle.node_core.specs.Text.{text}
-use Rattle.node_run.specs.Goes.{Broke, GoesOn, IsFew, Runs, State, report_of}
+use Rattle.node_run.specs.Goes.{BreaksOff, Broke, GoesOn, IsFew, Runs, State, report_of, with_sent}
+use Rattle.node_run.specs.Tells.{HasTold}
 use Rattle.node_run.specs.Ran.{AtFirst, Emptied, Reported, Tells, At, first_lines, next_lines}
-use Rattle.node_run.proofs.Steps.{behind_newer, lines_newer}
-use Rattle.node_run.proofs.Tells.{put_more, text_append}
+use Rattle.node_run.proofs.Steps.{behind_newer, length_behind, lines_newer, tick_more, ticks_split}
+use Rattle.node_run.proofs.Tells.{put_more, text_append, told_more, told_none}
 
 -- a step's lines, from what it received and what it sends
 pub lines_are : (plan : Plan) (s : Step) (past : List Step) (k mid : Kept) (g f : List Line) → k ≡ kept plan past → mid ≡ pushed plan s past k → g ≡ received_at plan s past → f ≡ fulls (moment_of s) (sends plan s past k) k.queues
@@ -167,3 +170,50 @@ goes_more a b old mid new t now after x y plan before past few h =
     fewer c d e h =
         let all = ap length (append_assoc c d e) in
         let less = longer c (d ++ e) in omega arith
+
+-- One step.
+
+module _ (plan : Plan) (before : Option (List Line)) (s : Step) (past : List Step) (old : State) (h : Runs plan before old past) (k mid : Kept) (ek : k ≡ kept plan past) (em : mid ≡ pushed plan s past k) where
+  abbrev out : List Line
+  out = leaving (moment_of s) mid.queues
+
+  -- how many frames left
+  pub sent_is : (more : ℕ) → more ≡ length out → more ≡ length (leaving (moment_of s) (pushed plan s past (kept plan past)).queues)
+  sent_is more e = e ∙ ap (λ (y : Kept). length (leaving (moment_of s) y.queues)) (em ∙ ap (pushed plan s past) ek)
+
+  module _ (g f : List Line) (eg : g ≡ received_at plan s past) (ef : f ≡ fulls (moment_of s) (sends plan s past k) k.queues) where
+    pub all_lines_are : g ++ (f ++ out) ≡ lines_at plan s past
+    all_lines_are = sym (append_assoc g f out) ∙ lines_are plan s past k mid g f ek em eg ef
+
+    pub step_told : (t now after : List ℕ) (o1 o2 : Option (List Line)) → HasTold old.buses g t now old.told o1 → HasTold old.buses (f ++ out) now after o1 o2 → HasTold plan.buses (lines_at plan s past) t after old.told o2
+    step_told t now after o1 o2 x y =
+        subst (λ (ls : List Line). HasTold plan.buses ls t after old.told o2) all_lines_are
+        (subst (λ b. HasTold b (g ++ (f ++ out)) t after old.told o2) h.names (told_more old.buses g (f ++ out) t now after old.told o1 o2 x y))
+
+-- what a quiet step leaves as it was
+pub none_kept : (k : Kept) → waiting k.queues ≡ 0 → k ≡ left k
+none_kept k e = ap (λ (qs : List Queue). record k { queues = qs }) (sym (all_stay k.queues e))
+
+pub none_told : (buses : List BusPlan) (moment : ℕ) (qs : List Queue) (t : List ℕ) (o : Option (List Line)) → waiting qs ≡ 0 → HasTold buses (leaving moment qs) t t o o
+none_told buses moment qs t o e = subst (λ (ls : List Line). HasTold buses ls t t o o) (sym (none_leaves moment 0 qs e)) (told_none buses t o)
+
+pub none_sent : (moment : ℕ) (qs : List Queue) (n : Numbers) → n.sent < 2 ^ 64 → waiting qs ≡ 0 → n ≡ with_sent n (length (leaving moment qs))
+none_sent moment qs n low e =
+    let none : length (leaving moment qs) ≡ 0 = ap length (none_leaves moment 0 qs e) in
+    let same : n.sent ≡ min (n.sent + length (leaving moment qs)) (2 ^ 64 - 1) = omega arith in ap (λ m. record n { sent = m }) same
+
+-- Ticks, in one of which it broke off.
+
+pub ticks_broke : (first number due n at moment : ℕ) → n < due → at ≡ number + n → moment ≡ first + (number + n) * 1000000 → (old mid new : State) (t now : List ℕ) → GoesOn (ticks_from first number n) old mid t now → BreaksOff (Tick at moment ∷ []) mid new → BreaksOff (ticks_from first number due) old new
+ticks_broke first number due n at moment below e f old mid new t now goes breaks plan before past few h =
+    let size = length_behind first number due past in
+    let done = length_behind first number n past in
+    let few_done : IsFew (ticks_from first number n ++ past) = omega (arith, few, size, done) in
+    let few_more : IsFew (Tick at moment ∷ (ticks_from first number n ++ past)) = omega (arith, few, size, done) in
+    let b = breaks plan before (ticks_from first number n ++ past) few_more (goes plan before past few_done h).0 in
+    let d = due - (n + 1) in
+    let split = ticks_split first number (n + 1) d in
+    let more = ap (λ (ts : List Step). ts ++ past) (tick_more first number n at moment e f) in
+    let all : due ≡ (n + 1) + d = omega arith in
+    let whole = ap (λ (ts : List Step). ts ++ past) (ap (ticks_from first number) all ∙ split.1) ∙ append_assoc split.0 (ticks_from first number (n + 1)) past in
+    subst (Broke plan (report_of before new)) (sym whole) (broke_grow plan split.0 (ticks_from first number (n + 1) ++ past) (report_of before new) (subst (Broke plan (report_of before new)) more b))

@@ -1,5 +1,5 @@
 -- The steps over the records of a log, and their lines.
-use Rattle.std.proofs.Common.{◌≡◌, ◌∙◌, ℕ, zero, suc, ◌+◌, ◌*◌, List, [], ◌∷◌, ◌++◌, refl, sym, ap, append-nil, append_assoc, arith}
+use Rattle.std.proofs.Common.{◌≡◌, ◌∙◌, ℕ, zero, suc, ◌+◌, ◌*◌, List, [], ◌∷◌, ◌++◌, refl, sym, ap, ap₂, add-one, length-append, append-nil, append_assoc, arith}
 use Rattle.std.specs.Prelude.{length}
 use mathlib.Core.List.{reverse_aux}
 use Rattle.tail_frame.specs.declared.logged.Record.{Record}
@@ -46,3 +46,10 @@ ticks_split first number n (suc d) =
 pub length_ticks : (first number n : ℕ) → length (ticks_from first number n) ≡ n
 length_ticks first number zero = refl
 length_ticks first number (suc n) = ap suc (length_ticks first number n)
+
+-- one more tick
+pub tick_more : (first number n at moment : ℕ) → at ≡ number + n → moment ≡ first + (number + n) * 1000000 → Tick at moment ∷ ticks_from first number n ≡ ticks_from first number (n + 1)
+tick_more first number n at moment e f = ap₂ (λ a b. Tick a b ∷ ticks_from first number n) e f ∙ ap (ticks_from first number) (sym (add-one n))
+
+pub length_behind : (first number n : ℕ) (past : List Step) → length (ticks_from first number n ++ past) ≡ n + length past
+length_behind first number n past = length-append (ticks_from first number n) past ∙ ap (λ m. m + length past) (length_ticks first number n)

@@ -1,10 +1,10 @@
 -- Which ticks are due.
-use Rattle.std.proofs.Common.{◌≡◌, ◌∙◌, ◌^◌, ℕ, zero, suc, ◌+◌, ◌-◌, ◌*◌, ◌/◌, ◌<◌, ◌≤◌, Bool, true, false, List, [], ◌∷◌, refl, sym, ap, ap₂, subst, eqb-true, arith}
-use Rattle.std.specs.Prelude.{if◌then◌else◌, ◌==◌}
+use Rattle.std.proofs.Common.{◌≡◌, ◌∙◌, ◌^◌, ℕ, zero, suc, ◌+◌, ◌-◌, ◌*◌, ◌/◌, ◌<◌, ◌≤◌, Bool, true, false, List, [], ◌∷◌, refl, sym, ap, ap₂, subst, eqb-true, ltb-true, ltb-false, arith}
+use Rattle.std.specs.Prelude.{if◌then◌else◌, ◌==◌, nat_lt}
 use Rattle.tail_frame.specs.declared.logged.Record.{Record}
 use Rattle.node_plan.specs.declared.plan.Plan.{Plan}
 use Rattle.node_core.specs.Steps.{Step, first_of, ticks_before, ticks_done, ticks_from, ticks_until, ticks_upto}
-use Rattle.node_run.specs.Goes.{begun_next, last_tick, ticks_due}
+use Rattle.node_run.specs.Goes.{IsFrom, begun_next, last_tick, next_behind, ticks_due, ticks_left}
 use Rattle.node_run.specs.Hears.{next_of, ticks_of}
 
 due_count : (first number moment : ℕ) → first + number * 1000000 ≤ moment → ticks_until first moment - number ≡ ticks_due (first + number * 1000000) moment
@@ -127,3 +127,35 @@ module _ (plan : Plan) (rec : Record) where
         next_is = silent_next e past ∙ sym (silent_next e (rec ∷ past));
       }
       go false e = none_later e past h low
+
+-- the ticks before a record, by the number and the moment of the next one
+pub record Before (plan : Plan) (rec : Record) (past : List Record) (number next : ℕ) : Type 0 where
+  pub first : IsFrom (first_of rec past) number next rec.moment
+  pub ticks : ticks_before plan rec past ≡ ticks_from (first_of rec past) number (ticks_left number next rec.moment)
+  pub number_is : number + ticks_left number next rec.moment ≡ ticks_of plan (rec ∷ past)
+  pub next_is : next_behind number next rec.moment ≡ next_of plan (rec ∷ past)
+
+pub before_are : (plan : Plan) (rec : Record) (past : List Record) (number next : ℕ) → number ≡ ticks_of plan past → next ≡ next_of plan past → rec.moment < 10 ^ 18 → last_tick number next ≤ rec.moment → Before plan rec past number next
+before_are plan rec past number next en ex low last =
+    subst (λ n. Before plan rec past n next) (sym en) (subst (λ x. Before plan rec past (ticks_of plan past) x) (sym ex) (go (nat_lt rec.moment (next_of plan past)) refl))
+  where
+    go : (b : Bool) → nat_lt rec.moment (next_of plan past) ≡ b → Before plan rec past (ticks_of plan past) (next_of plan past)
+    go true e =
+        let h : rec.moment < next_of plan past = ltb-true rec.moment (next_of plan past) e in
+        let d = no_ticks plan rec past h (subst (λ m. m ≤ rec.moment) (ap₂ last_tick en ex) last) in
+        let left : ticks_left (ticks_of plan past) (next_of plan past) rec.moment ≡ 0 = ap (λ (b : Bool). if b then 0 else ticks_due (begun_next (ticks_of plan past) (next_of plan past) rec.moment) rec.moment) e in record {
+          first = λ g. absurd (omega arith);
+          ticks = d.ticks ∙ sym (ap (ticks_from (first_of rec past) (ticks_of plan past)) left);
+          number_is = ap (λ m. ticks_of plan past + m) left ∙ (omega arith ∙ d.number_is);
+          next_is = ap (λ (b : Bool). if b then next_of plan past else begun_next (ticks_of plan past) (next_of plan past) rec.moment + ticks_due (begun_next (ticks_of plan past) (next_of plan past) rec.moment) rec.moment * 1000000) e ∙ d.next_is;
+        }
+    go false e =
+        let h : next_of plan past ≤ rec.moment = let f = ltb-false rec.moment (next_of plan past) e in omega arith in
+        let d = ticks_are plan rec past low h in
+        let left : ticks_left (ticks_of plan past) (next_of plan past) rec.moment ≡ ticks_due (begun_next (ticks_of plan past) (next_of plan past) rec.moment) rec.moment =
+        ap (λ (b : Bool). if b then 0 else ticks_due (begun_next (ticks_of plan past) (next_of plan past) rec.moment) rec.moment) e in record {
+          first = λ g. d.first;
+          ticks = d.ticks ∙ sym (ap (ticks_from (first_of rec past) (ticks_of plan past)) left);
+          number_is = ap (λ m. ticks_of plan past + m) left ∙ d.number_is;
+          next_is = ap (λ (b : Bool). if b then next_of plan past else begun_next (ticks_of plan past) (next_of plan past) rec.moment + ticks_due (begun_next (ticks_of plan past) (next_of plan past) rec.moment) rec.moment * 1000000) e ∙ d.next_is;
+        }

@@ -1,15 +1,16 @@
 -- How many frames wait and leave.
 use Rattle.std.proofs.Common.{◌≡◌, ◌∙◌, ℕ, zero, suc, ◌+◌, ◌*◌, ◌≤◌, Bool, true, false, List, [], ◌∷◌, ◌++◌, length, map, Option, Some, None, All, refl, sym, ap, ap₂, subst, arith, count_by, length-append}
-use Rattle.std.specs.Prelude.{sum_by, if◌then◌else◌}
+use Rattle.std.specs.Prelude.{sum_by, if◌then◌else◌, ⊤}
+use Rattle.std.proofs.lemmas.Bool.{leb-true}
 use Rattle.std.proofs.lemmas.List.{length-map}
 use Rattle.std.proofs.lemmas.List.Sums.{sum_by-append}
-use Rattle.tx_queue.specs.Waiting.{least, least_of, is_less}
+use Rattle.tx_queue.specs.Waiting.{least, least_of, is_less, out_frames}
 use Rattle.tx_queue.specs.declared.frame.OutFrame.{OutFrame}
 use Rattle.node_plan.specs.IsPlan.{IsBus, IsPlan}
 use Rattle.node_plan.specs.declared.plan.BusPlan.{BusPlan}
 use Rattle.node_plan.specs.declared.plan.Plan.{Plan}
 use Rattle.node_core.specs.declared.line.Line.{Line}
-use Rattle.node_core.specs.Queues.{Sends, Queue, takes, push, push_all, leave, stay, tx_line, bus_lines, leaving, leaving_from, drained, rounds, waiting}
+use Rattle.node_core.specs.Queues.{Sends, Queue, needs, room, takes, push, push_all, leave, stay, tx_line, bus_lines, leaving, leaving_from, drained, rounds, waiting}
 use Rattle.node_core.specs.Steps.{Step, empty_queue, is_rx, is_nosession, is_tx, kept, sends}
 use Rattle.node_core.proofs.Waits.{all_stay, none_leaves}
 
@@ -161,3 +162,71 @@ few_leave plan past moment x is =
     let same = rates_push x (kept plan past).queues ∙ rates_kept plan past in
     let low = few_rates plan plan.buses is.buses in
     let buses = is.few_buses in omega arith
+
+-- No more wait than there are places.
+
+abbrev Fits : List Queue → Type 0
+Fits [] = ⊤
+Fits (q ∷ qs) = ((length q.waiting ≤ q.places) × (q.places ≤ 4096)) × Fits qs
+
+-- a queue has room for what waits, and as many places as another
+record Roomy (old new : Queue) : Type 0 where
+  few : length new.waiting ≤ old.places
+  same : new.places ≡ old.places
+
+fit_push : (x : Sends) (q : Queue) → length q.waiting ≤ q.places → Roomy q (push x q)
+fit_push x q h = go (takes x q) refl
+  where
+    go : (b : Bool) → takes x q ≡ b → Roomy q (if◌then◌else◌ {A = Queue} b (record q { waiting = q.waiting ++ out_frames x.ident q.mtu x.payload x.tid }) q)
+    go true e =
+        let room_left = leb-true (needs x q) (room q) e in
+        let all = length-append q.waiting (out_frames x.ident q.mtu x.payload x.tid) in
+        let more : length (out_frames x.ident q.mtu x.payload x.tid) ≡ needs x q = length-map _ _ in record { few = omega arith; same = refl }
+    go false e = record { few = h; same = refl }
+
+fits_push : (x : Option Sends) (qs : List Queue) → Fits qs → Fits (push_all x qs)
+fits_push None qs h = h
+fits_push (Some x) [] h = tt
+fits_push (Some x) (q ∷ qs) h =
+    let f = fit_push x q h.0.0 in ((subst (λ n. length (push x q).waiting ≤ n) (sym f.same) f.few, subst (λ n. n ≤ 4096) (sym f.same) h.0.1), fits_push (Some x) qs h.1)
+
+fits_drained : (qs : List Queue) → Fits qs → Fits (map drained qs)
+fits_drained [] h = tt
+fits_drained (q ∷ qs) h = let all = leave_all q.rate q.waiting in ((omega (arith, h.0.0), h.0.1), fits_drained qs h.1)
+
+fits_empty : (places : ℕ) (buses : List BusPlan) → places ≤ 4096 → Fits (map (empty_queue places) buses)
+fits_empty places [] h = tt
+fits_empty places (bus ∷ buses) h = ((omega arith, h), fits_empty places buses h)
+
+fits_kept : (plan : Plan) (all : List Step) → IsPlan plan → Fits (kept plan all).queues
+fits_kept plan [] is = fits_empty plan.queue plan.buses is.few_places
+fits_kept plan (step ∷ past) is =
+    let k = kept plan past in
+    let x = sends plan step past k in fits_drained (push_all x k.queues) (fits_push x k.queues (fits_kept plan past is))
+
+length_push : (x : Option Sends) (qs : List Queue) → length (push_all x qs) ≡ length qs
+length_push None qs = refl
+length_push (Some x) qs = length-map qs (push x)
+
+length_kept : (plan : Plan) (all : List Step) → length (kept plan all).queues ≡ length plan.buses
+length_kept plan [] = length-map plan.buses (empty_queue plan.queue)
+length_kept plan (step ∷ past) =
+    let k = kept plan past in
+    let x = sends plan step past k in length-map (push_all x k.queues) drained ∙ (length_push x k.queues ∙ length_kept plan past)
+
+few_fit : (qs : List Queue) → Fits qs → waiting qs ≤ 4096 * length qs
+few_fit [] h = omega arith
+few_fit (q ∷ qs) h = let rest = few_fit qs h.1 in omega (arith, h.0.0, h.0.1, rest)
+
+-- so at most 12,288 leave at the end
+pub few_wait : (plan : Plan) (all : List Step) → IsPlan plan → waiting (kept plan all).queues ≤ 12288
+few_wait plan all is =
+    let few = few_fit (kept plan all).queues (fits_kept plan all is) in
+    let buses = length_kept plan all in omega (arith, few, buses, is.few_buses)
+
+pub few_rounds : (n moment : ℕ) (qs : List Queue) → length (rounds n moment qs) ≤ waiting qs
+few_rounds zero moment qs = omega arith
+few_rounds (suc n) moment qs =
+    let rest = few_rounds n moment (map drained qs) in
+    let all = waiting_left moment qs in
+    let size = length-append (leaving moment qs) (rounds n moment (map drained qs)) in omega arith

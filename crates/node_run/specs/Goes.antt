@@ -1,5 +1,5 @@
 -- How a run goes on, step by step.
-use Rattle.std.specs.Prelude.{◌≡◌, ◌≤◌, ◌⊎◌, ◌+◌, ◌-◌, ◌/◌, ◌^◌, ◌==◌, ◌++◌, ℕ, min, max, List, Option, if◌then◌else◌, length}
+use Rattle.std.specs.Prelude.{◌≡◌, ◌≤◌, ◌⊎◌, ◌+◌, ◌-◌, ◌*◌, ◌/◌, ◌^◌, nat_lt, ◌==◌, ◌++◌, ℕ, min, max, List, Option, if◌then◌else◌, length}
 use Rattle.node_plan.specs.Bound.{bound_of}
 use Rattle.node_plan.specs.IsPlan.{IsPlan}
 use Rattle.node_plan.specs.declared.plan.BusPlan.{BusPlan}
@@ -74,6 +74,21 @@ begun_next number next moment = if number == 0 then moment else next
 -- how many ticks are due from one at this moment up to another
 abbrev pub ticks_due : ℕ → ℕ → ℕ
 ticks_due next moment = (moment - next) / 1000000 + 1
+
+-- how many are due up to a moment, where the next one has this number and this moment
+abbrev pub ticks_left : ℕ → ℕ → ℕ → ℕ
+ticks_left number next moment =
+    if nat_lt moment next then 0 else ticks_due (begun_next number next moment) moment
+
+-- the moment of the next one behind them
+abbrev pub next_behind : ℕ → ℕ → ℕ → ℕ
+next_behind number next moment =
+    if nat_lt moment next then next
+    else begun_next number next moment + ticks_due (begun_next number next moment) moment * 1000000
+
+-- if a tick is due, the first one was at this moment
+abbrev pub IsFrom : ℕ → ℕ → ℕ → ℕ → Type 0
+IsFrom first number next moment = next ≤ moment → begun_next number next moment ≡ first + number * 1000000
 
 -- the moment of the last tick by the number and the moment of the next one; 0 where there was none
 abbrev pub last_tick : ℕ → ℕ → ℕ

@@ -36,6 +36,8 @@ pub record Hears (plan : Plan) (before : Option (List Line)) (s : State) (clock 
   pub runs : Runs plan before s (steps plan past)
   pub clock_is : IsClock plan past clock
   pub few : length (steps plan past) ≤ s.numbers.records + clock.number
+  pub few_records : s.numbers.records ≤ 2 ^ 28
+  pub few_ticks : clock.number ≤ 2 ^ 45
 
 -- it broke off in a step of the newest of these records, or behind them
 abbrev pub BrokeOff : Plan → Reported → List Record → Type 0

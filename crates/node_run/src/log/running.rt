@@ -12,8 +12,8 @@ ghost use Rattle.node_core.specs.Stands.{StandsAsBefore};
 ghost use Rattle.node_core.specs.Steps.{Heard, Tick, left, lines, steps, ticks_from};
 ghost use Rattle.node_core.specs.Writer.{writes_for};
 ghost use Rattle.node_core.specs.declared.line.Line.TheVariants.{Full};
-ghost use Rattle.node_run.specs.Goes.{BreaksOff, GoesOn, IsLast};
-ghost use Rattle.node_run.specs.Goes.{begun_next, last_tick, latest_of, state, ticks_due, with_sent};
+ghost use Rattle.node_run.specs.Goes.{BreaksOff, GoesOn, IsFrom, IsLast};
+ghost use Rattle.node_run.specs.Goes.{begun_next, last_tick, latest_of, next_behind, state, ticks_due, ticks_left, with_sent};
 ghost use Rattle.node_run.specs.Hears.{BrokeOff, CutShort, HasEnded, Hears, last_text, step_text};
 ghost use Rattle.node_run.specs.Ran.{next_lines, reported};
 ghost use Rattle.node_run.specs.Tells.{HasTold};
@@ -75,9 +75,7 @@ impl<'a, K: LineSink> Listener for Running<'a, K> {
     /// of 100,000 ticks too where records are so far apart.
     #[inline(always)]
     fn hear(&mut self, rec: &Record, gathered: &mut TextBuffer) -> Result<(), NoMemory> {
-        if rec.moment >= self.clock.next {
-            self.ticks(rec.moment, gathered)?;
-        }
+        self.tick_up_to(rec.moment, gathered)?;
         self.take(rec, gathered)
     }
 
@@ -187,6 +185,8 @@ impl<'a, K: LineSink> Running<'a, K> {
             (K.lines self.old.lines.now) (K.lines self.new.lines.now)) }
         ensures uncounted { OnErr result (self.new.tally.numbers ≡ self.old.tally.numbers) }
     {
+        // The number of frames that were sent is one of 64 bits.
+        let _sent = self.tally.numbers.sent;
         if request.is_none() && self.node.waiting() == 0 {
             return Ok(());
         }
@@ -241,6 +241,45 @@ impl<'a, K: LineSink> Running<'a, K> {
         self.tally.send(sent);
         self.clock.last = moment;
         Ok(())
+    }
+
+    /// The ticks up to a moment, if one is due.
+    #[inline(always)]
+    fn tick_up_to(&mut self, moment: u64, gathered: &mut TextBuffer) -> Result<(), NoMemory>
+        requires low { moment < 10 ^ 18 }
+        requires last { last_tick self.old.clock.number self.old.clock.next ≤ moment }
+        ensures same_reference { self.new.lines.ghost_name ≡ self.old.lines.ghost_name }
+        ensures latest { self.new.node.now.latest ≡ self.old.node.now.latest }
+        ensures records { self.new.tally.numbers.records ≡ self.old.tally.numbers.records }
+        ensures last { last_tick self.new.clock.number self.new.clock.next ≤ moment }
+        ensures number { let due = ticks_left self.old.clock.number self.old.clock.next moment in
+            OnOk result (self.new.clock.number ≡ self.old.clock.number + due) }
+        ensures next { let next = next_behind self.old.clock.number self.old.clock.next moment in
+            OnOk result (self.new.clock.next ≡ next) }
+        ensures ok {
+            let old = state self.old.node.now (writes_for self.old.writer.now)
+                (K.lines self.old.lines.now) self.old.tally.numbers in
+            let new = state self.new.node.now (writes_for self.new.writer.now)
+                (K.lines self.new.lines.now) self.new.tally.numbers in
+            let number = self.old.clock.number in
+            let next = self.old.clock.next in
+            OnOk result ((first : ℕ) → IsFrom first number next moment
+            → GoesOn (ticks_from first number (ticks_left number next moment)) old new
+            (text_of gathered.old) (text_of gathered.new)) }
+        ensures err {
+            let old = state self.old.node.now (writes_for self.old.writer.now)
+                (K.lines self.old.lines.now) self.old.tally.numbers in
+            let new = state self.new.node.now (writes_for self.new.writer.now)
+                (K.lines self.new.lines.now) self.new.tally.numbers in
+            let number = self.old.clock.number in
+            let next = self.old.clock.next in
+            OnErr result ((first : ℕ) → IsFrom first number next moment
+            → BreaksOff (ticks_from first number (ticks_left number next moment)) old new) }
+    {
+        if moment < self.clock.next {
+            return Ok(());
+        }
+        self.ticks(moment, gathered)
     }
 
     /// The ticks up to a moment, of which one at least is due.
