@@ -5,15 +5,15 @@ _cyphal()
     local word=${COMP_WORDS[COMP_CWORD]} command=${COMP_WORDS[1]}
     COMPREPLY=()
     if [ "$COMP_CWORD" -eq 1 ]; then
-        mapfile -t COMPREPLY < <(compgen -W 'compile compat encode decode run bound gen monitor allocate fetch --help --version' -- "$word")
+        mapfile -t COMPREPLY < <(compgen -W 'compile compat encode decode run bound migrate gen monitor allocate fetch --help --version' -- "$word")
         return
     fi
     case $command:$COMP_CWORD in
-        run:2 | bound:2 | compile:2 | compat:2 | encode:2 | decode:2)
+        run:2 | bound:2 | migrate:2 | compile:2 | compat:2 | encode:2 | decode:2)
             compopt -o filenames
             mapfile -t COMPREPLY < <(compgen -d -W 'none' -- "$word")
             ;;
-        run:3 | bound:3)
+        run:3 | bound:3 | migrate:3)
             compopt -o filenames
             mapfile -t COMPREPLY < <(compgen -f -- "$word")
             ;;

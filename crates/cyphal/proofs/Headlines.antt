@@ -1,9 +1,7 @@
 -- From what was run to the headline.
-use Rattle.std.proofs.Common.{◌≡◌, ◌∙◌, ◌⊎◌, inl, inr, ℕ, true, List, [], ◌∷◌, ◌++◌, Option, Some, sym, ap, subst, append-nil, append_assoc}
+use Rattle.std.proofs.Common.{◌≡◌, ◌∙◌, ◌⊎◌, inl, inr, ℕ, true, List, [], ◌++◌, Option, Some, None, refl, sym, ap, subst, append-nil, append_assoc}
 use Rattle.std.proofs.lemmas.Bool.{both_ways, true≢false}
 use Rattle.std.proofs.lemmas.List.{append_cancel_left}
-use Rattle.std.proofs.lemmas.List.Elements.{Contains-append_left}
-use Rattle.std.specs.List.{Contains}
 use mathlib.Core.List.{reverse_aux}
 use Rattle.tail_frame.specs.Chains.{KeyRecord}
 use Rattle.tail_frame.specs.declared.logged.Record.{Record}
@@ -12,7 +10,6 @@ use Rattle.rx_table.specs.Ports.{Port}
 use Rattle.frag.specs.Sent.{transfer_at}
 use Rattle.frag.specs.declared.sent.Pair.{Pair}
 use Rattle.frag.specs.declared.sent.Sent.{Sent}
-use Rattle.once.specs.Raw.{WireExplainsFields}
 use Rattle.once.specs.Report.{AnyRx, Explains, IsDue, SelectedRx}
 use Rattle.once.specs.Report as rx_report
 use Rattle.cy_outside.specs.Written.{behind, Begins}
@@ -21,21 +18,20 @@ use Rattle.dsdl_types.specs.Schemas.{Sch}
 use Rattle.node_plan.specs.IsPlan.{TypesKeepRules}
 use Rattle.node_plan.specs.declared.plan.Plan.{Plan}
 use Rattle.frame_log.specs.Log.{Log, log_of}
-use Rattle.log_loop.proofs.Logs.{newest_onto}
+use Rattle.frame_log.specs.declared.error.LogError.{LogError}
 use Rattle.log_loop.proofs.Written.{begins_none}
 use Rattle.node_core.specs.declared.line.Line.{Line}
-use Rattle.node_core.specs.declared.line.Line.TheVariants.{Rx}
 use Rattle.rx_table.specs.Heard.{frames}
 use Rattle.node_core.specs.LineSinks.{put_behind}
-use Rattle.node_core.specs.Steps.{Step, lines, lines_at, steps}
+use Rattle.node_core.specs.Steps.{Step, lines, all_lines, steps}
 use Rattle.node_core.specs.Text.{text}
-use Rattle.session_lines.specs.Reported.{rxs, of_key, IsSession, Reported as SessionLines}
-use Rattle.session_lines.specs.Values.{type_of, IsSentTo, SayValues, SaysDueValue, ValuesInReport, DueValuesInReport}
-use Rattle.session_lines.proofs.Projection.{rxs_append}
-use Rattle.node_run.specs.Ran.{Reported, At, AtFirst, Ran, HasRun, names_of, newest_first, steps_of, end_part, whole_text}
+use Rattle.session_lines.specs.Reported.{rxs, of_key, IsSession, StepsReportAll}
+use Rattle.session_lines.specs.Values.{type_of, IsSentTo, SayValues, SaysDueValue}
+use Rattle.session_lines.proofs.Sending.{rxs_append}
+use Rattle.node_run.specs.Ran.{Reported, Ran, HasRun, names_of, steps_of, due_lines, end_part, whole_text}
 use Rattle.node_run.specs.declared.status.Status.{Status}
 use Rattle.node_run.specs.declared.status.Status.TheVariants as status
-use Rattle.node_run.proofs.Steps.{lines_front, records_steps, text_append}
+use Rattle.node_run.proofs.Tells.{text_append}
 use Rattle.cyphal.specs.Words.{Command}
 use Rattle.cyphal.specs.Cause.{Outside}
 use Rattle.cyphal.specs.Job.{Told, Outcome, is_settled, NotDone}
@@ -47,60 +43,28 @@ use Rattle.cyphal.specs.Laws.{HeadlineLaws}
 use Rattle.cyphal.proofs.Plans.{one_plan}
 use Rattle.cyphal.specs.Headline.{log_in, logged_in, lines_of, report_text, Asked, ExplainsIn, OnceIn, DueIn, ValuesIn, DueValuesIn, HeadlineOf, HasPut, OncePut, DuePut, ValuesPut, DueValuesPut}
 use Rattle.cyphal.proofs.Frames.{frames_are, are_records, in_order}
-
--- the lines of the first steps are the first lines
-lines_newer : (plan : Plan) (newer past : List Step) → (more : List Line) × (lines plan (newer ++ past) ≡ lines plan past ++ more)
-lines_newer plan [] past = ([], sym (append-nil (lines plan past)))
-lines_newer plan (s ∷ newer) past =
-    let f = lines_newer plan newer past in
-    let at = lines_at plan s (newer ++ past) in
-    (f.0 ++ at, ap (λ t. t ++ at) f.1 ∙ append_assoc (lines plan past) f.0 at)
-
--- the first lines of a log were put, and no other
-record IsFront (plan : Plan) (log : Log) (r : Reported) : Type 0 where
-  mine : List Line
-  rest : List Line
-  put : r.new ≡ put_behind r.old mine
-  whole : lines plan (steps_of plan log) ≡ mine ++ rest
-
-first_lines : (plan : Plan) (log : Log) (r : Reported) → AtFirst plan (steps_of plan log) r → IsFront plan log r
-first_lines plan log r f =
-    let more = lines_newer plan f.newer f.past in
-    record { mine = lines plan f.past; rest = more.0; put = f.at.reported; whole = ap (lines plan) f.parts ∙ more.1 }
-
-all_lines : (plan : Plan) (log : Log) (r : Reported) → At plan (steps_of plan log) r → IsFront plan log r
-all_lines plan log r a = record { mine = lines plan (steps_of plan log); rest = []; put = a.reported; whole = sym (append-nil (lines plan (steps_of plan log))) }
-
--- the records that came are the first ones
-came_first : (log : Log) (came left : List Record) → log.records ≡ reverse_aux came left → newest_first log ≡ reverse_aux left came
-came_first log came left e = ap (λ t. reverse_aux t []) e ∙ newest_onto came left
-
--- so their lines are the first lines
-came_lines : (plan : Plan) (log : Log) (came left : List Record) → log.records ≡ reverse_aux came left → (rest : List Line) × (lines plan (steps_of plan log) ≡ lines plan (steps plan came) ++ rest)
-came_lines plan log came left e =
-    let more = lines_front plan came left in
-    (more.0, ap (λ t. lines plan (steps plan t)) (came_first log came left e) ∙ more.1)
+use Rattle.cyphal.proofs.Fronts.{IsFront, first_front, whole_front, came_lines, steps_due, due_all}
 
 -- whatever the status, the first lines of the log were put
 front : (plan : Plan) (log : Log) (stat : Status) (r : Reported) (before after : Option (List ℕ)) → Ran plan log stat r before after → IsFront plan log r
-front plan log status.Ok r before after x = all_lines plan log r x.1.at
+front plan log status.Ok r before after x = whole_front plan log r x.1.at
 front plan log status.Usage r before after x = absurd x
 front plan log (status.Dsdl file n w) r before after x = absurd x
 front plan log (status.Plan n w) r before after x = absurd x
-front plan log (status.Log n w) r before after x = all_lines plan log r x.1.at
+front plan log (status.Log n w) r before after x = whole_front plan log r x.1.at
 front plan log (status.Text line) r before after x = absurd x
 front plan log (status.Unreadable line path w) r before after x = absurd x
 front plan log (status.NotNewer path w) r before after x = absurd x
-front plan log status.LogLong r before after x = all_lines plan log r x.1.at
+front plan log status.LogLong r before after x = whole_front plan log r x.1.at
 front plan log (status.NoFile path) r before after x = absurd x
 front plan log status.ReadFault r before after x =
     let more = came_lines plan log x.came x.left x.parts in
     record { mine = lines plan (steps plan x.came); rest = more.0; put = x.settled.at.reported; whole = more.1 }
-front plan log status.WriteFault r before after x = first_lines plan log r x.first
-front plan log status.NoMemory r before after x = first_lines plan log r x.first
+front plan log status.WriteFault r before after x = first_front plan log r x.first
+front plan log status.NoMemory r before after x = first_front plan log r x.first
 
 -- where the run wasn't cut short, all of them were put
-whole : (plan : Plan) (log : Log) (stat : Status) (r : Reported) (before after : Option (List ℕ)) → is_settled stat ≡ true → Ran plan log stat r before after → r.new ≡ put_behind r.old (lines plan (steps_of plan log))
+whole : (plan : Plan) (log : Log) (stat : Status) (r : Reported) (before after : Option (List ℕ)) → is_settled stat ≡ true → Ran plan log stat r before after → r.new ≡ put_behind r.old (due_lines plan (steps_of plan log) log.refusal)
 whole plan log status.Ok r before after s x = x.1.at.reported
 whole plan log status.Usage r before after s x = absurd x
 whole plan log (status.Dsdl file n w) r before after s x = absurd x
@@ -192,47 +156,55 @@ ran one words told came plan bytes a r =
     subst (λ (q : Plan). HasRun q (Some bytes) stat put told.written came.written) same (subst (λ i. HasRun r.plan i stat put told.written came.written) a.is_input r.run) in
     subst (λ (b : List ℕ). Ran plan (log_of (names_of plan) b) stat put told.written came.written) run.is run.ran
 
-module _ (plan : Plan) (bytes : List ℕ) (key : SessionKey) where
+-- the lines that are due report of a session what those of the steps do
+due_report : StepsReportAll → (plan : Plan) (key : SessionKey) (all : List Step) (refusal : Option LogError) → rxs key (due_lines plan all refusal) ≡ rxs key (lines plan all)
+due_report law plan key all None = law plan key all
+due_report law plan key all (Some refusal) = refl
+
+module _ (law : HeadlineLaws) (plan : Plan) (bytes : List ℕ) (key : SessionKey) where
   abbrev past : List Record
   past = logged_in plan bytes
 
   -- what is reported of a session over the whole log
-  session : SessionLines → (p : Port) → IsSession plan key past p → rxs key (lines plan (steps plan past)) ≡ rx_report.reported plan.timeout p.extent (of_key plan key past)
-  session law p s =
-      let e = records_steps plan past in
-      law plan key (steps plan past) p (subst (λ t. IsSession plan key t p) (sym e) s) ∙ ap (λ t. rx_report.reported plan.timeout p.extent (of_key plan key t)) e
+  session : (p : Port) → IsSession plan key past p → rxs key (lines_of plan bytes) ≡ rx_report.reported plan.timeout p.extent (of_key plan key past)
+  session p s =
+      let e = law.records plan past in
+      due_report law.all plan key (steps plan past) (log_in plan bytes).refusal
+      ∙ (law.sessions plan key (steps plan past) p (subst (λ t. IsSession plan key t p) (sym e) s) ∙ ap (λ t. rx_report.reported plan.timeout p.extent (of_key plan key t)) e)
 
   -- a sent list that explains its records by identifier and data explains them by their fields
-  by_fields : WireExplainsFields → (sent : Sent) (origin : List Pair) → ExplainsIn plan bytes sent key origin → Explains plan.timeout sent key origin (of_key plan key past)
-  by_fields law sent origin x =
+  by_fields : (sent : Sent) (origin : List Pair) → ExplainsIn plan bytes sent key origin → Explains plan.timeout sent key origin (of_key plan key past)
+  by_fields sent origin x =
       subst (λ (log : List KeyedFrame). Explains plan.timeout sent key origin (history key log)) (frames_are plan.node past)
-      (law (heard_as plan.node) (are_records plan.node) plan.timeout sent key origin past x)
+      (law.fields (heard_as plan.node) (are_records plan.node) plan.timeout sent key origin past x)
 
-  -- what its lines say over the whole log
-  all_values : ValuesInReport → (p : Port) (port : Sch) (sent : Sent) (origin : List Pair) → IsSentTo plan key past p port sent origin → SayValues key port sent origin (of_key plan key past) (lines plan (steps plan past))
-  all_values law p port sent origin =
-      subst (λ (t : List Record). IsSentTo plan key t p port sent origin → SayValues key port sent origin (of_key plan key t) (lines plan (steps plan past)))
-      (records_steps plan past) (law plan key (steps plan past) p port sent origin)
+  -- what a front of all lines of the log says
+  front_values : (mine rest : List Line) → all_lines plan (steps plan past) ≡ mine ++ rest → (p : Port) (port : Sch) (sent : Sent) (origin : List Pair)
+      → IsSentTo plan key past p port sent origin → SayValues key port sent origin (of_key plan key past) mine
+  front_values mine rest front p port sent origin =
+      subst (λ (t : List Record). IsSentTo plan key t p port sent origin → SayValues key port sent origin (of_key plan key t) mine)
+      (law.records plan past) (λ x. law.values plan key (steps plan past) p port sent origin mine rest x front)
 
-  all_due_values : DueValuesInReport → (p : Port) (port : Sch) (sent : Sent) (origin : List Pair) (q : KeyRecord) → IsSentTo plan key past p port sent origin
-      → (due : IsDue plan.timeout sent origin (of_key plan key past) q) → SaysDueValue key port (transfer_at sent due.j).payload q (lines plan (steps plan past))
-  all_due_values law p port sent origin q =
+  -- and those of its steps, whatever comes behind them
+  behind_values : (behind : List Line) (p : Port) (port : Sch) (sent : Sent) (origin : List Pair) (q : KeyRecord) → IsSentTo plan key past p port sent origin
+      → (due : IsDue plan.timeout sent origin (of_key plan key past) q) → SaysDueValue key port (transfer_at sent due.j).payload q (lines plan (steps plan past) ++ behind)
+  behind_values behind p port sent origin q =
       subst
-      (λ (t : List Record). IsSentTo plan key t p port sent origin → (due : IsDue plan.timeout sent origin (of_key plan key t) q) → SaysDueValue key port (transfer_at sent due.j).payload q (lines plan (steps plan past)))
-      (records_steps plan past) (law plan key (steps plan past) p port sent origin q)
+      (λ (t : List Record). IsSentTo plan key t p port sent origin → (due : IsDue plan.timeout sent origin (of_key plan key t) q) → SaysDueValue key port (transfer_at sent due.j).payload q (lines plan (steps plan past) ++ behind))
+      (law.records plan past) (law.due_values plan key (steps plan past) p port sent origin q behind)
 
 -- of each front of the lines of a log
 once_in : HeadlineLaws → (plan : Plan) (bytes : List ℕ) (mine rest : List Line) → lines_of plan bytes ≡ mine ++ rest → OnceIn plan bytes mine
 once_in law plan bytes mine rest e key p sent origin s x =
     law.once plan.timeout p.extent sent key origin (frames plan.node (logged_in plan bytes)) (rxs key mine) (rxs key rest)
-    (in_order plan.node (log_in plan bytes).records (law.order (names_of plan) bytes)) (by_fields plan bytes key law.fields sent origin x)
-    (sym (session plan bytes key law.sessions p s) ∙ (ap (rxs key) e ∙ rxs_append key mine rest))
+    (in_order plan.node (log_in plan bytes).records (law.order (names_of plan) bytes)) (by_fields law plan bytes key sent origin x)
+    (sym (session law plan bytes key p s) ∙ (ap (rxs key) e ∙ rxs_append key mine rest))
 
 -- of all of them
 due_in : HeadlineLaws → (plan : Plan) (bytes : List ℕ) → DueIn plan bytes (lines_of plan bytes)
 due_in law plan bytes key p sent origin q s x d =
-    subst (AnyRx (λ rx. rx.last ≡ q.line)) (sym (session plan bytes key law.sessions p s))
-    (law.due plan.timeout p.extent sent key origin (of_key plan key (logged_in plan bytes)) q (by_fields plan bytes key law.fields sent origin x) d)
+    subst (AnyRx (λ rx. rx.last ≡ q.line)) (sym (session law plan bytes key p s))
+    (law.due plan.timeout p.extent sent key origin (of_key plan key (logged_in plan bytes)) q (by_fields law plan bytes key sent origin x) d)
 
 -- the types of a plan that is asked for keep the rules
 types_of : HeadlineLaws → (words : List (List ℕ)) (told : Told) (plan : Plan) (bytes : List ℕ) → Asked words told plan bytes → TypesKeepRules plan
@@ -247,17 +219,20 @@ sent_to law plan bytes rules key p port sent origin s t x = record {
   session = s;
   typed = t;
   log = in_order plan.node (log_in plan bytes).records (law.order (names_of plan) bytes);
-  explains = by_fields plan bytes key law.fields sent origin x;
+  explains = by_fields law plan bytes key sent origin x;
 }
 
 values_in : HeadlineLaws → (plan : Plan) (bytes : List ℕ) → TypesKeepRules plan → (mine rest : List Line) → lines_of plan bytes ≡ mine ++ rest → ValuesIn plan bytes mine
-values_in law plan bytes rules mine rest e key p port sent origin s t x rx line =
-    all_values plan bytes key law.values p port sent origin (sent_to law plan bytes rules key p port sent origin s t x) rx
-    (record { stands = subst (λ (ls : List Line). Contains ls (Rx rx)) (sym e) (Contains-append_left mine rest (Rx rx) line.stands); is_of_key = line.is_of_key })
+values_in law plan bytes rules mine rest e key p port sent origin s t x =
+    let all = due_all plan (steps_of plan (log_in plan bytes)) (log_in plan bytes).refusal in
+    front_values law plan bytes key mine (rest ++ all.0) (all.1 ∙ (ap (λ t. t ++ all.0) e ∙ append_assoc mine rest all.0)) p port sent origin
+    (sent_to law plan bytes rules key p port sent origin s t x)
 
 due_values_in : HeadlineLaws → (plan : Plan) (bytes : List ℕ) → TypesKeepRules plan → DueValuesIn plan bytes (lines_of plan bytes)
 due_values_in law plan bytes rules key p port sent origin q s t x due =
-    all_due_values plan bytes key law.due_values p port sent origin q (sent_to law plan bytes rules key p port sent origin s t x) due
+    let all = steps_due plan (steps_of plan (log_in plan bytes)) (log_in plan bytes).refusal in
+    subst (λ (ls : List Line). SaysDueValue key port (transfer_at sent due.j).payload q ls) (sym all.1)
+    (behind_values law plan bytes key all.0 p port sent origin q (sent_to law plan bytes rules key p port sent origin s t x) due)
 
 module _ {L : Type 0} (one : HaveOneAnswer) (words : List (List ℕ)) (told : Told) (came : Outcome) (old new : Outside L) (done : WasDone words told came old new) where
   settled_text : (plan : Plan) (bytes : List ℕ) → Asked words told plan bytes → is_settled came.status ≡ true → came.written ≡ behind told.written (report_text plan bytes)

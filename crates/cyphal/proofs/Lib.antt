@@ -1,12 +1,15 @@
 pub mod ClapWords
 pub mod Parts
 pub mod Plans
+pub mod ShortPlans
+pub mod Migrations
 pub mod Loaded
 pub mod Ended
 pub mod LogEnds
 pub mod statuses
 pub mod OneStatus
 pub mod Frames
+pub mod Fronts
 pub mod Headlines
 pub mod Streaming
 pub mod Answered

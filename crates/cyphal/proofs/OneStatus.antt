@@ -7,7 +7,7 @@ use Rattle.node_reach.specs.Allocated.{allocate_voice}
 use Rattle.node_reach.specs.Fetched.{client_of, fetch_voice}
 use Rattle.node_reach.specs.Monitored.{monitor_voice}
 use Rattle.node_run.specs.ValueLines.{HasOneStatus}
-use Rattle.cyphal.specs.Words.{Command, Compile, Compat, Encode, Decode, Run, Bound, Gen, Monitor, Allocate, Fetch}
+use Rattle.cyphal.specs.Words.{Command, Compile, Compat, Encode, Decode, Run, Bound, Migrate, Gen, Monitor, Allocate, Fetch}
 use Rattle.cyphal.specs.Expected.{job_of, job_asked}
 use Rattle.cyphal.proofs.statuses.Single.{IsSingle}
 use Rattle.cyphal.proofs.statuses.Compile as compile
@@ -26,6 +26,7 @@ module _ (law : HaveOneAnswer) (encodes : HasOneStatus Encodes) (decodes : HasOn
   single (Decode root name) = values.single law Decodes decodes root name
   single (Run root path) = run.single law root path
   single (Bound root path) = bound.single law root path
+  single (Migrate root path) = bound.single law root path
   single (Gen number) = gen.single number
   single (Monitor own) = reach.single (monitor_voice own)
   single (Allocate own) = reach.single (allocate_voice own)

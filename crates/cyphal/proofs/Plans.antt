@@ -22,19 +22,20 @@ AreEnough names most = (all : List ℕ) → plan_of names (take most all) ≡ pl
 
 module _ (names : Namespace) (path : List ℕ) (most : ℕ) where
   -- the file at the path, where the files are told
-  record FileFound (fs : Files) (text : List ℕ) : Type 0 where
-    all : List ℕ
-    is : map.get fs path ≡ Some all
-    plan : plan_of names text ≡ plan_of names all
+  pub record FileFound (fs : Files) (text : List ℕ) : Type 0 where
+    pub all : List ℕ
+    pub is : map.get fs path ≡ Some all
+    pub front : text ≡ take most all
+    pub plan : plan_of names text ≡ plan_of names all
 
-  file_found : (fs : Files) (text : List ℕ) → ReadsFront (Some fs) path most (Some text) → AreEnough names most → FileFound fs text
+  pub file_found : (fs : Files) (text : List ℕ) → ReadsFront (Some fs) path most (Some text) → AreEnough names most → FileFound fs text
   file_found fs text r enough = by_file (map.get fs path) refl
     where
       by_file : (file : Option (List ℕ)) → map.get fs path ≡ file → FileFound fs text
       by_file None e = let bad : Some text ≡ None = r ∙ ap (option_map (take most)) e in absurd cc
       by_file (Some all) e =
           let front : Some text ≡ Some (take most all) = r ∙ ap (option_map (take most)) e in
-          let same : text ≡ take most all = cc in record { all = all; is = e; plan = ap (plan_of names) same ∙ enough all }
+          let same : text ≡ take most all = cc in record { all = all; is = e; front = same; plan = ap (plan_of names) same ∙ enough all }
 
   none_there : (fs : Files) → ReadsFront (Some fs) path most None → map.get fs path ≡ None
   none_there fs r = by_file (map.get fs path) refl

@@ -19,6 +19,8 @@ use Rattle.once.specs.Raw.{WireExplains}
 use Rattle.once.specs.Due.{Due, Names, SomeFromTo}
 use Rattle.frag.specs.Sent.{pair_at}
 use Rattle.frag.proofs.Follows.{follows_parts}
+use Rattle.node_plan.specs.Info.{blank_info}
+use Rattle.node_plan.specs.Limit.{begins_two}
 use Rattle.node_plan.specs.declared.plan.Plan.{Plan}
 use Rattle.node_plan.specs.declared.plan.SubShape.TheVariants.{Raw}
 use Rattle.node_plan.specs.Plan.{Good, plan_of}
@@ -39,9 +41,14 @@ plan = record {
   timeout = 2000000;
   silent = true;
   subs = record { port = 100; sources = 4; shape = Raw 16 } ∷ [];
+  clients = 4;
+  status = record { health = 0; mode = 0; code = 0 };
+  info = blank_info;
+  queue = 64;
 }
 
 is_plan : plan_of none plan_text ≡ Good plan
+unfolding begins_two
 is_plan = refl
 
 -- no files are compiled to the namespace without types

@@ -1,5 +1,6 @@
--- The headline: of each session only sent transfers are reported, in order and at most once, and each transfer that
--- is due is; what was sent as a value is reported as that value; and what is written is the text of this report.
+-- The headline: of each session only sent transfers are reported, in order and at most once, and
+-- each transfer that is due is; what was sent as a value is reported as that value; and what is
+-- written is the text of this report.
 use Rattle.std.specs.Prelude.{◌≡◌, ◌++◌, ℕ, true, List, Option, Some}
 use Rattle.tail_frame.specs.Chains.{KeyRecord}
 use Rattle.tail_frame.specs.declared.logged.Record.{Record}
@@ -17,11 +18,10 @@ use Rattle.frame_log.specs.Log.{Log, log_of}
 use Rattle.node_plan.specs.declared.plan.Plan.{Plan}
 use Rattle.node_core.specs.declared.line.Line.{Line}
 use Rattle.rx_table.specs.Heard.{heard_as}
-use Rattle.node_core.specs.Steps.{lines}
 use Rattle.node_core.specs.Text.{text}
 use Rattle.session_lines.specs.Reported.{rxs, of_key, IsSession}
 use Rattle.session_lines.specs.Values.{type_of, SayValues, SaysDueValue}
-use Rattle.node_run.specs.Ran.{Reported, names_of, newest_first, steps_of, end_part}
+use Rattle.node_run.specs.Ran.{Reported, names_of, newest_first, steps_of, due_lines, end_part}
 use Rattle.node_run.specs.declared.status.Status.{Status}
 use Rattle.cyphal.specs.Words.{Run, command_of}
 use Rattle.cyphal.specs.Job.{Told, Outcome, is_settled}
@@ -45,8 +45,9 @@ logged_in plan bytes = newest_first (log_of (names_of plan) bytes)
 abbrev pub of_session_in : Plan → List ℕ → SessionKey → List KeyRecord
 of_session_in plan bytes key = of_key plan key (logged_in plan bytes)
 
--- each record of a session is, by identifier and data, the frame of the sent list that its pair in `origin` names,
--- received less than the timeout after it was sent; on each bus these pairs never fall; and there is no chance match
+-- each record of a session is, by identifier and data, the frame of the sent list that its pair in
+-- `origin` names, received less than the timeout after it was sent; on each bus these pairs never
+-- fall; and there is no chance match
 abbrev pub ExplainsIn : Plan → List ℕ → Sent → SessionKey → List Pair → Type 0
 ExplainsIn plan bytes sent key origin =
     WireExplains (heard_as plan.node) plan.timeout sent key origin (logged_in plan bytes)
@@ -55,9 +56,10 @@ ExplainsIn plan bytes sent key origin =
 abbrev pub log_in : Plan → List ℕ → Log
 log_in plan bytes = log_of (names_of plan) bytes
 
--- its lines
+-- its lines: those of its steps, and where it was read to its end those on the frames that then
+-- leave
 abbrev pub lines_of : Plan → List ℕ → List Line
-lines_of plan bytes = lines plan (steps_of plan (log_in plan bytes))
+lines_of plan bytes = due_lines plan (steps_of plan (log_in plan bytes)) (log_in plan bytes).refusal
 
 -- the text of its lines, and where it was read to its end the last line
 abbrev pub report_text : Plan → List ℕ → List ℕ
@@ -65,16 +67,16 @@ report_text plan bytes =
     text plan.buses (lines_of plan bytes)
     ++ end_part plan (steps_of plan (log_in plan bytes)) (log_in plan bytes).refusal
 
--- once: what these lines say of a session are sent transfers, in the order of the sent list, each at most once, cut to
--- the extent
+-- once: what these lines say of a session are sent transfers, in the order of the sent list, each
+-- at most once, cut to the extent
 abbrev pub OnceIn : Plan → List ℕ → List Line → Type 0
 OnceIn plan bytes lines =
     (key : SessionKey) (p : Port) (sent : Sent) (origin : List Pair)
     → IsSession plan key (logged_in plan bytes) p → ExplainsIn plan bytes sent key origin
     → SelectedRx p.extent sent origin (of_session_in plan bytes key) (rxs key lines)
 
--- due: each transfer of a session that came whole on the bus in force with a fresh transfer-ID is among these lines, with
--- the line of its last frame
+-- due: each transfer of a session that came whole on the bus in force with a fresh transfer-ID is
+-- among these lines, with the line of its last frame
 abbrev pub DueIn : Plan → List ℕ → List Line → Type 0
 DueIn plan bytes lines =
     (key : SessionKey) (p : Port) (sent : Sent) (origin : List Pair) (q : KeyRecord)
@@ -82,8 +84,8 @@ DueIn plan bytes lines =
     → IsDue plan.timeout sent origin (of_session_in plan bytes key) q
     → AnyRx (λ rx. rx.last ≡ q.line) (rxs key lines)
 
--- values: where a transfer of a session was sent as a value of its port's type, or of a newer or an older version of it,
--- these lines say this value
+-- values: where a transfer of a session was sent as a value of its port's type, or of a newer or an
+-- older version of it, these lines say this value
 abbrev pub ValuesIn : Plan → List ℕ → List Line → Type 0
 ValuesIn plan bytes lines =
     (key : SessionKey) (p : Port) (port : Sch) (sent : Sent) (origin : List Pair)
@@ -100,9 +102,10 @@ DueValuesIn plan bytes lines =
     → (due : IsDue plan.timeout sent origin (of_session_in plan bytes key) q)
     → SaysDueValue key port (transfer_at sent due.j).payload q lines
 
--- The headline over what is written: where all that counts of the input was run it is the text of the lines of the log,
--- and a beginning of it however the run ended. These lines, and each front of them, say of a session only what was sent,
--- at most once, each value as it was sent; and all of them say what is due.
+-- The headline over what is written: where all that counts of the input was run it is the text of
+-- the lines of the log, and a beginning of it however the run ended. These lines, and each front of
+-- them, say of a session only what was sent, at most once, each value as it was sent; and all of
+-- them say what is due.
 pub record Headline (plan : Plan) (bytes : List ℕ) (stat : Status)
     (before after : Option (List ℕ)) : Type 0 where
   pub written : is_settled stat ≡ true → after ≡ behind before (report_text plan bytes)

@@ -5,8 +5,9 @@ use Rattle.once.specs.Report.{DueInReport, OnceInPart}
 use Rattle.frame_log.specs.Log.{log_of}
 use Rattle.frame_log.specs.Order.{IsAhead}
 use Rattle.dsdl_resolve.specs.Soundness.{NamespacesKeepRules}
+use Rattle.node_core.specs.Laws.{RecordsOfSteps}
 use Rattle.node_plan.specs.Laws.{PlansKeepTypeRules}
-use Rattle.session_lines.specs.Reported.{Reported}
+use Rattle.session_lines.specs.Reported.{Reported, StepsReportAll}
 use Rattle.session_lines.specs.Values.{DueValuesInReport, ValuesInReport}
 
 -- the records of every log are in order
@@ -15,7 +16,9 @@ LogsAreInOrder = (buses : List (List ℕ)) (bytes : List ℕ) → IsAhead 0 0 (l
 
 -- all of them
 pub record HeadlineLaws : Type 0 where
+  pub records : RecordsOfSteps
   pub sessions : Reported
+  pub all : StepsReportAll
   pub fields : WireExplainsFields
   pub once : OnceInPart
   pub due : DueInReport

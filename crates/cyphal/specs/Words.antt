@@ -6,11 +6,12 @@ use Rattle.dsdl_names.specs.Words.{number_to}
 use Rattle.cyphal.specs.declared.words.Accepted.{Accepted}
 use Rattle.cyphal.specs.declared.words.Accepted.TheVariants as accepted
 
--- what the words ask for: the layouts of the types below this root, whether one of them is newer than another, values of
--- one of them as bytes, bytes as values of it, a run of the plan at this path, which is read in the namespace of the root,
--- its memory bound, the run of the log that is made of this number, who is online in the log of the input, which a node with
--- this node-ID hears, node-IDs for the nodes of that log that have none, or the file that a node with this node-ID fetches of
--- another one over that log
+-- what the words ask for: the layouts of the types below this root, whether one of them is newer
+-- than another, values of one of them as bytes, bytes as values of it, a run of the plan at this
+-- path, which is read in the namespace of the root, its memory bound, its text in version 2, the
+-- run of the log that is made of this number, who is online in the log of the input, which a node
+-- with this node-ID hears, node-IDs for the nodes of that log that have none, or the file that a
+-- node with this node-ID fetches of another one over that log
 pub data Command : Type 0 where
   Compile : List ℕ → Command
   Compat : List ℕ → List ℕ → List ℕ → Command
@@ -18,6 +19,7 @@ pub data Command : Type 0 where
   Decode : List ℕ → List ℕ → Command
   Run : List ℕ → List ℕ → Command
   Bound : List ℕ → List ℕ → Command
+  Migrate : List ℕ → List ℕ → Command
   Gen : ℕ → Command
   Monitor : ℕ → Command
   Allocate : ℕ → Command
@@ -31,6 +33,7 @@ asked_by (accepted.Encode root name) = Encode root.now name.now
 asked_by (accepted.Decode root name) = Decode root.now name.now
 asked_by (accepted.Run root plan) = Run root.now plan.now
 asked_by (accepted.Bound root plan) = Bound root.now plan.now
+asked_by (accepted.Migrate root plan) = Migrate root.now plan.now
 asked_by (accepted.Gen number) = Gen number
 asked_by (accepted.Monitor own) = Monitor own.number
 asked_by (accepted.Allocate own) = Allocate own.number
@@ -105,7 +108,8 @@ named_of_one word argument =
 abbrev pub named_of_plan : List ℕ → List ℕ → List ℕ → Option Command
 named_of_plan word root plan =
     if bytes_eq word (codes "run") then Some (Run root plan)
-    else (if bytes_eq word (codes "bound") then Some (Bound root plan) else None)
+    else (if bytes_eq word (codes "bound") then Some (Bound root plan)
+    else (if bytes_eq word (codes "migrate") then Some (Migrate root plan) else None))
 
 -- the command that a word names, of a root and another argument
 abbrev pub named_of_two : List ℕ → List ℕ → List ℕ → Option Command
@@ -121,9 +125,9 @@ named_of_three word first second third =
     else (if bytes_eq word (codes "fetch")
     then fetch_given (node_given first) (node_given second) third else None)
 
--- what the words ask for, where they are accepted: `compile ROOT`, `compat ROOT NEW OLD`, `encode ROOT TYPE`,
--- `decode ROOT TYPE`, `run ROOT PLAN`, `bound ROOT PLAN`, `gen NUMBER`, `monitor NODE`, `allocate NODE` or
--- `fetch NODE SERVER PATH`
+-- what the words ask for, where they are accepted: `compile ROOT`, `compat ROOT NEW OLD`, `encode
+-- ROOT TYPE`, `decode ROOT TYPE`, `run ROOT PLAN`, `bound ROOT PLAN`, `migrate ROOT PLAN`, `gen
+-- NUMBER`, `monitor NODE`, `allocate NODE` or `fetch NODE SERVER PATH`
 abbrev pub command_of : List (List ℕ) → Option Command
 command_of [] = None
 command_of (word ∷ []) = None

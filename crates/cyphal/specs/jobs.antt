@@ -3,6 +3,7 @@ pub mod Compat
 pub mod Values
 pub mod Run
 pub mod Bound
+pub mod Migrate
 pub mod Gen
 pub mod Reach
 pub mod Fetch

@@ -30,6 +30,9 @@ cyphal run ROOT PLAN
 cyphal bound ROOT PLAN
     writes how many bytes the plan's sessions hold at most
 
+cyphal migrate ROOT PLAN
+    writes the plan as one of version 2; a plan of version 2 stays as it is
+
 cyphal gen NUMBER
     makes a log of 20,000 transfers on three buses from the number, below 2^32,
     runs it, and writes how much was received

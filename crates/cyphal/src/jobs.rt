@@ -1,5 +1,4 @@
 //! The commands, a file each.
-pub mod allocate;
 pub mod bound;
 pub mod compat;
 pub mod compile;
@@ -7,5 +6,6 @@ pub mod decoded;
 pub mod encoded;
 pub mod fetch;
 pub mod generated;
-pub mod monitor;
+pub mod migrate;
+pub mod reach;
 pub mod run;

@@ -4,15 +4,18 @@ ghost use Rattle.cyphal.specs.Premises.{PremisesCanBeMet};
 
 use dsdl_resolve::namespaces_keep_rules;
 use frame_log::ordered;
+use node_core::laws::steps_follow;
 use node_plan::laws::plans_keep_type_rules;
 use once::{due_in_report, once_in_part, wire_explains_fields};
-use session_lines::laws::{due_values, reported, values};
+use session_lines::laws::{due_values, emptying, reported, values};
 
 /// The laws that the headline rests on.
 pub fn headline_laws()
     ensures { HeadlineLaws }
 {
+    steps_follow();
     reported();
+    emptying();
     wire_explains_fields();
     once_in_part();
     due_in_report();

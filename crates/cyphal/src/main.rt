@@ -4,6 +4,8 @@
 ghost use Rattle.std.specs.Prelude.{◌≡◌};
 ghost use Rattle.cyphal.specs.ErrorLine.{code_of};
 
+#[cfg(test)]
+mod calls;
 mod dsdl_line;
 mod error_line;
 mod help;
@@ -18,6 +20,8 @@ mod program;
 mod reach_tests;
 mod remote_file;
 mod run_words;
+#[cfg(test)]
+mod sending_tests;
 #[cfg(test)]
 mod tests;
 mod top;

@@ -1,21 +1,26 @@
 //! The file of a plan, read in the namespace of a root.
-ghost use Rattle.std.specs.Prelude.{◌≡◌, ◌⊎◌, ℕ, false, IfOk, IfErr, OnOk};
+ghost use Rattle.std.specs.Prelude.{◌≡◌, ◌⊎◌, ℕ, false, IfOk, IfErr, OnOk, Some};
+ghost use Rattle.cy_outside.specs.Files.{ReadsFront};
 ghost use Rattle.cy_outside.specs.Outside.{Rose};
 ghost use Rattle.dsdl_types.specs.Definitions.{IsNamespace};
+ghost use Rattle.dsdl_types.specs.declared.namespace.Namespace.{Namespace as Names};
 ghost use Rattle.node_plan.specs.IsPlan.{IsPlan};
 ghost use Rattle.node_plan.specs.declared.plan.PlanWhy.{PlanWhy as Why};
 ghost use Rattle.cyphal.specs.Job.{is_fault, is_settled};
 ghost use Rattle.cyphal.specs.Plans.{EndsAt, EndsIn, without_plan, GivesPlan, PlanAt};
 
-use cy_bits::Text;
+use cy_bits::{Bytes, Text};
 use cy_outside::{Tree, TreeError, read_file};
 use dsdl_types::Namespace;
 use node_plan::{MAX_TEXT, Plan, PlanError, read_plan};
 use node_run::{Status, load};
 use std::alloc::Global;
 
-/// The plan at a path, read in the namespace of a root, or how a command ends for want of it. The root comes first: where
-/// it has no namespace, nothing of the plan is read.
+/// How much is read of a plan's file: more bytes than a plan has.
+const MOST: usize = MAX_TEXT + 1;
+
+/// The plan at a path, read in the namespace of a root, or how a command ends for want of it. The
+/// root comes first: where it has no namespace, nothing of the plan is read.
 pub fn plan_at<T: Tree>(alloc: Global, root: &str, path: &str, tree: &mut T) -> Result<Plan, Status>
     ensures plan { IfOk result (PlanAt root.now path.now (T.files tree.old)) }
     ensures sound { IfOk result IsPlan }
@@ -54,15 +59,34 @@ fn plan_in<T: Tree>(
     ensures write { IfErr result (λ stat. ¬ (stat ≡ Status.WriteFault)) }
     ensures early { IfErr result (λ stat. is_settled stat ≡ false) }
 {
-    let text = match read_file(alloc, tree, path, MAX_TEXT + 1) {
-        Ok(Some(text)) => text,
-        Ok(None) => return Err(no_file(alloc, path)),
-        Err(TreeError::Failed) => return Err(Status::ReadFault),
-        Err(TreeError::NoMemory) => return Err(Status::NoMemory),
+    let text = match text_at(alloc, path, tree) {
+        Ok(text) => text,
+        Err(status) => return Err(status),
     };
     match read_plan(alloc, text.as_slice(), names) {
         Ok(plan) => Ok(plan),
         Err(error) => Err(plan_refused(error)),
+    }
+}
+
+/// As much of the file at a path as decides which plan it is.
+pub fn text_at<T: Tree>(alloc: Global, path: &str, tree: &mut T) -> Result<Bytes, Status>
+    ensures text { IfOk result (λ text.
+        ReadsFront (T.files tree.old) path.now MOST (Some text)) }
+    ensures kept { OnOk result (T.faults tree.new ≡ T.faults tree.old) }
+    ensures answer { (names : Names) → IfErr result (λ stat. is_fault stat ≡ false
+        → EndsIn without_plan names path.now (T.files tree.old) stat) }
+    ensures usage { IfErr result (λ stat. ¬ (stat ≡ Status.Usage)) }
+    ensures read { IfErr result (λ stat. stat ≡ Status.ReadFault
+        → Rose (T.faults tree.old) (T.faults tree.new)) }
+    ensures write { IfErr result (λ stat. ¬ (stat ≡ Status.WriteFault)) }
+    ensures early { IfErr result (λ stat. is_settled stat ≡ false) }
+{
+    match read_file(alloc, tree, path, MOST) {
+        Ok(Some(text)) => Ok(text),
+        Ok(None) => Err(no_file(alloc, path)),
+        Err(TreeError::Failed) => Err(Status::ReadFault),
+        Err(TreeError::NoMemory) => Err(Status::NoMemory),
     }
 }
 
@@ -77,7 +101,7 @@ fn no_file(alloc: Global, path: &str) -> Status
 }
 
 /// The status of a plan that is refused.
-fn plan_refused(error: PlanError) -> Status
+pub fn plan_refused(error: PlanError) -> Status
     ensures no_memory { error ≡ PlanError.NoMemory → result ≡ Status.NoMemory }
     ensures refused { (n : ℕ) (why : Why) → error ≡ PlanError.Refused n why
         → result ≡ Status.Plan n why }

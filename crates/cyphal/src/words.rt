@@ -45,6 +45,11 @@ pub enum Accepted<'a> {
         root: &'a str,
         plan: &'a str,
     },
+    /// Writes the text of such a plan in version 2.
+    Migrate {
+        root: &'a str,
+        plan: &'a str,
+    },
     /// Runs the log that is made of a number.
     Gen {
         number: u32,
@@ -63,9 +68,10 @@ pub enum Accepted<'a> {
     },
 }
 
-/// The command that the words are, so `compile ROOT`, `compat ROOT NEW OLD`, `encode ROOT TYPE`, `decode ROOT TYPE`,
-/// `run ROOT PLAN`, `bound ROOT PLAN`, `gen NUMBER`, `monitor NODE`, `allocate NODE` or `fetch NODE SERVER PATH`; none where
-/// they aren't accepted. It wants memory where they are.
+/// The command that the words are, so `compile ROOT`, `compat ROOT NEW OLD`, `encode ROOT TYPE`,
+/// `decode ROOT TYPE`, `run ROOT PLAN`, `bound ROOT PLAN`, `migrate ROOT PLAN`, `gen NUMBER`,
+/// `monitor NODE`, `allocate NODE` or `fetch NODE SERVER PATH`; none where they aren't accepted. It
+/// wants memory where they are.
 pub fn command_of<'a>(alloc: Global, words: &'a [String]) -> Result<Option<Accepted<'a>>, NoMemory>
     ensures is { let asked = command_of (map string_bytes words.entry.now) in
         IfOk result (λ given. option_map asked_by given ≡ asked) }
@@ -209,6 +215,8 @@ fn of_plan<'a>(word: &str, root: &'a str, plan: &'a str) -> Option<Accepted<'a>>
         Some(Accepted::Run { root, plan })
     } else if word == "bound" {
         Some(Accepted::Bound { root, plan })
+    } else if word == "migrate" {
+        Some(Accepted::Migrate { root, plan })
     } else {
         None
     }
@@ -305,7 +313,8 @@ fn three_words<'a>(
     }
 }
 
-/// The arguments of accepted words that have a root and another. It refuses nothing, and wants memory.
+/// The arguments of accepted words that have a root and another. It refuses nothing, and wants
+/// memory.
 fn two_words<'a>(alloc: Global, words: &'a [String]) -> Result<(&'a str, &'a str), NoMemory>
     requires { is_some (two_given (map string_bytes words.now)) ≡ true }
     ensures { let given = two_given (map string_bytes words.entry.now) in

@@ -6,7 +6,6 @@ ghost use Rattle.cyphal.specs.Job.{outcome, told_by, is_fault, NotDone};
 ghost use Rattle.cyphal.specs.Cause.{outside, HasCauseOver};
 ghost use Rattle.cyphal.specs.Expected.{job_of, job_for, WasDone};
 
-use crate::jobs::allocate::allocate_nodes;
 use crate::jobs::bound::bound_plan;
 use crate::jobs::compat::compat_types;
 use crate::jobs::compile::compile_root;
@@ -14,7 +13,8 @@ use crate::jobs::decoded::decode_lines;
 use crate::jobs::encoded::encode_lines;
 use crate::jobs::fetch::fetch_file;
 use crate::jobs::generated::generated;
-use crate::jobs::monitor::monitor_network;
+use crate::jobs::migrate::migrate_plan;
+use crate::jobs::reach::{Hearing, hear_log};
 use crate::jobs::run::run_plan;
 use crate::words::{Accepted, command_of};
 use cy_outside::{Sink, Source, Tree};
@@ -98,9 +98,10 @@ fn carry_out<T: Tree, L: Source, O: Sink, K: LineSink>(
             run_plan(alloc, root, plan, tree, input, out, lines, numbers)
         }
         Accepted::Bound { root, plan } => bound_plan(alloc, root, plan, tree, out),
+        Accepted::Migrate { root, plan } => migrate_plan(alloc, root, plan, tree, out),
         Accepted::Gen { number } => generated(alloc, number, out),
-        Accepted::Monitor { own } => monitor_network(alloc, own, input, out),
-        Accepted::Allocate { own } => allocate_nodes(alloc, own, input, out),
+        Accepted::Monitor { own } => hear_log(alloc, Hearing::Monitor, own, input, out),
+        Accepted::Allocate { own } => hear_log(alloc, Hearing::Allocate, own, input, out),
         Accepted::Fetch { file } => fetch_file(alloc, file, input, out),
     }
 }

@@ -7,6 +7,8 @@ mod bits_tests;
 #[cfg(test)]
 mod frame_tests;
 #[cfg(test)]
+mod migration_tests;
+#[cfg(test)]
 mod outside_tests;
 #[cfg(test)]
 mod plan_tests;

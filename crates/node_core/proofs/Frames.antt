@@ -1,14 +1,13 @@
 -- A record with its lines, its reply and the lines on that.
-use Rattle.std.proofs.Common.{◌≡◌, ◌∙◌, ◌≤◌, ◌+◌, ℕ, List, ◌++◌, length, take, Option, refl, sym, ap, arith, append_assoc, length-append, take-take}
+use Rattle.std.proofs.Common.{◌≡◌, ◌∙◌, ◌≤◌, List, ◌++◌, length, take, Option, sym, ap, arith, append_assoc, length-append, take-take}
 use Rattle.std.proofs.Math.Seq.{take-append_seam}
 use Rattle.std.specs.Option.{option_and_then}
 use Rattle.tail_frame.specs.declared.logged.Record.{Record}
 use Rattle.node_core.specs.Came.{came_request, TellsRequest}
-use Rattle.node_core.specs.Keeps.{sent}
 use Rattle.node_core.specs.Queues.{Sends, fulls}
 use Rattle.node_core.specs.Sending.{reply_to}
 use Rattle.node_core.specs.Stands.{Stands}
-use Rattle.node_core.specs.Steps.{Step, Heard, Kept, got, node_lines, pushed, records, request_on, sends}
+use Rattle.node_core.specs.Steps.{Step, Heard, Kept, got, node_lines, records, sends}
 use Rattle.node_core.specs.declared.came.Came.{Came}
 use Rattle.node_core.specs.declared.line.Line.{Line}
 use Rattle.node_core.specs.declared.node.Node.{Node}
@@ -21,8 +20,8 @@ cut_again old told both all e h =
     sym (take-take (length old) (length both) all shorter) ∙ (ap (take (length old)) (h ∙ e) ∙ take-append_seam old told)
 
 module _ (node : Node) (rec : Record) (came : Came) (lines : List Line) (request : Option Request)
-         (is : request ≡ came_request came lines) (tells : TellsRequest node rec came)
-         (past : List Step) (s : Stands node (records past)) (gives : lines ≡ got node.plan rec (records past)) where
+    (is : request ≡ came_request came lines) (tells : TellsRequest node rec came)
+    (past : List Step) (s : Stands node (records past)) (gives : lines ≡ got node.plan rec (records past)) where
   reply_is : (k : Kept) → option_and_then (reply_to node.plan) request ≡ sends node.plan (Heard rec) past k
   reply_is k =
       ap (option_and_then (reply_to node.plan)) (is ∙ (ap (came_request came) gives ∙ tells (records past) s))

@@ -56,7 +56,9 @@ came_lines node rec came = heard_lines node rec came.heard
 -- the request that a record ended, where it gave these lines
 abbrev pub came_request : Came → List Line → Option Request
 came_request came lines =
-    if has_rx lines then option_and_then (λ heard. request_with heard.tail.tid heard.ident) came.heard else None
+    if has_rx lines
+    then option_and_then (λ heard. request_with heard.tail.tid heard.ident) came.heard
+    else None
 
 -- it is the one that the log says
 abbrev pub TellsRequest : Node → Record → Came → Type 0

@@ -4,6 +4,7 @@ pub mod Heard
 pub mod Held
 pub mod InTime
 pub mod Keeps
+pub mod Laws
 pub mod LineSinks
 pub mod Pops
 pub mod Puts

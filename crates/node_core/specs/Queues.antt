@@ -1,5 +1,5 @@
 -- The frames that wait to leave on each bus of a node. Of all lists of frames the first is that of the plan's first bus.
-use Rattle.std.specs.Prelude.{◌≡◌, ℕ, zero, suc, Bool, ◌==◌, ◌||◌, if◌then◌else◌, ◌+◌, nat_le, List, [], ◌∷◌, ◌++◌, length, map, Option, Some, None}
+use Rattle.std.specs.Prelude.{ℕ, zero, suc, Bool, ◌==◌, ◌||◌, if◌then◌else◌, ◌+◌, nat_le, List, [], ◌∷◌, ◌++◌, length, map, Option, Some, None}
 use Rattle.tx_queue.specs.Waiting.{free, least, needed, out_frames}
 use Rattle.tx_queue.specs.declared.frame.OutFrame.{OutFrame}
 use Rattle.node_core.specs.declared.line.Line.{Line}

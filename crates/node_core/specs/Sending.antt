@@ -1,5 +1,5 @@
 -- What a node sends: its heartbeat each second, and the replies to requests (Cyphal Specification, section 5.3).
-use Rattle.std.specs.Prelude.{◌≢◌, ◌<◌, ℕ, Bool, true, false, ◌==◌, if◌then◌else◌, List, Option, Some, None, option_map}
+use Rattle.std.specs.Prelude.{◌≢◌, ◌<◌, ℕ, true, false, ◌==◌, if◌then◌else◌, List, Option, Some, None, option_map}
 use Rattle.can_id.specs.Identifiers.{bits}
 use Rattle.can_id.specs.declared.ident.Ident.{Ident}
 use Rattle.can_id.specs.declared.ident.Ident.TheVariants.{Message, Anonymous, Service}

@@ -3,6 +3,9 @@ ghost use Rattle.node_core.specs.Queues.{is_frame_size};
 
 use crate::line::FullLine;
 use crate::transfer::Transfer;
+use cy_bits::NoMemory;
+use node_plan::BusPlan;
+use std::alloc::Global;
 use tx_queue::TxQueue;
 
 /// The frames that wait to leave on a bus.
@@ -19,15 +22,30 @@ pub struct BusQueue {
 }
 
 impl BusQueue {
-    ghost use Rattle.std.specs.Prelude.{◌<◌, ◌^◌, length, map};
+    ghost use Rattle.std.specs.Prelude.{◌<◌, ◌^◌, IfOk, length, map};
     ghost use Rattle.std.specs.Option.{option_to_list};
     ghost use Rattle.node_core.specs.Buses.{queue_of};
     ghost use Rattle.node_core.specs.Queues.{full_line, push};
+    ghost use Rattle.node_core.specs.Steps.{empty_queue};
     ghost use Rattle.node_core.specs.Transfers.{sends_of};
+    ghost use Rattle.node_plan.specs.IsPlan.{IsMtu};
     ghost use Rattle.node_core.specs.declared.line.Line.TheVariants.{Full};
 
-    /// Puts the frames of a transfer behind those that wait: all of them, or none where fewer places are free. Then
-    /// it tells so, with a moment and the number of the bus. Takes no memory.
+    /// Nothing waits on a bus, where so many frames may. Takes the memory for these.
+    pub(crate) fn new(alloc: Global, bus: &BusPlan, places: u32) -> Result<BusQueue, NoMemory>
+        requires mtu { IsMtu bus.now.mtu }
+        requires few { places ≤ 4096 }
+        ensures { IfOk result (λ queue. queue_of queue ≡ empty_queue places bus.now) }
+    {
+        Ok(BusQueue {
+            mtu: bus.mtu,
+            rate: bus.rate,
+            frames: TxQueue::new(alloc, places)?,
+        })
+    }
+
+    /// Puts the frames of a transfer behind those that wait: all of them, or none where fewer places
+    /// are free. Then it tells so, with a moment and the number of the bus. Takes no memory.
     pub(crate) fn push(&mut self, moment: u64, bus: u8, transfer: &Transfer<'_>) -> Option<FullLine>
         requires tid { transfer.now.tid < 32 }
         requires len { length transfer.now.payload.now ≤ 2 ^ 40 }

@@ -1,7 +1,7 @@
 //! The frames that wait to leave a node.
 ghost use Rattle.std.specs.Prelude.{◌≡◌, ◌≤◌, ◌<◌, ◌+◌, ◌*◌, ◌^◌, ◌++◌, IfOk, length, map};
 ghost use Rattle.std.specs.Option.{option_to_list};
-ghost use Rattle.node_plan.specs.IsPlan.{IsMtu, IsPlan};
+ghost use Rattle.node_plan.specs.IsPlan.{IsPlan};
 ghost use Rattle.node_core.specs.Buses.{queue_of};
 ghost use Rattle.node_core.specs.Queues.{fulls_from, push, waiting};
 ghost use Rattle.node_core.specs.Steps.{empty_queue};
@@ -12,9 +12,9 @@ use crate::bus_queue::BusQueue;
 use crate::line::FullLine;
 use crate::transfer::Transfer;
 use cy_bits::{NoMemory, ShortList};
-use node_plan::{BusPlan, Plan};
+use node_plan::Plan;
 use std::alloc::Global;
-use tx_queue::{OutFrame, TxQueue};
+use tx_queue::OutFrame;
 
 /// The lists of a node's buses, of which there are at most 3, and how many frames wait in all.
 #[derive(Drop)]
@@ -42,7 +42,8 @@ impl BusQueues {
         })
     }
 
-    /// Puts the frames of a transfer behind those that wait on each bus. Tells on which there is no room.
+    /// Puts the frames of a transfer behind those that wait on each bus. Tells on which there is no
+    /// room.
     pub(crate) fn push_all(
         &mut self,
         moment: u64,
@@ -63,8 +64,10 @@ impl BusQueues {
     /// Takes the first of the frames with the least identifier that wait on a bus.
     pub(crate) fn pop(&mut self, bus: u8) -> Option<OutFrame>
         requires { bus < length self.old.buses.items }
-        ensures frame { result ≡ leaving (queue_at (map queue_of self.old.buses.items) bus).waiting }
-        ensures others { map queue_of self.new.buses.items ≡ popped (map queue_of self.old.buses.items) bus }
+        ensures frame { let old = map queue_of self.old.buses.items in
+            result ≡ leaving (queue_at old bus).waiting }
+        ensures others { let old = map queue_of self.old.buses.items in
+            map queue_of self.new.buses.items ≡ popped old bus }
     {
         let frame = self.buses[bus as usize].frames.pop();
         self.queued = count(self.buses.as_slice());
@@ -80,7 +83,7 @@ impl BusQueues {
     }
 }
 
-/// Puts the frames of a transfer at the end of each of these lists. Tells of which there is no room.
+/// Puts the frames of a transfer at the end of each of these lists. Tells in which there is no room.
 fn push_on_each(
     buses: &mut [BusQueue],
     moment: u64,
@@ -126,24 +129,12 @@ fn count(buses: &[BusQueue]) -> u64
 /// A list for each bus of a plan.
 fn empty_queues(alloc: Global, plan: &Plan) -> Result<Vec<BusQueue>, NoMemory>
     requires { IsPlan plan.now }
-    ensures { IfOk result (λ buses. map queue_of buses.items ≡ map (empty_queue plan.now.queue) plan.now.buses) }
+    ensures { IfOk result (λ buses.
+        map queue_of buses.items ≡ map (empty_queue plan.now.queue) plan.now.buses) }
 {
     let mut buses = Vec::new(alloc);
     for bus in plan.buses.as_slice() {
-        buses.push(empty_queue(alloc, bus, plan.queue)?)?;
+        buses.push(BusQueue::new(alloc, bus, plan.queue)?)?;
     }
     Ok(buses)
-}
-
-/// The list of a bus, where so many frames may wait.
-fn empty_queue(alloc: Global, bus: &BusPlan, places: u32) -> Result<BusQueue, NoMemory>
-    requires mtu { IsMtu bus.now.mtu }
-    requires few { places ≤ 4096 }
-    ensures { IfOk result (λ queue. queue_of queue ≡ empty_queue places bus.now) }
-{
-    Ok(BusQueue {
-        mtu: bus.mtu,
-        rate: bus.rate,
-        frames: TxQueue::new(alloc, places)?,
-    })
 }

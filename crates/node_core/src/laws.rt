@@ -1,8 +1,29 @@
 //! Laws of the report, each the contract of a call that does nothing.
 
 ghost use Rattle.node_core.specs.Held.{HeldRises};
+ghost use Rattle.node_core.specs.Laws.{LinesJoin, NothingEmptied, NothingLeaves, RecordsOfSteps};
+ghost use Rattle.node_core.specs.Laws.{SilentKeepNothing, SilentReceive};
 
 /// The bytes that a log makes a node hold never fall: after its last record they are the most.
 pub fn held_rises()
     ensures { HeldRises }
+{}
+
+/// The steps of a log have its records, and the lines of newer steps stand behind those of older
+/// ones.
+pub fn steps_follow()
+    ensures records { RecordsOfSteps }
+    ensures lines { LinesJoin }
+{}
+
+/// Where nothing waits, nothing leaves after a step, and nothing at the end.
+pub fn nothing_leaves()
+    ensures after { NothingLeaves }
+    ensures end { NothingEmptied }
+{}
+
+/// A silent node sends nothing: its lines are those on what it receives.
+pub fn silent_sends_nothing()
+    ensures keeps { SilentKeepNothing }
+    ensures lines { SilentReceive }
 {}

@@ -1,4 +1,5 @@
-//! The node: what one record or one tick gives, line by line, what it sends, and the text of these lines.
+//! The node: what one record or one tick gives, line by line, what it sends, and the text of these
+//! lines.
 #![tactic(auto)]
 
 mod bus_queue;

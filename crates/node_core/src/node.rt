@@ -95,10 +95,10 @@ impl Node {
         })
     }
 
-    /// Takes the next record of the log, at a moment not before the last one, and appends the lines on what
-    /// it gives, and those on the buses that have no room for its reply. Memory is taken for these lines, and for a
-    /// new source's session; where it is wanting, the lines are left as they were, and the node is not to be used
-    /// further.
+    /// Takes the next record of the log, at a moment not before the last one, and appends the lines on
+    /// what it gives, and those on the buses that have no room for its reply. Memory is taken for these
+    /// lines, and for a new source's session; where it is wanting, the lines are left as they were, and
+    /// the node is not to be used further.
     pub fn frame(&mut self, rec: &Record, lines: &mut List<Line>) -> Result<Stepped, NoMemory>
         requires { self.old.latest ≤ rec.now.moment }
         ensures plan { self.new.plan ≡ self.old.plan }

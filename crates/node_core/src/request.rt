@@ -1,7 +1,9 @@
-ghost use Rattle.std.specs.Prelude.{◌≡◌};
-ghost use Rattle.node_core.specs.Sending.{request_with};
+ghost use Rattle.std.specs.Prelude.{◌≡◌, ◌<◌, false};
+ghost use Rattle.can_id.specs.Identifiers.{bits};
+ghost use Rattle.can_id.specs.declared.ident.Ident.TheVariants.{Service};
+ghost use Rattle.node_core.specs.Sending.{IsRequestTo, request_with};
 
-use can_id::Ident;
+use can_id::{Ident, make};
 
 /// A request to the node, which a frame ended.
 #[derive(Clone, Copy, Debug, PartialEq, Eq)]
@@ -37,5 +39,21 @@ impl Request {
             }),
             _ => None,
         }
+    }
+
+    /// The identifier of a node's reply: the one who asks is its receiver.
+    pub(crate) fn reply_ident(self, node: u8) -> u32
+        requires node { node < 128 }
+        requires request { IsRequestTo node self }
+        ensures { let r = self in
+            result ≡ bits (Service r.priority false r.service r.client node) }
+    {
+        make(Ident::Service {
+            priority: self.priority,
+            request: false,
+            service: self.service,
+            destination: self.client,
+            source: node,
+        })
     }
 }

@@ -12,15 +12,16 @@ use crate::line::{FullLine, Line};
 use crate::node::Node;
 use crate::pushes::push_fulls;
 use crate::request::Request;
-use crate::transfer::{GET_INFO, HEARTBEAT, Transfer, beat_ident, reply_ident};
+use crate::transfer::{GET_INFO, HEARTBEAT, Transfer, beat_ident};
 use cy_bits::{List, NoMemory, ShortList};
 use node_status::heartbeat_payload;
 use tx_queue::OutFrame;
 
 impl Node {
-    /// Puts the reply to a request behind the frames that wait on each bus: to the one who asks, with the request's
-    /// priority and transfer-ID (Cyphal Specification, section 5.3.3). Tells on which buses there is no room for it, at a moment in
-    /// microseconds. A request of another service than GetInfo has no reply. Takes no memory.
+    /// Puts the reply to a request behind the frames that wait on each bus: to the one who asks, with
+    /// the request's priority and transfer-ID (Cyphal Specification, section 5.3.3). Tells on which
+    /// buses there is no room for it, at a moment in microseconds. A request of another service than
+    /// GetInfo has no reply. Takes no memory.
     #[inline(never)]
     pub fn reply(&mut self, moment: u64, request: Request) -> ShortList<FullLine, 3>
         requires { IsRequestTo self.old.plan.node request }
@@ -35,7 +36,7 @@ impl Node {
             return ShortList::new();
         }
         let reply = Transfer {
-            ident: reply_ident(self.plan.node, request),
+            ident: request.reply_ident(self.plan.node),
             tid: request.tid,
             port: GET_INFO,
             payload: self.info.as_slice(),
@@ -43,8 +44,8 @@ impl Node {
         self.queues.push_all(moment, &reply)
     }
 
-    /// The same of a request, if there is one, with the lines on full buses put behind others. Where memory for these
-    /// is wanting, some of them are.
+    /// The same of a request, if there is one, with the lines on full buses put behind others. Where
+    /// memory for these is wanting, some of them are.
     pub(crate) fn answer(
         &mut self,
         moment: u64,
@@ -70,9 +71,9 @@ impl Node {
         }
     }
 
-    /// Puts the heartbeat of a tick behind the frames that wait on each bus (Cyphal Specification, section 5.3.2). The
-    /// tick's number is the uptime in seconds, its moment is in microseconds. Tells on which buses there is no room
-    /// for it; its transfer-ID is used all the same. Takes no memory.
+    /// Puts the heartbeat of a tick behind the frames that wait on each bus (Cyphal Specification,
+    /// section 5.3.2). The tick's number is the uptime in seconds, its moment is in microseconds. Tells
+    /// on which buses there is no room for it; its transfer-ID is used all the same. Takes no memory.
     #[inline(never)]
     pub fn tick(&mut self, moment: u64, number: u64) -> ShortList<FullLine, 3>
         ensures plan { self.new.plan ≡ self.old.plan }
@@ -96,7 +97,8 @@ impl Node {
         fulls
     }
 
-    /// Takes the first of the frames with the least identifier that wait on a bus; `None` where nothing waits there.
+    /// Takes the first of the frames with the least identifier that wait on a bus; `None` where nothing
+    /// waits there.
     pub fn pop_out(&mut self, bus: u8) -> Option<OutFrame>
         requires { bus < length (keeps self.old).queues }
         ensures plan { self.new.plan ≡ self.old.plan }

@@ -1,11 +1,8 @@
 //! The transfers that a node sends.
 ghost use Rattle.std.specs.Prelude.{◌≡◌, ◌<◌};
-ghost use Rattle.std.specs.Prelude.{false};
 ghost use Rattle.can_id.specs.Identifiers.{bits};
-ghost use Rattle.can_id.specs.declared.ident.Ident.TheVariants.{Message, Service};
-ghost use Rattle.node_core.specs.Sending.{IsRequestTo};
+ghost use Rattle.can_id.specs.declared.ident.Ident.TheVariants.{Message};
 
-use crate::request::Request;
 use can_id::{Ident, make};
 
 /// The subject-ID of heartbeats (Cyphal Specification, section 5.3.2).
@@ -35,22 +32,6 @@ pub fn beat_ident(node: u8) -> u32
     make(Ident::Message {
         priority: 4,
         subject: HEARTBEAT,
-        source: node,
-    })
-}
-
-/// The identifier of a node's reply to a request: the one who asks is its receiver.
-pub fn reply_ident(node: u8, request: Request) -> u32
-    requires node { node < 128 }
-    requires request { IsRequestTo node request }
-    ensures { let r = request in
-        result ≡ bits (Service r.priority false r.service r.client node) }
-{
-    make(Ident::Service {
-        priority: request.priority,
-        request: false,
-        service: request.service,
-        destination: request.client,
         source: node,
     })
 }

@@ -1,7 +1,6 @@
 -- Numbers that are written in decimal are read back.
-use Rattle.std.proofs.Common.{◌≡◌, ◌∙◌, ◌==◌, ◌⊎◌, inl, inr, ℕ, ◌+◌, ◌-◌, ◌*◌, ◌/◌, ◌%◌, ◌^◌, ◌<◌, ◌≤◌, ◌||◌, false, List, [], ◌∷◌, ◌++◌, Some, None, length, refl, sym, ap, append_assoc, append-nil, length-append, decimal, arith, subst}
-use Rattle.std.specs.Prelude.{nat_lt, if◌then◌else◌}
-use Rattle.std.proofs.lemmas.Bool.{cond-false, or_from, le-ltb}
+use Rattle.std.proofs.Common.{◌≡◌, ◌∙◌, ◌==◌, ◌⊎◌, inl, inr, ℕ, ◌+◌, ◌-◌, ◌*◌, ◌/◌, ◌%◌, ◌^◌, ◌<◌, ◌≤◌, false, List, [], ◌∷◌, ◌++◌, Some, None, length, refl, sym, ap, append_assoc, append-nil, length-append, decimal, arith, subst}
+use Rattle.std.specs.Prelude.{if◌then◌else◌}
 use Rattle.std.proofs.lemmas.Bool.Decides.{nat_tests}
 use Rattle.std.proofs.lemmas.Fmt.{decimal_by_steps, length-decimal-le}
 use Rattle.node_plan.specs.declared.words.Number.TheVariants as number
@@ -77,10 +76,10 @@ are_numbers m r one some low =
     let small : m ≤ 64 = grind arith in
     let wide : length (decimal m) ≤ 2 = length-decimal-le 2 m (omega arith) (omega arith) (omega arith) in
     let long : length (decimal r) ≤ 4 = length-decimal-le 4 r (omega arith) (omega arith) (omega arith) in record {
-  mtu = mtu_in-decimal m one;
-  rate = number_in-decimal 1 4096 r some low (omega arith) (omega arith);
-  mtu_word = decimal_free 32 (omega arith) m (omega arith);
-  rate_word = decimal_free 32 (omega arith) r (omega arith);
-  line = (refl, free-append 10 (decimal m) (32 ∷ decimal r) (decimal_free 10 (omega arith) m (omega arith)) (refl, decimal_free 10 (omega arith) r (omega arith)));
-  short = omega (arith, length-append (decimal m) (32 ∷ decimal r), wide, long);
-}
+      mtu = mtu_in-decimal m one;
+      rate = number_in-decimal 1 4096 r some low (omega arith) (omega arith);
+      mtu_word = decimal_free 32 (omega arith) m (omega arith);
+      rate_word = decimal_free 32 (omega arith) r (omega arith);
+      line = (refl, free-append 10 (decimal m) (32 ∷ decimal r) (decimal_free 10 (omega arith) m (omega arith)) (refl, decimal_free 10 (omega arith) r (omega arith)));
+      short = omega (arith, length-append (decimal m) (32 ∷ decimal r), wide, long);
+    }

@@ -1,6 +1,5 @@
 -- The bytes of hex.
-use Rattle.std.proofs.Common.{◌≡◌, ◌∙◌, ◌<◌, ◌+◌, ◌*◌, ◌^◌, ℕ, List, Ok, arith, get_or, length, subst, sym}
-use Rattle.std.specs.Prelude.{◌%◌}
+use Rattle.std.proofs.Common.{◌≡◌, ◌∙◌, ◌<◌, ◌^◌, ℕ, List, Ok, arith, get_or, length, subst, sym}
 use Rattle.std.specs.List.{All}
 use Rattle.std.proofs.lemmas.Grind.{get_or_default_zero}
 use Rattle.hex.specs.Hex.{decode_sized}

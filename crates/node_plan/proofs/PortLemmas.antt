@@ -1,11 +1,10 @@
 -- Lemmas on the ports of a plan.
-use Rattle.std.proofs.Common.{◌≡◌, ◌∙◌, ◌<◌, ◌≤◌, ◌≢◌, ◌+◌, ◌*◌, zero, suc, ℕ, Bool, true, false, List, [], ◌∷◌, ◌++◌, refl, sym, ap, arith, length, get_or}
+use Rattle.std.proofs.Common.{◌≡◌, ◌∙◌, ◌≢◌, ◌+◌, suc, ℕ, Bool, true, false, List, [], ◌∷◌, ◌++◌, refl, sym, ap, arith, get_or}
 use Rattle.std.specs.Prelude.{◌/◌, IfSome, map, sum_by, if◌then◌else◌}
 use Rattle.std.specs.List.{All, AllPairs}
 use Rattle.std.proofs.lemmas.List.Elements.{All-append, All-cons, All-map, All-nil}
 use Rattle.std.proofs.lemmas.List.Kept.{AllPairs-cons}
 use Rattle.std.proofs.lemmas.List.Sums.{sum_by-append, sum_by-cons}
-use Rattle.can_id.specs.declared.key.Kind.TheVariants as kind
 use Rattle.dsdl_types.specs.Schemas as S
 use Rattle.dsdl_types.specs.Schemas.{is_composite}
 use Rattle.dsdl_types.specs.Rules.{IsSchema}
@@ -19,7 +18,7 @@ use Rattle.node_plan.specs.declared.plan.SubShape.TheVariants as shape
 use Rattle.node_plan.specs.declared.services.Service.{Service}
 use Rattle.node_plan.specs.Bound.{port_bound, service_bound, sub_bound, bound_of}
 use Rattle.node_plan.specs.IsPlan.{IsPlan, IsShape, IsSub}
-use Rattle.node_plan.specs.Ports.{PlanPort, Differ, IsPort, IsService, port_of_service, port_of_sub, ports, service_extent, services, type_in}
+use Rattle.node_plan.specs.Ports.{Differ, IsPort, IsService, get_info, port_of_service, port_of_sub, ports, service_extent, services, type_in}
 
 -- the requests of GetInfo have no bytes
 pub info_extent : S.extent_of (schema_of N.NodeInfoRequest) / 8 ≡ 0
@@ -33,9 +32,9 @@ service_extent-low s h = ap (λ name. S.extent_of (schema_of name) / 8) h.reques
 pub services_fit : (plan : Plan) → IsPlan plan → All IsService (services plan)
 services_fit plan h = of_silent plan.silent
   where
-    of_silent : (t : Bool) → All IsService (if t then [] else (record { port = 430; sources = plan.clients; request = N.NodeInfoRequest }) ∷ [])
+    of_silent : (t : Bool) → All IsService (if t then [] else get_info plan.clients ∷ [])
     of_silent true = All-nil IsService
-    of_silent false = All-cons IsService (record { port = 430; sources = plan.clients; request = N.NodeInfoRequest }) []
+    of_silent false = All-cons IsService (get_info plan.clients) []
         (record { port = omega arith; some_source = h.some_client; few_sources = h.few_clients; request = refl }) (All-nil IsService)
 
 -- a sum over what is made of each
@@ -95,7 +94,7 @@ all_subs s ts h = All-map (Differ (port_of_sub s)) port_of_sub ts (λ k t less e
 services_differ : (plan : Plan) → AllPairs Differ (map port_of_service (services plan))
 services_differ plan = of_silent plan.silent
   where
-    of_silent : (t : Bool) → AllPairs Differ (map port_of_service (if t then [] else (record { port = 430; sources = plan.clients; request = N.NodeInfoRequest }) ∷ []))
+    of_silent : (t : Bool) → AllPairs Differ (map port_of_service (if t then [] else get_info plan.clients ∷ []))
     of_silent true = λ i j d less low. absurd (omega arith)
     of_silent false = λ i j d less low. absurd (omega arith)
 

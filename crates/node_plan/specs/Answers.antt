@@ -11,7 +11,8 @@ use Rattle.node_plan.specs.Migrate.{migrated}
 use Rattle.node_plan.specs.Plan.{PlanIs, Good, Bad, plan_of}
 
 -- the draft after line n is the step's, unless memory was wanted
-abbrev pub IsStep : Result Draft PlanWhy → ℕ → Draft → Result (Unit {0}) PlanError → Type 0
+abbrev pub IsStep : Result Draft PlanWhy → ℕ → Draft → Result (Unit {0}) PlanError
+    → Type 0
 IsStep step n new (Ok u) = step ≡ Ok new
 IsStep step n new (Err (error.Refused k why)) = (k ≡ n) × (step ≡ Err why)
 IsStep step n new (Err error.NoMemory) = Unit {0}
@@ -24,5 +25,5 @@ IsPlanAnswer is (Err error.NoMemory) = Unit {0}
 
 -- t is what the text of a plan becomes: of version 2, and a text of the same plan
 abbrev pub IsMigrated : Namespace → List ℕ → List ℕ → Type 0
-IsMigrated names text t = (plan : Plan) × (plan_of names text ≡ Good plan) × (t ≡ migrated plan text)
-    × (plan_of names t ≡ Good plan) × (is_version_two t ≡ true)
+IsMigrated names text t = (plan : Plan) × (plan_of names text ≡ Good plan)
+    × (t ≡ migrated plan text) × (plan_of names t ≡ Good plan) × (is_version_two t ≡ true)

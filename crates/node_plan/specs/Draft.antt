@@ -72,8 +72,8 @@ abbrev pub without_type : Draft → ℕ → PlanWhy → Result Draft PlanWhy
 without_type d port cause = if nat_le 64 (length d.subs) then Err why.Range
     else (if has_subject port d.subs then Err why.Repeated else Err cause)
 
--- a line behind that of the version: range comes before repetition, that before an unknown type, and
--- that before the range of a type's extent
+-- a line behind that of the version: range comes before repetition, that before an unknown type,
+-- and that before the range of a type's extent
 abbrev pub with_line : Draft → Said → Result Draft PlanWhy
 with_line d (said.Node n) = once (is_some d.node) (record d { node = Some n })
 with_line d (said.Bus bus) = with_bus d bus
@@ -99,7 +99,11 @@ step d says = if is_some d.version then with_line d says else Err why.Line
 
 -- a bus, where an MTU and a rate that were said count for all buses
 abbrev pub on_bus : Option ℕ → Option ℕ → BusPlan → BusPlan
-on_bus mtu rate bus = record { name = bus.name; mtu = unwrap_or mtu bus.mtu; rate = unwrap_or rate bus.rate }
+on_bus mtu rate bus = record {
+  name = bus.name;
+  mtu = unwrap_or mtu bus.mtu;
+  rate = unwrap_or rate bus.rate;
+}
 
 -- the status of a node of which nothing is said
 abbrev pub no_status : NodeStatus

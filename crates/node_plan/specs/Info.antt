@@ -73,9 +73,13 @@ info_with hardware software revision unique_id name = record {
   certificate_of_authenticity = [];
 }
 
+-- the version 0.0
+abbrev pub no_version : Version
+no_version = record { major = 0; minor = 0 }
+
 -- what a node is of which nothing is said
 abbrev pub blank_info : NodeInfo
-blank_info = info_with (record { major = 0; minor = 0 }) (record { major = 0; minor = 0 }) 0 (replicate 16 0) []
+blank_info = info_with no_version no_version 0 (replicate 16 0) []
 
 -- a revision, a unique id and a name, where each is in its range
 abbrev pub said_of_parts : Version → Version → Option ℕ → Option (List ℕ) → List ℕ → Said
@@ -90,7 +94,8 @@ said_of_versions hardware software revision unique_id name =
     said_of_parts hardware software (revision_in revision) (unique_id_in unique_id) name
 
 -- what two words of versions and the others say
-abbrev pub said_of_version_words : VersionWord → VersionWord → List ℕ → List ℕ → List ℕ → Said
+abbrev pub said_of_version_words : VersionWord → VersionWord → List ℕ → List ℕ → List ℕ
+    → Said
 said_of_version_words version.NoVersion software revision unique_id name = said.NoForm
 said_of_version_words hardware version.NoVersion revision unique_id name = said.NoForm
 said_of_version_words (version.Within h) (version.Within s) revision unique_id name =

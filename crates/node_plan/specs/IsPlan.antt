@@ -36,7 +36,8 @@ pub record IsStatus (status : NodeStatus) : Type 0 where
   pub mode : status.mode ≤ 3
   pub code : status.code < 256
 
--- what a node says that it is: the protocol is 1.0, and there is neither a CRC of the software nor a certificate
+-- what a node says that it is: the protocol is 1.0, and there is neither a CRC of the software nor
+-- a certificate
 pub record IsInfo (info : NodeInfo) : Type 0 where
   pub fits : FitsNodeInfo info
   pub protocol : info.protocol_version ≡ record { major = 1; minor = 0 }

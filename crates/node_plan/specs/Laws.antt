@@ -10,8 +10,8 @@ use Rattle.node_plan.specs.declared.plan.Plan.{Plan}
 -- its types keep the rules, where those of the namespace do
 abbrev pub PlansKeepTypeRules : Type 0
 PlansKeepTypeRules =
-    (names : Namespace) (text : List ℕ) (plan : Plan) → IsNamespace names → plan_of names text ≡ Good plan
-    → TypesKeepRules plan
+    (names : Namespace) (text : List ℕ) (plan : Plan) → IsNamespace names
+    → plan_of names text ≡ Good plan → TypesKeepRules plan
 
 -- its ports are in their ranges
 abbrev pub PortsFit : Type 0

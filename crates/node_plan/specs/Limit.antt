@@ -4,14 +4,17 @@ use Rattle.std.specs.Str.{bytes_eq}
 
 -- whether a line begins here that is `plan 2`
 abbrev pub is_plan_two : List ℕ → Bool
-is_plan_two s = bytes_eq (take 7 s) (codes "plan 2") || bytes_eq (take 7 s) (codes "plan 2" ++ 10 ∷ [])
+is_plan_two s =
+    bytes_eq (take 7 s) (codes "plan 2") || bytes_eq (take 7 s) (codes "plan 2" ++ 10 ∷ [])
 
--- whether a comment goes on behind this byte of a skipped line; nothing where the line isn't skipped
+-- whether a comment goes on behind this byte of a skipped line; nothing where the line isn't
+-- skipped
 abbrev pub skips : Bool → ℕ → Option Bool
-skips comment b = if b == 10 then Some false else (if comment || (b == 35) then Some true else None)
+skips comment b = if b == 10 then Some false
+    else (if comment || (b == 35) then Some true else None)
 
--- Whether, of the lines that begin among so many bytes, the first that isn't skipped is `plan 2`; a text may
--- begin with the rest of a comment.
+-- Whether, of the lines that begin among so many bytes, the first that isn't skipped is `plan 2`;
+-- a text may begin with the rest of a comment.
 unfoldable pub begins_two : Bool → ℕ → List ℕ → Bool
 begins_two comment zero s = false
 begins_two comment (suc n) [] = false

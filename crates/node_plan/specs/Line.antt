@@ -69,7 +69,8 @@ said_of_status health mode code = said.Outside
 -- a bus with a name
 abbrev pub said_of_name : List ℕ → ℕ → ℕ → Said
 said_of_name name mtu rate =
-    if is_bus_name name then said.Bus (record { name = name; mtu = mtu; rate = rate }) else said.Outside
+    if is_bus_name name then said.Bus (record { name = name; mtu = mtu; rate = rate })
+    else said.Outside
 
 -- `bus NAME MTU RATE`
 abbrev pub said_of_numbers : List ℕ → Number → Number → Said
@@ -137,7 +138,8 @@ said_of_four names two word a b c =
     if bytes_eq word (codes "sub") then said_of_type names a b c
     else (if bytes_eq word (codes "status")
     then said_of_status (number_in 0 3 a) (number_in 0 3 b) (number_in 0 255 c)
-    else (if two && bytes_eq word (codes "bus") then said_of_bus a (mtu_in b) (number_in 1 4096 c)
+    else (if two && bytes_eq word (codes "bus")
+    then said_of_bus a (mtu_in b) (number_in 1 4096 c)
     else said.NoForm))
 
 -- a subscription to bytes
@@ -162,13 +164,15 @@ said_of_words names two (a ∷ []) = said_of_one a
 said_of_words names two (a ∷ b ∷ []) = said_of_two two a b
 said_of_words names two (a ∷ b ∷ c ∷ d ∷ []) = said_of_four names two a b c d
 said_of_words names two (a ∷ b ∷ c ∷ d ∷ e ∷ []) = said_of_five a b c d e
-said_of_words names two (a ∷ b ∷ c ∷ d ∷ e ∷ f ∷ more) = said_of_many a b c d e (joined 32 (f ∷ more))
+said_of_words names two (a ∷ b ∷ c ∷ d ∷ e ∷ f ∷ more) =
+    said_of_many a b c d e (joined 32 (f ∷ more))
 said_of_words names two words = said.NoForm
 
 -- a line, of version 2 or not; an empty line says nothing, and none that begins with `#`
 abbrev pub said_of : Namespace → Bool → List ℕ → Said
 said_of names two [] = said.Nothing
-said_of names two (b ∷ s) = if b == 35 then said.Nothing else said_of_words names two (words_of (b ∷ s))
+said_of names two (b ∷ s) = if b == 35 then said.Nothing
+    else said_of_words names two (words_of (b ∷ s))
 
 -- what is said lies in its ranges
 abbrev pub IsSaid : Said → Type 0

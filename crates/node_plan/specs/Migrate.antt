@@ -1,5 +1,5 @@
 -- The text of version 2 of a plan's text of version 1.
-use Rattle.std.specs.Prelude.{ℕ, Bool, List, [], ◌∷◌, ◌++◌, ◌==◌, ◌||◌, if◌then◌else◌, codes, decimal, map}
+use Rattle.std.specs.Prelude.{ℕ, List, [], ◌∷◌, ◌++◌, ◌==◌, ◌||◌, if◌then◌else◌, codes, decimal, map}
 use Rattle.std.specs.Str.{bytes_eq}
 use Rattle.node_plan.specs.declared.plan.BusPlan.{BusPlan}
 use Rattle.node_plan.specs.declared.plan.Plan.{Plan}
@@ -30,14 +30,16 @@ migrated_words numbers line words = line
 -- a line of version 1; one that is skipped stays
 abbrev pub migrated_line : List ℕ → List ℕ → List ℕ
 migrated_line numbers [] = []
-migrated_line numbers (b ∷ s) = if b == 35 then b ∷ s else migrated_words numbers (b ∷ s) (words_of (b ∷ s))
+migrated_line numbers (b ∷ s) = if b == 35 then b ∷ s
+    else migrated_words numbers (b ∷ s) (words_of (b ∷ s))
 
 -- the lines of a text of version 1
 abbrev pub migrated_text : List ℕ → List ℕ → List ℕ
 migrated_text numbers text = joined 10 (map (migrated_line numbers) (parts_of 10 text))
 
--- The text of version 2 that says what a plan's text says: `plan 1` becomes `plan 2`, `bus NAME` gets the MTU
--- and the rate that count for all buses, `mtu` and `rate` become empty lines, and all other bytes stay. A text of
--- version 2 stays as it is.
+-- The text of version 2 that says what a plan's text says: `plan 1` becomes `plan 2`, `bus NAME`
+-- gets the MTU and the rate that count for all buses, `mtu` and `rate` become empty lines, and all
+-- other bytes stay. A text of version 2 stays as it is.
 abbrev pub migrated : Plan → List ℕ → List ℕ
-migrated plan text = if is_version_two text then text else migrated_text (numbers_of plan.buses) text
+migrated plan text = if is_version_two text then text
+    else migrated_text (numbers_of plan.buses) text

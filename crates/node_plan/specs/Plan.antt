@@ -38,7 +38,8 @@ last_line names d n (b ∷ s) =
 abbrev pub long_line : Draft → ℕ → List ℕ → PlanIs
 long_line d n part = Bad n why.Line
 
--- the parts between newlines are lines from the number n on, and `last` says what is made of the part behind them
+-- the parts between newlines are lines from the number n on, and `last` says what is made of the
+-- part behind them
 abbrev pub plan_of_parts : Namespace → (Draft → ℕ → List ℕ → PlanIs) → Draft → ℕ
     → List (List ℕ) → PlanIs
 plan_of_parts names last d n [] = last d n []

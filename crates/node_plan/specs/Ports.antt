@@ -43,9 +43,13 @@ port_of_sub s = record {
   type = type_in s.shape;
 }
 
+-- `uavcan.node.GetInfo` for so many clients
+abbrev pub get_info : ℕ → Service
+get_info clients = record { port = 430; sources = clients; request = N.NodeInfoRequest }
+
 -- the services that a node answers
 abbrev pub services : Plan → List Service
-services plan = if plan.silent then [] else (record { port = 430; sources = plan.clients; request = N.NodeInfoRequest }) ∷ []
+services plan = if plan.silent then [] else get_info plan.clients ∷ []
 
 -- the extent of a service's requests in bytes
 abbrev pub service_extent : Service → ℕ

@@ -30,8 +30,8 @@ abbrev pub message_at : Namespace → Result TypeId NameError → Option SubShap
 message_at names (Ok id) = message_in (definition_of names.definitions id)
 message_at names (Err why) = None
 
--- What a payload is read as where this word is the type: the message of the namespace with this full
--- name and version, as `uavcan.node.Heartbeat.1.0`. A service, a half of one, and a word that is no
--- type's name are no message.
+-- What a payload is read as where this word is the type: the message of the namespace with this
+-- full name and version, as `uavcan.node.Heartbeat.1.0`. A service, a half of one, and a word
+-- that is no type's name are no message.
 abbrev pub shape_named : Namespace → List ℕ → Option SubShape
 shape_named names word = message_at names (type_id_of word)

@@ -13,14 +13,16 @@ abbrev pub parts_of : ℕ → List ℕ → List (List ℕ)
 parts_of c [] = [] ∷ []
 parts_of c (b ∷ s) = if b == c then [] ∷ parts_of c s else with_first b (parts_of c s)
 
--- the words of a line, with one space between them; where there are two in a row, an empty one stands between them
+-- the words of a line, with one space between them; where there are two in a row, an empty one
+-- stands between them
 abbrev pub words_of : List ℕ → List (List ℕ)
 words_of line = parts_of 32 line
 
 -- the number whose decimal digits are those of n and then these
 abbrev pub decimal_from : ℕ → List ℕ → Option ℕ
 decimal_from n [] = Some n
-decimal_from n (b ∷ s) = if nat_lt b 48 || nat_lt 57 b then None else decimal_from (n * 10 + (b - 48)) s
+decimal_from n (b ∷ s) = if nat_lt b 48 || nat_lt 57 b then None
+    else decimal_from (n * 10 + (b - 48)) s
 
 -- the number of a word of decimal digits without leading zeros
 abbrev pub number_of : List ℕ → Option ℕ

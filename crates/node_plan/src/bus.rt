@@ -23,7 +23,8 @@ fn has_name_bytes(name: &[u8]) -> bool
 }
 
 fn bus_name(name: &[u8]) -> Option<BusName>
-    ensures { MatchOption result (is_bus_name name.now ≡ false) (λ n. (n ≡ name.now) × (is_bus_name name.now ≡ true)) }
+    ensures { MatchOption result (is_bus_name name.now ≡ false)
+        (λ n. (n ≡ name.now) × (is_bus_name name.now ≡ true)) }
 {
     if name.len() > 15 {
         return None;

@@ -42,10 +42,9 @@ pub struct Draft {
 }
 
 impl Draft {
-    ghost use Rattle.std.specs.Prelude.{◌≡◌, ◌<◌, ◌≤◌, IsTrue, IfSome, is_some, length, true};
-    ghost use Rattle.node_plan.specs.Names.{is_bus_name};
+    ghost use Rattle.std.specs.Prelude.{◌≡◌, ◌<◌, ◌≤◌, Err, IfSome};
     ghost use Rattle.node_plan.specs.Answers.{IsStep};
-    ghost use Rattle.node_plan.specs.Draft.{start, complete, is_two, once, plan_with, with_bus, with_sub, with_version, without_type, with_line, step};
+    ghost use Rattle.node_plan.specs.Draft.{start, complete, is_two, plan_with, without_type, with_line, step};
     ghost use Rattle.node_plan.specs.IsPlan.{IsBus, IsDraft, IsInfo, IsMtu, IsPlan, IsRate, IsStatus, IsSub};
     ghost use Rattle.node_plan.specs.Line.{IsSaid};
 
@@ -79,7 +78,7 @@ impl Draft {
 
     fn set_version(&mut self, n: u32, version: PlanVersion) -> Result<(), PlanError>
         requires { IsDraft self.old }
-        ensures value { IsStep (with_version self.old self.old.version version) n self.new result }
+        ensures value { IsStep (step self.old (Said.Version version)) n self.new result }
         ensures sound { IsDraft self.new }
     {
         match (self.version, version) {
@@ -99,7 +98,7 @@ impl Draft {
     fn set_node(&mut self, n: u32, node: u8) -> Result<(), PlanError>
         requires sound { IsDraft self.old }
         requires low { node < 128 }
-        ensures value { IsStep (once (is_some self.old.node) (record self.old { node = Some node })) n self.new result }
+        ensures value { IsStep (with_line self.old (Said.Node node)) n self.new result }
         ensures sound { IsDraft self.new }
     {
         if self.node.is_some() {
@@ -112,7 +111,7 @@ impl Draft {
     fn set_mtu(&mut self, n: u32, mtu: u8) -> Result<(), PlanError>
         requires sound { IsDraft self.old }
         requires fits { IsMtu mtu }
-        ensures value { IsStep (once (is_some self.old.mtu) (record self.old { mtu = Some mtu })) n self.new result }
+        ensures value { IsStep (with_line self.old (Said.Mtu mtu)) n self.new result }
         ensures sound { IsDraft self.new }
     {
         if self.mtu.is_some() {
@@ -125,7 +124,7 @@ impl Draft {
     fn set_rate(&mut self, n: u32, rate: u32) -> Result<(), PlanError>
         requires sound { IsDraft self.old }
         requires fits { IsRate rate }
-        ensures value { IsStep (once (is_some self.old.rate) (record self.old { rate = Some rate })) n self.new result }
+        ensures value { IsStep (with_line self.old (Said.Rate rate)) n self.new result }
         ensures sound { IsDraft self.new }
     {
         if self.rate.is_some() {
@@ -139,7 +138,7 @@ impl Draft {
         requires sound { IsDraft self.old }
         requires low { 1 ≤ timeout }
         requires high { timeout ≤ 60000000 }
-        ensures value { IsStep (once (is_some self.old.timeout) (record self.old { timeout = Some timeout })) n self.new result }
+        ensures value { IsStep (with_line self.old (Said.Timeout timeout)) n self.new result }
         ensures sound { IsDraft self.new }
     {
         if self.timeout.is_some() {
@@ -153,7 +152,7 @@ impl Draft {
         requires sound { IsDraft self.old }
         requires low { 1 ≤ clients }
         requires high { clients ≤ 128 }
-        ensures value { IsStep (once (is_some self.old.clients) (record self.old { clients = Some clients })) n self.new result }
+        ensures value { IsStep (with_line self.old (Said.Clients clients)) n self.new result }
         ensures sound { IsDraft self.new }
     {
         if self.clients.is_some() {
@@ -166,7 +165,7 @@ impl Draft {
     fn set_status(&mut self, n: u32, status: NodeStatus) -> Result<(), PlanError>
         requires sound { IsDraft self.old }
         requires fits { IsStatus status }
-        ensures value { IsStep (once (is_some self.old.status) (record self.old { status = Some status })) n self.new result }
+        ensures value { IsStep (with_line self.old (Said.Status status)) n self.new result }
         ensures sound { IsDraft self.new }
     {
         if self.status.is_some() {
@@ -179,7 +178,7 @@ impl Draft {
     fn set_info(&mut self, n: u32, info: NodeInfo) -> Result<(), PlanError>
         requires sound { IsDraft self.old }
         requires fits { IsInfo info }
-        ensures value { IsStep (once (is_some self.old.info) (record self.old { info = Some info })) n self.new result }
+        ensures value { IsStep (with_line self.old (Said.Info info)) n self.new result }
         ensures sound { IsDraft self.new }
     {
         if self.info.is_some() {
@@ -193,7 +192,7 @@ impl Draft {
         requires sound { IsDraft self.old }
         requires low { 1 ≤ queue }
         requires high { queue ≤ 4096 }
-        ensures value { IsStep (once (is_some self.old.queue) (record self.old { queue = Some queue })) n self.new result }
+        ensures value { IsStep (with_line self.old (Said.Queue queue)) n self.new result }
         ensures sound { IsDraft self.new }
     {
         if self.queue.is_some() {
@@ -205,7 +204,7 @@ impl Draft {
 
     fn set_silent(&mut self, n: u32) -> Result<(), PlanError>
         requires { IsDraft self.old }
-        ensures value { IsStep (once self.old.silent (record self.old { silent = true })) n self.new result }
+        ensures value { IsStep (with_line self.old Said.Silent) n self.new result }
         ensures sound { IsDraft self.new }
     {
         if self.silent {
@@ -218,7 +217,7 @@ impl Draft {
     fn add_bus(&mut self, n: u32, bus: BusPlan) -> Result<(), PlanError>
         requires sound { IsDraft self.old }
         requires fits { IsBus bus }
-        ensures value { IsStep (with_bus self.old bus) n self.new result }
+        ensures value { IsStep (with_line self.old (Said.Bus bus)) n self.new result }
         ensures sound { IsDraft self.new }
     {
         if self.buses.len() >= MAX_BUSES {
@@ -237,7 +236,7 @@ impl Draft {
     fn add_sub(&mut self, n: u32, sub: Sub) -> Result<(), PlanError>
         requires sound { IsDraft self.old }
         requires fits { IsSub sub }
-        ensures value { IsStep (with_sub self.old sub) n self.new result }
+        ensures value { IsStep (with_line self.old (Said.Sub sub)) n self.new result }
         ensures sound { IsDraft self.new }
     {
         if self.subs.len() >= MAX_SUBS {

@@ -49,7 +49,7 @@ fn version_of(major: Number, minor: Number) -> VersionWord
 }
 
 /// What a word is where a version `a.b` stands.
-pub fn version_in(word: &[u8]) -> VersionWord
+fn version_in(word: &[u8]) -> VersionWord
     ensures value { result ≡ version_in word.now }
     ensures sound { IsVersionWord result }
 {
@@ -100,30 +100,39 @@ fn is_node_name(name: &[u8]) -> bool
     name.len() <= MAX_NAME && has_printable_bytes(name)
 }
 
+/// The words behind `info`; the name is all that stands behind the others.
+#[derive(Clone, Copy)]
+pub struct InfoWords<'a> {
+    pub hardware: &'a [u8],
+    pub software: &'a [u8],
+    pub revision: &'a [u8],
+    pub unique_id: &'a [u8],
+    pub name: &'a [u8],
+}
+
+/// Versions with the other words.
 fn info_of(
     alloc: Global,
     hardware: Version,
     software: Version,
-    revision: &[u8],
-    unique_id: &[u8],
-    name: &[u8],
+    words: &InfoWords,
 ) -> Result<Said, NoMemory>
     requires hardware { FitsVersion hardware }
     requires software { FitsVersion software }
-    ensures value { IfOk result (λ said.
-        said ≡ said_of_versions hardware software revision.now unique_id.now name.now) }
+    ensures value { IfOk result (λ said. said ≡ said_of_versions hardware software
+        words.now.revision.now words.now.unique_id.now words.now.name.now) }
     ensures sound { IfOk result IsSaid }
 {
-    let Some(revision) = revision_in(revision) else {
+    let Some(revision) = revision_in(words.revision) else {
         return Ok(Said::Outside);
     };
-    let Some(unique_id) = unique_id_in(unique_id) else {
+    let Some(unique_id) = unique_id_in(words.unique_id) else {
         return Ok(Said::Outside);
     };
-    if !is_node_name(name) {
+    if !is_node_name(words.name) {
         return Ok(Said::Outside);
     }
-    let name = Bytes::from_slice(alloc, name)?;
+    let name = Bytes::from_slice(alloc, words.name)?;
     Ok(Said::Info(NodeInfo {
         protocol_version: PROTOCOL,
         hardware_version: hardware,
@@ -137,27 +146,19 @@ fn info_of(
 }
 
 /// `info HW SW VCS UID NAME`.
-pub fn info(
-    alloc: Global,
-    hardware: VersionWord,
-    software: VersionWord,
-    revision: &[u8],
-    unique_id: &[u8],
-    name: &[u8],
-) -> Result<Said, NoMemory>
-    requires hardware { IsVersionWord hardware }
-    requires software { IsVersionWord software }
-    ensures value { IfOk result (λ said.
-        said ≡ said_of_info hardware software revision.now unique_id.now name.now) }
+pub fn info(alloc: Global, words: &InfoWords) -> Result<Said, NoMemory>
+    ensures value { IfOk result (λ said. said
+        ≡ said_of_info (version_in words.now.hardware.now) (version_in words.now.software.now)
+        words.now.revision.now words.now.unique_id.now words.now.name.now) }
     ensures sound { IfOk result IsSaid }
 {
-    if revision.is_empty() || unique_id.is_empty() || name.is_empty() {
+    if words.revision.is_empty() || words.unique_id.is_empty() || words.name.is_empty() {
         return Ok(Said::NoForm);
     }
-    match (hardware, software) {
+    match (version_in(words.hardware), version_in(words.software)) {
         (VersionWord::NoVersion, _) | (_, VersionWord::NoVersion) => Ok(Said::NoForm),
         (VersionWord::Within(hardware), VersionWord::Within(software)) => {
-            info_of(alloc, hardware, software, revision, unique_id, name)
+            info_of(alloc, hardware, software, words)
         }
         _ => Ok(Said::Outside),
     }

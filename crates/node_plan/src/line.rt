@@ -5,7 +5,7 @@ ghost use Rattle.node_plan.specs.Line.{said_of, said_of_one, said_of_two, said_o
 ghost use Rattle.node_plan.specs.Words.{words_of};
 
 use crate::bus::{bus, mtu_in};
-use crate::info::{info, version_in};
+use crate::info::{InfoWords, info};
 use crate::numbers::{clients, mtu, node, queue, rate, status, timeout, version};
 use crate::plan::{BusPlan, NodeStatus, Sub};
 use crate::sub::{MAX_EXTENT, raw_sub, sub_of_type};
@@ -178,25 +178,17 @@ fn five_words(word: &[u8], port: &[u8], sources: &[u8], raw: &[u8], extent: &[u8
     )
 }
 
-fn many_words(
-    alloc: Global,
-    word: &[u8],
-    hardware: &[u8],
-    software: &[u8],
-    revision: &[u8],
-    unique_id: &[u8],
-    name: &[u8],
-) -> Result<Said, NoMemory>
+fn many_words(alloc: Global, word: &[u8], words: &InfoWords) -> Result<Said, NoMemory>
     ensures value { IfOk result (λ said. said
-        ≡ said_of_many word.now hardware.now software.now revision.now unique_id.now name.now) }
+        ≡ said_of_many word.now words.now.hardware.now words.now.software.now
+        words.now.revision.now words.now.unique_id.now words.now.name.now) }
     ensures sound { IfOk result IsSaid }
 {
-    if word != b"info".as_slice() {
-        return Ok(Said::NoForm);
+    if word == b"info".as_slice() {
+        info(alloc, words)
+    } else {
+        Ok(Said::NoForm)
     }
-    let hardware = version_in(hardware);
-    let software = version_in(software);
-    info(alloc, hardware, software, revision, unique_id, name)
 }
 
 fn words(alloc: Global, names: &Namespace, is_two: bool, line: &[u8]) -> Result<Said, NoMemory>
@@ -218,7 +210,16 @@ fn words(alloc: Global, names: &Namespace, is_two: bool, line: &[u8]) -> Result<
         return four_words(alloc, names, is_two, word, second, third, behind);
     };
     match cut(b' ', behind) {
-        Some((fifth, behind)) => many_words(alloc, word, second, third, fourth, fifth, behind),
+        Some((fifth, behind)) => {
+            let words = InfoWords {
+                hardware: second,
+                software: third,
+                revision: fourth,
+                unique_id: fifth,
+                name: behind,
+            };
+            many_words(alloc, word, &words)
+        }
         None => Ok(five_words(word, second, third, fourth, behind)),
     }
 }

@@ -16,8 +16,7 @@ pub struct Plan {
     pub node: u8,
     /// The node's buses, 1 to 3 with distinct names.
     pub buses: ShortList<BusPlan, 3>,
-    /// The transfer-ID timeout, in microseconds: 1 to 60,000,000 (Cyphal Specification, section
-    /// 4.1.2.4).
+    /// The transfer-ID timeout, in microseconds: 1 to 60,000,000.
     pub timeout: u64,
     /// Whether the node neither publishes a heartbeat nor answers what it is.
     pub silent: bool,
@@ -27,8 +26,8 @@ pub struct Plan {
     pub clients: u16,
     /// How the node is, by its heartbeat.
     pub status: NodeStatus,
-    /// What the node is. The protocol is 1.0, and there is neither a CRC of the software nor a
-    /// certificate.
+    /// What the node is (Cyphal Specification, section 5.3.3). The protocol is 1.0, and there is
+    /// neither a CRC of the software nor a certificate.
     pub info: NodeInfo,
     /// The greatest number of frames that wait to be sent on a bus: 1 to 4,096.
     pub queue: u32,

@@ -83,16 +83,20 @@ fn read_lines(
 }
 
 /// Reads a plan of version 1 or 2, whose types are messages of a namespace. Line `n` is refused as
-/// `Line` where it is no line of a plan of its version, where it reaches past the bytes that a text may have, or where it would stand
-/// behind the last line of a text that lacks `plan`, `node` or `bus`;
-/// `Range` where a number, a name or hex is outside its range, or for a fourth bus and a 65th subscription;
-/// `Repeated` where it says again what may be said once, or names a bus or a subject again;
-/// `UnknownType` where it subscribes to a type that is no message of the namespace;
-/// `Range` where it subscribes to a type whose extent is above 65,536 bytes.
+/// - `Line` where it is no line of a plan of its version, where it reaches past the bytes that a
+///   text may have, or where it would stand behind the last line of a text that lacks `plan`,
+///   `node` or `bus`;
+/// - `Range` where a number, a name or hex is outside its range, or for a fourth bus and a 65th
+///   subscription;
+/// - `Repeated` where it says again what may be said once, or names a bus or a subject again;
+/// - `UnknownType` where it subscribes to a type that is no message of the namespace;
+/// - `Range` where it subscribes to a type whose extent is above 65,536 bytes.
+///
 /// The first line that is refused is told, and the first of these that holds of it.
 ///
-/// A text may have 2^20 bytes, and 32 more where its first line that isn't skipped is `plan 2` and begins
-/// among the first 2^20. The first `MAX_TEXT + 1` bytes of a text give the same answer as all of it.
+/// A text may have 2^20 bytes, and 32 more where its first line that isn't skipped is `plan 2` and
+/// begins among the first 2^20. The first `MAX_TEXT + 1` bytes of a text give the same answer as
+/// all of it.
 pub fn read_plan(alloc: Global, text: &[u8], names: &Namespace) -> Result<Plan, PlanError>
     requires { IsNamespace names.now }
     ensures plan { IfOk result (λ p. plan_of names.now text.now ≡ Good p) }

@@ -18,8 +18,10 @@ pub const LARGE: u32 = 100_000_000;
 
 /// What stands before the first byte `b`, and behind it.
 pub fn cut(b: u8, text: &[u8]) -> Option<(&[u8], &[u8])>
-    ensures parts { MatchOption result (parts_of b text.now ≡ text.now ∷ []) (λ p. parts_of b text.now ≡ p.0.now ∷ parts_of b p.1.now) }
-    ensures shorter { MatchOption result (0 ≤ length text.now) (λ p. length p.1.now < length text.now) }
+    ensures parts { MatchOption result (parts_of b text.now ≡ text.now ∷ [])
+        (λ p. parts_of b text.now ≡ p.0.now ∷ parts_of b p.1.now) }
+    ensures shorter { MatchOption result (0 ≤ length text.now)
+        (λ p. length p.1.now < length text.now) }
 {
     for i in 0..text.len() {
         if text[i] == b {
@@ -31,7 +33,8 @@ pub fn cut(b: u8, text: &[u8]) -> Option<(&[u8], &[u8])>
 
 /// The number of decimal digits; one that is large may come as any large number.
 fn value_of_digits(digits: &[u8]) -> Option<u32>
-    ensures { (low high : ℕ) → high < LARGE → ranged low high result ≡ ranged low high (decimal_from 0 digits.now) }
+    ensures { (low high : ℕ) → high < LARGE
+        → ranged low high result ≡ ranged low high (decimal_from 0 digits.now) }
 {
     let mut n = 0u32;
     for b in digits {
@@ -43,9 +46,11 @@ fn value_of_digits(digits: &[u8]) -> Option<u32>
     Some(n)
 }
 
-/// The number of decimal digits without leading zeros; one that is large may come as any large number.
+/// The number of decimal digits without leading zeros; one that is large may come as any large
+/// number.
 fn decimal(word: &[u8]) -> Option<u32>
-    ensures { (low high : ℕ) → high < LARGE → ranged low high result ≡ ranged low high (number_of word.now) }
+    ensures { (low high : ℕ) → high < LARGE
+        → ranged low high result ≡ ranged low high (number_of word.now) }
 {
     match word {
         [] => None,

@@ -191,17 +191,17 @@ impl Listener for Allocating {
 
     ghost broke = { λ first now past. Unit {0} };
 
+    ghost cut_short = { λ first now past. Unit {0} };
+
     ghost step_text = { λ first rec past. step_text first.own rec past };
 
     ghost last_text = { λ first past. last_text first.own past };
 
     ghost latest = { λ now. 0 };
 
-    ghost line = { λ now. now.records };
+    ghost count = { λ now. now.records };
 
     fn hear(&mut self, rec: &Record, gathered: &mut TextBuffer) -> Result<(), NoMemory> {
-        // No number of records passes the line of the last one.
-        let _line = rec.line;
         let event = self.event(rec)?;
         if let Some(event) = event {
             self.take(rec.moment, event, gathered)?;
@@ -216,6 +216,4 @@ impl Listener for Allocating {
     }
 
     ghost heard_broke = { λ first now past h. tt };
-
-    ghost ended_broke = { λ first now past h. tt };
 }

@@ -18,7 +18,7 @@ use std::alloc::Global;
 /// it writes how many records it heard, and how many nodes have a node-ID of it.
 pub fn allocate<L: Source, O: Sink>(alloc: Global, own: u8, input: &mut L, out: &mut O) -> Ended
     requires own { own ≤ 127 }
-    ensures gone { HasGone (allocate_voice own) Anything Anything Anything
+    ensures gone { HasGone (allocate_voice own) Anything Anything Anything Anything
         (L.left input.old) result (O.written out.old) (O.written out.new) }
     ensures taken { result ≡ Ended.ReadFault → IsOfTaken (allocate_voice own) Anything
         (L.left input.old) (L.left input.new) (O.written out.old) (O.written out.new) }

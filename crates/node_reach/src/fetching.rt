@@ -82,13 +82,15 @@ impl Listener for Fetching {
 
     ghost broke = { λ first now past. Unit {0} };
 
+    ghost cut_short = { λ first now past. Unit {0} };
+
     ghost step_text = { λ first rec past. step_text first.asking.client rec past };
 
     ghost last_text = { λ first past. last_text first.asking.client past };
 
     ghost latest = { λ now. now.responses.ear.latest };
 
-    ghost line = { λ now. 0 };
+    ghost count = { λ now. 0 };
 
     fn hear(&mut self, rec: &Record, gathered: &mut TextBuffer) -> Result<(), NoMemory> {
         fetch_laws();
@@ -107,6 +109,4 @@ impl Listener for Fetching {
     }
 
     ghost heard_broke = { λ first now past h. tt };
-
-    ghost ended_broke = { λ first now past h. tt };
 }

@@ -40,7 +40,7 @@ pub fn fetch<L: Source, O: Sink>(
     requires other { server ≢ own }
     requires path { length path.now ≤ 255 }
     ensures gone { let voice = fetch_voice (client_of own server path.now) in
-        HasGone voice Anything Anything Anything
+        HasGone voice Anything Anything Anything Anything
         (L.left input.old) result (O.written out.old) (O.written out.new) }
     ensures taken { let voice = fetch_voice (client_of own server path.now) in
         result ≡ Ended.ReadFault → IsOfTaken voice Anything

@@ -67,17 +67,17 @@ impl Listener for Monitoring {
 
     ghost broke = { λ first now past. Unit {0} };
 
+    ghost cut_short = { λ first now past. Unit {0} };
+
     ghost step_text = { λ first rec past. step_text rec past };
 
     ghost last_text = { λ first past. last_text first.ear.own past };
 
     ghost latest = { λ now. now.ear.latest };
 
-    ghost line = { λ now. now.records };
+    ghost count = { λ now. now.records };
 
     fn hear(&mut self, rec: &Record, _gathered: &mut TextBuffer) -> Result<(), NoMemory> {
-        // No number of records passes the line of the last one.
-        let _line = rec.line;
         let heard = self.ear.hear(rec)?;
         let transfer = self.ear.transfer(heard);
         self.network.hear(rec.moment, transfer)?;
@@ -95,8 +95,6 @@ impl Listener for Monitoring {
     }
 
     ghost heard_broke = { λ first now past h. tt };
-
-    ghost ended_broke = { λ first now past h. tt };
 }
 
 /// Gathers the lines of nodes, of which these are online.

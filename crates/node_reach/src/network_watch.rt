@@ -18,7 +18,7 @@ use std::alloc::Global;
 /// many nodes are online.
 pub fn monitor<L: Source, O: Sink>(alloc: Global, own: u8, input: &mut L, out: &mut O) -> Ended
     requires own { own ≤ 127 }
-    ensures gone { HasGone (monitor_voice own) Anything Anything Anything
+    ensures gone { HasGone (monitor_voice own) Anything Anything Anything Anything
         (L.left input.old) result (O.written out.old) (O.written out.new) }
     ensures taken { result ≡ Ended.ReadFault → IsOfTaken (monitor_voice own) Anything
         (L.left input.old) (L.left input.new) (O.written out.old) (O.written out.new) }

@@ -89,7 +89,6 @@ fn full<'a>() -> LineRef<'a> {
 fn lines_have_their_text(rt: HostRuntime) -> Result<(), NoMemory> {
     let alloc = rt.alloc();
     let heartbeat = [1, 0, 0, 0, 0, 0, 0, 0xAB, 0xCD];
-    let bytes = eight_bytes();
     let rows = [
         (
             received((0, 0), (7509, Some(42)), 0, (1, 1), &heartbeat[..7]),
@@ -104,8 +103,6 @@ fn lines_have_their_text(rt: HostRuntime) -> Result<(), NoMemory> {
             "rx 1.000000 can0 msg 100 - 4 7 1 1 AA raw\n",
         ),
         (refused(), "nosession 1.000002 can0 res 100 3 3\n"),
-        (sent(&bytes), "tx 5.000000 can0 107D552A 00000000000000E0\n"),
-        (full(), "full 5.000000 can0 430 5 4\n"),
         (
             received((99_999_999_999, 1), (0, Some(0)), 31, (1, 1), &[]),
             "rx 99999.999999 can1 msg 0 0 4 31 1 1 - raw\n",
@@ -117,6 +114,24 @@ fn lines_have_their_text(rt: HostRuntime) -> Result<(), NoMemory> {
     ];
     let buses = two_buses();
     let mut writer = LineWriter::new(alloc, &buses);
+    for (line, want) in &rows {
+        let mut text = TextBuffer::new(alloc);
+        writer.push(&mut text, line)?;
+        assert!(rt; text.as_slice() == want.as_bytes(), "{want}");
+        let _copy = line.copy(alloc)?;
+    }
+    Ok(())
+}
+
+#[test]
+fn lines_on_frames_that_leave_have_their_text(rt: HostRuntime) -> Result<(), NoMemory> {
+    let alloc = rt.alloc();
+    let bytes = eight_bytes();
+    let rows = [
+        (sent(&bytes), "tx 5.000000 can0 107D552A 00000000000000E0\n"),
+        (full(), "full 5.000000 can0 430 5 4\n"),
+    ];
+    let mut writer = LineWriter::new(alloc, &two_buses());
     for (line, want) in &rows {
         let mut text = TextBuffer::new(alloc);
         writer.push(&mut text, line)?;

@@ -13,6 +13,8 @@ mod node_log;
 #[cfg(test)]
 mod queue_tests;
 #[cfg(test)]
+mod sending_tests;
+#[cfg(test)]
 mod session_tests;
 #[cfg(test)]
 mod table_tests;

@@ -25,16 +25,17 @@ impl Listener for Count {
 
     ghost broke = { λ first now past. now.n ≤ first.n + length past };
 
+    ghost cut_short = { λ first now past. now.n ≤ first.n + length past };
+
     ghost step_text = { λ first rec past. ((first.n + length past) % 256) ∷ [] };
 
     ghost last_text = { λ first past. 10 ∷ [] };
 
     ghost latest = { λ c. 0 };
 
-    ghost line = { λ c. c.n };
+    ghost count = { λ c. c.n };
 
     fn hear(&mut self, rec: &Record, gathered: &mut TextBuffer) -> Result<(), NoMemory> {
-        let _line = rec.line;
         gathered.push(&[(self.n % 256) as u8])?;
         self.n += 1;
         Ok(())
@@ -47,8 +48,6 @@ impl Listener for Count {
     }
 
     ghost heard_broke = { λ first now past e. Prim.search rules };
-
-    ghost ended_broke = { λ first now past e. Prim.search rules };
 }
 
 /// Says the bus of each record as a digit, and has memory for so many alone.
@@ -64,13 +63,15 @@ impl Listener for Buses {
 
     ghost broke = { λ first now past. now.left + length past ≤ first.left + 1 };
 
+    ghost cut_short = { λ first now past. now.left + length past ≤ first.left };
+
     ghost step_text = { λ first rec past. (48 + rec.bus % 10) ∷ [] };
 
     ghost last_text = { λ first past. [] };
 
     ghost latest = { λ b. 0 };
 
-    ghost line = { λ b. 0 };
+    ghost count = { λ b. 0 };
 
     fn hear(&mut self, rec: &Record, gathered: &mut TextBuffer) -> Result<(), NoMemory> {
         if self.left == 0 {
@@ -86,8 +87,6 @@ impl Listener for Buses {
     }
 
     ghost heard_broke = { λ first now past e. Prim.search rules };
-
-    ghost ended_broke = { λ first now past e. Prim.search rules };
 }
 
 /// The buses `can0` and `can1`.

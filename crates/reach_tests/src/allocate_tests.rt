@@ -1,6 +1,7 @@
 use cy_outside::{MemSink, MemSource};
 use frame_log::LogWhy;
 use node_reach::{Ended, allocate};
+use std::test::Fail;
 
 /// A log, and what the allocator of node 1 says of it.
 #[derive(Drop)]
@@ -92,4 +93,27 @@ fn node_ids_are_given(rt: HostRuntime) {
         assert_eq!(rt; ended, row.ended);
         assert_eq!(rt; out.written.as_slice(), row.written);
     }
+}
+
+#[test]
+fn of_128_nodes_124_are_given_a_node_id(rt: HostRuntime) -> Result<(), Fail> {
+    let alloc = rt.alloc();
+    let mut log = Vec::new(alloc);
+    for high in b"01234567" {
+        for low in b"0123456789ABCDEF" {
+            log.extend_from_slice(b"(1.000000) can0 117FE605#")?;
+            log.push(*high)?;
+            log.push(*low)?;
+            log.extend_from_slice(b"000000000000E0\n")?;
+        }
+    }
+    let mut input = MemSource::new(log.as_slice(), &[]);
+    let mut out = MemSink::new(alloc, &[]);
+    let ended = allocate(alloc, 1, &mut input, &mut out);
+    assert_eq!(rt; ended, Ended::Ok);
+    let last = b"full 1.000000 00000000007C\nfull 1.000000 00000000007D\n\
+        full 1.000000 00000000007E\nfull 1.000000 00000000007F\n\
+        end records 128 owners 124\n";
+    assert_eq!(rt; out.written.as_slice().ends_with(last), true);
+    Ok(())
 }

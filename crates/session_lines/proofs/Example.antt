@@ -1,5 +1,6 @@
--- The premises can be met: a health and a mode are sent, and the port's type has the health alone.
-use Rattle.std.proofs.Common.{◌≡◌, ◌∙◌, ℕ, zero, suc, zero-le, le_refl, ◌≤◌, ◌<◌, true, false, Some, None, List, [], ◌∷◌, ◌++◌, codes, refl, sym, ap, subst, inl, arith}
+-- The premises can be met: a health and a mode are sent to a node that sends itself, whose port's type has the health
+-- alone.
+use Rattle.std.proofs.Common.{◌≡◌, ◌∙◌, ℕ, zero, suc, zero-le, le_refl, ◌≤◌, ◌<◌, true, false, Some, None, List, [], ◌∷◌, ◌++◌, codes, replicate, refl, sym, ap, subst, inl, arith}
 use Rattle.std.specs.Prelude.{pos}
 use Rattle.std.proofs.lemmas.List.Elements.{All-nil, All-cons}
 use Rattle.can_id.specs.declared.key.Kind.TheVariants.{Message}
@@ -29,8 +30,10 @@ use Rattle.node_plan.specs.IsPlan.{IsShape, TypesKeepRules}
 use Rattle.node_plan.specs.declared.plan.Plan.{Plan}
 use Rattle.node_plan.specs.declared.plan.Sub.{Sub}
 use Rattle.node_plan.specs.declared.plan.SubShape.TheVariants.{Named}
-use Rattle.node_core.specs.Heard.{port_of_sub}
-use Rattle.node_core.specs.Steps.{Step, Heard, records}
+use Rattle.node_core.specs.Heard.{table_port}
+use Rattle.node_plan.specs.Ports.{port_of_sub}
+use Rattle.std_types.specs.declared.node.NodeInfo.{NodeInfo}
+use Rattle.node_core.specs.Steps.{Step, Heard, Tick, records}
 use Rattle.session_lines.specs.Example.{ValuesExample}
 use Rattle.session_lines.specs.Values.{IsSentTo}
 
@@ -68,8 +71,30 @@ is_old =
 abbrev sub : Sub
 sub = record { port = 100; sources = 4; shape = Named (record { name = codes "demo.State"; major = 1; minor = 0 }) old_schema }
 
+abbrev info : NodeInfo
+info = record {
+  protocol_version = record { major = 1; minor = 0 };
+  hardware_version = record { major = 0; minor = 0 };
+  software_version = record { major = 0; minor = 0 };
+  software_vcs_revision_id = 0;
+  unique_id = replicate 16 0;
+  name = [];
+  software_image_crc = [];
+  certificate_of_authenticity = [];
+}
+
 abbrev plan : Plan
-plan = record { node = 10; buses = record { name = codes "can0"; mtu = 8; rate = 4096 } ∷ []; timeout = 2000000; silent = true; subs = sub ∷ [] }
+plan = record {
+  node = 10;
+  buses = record { name = codes "can0"; mtu = 8; rate = 4096 } ∷ [];
+  timeout = 2000000;
+  silent = false;
+  subs = sub ∷ [];
+  clients = 4;
+  status = record { health = 0; mode = 0; code = 0 };
+  info = info;
+  queue = 64;
+}
 
 plan_rules : TypesKeepRules plan
 plan_rules =
@@ -79,7 +104,7 @@ abbrev key : SessionKey
 key = record { kind = Message; port = 100; source = 1 }
 
 abbrev steps : List Step
-steps = Heard (record { line = 1; moment = 1000000; bus = 0; ident = 0x10606401; bytes = 7 ∷ 1 ∷ 0xE0 ∷ [] }) ∷ []
+steps = Heard (record { line = 1; moment = 1000000; bus = 0; ident = 0x10606401; bytes = 7 ∷ 1 ∷ 0xE0 ∷ [] }) ∷ Tick 0 1000000 ∷ []
 
 abbrev r : KeyRecord
 r = record { line = 1; moment = 1000000; bus = 0; priority = 4; start = true; end = true; toggle = true; tid = 0; body = 7 ∷ 1 ∷ [] }
@@ -139,7 +164,7 @@ explains = record {
   no_chance = (λ a between older e s c cl z. absurd (none_ends between a older e), tt);
 }
 
-sent_to : IsSentTo plan key (records steps) (port_of_sub sub) old_type sent origin
+sent_to : IsSentTo plan key (records steps) (table_port (port_of_sub sub)) old_type sent origin
 sent_to = record {
   rules = plan_rules;
   session = record { port = refl; admitted_there = refl };
@@ -176,7 +201,7 @@ example = record {
   plan = plan;
   key = key;
   steps = steps;
-  p = port_of_sub sub;
+  p = table_port (port_of_sub sub);
   port = old_type;
   sent = sent;
   origin = origin;

@@ -7,23 +7,25 @@ use Rattle.std.proofs.lemmas.Bool.{and_parts, true≢false, cases_order}
 use Rattle.std.proofs.lemmas.Fmt.{decimal_injective}
 use Rattle.std.proofs.lemmas.List.{append_cancel_left}
 use Rattle.std.proofs.lemmas.Option.{slice_get-get_or}
-use Rattle.hex.specs.Hex.{IsBytes, decode_of, encode_with, upper_digits}
+use Rattle.hex.specs.Hex.{IsBytes, decode_of, encode_upper, encode_with, upper_digits}
 use Rattle.hex.proofs.HexLemmas.{length-encode_with, decode_of-encode_upper}
 use Rattle.can_id.specs.declared.key.Key.{Key}
 use Rattle.can_id.specs.declared.key.Kind.{Kind}
 use Rattle.can_id.specs.declared.key.Kind.TheVariants.{Message, Request, Response}
-use Rattle.line_text.specs.Text.{digit, six_digits, moment_text}
+use Rattle.line_text.specs.Text.{digit, six_digits, moment_text, ident_text}
 use Rattle.node_plan.specs.declared.plan.BusPlan.{BusPlan}
 use Rattle.node_plan.specs.declared.plan.Plan.{Plan}
 use Rattle.node_plan.specs.Names.{is_name_byte}
 use Rattle.node_core.specs.declared.line.Line.{Line}
-use Rattle.node_core.specs.declared.line.Line.TheVariants.{Rx, NoSession}
+use Rattle.node_core.specs.declared.line.FullLine.{FullLine}
+use Rattle.node_core.specs.declared.line.Line.TheVariants.{Rx, NoSession, Tx, Full}
 use Rattle.node_core.specs.declared.line.Refused.{Refused}
 use Rattle.node_core.specs.declared.line.Rx.{Rx as Received}
+use Rattle.node_core.specs.declared.line.Tx.{Tx as SentFrame}
 use Rattle.node_core.specs.Readings.{reading_of}
 use Rattle.node_core.specs.Text.{name_of, bus_text, kind_text, source_text, payload_text, reading_text, front_words, words_of, line_text, text}
 use Rattle.node_core.specs.Types.{type_on}
-use Rattle.session_lines.specs.OneReport.{AreNamed, IsKey, IsReceived, IsRefused, IsLineOn, AreLinesOn, TextTellsLines}
+use Rattle.session_lines.specs.OneReport.{AreNamed, IsKey, IsReceived, IsRefused, IsSentFrame, IsFullBus, IsLineOn, AreLinesOn, TextTellsLines}
 use Rattle.session_lines.proofs.Cuts.{unlike, Free, cut, free_append, IsEnd, AreWords, one_line, one_front, decimal_word, decimal_pointless, decimal_no_hyphen}
 
 -- ---- moments
@@ -159,16 +161,22 @@ free_above (c ∷ t) h = let p = and_parts (nat_le 34 c) (list_all (nat_le 34) t
     none c h (inl e) = true≢false (sym h ∙ ap (nat_le 34) e)
     none c h (inr e) = true≢false (sym h ∙ ap (nat_le 34) e)
 
+hex_word : (bytes : List ℕ) → Free IsEnd (encode_upper bytes)
+hex_word bytes = hex_free upper_digits bytes (free_above upper_digits refl)
+
+one_hex : (a b : List ℕ) → IsBytes a → IsBytes b → encode_upper a ≡ encode_upper b → a ≡ b
+one_hex a b p q e =
+    let same : Ok a ≡ Ok b = sym (decode_of-encode_upper a p) ∙ (ap decode_of e ∙ decode_of-encode_upper b q) in cc
+
 payload_word : (bytes : List ℕ) → Free IsEnd (payload_text bytes)
 payload_word [] = hyphen_word
-payload_word (b ∷ bytes) = hex_free upper_digits (b ∷ bytes) (free_above upper_digits refl)
+payload_word (b ∷ bytes) = hex_word (b ∷ bytes)
 
 one_payload : (a b : List ℕ) → IsBytes a → IsBytes b → payload_text a ≡ payload_text b → a ≡ b
 one_payload [] [] p q e = refl
 one_payload [] (y ∷ b) p q e = let bad : 1 ≡ 2 * suc (length b) = ap length e ∙ length-encode_with upper_digits (y ∷ b) in absurd (omega arith)
 one_payload (x ∷ a) [] p q e = let bad : 2 * suc (length a) ≡ 1 = sym (length-encode_with upper_digits (x ∷ a)) ∙ ap length e in absurd (omega arith)
-one_payload (x ∷ a) (y ∷ b) p q e =
-    let same : Ok (x ∷ a) ≡ Ok (y ∷ b) = sym (decode_of-encode_upper (x ∷ a) p) ∙ (ap decode_of e ∙ decode_of-encode_upper (y ∷ b) q) in cc
+one_payload (x ∷ a) (y ∷ b) p q e = one_hex (x ∷ a) (y ∷ b) p q e
 
 one_key : (a b : Key) → IsKey a → IsKey b → kind_text a.kind ≡ kind_text b.kind → decimal a.port ≡ decimal b.port → source_text a.source ≡ source_text b.source → a ≡ b
 one_key a b p q e f g =
@@ -183,6 +191,28 @@ one_key a b p q e f g =
 -- the words of a transfer before what its payload says
 abbrev front_of : List BusPlan → Received → List (List ℕ)
 front_of buses rx = front_words buses rx ++ (payload_text rx.payload ∷ [])
+
+-- ---- identifiers
+
+-- the four bytes of an identifier, high first
+abbrev four : ℕ → List ℕ
+four n = n / 0x1000000 ∷ n / 0x10000 % 256 ∷ n / 256 % 256 ∷ n % 256 ∷ []
+
+four_bytes : (n : ℕ) → n < 2 ^ 32 → IsBytes (four n)
+four_bytes n h zero = let k : n / 0x1000000 < 256 = omega arith in k
+four_bytes n h (suc zero) = let k : n / 0x10000 % 256 < 256 = omega arith in k
+four_bytes n h (suc (suc zero)) = let k : n / 256 % 256 < 256 = omega arith in k
+four_bytes n h (suc (suc (suc zero))) = let k : n % 256 < 256 = omega arith in k
+four_bytes n h (suc (suc (suc (suc i)))) = let k : 0 < 256 = omega arith in k
+
+one_ident : (n m : ℕ) → n < 2 ^ 32 → m < 2 ^ 32 → ident_text n ≡ ident_text m → n ≡ m
+one_ident n m p q e =
+    let bytes : four n ≡ four m = one_hex (four n) (four m) (four_bytes n p) (four_bytes m q) e in
+    let b3 : n / 0x1000000 ≡ m / 0x1000000 = cc in
+    let b2 : n / 0x10000 % 256 ≡ m / 0x10000 % 256 = cc in
+    let b1 : n / 256 % 256 ≡ m / 256 % 256 = cc in
+    let b0 : n % 256 ≡ m % 256 = cc in
+    omega arith
 
 module _ (plan : Plan) (named : AreNamed plan.buses) where
   small : (n : ℕ) → n < 256 → n < 2 ^ 64
@@ -251,6 +281,33 @@ module _ (plan : Plan) (named : AreNamed plan.buses) where
     ),
   )
 
+  tx_are_words : (tx : SentFrame) → IsSentFrame plan tx → AreWords (words_of plan.buses (Tx tx))
+  tx_are_words tx h = (
+    free_above (codes "tx") refl,
+    (
+      moment_word tx.moment h.moment,
+      (
+        bus_word plan.buses tx.bus named h.bus,
+        (hex_word (four tx.ident), (hex_word tx.bytes, tt)),
+      ),
+    ),
+  )
+
+  full_are_words : (full : FullLine) → IsFullBus plan full → AreWords (words_of plan.buses (Full full))
+  full_are_words full h = (
+    free_above (codes "full") refl,
+    (
+      moment_word full.moment h.moment,
+      (
+        bus_word plan.buses full.bus named h.bus,
+        (
+          decimal_word full.port (small_port full.port h.port),
+          (decimal_word full.needed h.needed, (decimal_word full.free h.free, tt)),
+        ),
+      ),
+    ),
+  )
+
   abbrev word_at : List (List ℕ) → ℕ → List ℕ
   word_at ws i = get_or ws i []
 
@@ -276,6 +333,23 @@ module _ (plan : Plan) (named : AreNamed plan.buses) where
       let line = decimal_injective a.line b.line p.line q.line (ap (λ (ws : List (List ℕ)). word_at ws 6) e) in
       λ i. record { moment = moment i; bus = bus i; key = key i; line = line i }
 
+  same_tx : (a b : SentFrame) → IsSentFrame plan a → IsSentFrame plan b → words_of plan.buses (Tx a) ≡ words_of plan.buses (Tx b) → a ≡ b
+  same_tx a b p q e =
+      let moment = one_moment a.moment b.moment p.moment q.moment (ap (λ (ws : List (List ℕ)). word_at ws 1) e) in
+      let bus = one_bus plan.buses a.bus b.bus named p.bus q.bus (ap (λ (ws : List (List ℕ)). word_at ws 2) e) in
+      let ident = one_ident a.ident b.ident p.ident q.ident (ap (λ (ws : List (List ℕ)). word_at ws 3) e) in
+      let bytes = one_hex a.bytes b.bytes p.bytes q.bytes (ap (λ (ws : List (List ℕ)). word_at ws 4) e) in
+      λ i. record { moment = moment i; bus = bus i; ident = ident i; bytes = bytes i }
+
+  same_full : (a b : FullLine) → IsFullBus plan a → IsFullBus plan b → words_of plan.buses (Full a) ≡ words_of plan.buses (Full b) → a ≡ b
+  same_full a b p q e =
+      let moment = one_moment a.moment b.moment p.moment q.moment (ap (λ (ws : List (List ℕ)). word_at ws 1) e) in
+      let bus = one_bus plan.buses a.bus b.bus named p.bus q.bus (ap (λ (ws : List (List ℕ)). word_at ws 2) e) in
+      let port = decimal_injective a.port b.port (small_port a.port p.port) (small_port b.port q.port) (ap (λ (ws : List (List ℕ)). word_at ws 3) e) in
+      let needed = decimal_injective a.needed b.needed p.needed q.needed (ap (λ (ws : List (List ℕ)). word_at ws 4) e) in
+      let free = decimal_injective a.free b.free p.free q.free (ap (λ (ws : List (List ℕ)). word_at ws 5) e) in
+      λ i. record { moment = moment i; bus = bus i; port = port i; needed = needed i; free = free i }
+
   -- of two lines with texts in front of other texts
   pub record SameFront (a b : Line) (x y : List ℕ) : Type 0 where
     pub line : a ≡ b
@@ -294,13 +368,29 @@ module _ (plan : Plan) (named : AreNamed plan.buses) where
         rest = append_cancel_left (reading_text a.reading ++ 10 ∷ []) x y (s.rest ∙ ap (λ (t : List ℕ). t ++ y) behind);
       }
   same_front (Rx a) (NoSession b) x y p q e = absurd (unlike 114 110 (inr (omega arith)) (ap first_of_text e))
+  same_front (Rx a) (Tx b) x y p q e = absurd (unlike 114 116 (inl (omega arith)) (ap first_of_text e))
+  same_front (Rx a) (Full b) x y p q e = absurd (unlike 114 102 (inr (omega arith)) (ap first_of_text e))
   same_front (NoSession a) (Rx b) x y p q e = absurd (unlike 110 114 (inl (omega arith)) (ap first_of_text e))
+  same_front (NoSession a) (Tx b) x y p q e = absurd (unlike 110 116 (inl (omega arith)) (ap first_of_text e))
+  same_front (NoSession a) (Full b) x y p q e = absurd (unlike 110 102 (inr (omega arith)) (ap first_of_text e))
+  same_front (Tx a) (Rx b) x y p q e = absurd (unlike 116 114 (inr (omega arith)) (ap first_of_text e))
+  same_front (Tx a) (NoSession b) x y p q e = absurd (unlike 116 110 (inr (omega arith)) (ap first_of_text e))
+  same_front (Tx a) (Full b) x y p q e = absurd (unlike 116 102 (inr (omega arith)) (ap first_of_text e))
+  same_front (Full a) (Rx b) x y p q e = absurd (unlike 102 114 (inl (omega arith)) (ap first_of_text e))
+  same_front (Full a) (NoSession b) x y p q e = absurd (unlike 102 110 (inl (omega arith)) (ap first_of_text e))
+  same_front (Full a) (Tx b) x y p q e = absurd (unlike 102 116 (inl (omega arith)) (ap first_of_text e))
   same_front (NoSession a) (NoSession b) x y p q e =
       let s = one_line _ _ _ _ x y (refused_are_words a p) (refused_are_words b q) e in record { line = ap NoSession (same_refused a b p q s.words); rest = s.rest }
+  same_front (Tx a) (Tx b) x y p q e =
+      let s = one_line _ _ _ _ x y (tx_are_words a p) (tx_are_words b q) e in record { line = ap Tx (same_tx a b p q s.words); rest = s.rest }
+  same_front (Full a) (Full b) x y p q e =
+      let s = one_line _ _ _ _ x y (full_are_words a p) (full_are_words b q) e in record { line = ap Full (same_full a b p q s.words); rest = s.rest }
 
   some_text : (line : Line) (x : List ℕ) → line_text plan.buses line ++ x ≡ [] → ⊥
   some_text (Rx rx) x e = absurd (unlike 114 0 (inr (omega arith)) (ap first_of_text e))
   some_text (NoSession r) x e = absurd (unlike 110 0 (inr (omega arith)) (ap first_of_text e))
+  some_text (Tx tx) x e = absurd (unlike 116 0 (inr (omega arith)) (ap first_of_text e))
+  some_text (Full full) x e = absurd (unlike 102 0 (inr (omega arith)) (ap first_of_text e))
 
   same_lines : (a b : List Line) → AreLinesOn plan a → AreLinesOn plan b → text plan.buses a ≡ text plan.buses b → a ≡ b
   same_lines [] [] p q e = refl

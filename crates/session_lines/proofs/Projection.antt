@@ -1,5 +1,5 @@
 -- The lines of a session are what its records deliver.
-use Rattle.std.proofs.Common.{◌≡◌, ◌∙◌, ℕ, zero, suc, Bool, true, false, cond, not, ◌&&◌, ◌||◌, eqb, List, [], ◌∷◌, ◌++◌, take, map, Option, Some, None, refl, sym, ap, subst, inl, inr, append-nil, append_assoc}
+use Rattle.std.proofs.Common.{◌≡◌, ◌∙◌, ℕ, zero, suc, Bool, true, false, cond, not, ◌&&◌, ◌||◌, eqb, List, [], ◌∷◌, ◌++◌, take, map, Option, Some, None, refl, sym, ap, subst, inl, inr, append-nil}
 use Rattle.std.proofs.lemmas.Bool.{eqb-true, eq-eqb, ne_eqb, and_parts, and_from, or_left, or_right, or_cases, cond-true, cond-false, cond_both, both_ways, cases_Bool, true≢false}
 use Rattle.std.proofs.lemmas.List.{map-append}
 use Rattle.std.proofs.lemmas.Grind.{reverse_onto}
@@ -25,9 +25,11 @@ use Rattle.node_core.specs.declared.line.Line.{Line}
 use Rattle.rx_table.specs.Table.{keyed, log_with, port_on}
 use Rattle.rx_table.specs.Heard.{frame_for, with_frame, frames}
 use Rattle.node_core.specs.Heard.{ports_of}
-use Rattle.node_core.specs.Steps.{of_delivery, refused_line, of_session, of_source, on_port, of_frame, got, Step, Heard, records, lines}
+use Rattle.node_core.specs.Received.{of_delivery, refused_line, of_session, of_source, on_port, of_frame}
+use Rattle.node_core.specs.Steps.{Step, Heard, Tick, records, lines, lines_at}
 use Rattle.once.specs.Report.{Rx as RxOf, rx_of, reported}
-use Rattle.session_lines.specs.Reported.{is_key, of_line, rxs, of_key, has_session, Reported}
+use Rattle.session_lines.specs.Reported.{is_key, rxs, of_key, has_session, Reported}
+use Rattle.session_lines.proofs.Sending.{rxs_append, rxs_at}
 
 -- one more source, another one
 has_other : (s x n : ℕ) (xs : List ℕ) → eqb x s ≡ false → has s (take n (xs ++ x ∷ [])) ≡ has s (take n xs)
@@ -65,10 +67,6 @@ port_at-is kind port (q ∷ ps) p h =
           (same_kind-true kind q.kind both.0 ∙ ap (λ (t : Port). t.kind) is, eqb-true port q.port both.1 ∙ ap (λ (t : Port). t.port) is)
       | inr n ↦ port_at-is kind port ps p (sym (cond-false (same_kind kind q.kind && eqb port q.port) (Some q) (port_at kind port ps) n) ∙ h)
     ]
-
-pub rxs_append : (key : SessionKey) (a b : List Line) → rxs key (a ++ b) ≡ rxs key a ++ rxs key b
-rxs_append key [] b = refl
-rxs_append key (l ∷ a) b = ap (λ h. of_line key l ++ h) (rxs_append key a b) ∙ sym (append_assoc (of_line key l) (rxs key a) (rxs key b))
 
 opt : ℕ → Option Delivery → List RxOf
 opt extent None = []
@@ -265,8 +263,13 @@ module _ (step : DeliveredStep) (quiet : Quiet) (plan : Plan) (p : Port) (source
   all : (steps : List Step) → rxs me (lines plan steps) ≡ seen (frames plan.node (records steps))
   all [] = cond_both (has_session p source []) (map (rx_of p.extent) (reverse [])) [] (λ (v : List RxOf). [] ≡ v) (λ _. refl) (λ _. refl)
   all (Heard rec ∷ past) =
-      rxs_append me (lines plan past) (got plan rec (records past))
-      ∙ frame_step (frame_for plan.node rec) (frames plan.node (records past)) (rxs me (lines plan past)) (all past)
+      rxs_append me (lines plan past) (lines_at plan (Heard rec) past)
+      ∙ (ap (λ t. rxs me (lines plan past) ++ t) (rxs_at me plan (Heard rec) past)
+      ∙ frame_step (frame_for plan.node rec) (frames plan.node (records past)) (rxs me (lines plan past)) (all past))
+  all (Tick number moment ∷ past) =
+      rxs_append me (lines plan past) (lines_at plan (Tick number moment) past)
+      ∙ (ap (λ t. rxs me (lines plan past) ++ t) (rxs_at me plan (Tick number moment) past)
+      ∙ (append-nil (rxs me (lines plan past)) ∙ all past))
 
 pub reported_is : DeliveredStep → Quiet → Reported
 reported_is step quiet plan key steps p s =

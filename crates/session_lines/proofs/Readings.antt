@@ -15,9 +15,11 @@ use Rattle.rx_table.specs.Steps.{delivery_at}
 use Rattle.rx_table.specs.Table.{keyed, port_on}
 use Rattle.node_plan.specs.declared.plan.Plan.{Plan}
 use Rattle.node_core.specs.Heard.{ports_of}
-use Rattle.node_core.specs.Steps.{rx_line, of_delivery, anonymous_line, refused_line, of_session, of_source, on_port, of_frame, got, Step, Heard, records, lines}
+use Rattle.node_core.specs.Received.{rx_line, of_delivery, anonymous_line, refused_line, of_session, of_source, on_port, of_frame}
+use Rattle.node_core.specs.Steps.{Step, Heard, Tick, records, kept, received_at, node_lines, lines, lines_at, emptying}
 use Rattle.node_core.specs.declared.line.Line.{Line}
 use Rattle.session_lines.specs.Readings.{HasReading, LinesHaveReadings}
+use Rattle.session_lines.proofs.Sending.{sending_reads, full_lines, tx_lines, emptying_sends}
 
 module _ (plan : Plan) where
   abbrev Have : List Line → Type 0
@@ -49,11 +51,22 @@ module _ (plan : Plan) where
   from_frame log None = All-nil (HasReading plan)
   from_frame log (Some f) = at_port f log (port_on (ports_of plan) f)
 
+  -- what is received at a step, and the lines on what is sent behind it
+  at_step : (step : Step) (past : List Step) → Have (received_at plan step past) → Have (lines_at plan step past)
+  at_step step past h =
+      let full = sending_reads plan _ (full_lines plan step past) in
+      let tx = sending_reads plan _ (tx_lines plan step past) in
+      All-append (HasReading plan) (node_lines plan step past (kept plan past)) _ (All-append (HasReading plan) (received_at plan step past) _ h full) tx
+
   all : (steps : List Step) → Have (lines plan steps)
   all [] = All-nil (HasReading plan)
   all (Heard rec ∷ past) =
-      All-append (HasReading plan) (lines plan past) (got plan rec (records past)) (all past)
-      (from_frame (frames plan.node (records past)) (frame_for plan.node rec))
+      All-append (HasReading plan) (lines plan past) (lines_at plan (Heard rec) past) (all past)
+      (at_step (Heard rec) past (from_frame (frames plan.node (records past)) (frame_for plan.node rec)))
+  all (Tick number moment ∷ past) =
+      All-append (HasReading plan) (lines plan past) (lines_at plan (Tick number moment) past) (all past)
+      (at_step (Tick number moment) past (All-nil (HasReading plan)))
 
 pub lines_have_readings : LinesHaveReadings
-lines_have_readings plan steps = all plan steps
+lines_have_readings plan steps =
+    All-append (HasReading plan) (lines plan steps) (emptying plan steps) (all plan steps) (sending_reads plan (emptying plan steps) (emptying_sends plan steps))

@@ -6,7 +6,7 @@ use Rattle.std.proofs.lemmas.List.Elements.{All-nil, All-cons, All-contains, Con
 use Rattle.rx_table.specs.Keys.{SessionKey}
 use Rattle.once.specs.Report.{Rx as RxOf, EachRx, AnyRx}
 use Rattle.node_core.specs.declared.line.Line.{Line}
-use Rattle.node_core.specs.declared.line.Line.TheVariants.{Rx, NoSession}
+use Rattle.node_core.specs.declared.line.Line.TheVariants.{Rx, NoSession, Tx, Full}
 use Rattle.node_core.specs.declared.line.Rx.{Rx as Received}
 use Rattle.session_lines.specs.Reported.{is_key, without_key, rxs}
 use Rattle.session_lines.specs.Values.{IsLineOf}
@@ -15,10 +15,14 @@ module _ (key : SessionKey) (P : RxOf → Type 0) where
   abbrev IfOf : Line → Type 0
   IfOf (Rx rx) = is_key key rx.key ≡ true → P (without_key rx)
   IfOf (NoSession refused) = ⊤
+  IfOf (Tx tx) = ⊤
+  IfOf (Full full) = ⊤
 
   each_line : (ls : List Line) → EachRx P (rxs key ls) → All IfOf ls
   each_line [] h = All-nil IfOf
   each_line (NoSession refused ∷ ls) h = All-cons IfOf (NoSession refused) ls tt (each_line ls h)
+  each_line (Tx tx ∷ ls) h = All-cons IfOf (Tx tx) ls tt (each_line ls h)
+  each_line (Full full ∷ ls) h = All-cons IfOf (Full full) ls tt (each_line ls h)
   each_line (Rx rx ∷ ls) h =
       let here = is_key key rx.key in
       let mine = without_key rx ∷ [] in
@@ -45,6 +49,8 @@ module _ (key : SessionKey) (P : RxOf → Type 0) where
   pub some_line : (ls : List Line) → AnyRx P (rxs key ls) → HasLine ls
   some_line [] h = absurd h
   some_line (NoSession refused ∷ ls) h = further (NoSession refused) ls (some_line ls h)
+  some_line (Tx tx ∷ ls) h = further (Tx tx) ls (some_line ls h)
+  some_line (Full full ∷ ls) h = further (Full full) ls (some_line ls h)
   some_line (Rx rx ∷ ls) h =
       let here = is_key key rx.key in
       let mine = without_key rx ∷ [] in

@@ -1,11 +1,14 @@
 -- What is sent as a value is reported as that value.
 use Rattle.std.proofs.Common.{◌≡◌, ◌∙◌, ◌≤◌, ◌<◌, true, ◌&&◌, eqb, List, [], ◌∷◌, ◌++◌, length, take, Option, Some, refl, sym, ap, subst, arith}
 use Rattle.std.proofs.lemmas.Bool.{and_parts, eqb-true, eq-eqb, ne_eqb, cond-true, cond-false, cond_both}
-use Rattle.std.proofs.lemmas.List.Elements.{All-contains, recursion_from_All}
+use Rattle.std.proofs.lemmas.List.Elements.{All-contains, Contains-append_left, recursion_from_All}
+use Rattle.std.specs.Prelude.{Contains}
 use Rattle.dsdl_types.specs.Laws.{RoundTrip, WithinExtent, Evolution}
 use Rattle.dsdl_types.specs.Rules.{IsSchema}
-use Rattle.dsdl_types.specs.Schemas.{Sch}
+use Rattle.dsdl_types.specs.Schemas.{Sch, is_composite}
 use Rattle.dsdl_types.specs.Sound.{IsSound}
+use Rattle.std_types.specs.Types.{schema_of}
+use Rattle.std_types.specs.declared.std_name.StdName.{StdName}
 use Rattle.tail_frame.specs.Chains.{KeyRecord, AtEach}
 use Rattle.rx_table.specs.Heard.{frames}
 use Rattle.rx_table.specs.Keys.{SessionKey, KeyedFrame, bears_on, history, same_kind, EachFrame, IsLog}
@@ -14,18 +17,20 @@ use Rattle.frag.specs.Wire.{padding}
 use Rattle.frag.specs.declared.sent.Pair.{Pair}
 use Rattle.once.specs.Report.{AnyRx, EachRx, IsSentRx, OnceInReport, DueInReport, pair_on}
 use Rattle.node_plan.specs.IsPlan.{IsShape}
+use Rattle.node_plan.specs.Ports.{ports}
 use Rattle.node_plan.specs.declared.plan.Plan.{Plan}
 use Rattle.node_core.specs.Readings.{reading_of}
-use Rattle.node_core.specs.Steps.{lines, records}
-use Rattle.node_core.specs.Types.{type_among, type_on}
+use Rattle.node_core.specs.Steps.{lines, all_lines, emptying, records}
+use Rattle.node_core.specs.Types.{type_on}
+use Rattle.node_core.specs.declared.line.Line.{Line}
 use Rattle.node_core.specs.declared.line.Line.TheVariants.{Rx}
 use Rattle.node_core.specs.declared.line.Rx.{Rx as Received}
 use Rattle.session_lines.specs.Readings.{HasReading, LinesHaveReadings}
-use Rattle.session_lines.specs.Reported.{Reported, is_key, is_source, of_key, rxs, without_key}
+use Rattle.session_lines.specs.Reported.{Reported, StepsReportAll, is_key, is_source, of_key, rxs, without_key}
 use Rattle.session_lines.specs.Values.{SaysValue, type_of, ValuesInReport, DueValuesInReport}
 use Rattle.session_lines.proofs.Projection.{same_kind-true}
 use Rattle.session_lines.proofs.SessionLines.{at_line, some_line}
-use Rattle.session_lines.proofs.TypedPorts.{typed_port}
+use Rattle.session_lines.proofs.TypedPorts.{ports_typed, typed_port}
 use Rattle.session_lines.proofs.Versions.{says_value}
 
 -- a line of a session has its port's type
@@ -33,8 +38,8 @@ line_type : (plan : Plan) (key : SessionKey) (rx : Received) → is_key key rx.k
 line_type plan key rx y =
     let a = and_parts (same_kind rx.key.kind key.kind) (eqb rx.key.port key.port && is_source rx.key.source key.source) y in
     let b = and_parts (eqb rx.key.port key.port) (is_source rx.key.source key.source) a.1 in
-    ap (λ kind. type_among kind rx.key.port plan.subs) (same_kind-true rx.key.kind key.kind a.0)
-    ∙ ap (λ n. type_among key.kind n plan.subs) (eqb-true rx.key.port key.port b.0)
+    ap (λ kind. type_on plan (record { kind = kind; port = rx.key.port; source = Some key.source })) (same_kind-true rx.key.kind key.kind a.0)
+    ∙ ap (λ n. type_on plan (record { kind = key.kind; port = n; source = Some key.source })) (eqb-true rx.key.port key.port b.0)
 
 -- ---- the line on which a record stands
 
@@ -64,18 +69,21 @@ pair_at_place origin (r ∷ newer) q past h =
     cond-false (eqb r.line q.line) (pair_at origin (length (newer ++ q ∷ past))) (pair_on origin (newer ++ q ∷ past) q.line) (ne_eqb r.line q.line (λ e. absurd (omega arith)))
     ∙ pair_at_place origin newer q past h.1
 
-module _ (reported : Reported) (readings : LinesHaveReadings) (once : OnceInReport) (sound : (s : Sch) → IsSchema s → IsSound s) (round : (s : Sch) → RoundTrip s) (within : (s : Sch) → WithinExtent s) (evolution : Evolution) where
+module _ (reported : Reported) (report_all : StepsReportAll) (readings : LinesHaveReadings) (once : OnceInReport) (rules : (name : StdName) → IsSchema (schema_of name)) (composite : (name : StdName) → is_composite (schema_of name) ≡ true)
+    (sound : (s : Sch) → IsSchema s → IsSound s) (round : (s : Sch) → RoundTrip s) (within : (s : Sch) → WithinExtent s) (evolution : Evolution) where
   pub values_are : ValuesInReport
-  values_are plan key steps p port sent origin h rx line =
-      let ls = lines plan steps in
+  values_are plan key steps p port sent origin front rest h parts rx line =
+      let ls = all_lines plan steps in
+      let stands : Contains ls (Rx rx) = subst (λ (t : List Line). Contains t (Rx rx)) (sym parts) (Contains-append_left front rest (Rx rx) line.stands) in
       let recs = of_key plan key (records steps) in
       let j = (pair_on origin recs rx.last).j in
       let selected = once plan.timeout p.extent sent key origin (frames plan.node (records steps)) h.log h.explains in
       let each : EachRx (IsSentRx p.extent sent origin recs) (rxs key ls) =
-      subst (EachRx (IsSentRx p.extent sent origin recs)) (sym (reported plan key steps p h.session)) selected.sent_ones in
-      let mine : IsSentRx p.extent sent origin recs (without_key rx) = at_line key (IsSentRx p.extent sent origin recs) ls rx each line in
-      let type = typed_port key.kind key.port plan.subs p port h.session.port h.typed (recursion_from_All (λ sub. IsShape sub.shape) plan.subs h.rules) in
-      let read : rx.reading ≡ reading_of (type_on plan rx.key) rx.payload = All-contains (HasReading plan) ls (Rx rx) (readings plan steps) line.stands in
+      subst (EachRx (IsSentRx p.extent sent origin recs)) (sym (report_all plan key steps ∙ reported plan key steps p h.session)) selected.sent_ones in
+      let mine : IsSentRx p.extent sent origin recs (without_key rx) = at_line key (IsSentRx p.extent sent origin recs) ls rx each (record { stands = stands; is_of_key = line.is_of_key }) in
+      let typed = ports_typed rules composite plan (recursion_from_All (λ sub. IsShape sub.shape) plan.subs h.rules) in
+      let type = typed_port key.kind key.port (ports plan) p port typed h.session.port h.typed in
+      let read : rx.reading ≡ reading_of (type_on plan rx.key) rx.payload = All-contains (HasReading plan) ls (Rx rx) (readings plan steps) stands in
       let is : rx.reading ≡ reading_of (Some port) (take p.extent (data_on sent j rx.bus)) =
       read ∙ (ap (λ (t : Option Sch). reading_of t rx.payload) (line_type plan key rx line.is_of_key ∙ h.typed) ∙ ap (reading_of (Some port)) mine.payload) in
       subst (SaysValue port (transfer_at sent j).payload) (sym is)
@@ -83,7 +91,7 @@ module _ (reported : Reported) (readings : LinesHaveReadings) (once : OnceInRepo
       (padding (size_on sent rx.bus) (length (transfer_at sent j).payload)))
 
 pub due_values_are : Reported → ValuesInReport → DueInReport → DueValuesInReport
-due_values_are reported values due_law plan key steps p port sent origin q h due =
+due_values_are reported values due_law plan key steps p port sent origin q behind h due =
     let ls = lines plan steps in
     let recs = of_key plan key (records steps) in
     let some : AnyRx (λ rx. rx.last ≡ q.line) (rxs key ls) =
@@ -96,7 +104,7 @@ due_values_are reported values due_law plan key steps p port sent origin q h due
     let j : (pair_on origin recs l.rx.last).j ≡ due.j = ap (λ (o : Pair). o.j) pair ∙ due.due.end_j in
     record {
       rx = l.rx;
-      line = l.line;
+      line = record { stands = Contains-append_left ls behind (Rx l.rx) l.line.stands; is_of_key = l.line.is_of_key };
       last = l.is;
-      says = subst (λ n. SaysValue port (transfer_at sent n).payload l.rx.reading) j (values plan key steps p port sent origin h l.rx l.line);
+      says = subst (λ n. SaysValue port (transfer_at sent n).payload l.rx.reading) j (values plan key steps p port sent origin ls (emptying plan steps) h refl l.rx l.line);
     }

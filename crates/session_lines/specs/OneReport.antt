@@ -7,9 +7,11 @@ use Rattle.node_plan.specs.declared.plan.BusPlan.{BusPlan}
 use Rattle.node_plan.specs.declared.plan.Plan.{Plan}
 use Rattle.node_plan.specs.Names.{is_bus_name}
 use Rattle.node_core.specs.declared.line.Line.{Line}
-use Rattle.node_core.specs.declared.line.Line.TheVariants.{Rx, NoSession}
+use Rattle.node_core.specs.declared.line.Line.TheVariants.{Rx, NoSession, Tx, Full}
 use Rattle.node_core.specs.declared.line.Rx.{Rx as Received}
 use Rattle.node_core.specs.declared.line.Refused.{Refused}
+use Rattle.node_core.specs.declared.line.Tx.{Tx as SentFrame}
+use Rattle.node_core.specs.declared.line.FullLine.{FullLine}
 use Rattle.node_core.specs.Text.{text}
 use Rattle.session_lines.specs.Readings.{HasReading}
 
@@ -43,9 +45,26 @@ pub record IsRefused (plan : Plan) (refused : Refused) : Type 0 where
   pub key : IsKey refused.key
   pub line : refused.line < 2 ^ 64
 
+-- a frame that left on a bus of the plan, with numbers of the widths that its fields have
+pub record IsSentFrame (plan : Plan) (tx : SentFrame) : Type 0 where
+  pub moment : tx.moment < 2 ^ 64
+  pub bus : tx.bus < length plan.buses
+  pub ident : tx.ident < 2 ^ 32
+  pub bytes : IsBytes tx.bytes
+
+-- the same of a bus of the plan that had no room
+pub record IsFullBus (plan : Plan) (full : FullLine) : Type 0 where
+  pub moment : full.moment < 2 ^ 64
+  pub bus : full.bus < length plan.buses
+  pub port : full.port < 2 ^ 16
+  pub needed : full.needed < 2 ^ 64
+  pub free : full.free < 2 ^ 64
+
 abbrev pub IsLineOn : Plan → Line → Type 0
 IsLineOn plan (Rx rx) = IsReceived plan rx
 IsLineOn plan (NoSession refused) = IsRefused plan refused
+IsLineOn plan (Tx tx) = IsSentFrame plan tx
+IsLineOn plan (Full full) = IsFullBus plan full
 
 abbrev pub AreLinesOn : Plan → List Line → Type 0
 AreLinesOn plan [] = ⊤

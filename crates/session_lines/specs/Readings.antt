@@ -2,16 +2,18 @@
 use Rattle.std.specs.Prelude.{◌≡◌, List, All, ⊤}
 use Rattle.node_plan.specs.declared.plan.Plan.{Plan}
 use Rattle.node_core.specs.declared.line.Line.{Line}
-use Rattle.node_core.specs.declared.line.Line.TheVariants.{Rx, NoSession}
+use Rattle.node_core.specs.declared.line.Line.TheVariants.{Rx, NoSession, Tx, Full}
 use Rattle.node_core.specs.Readings.{reading_of}
-use Rattle.node_core.specs.Steps.{Step, lines}
+use Rattle.node_core.specs.Steps.{Step, all_lines}
 use Rattle.node_core.specs.Types.{type_on}
 
 -- a line on a transfer has the reading of its payload by the type of its port
 abbrev pub HasReading : Plan → Line → Type 0
 HasReading plan (Rx rx) = rx.reading ≡ reading_of (type_on plan rx.key) rx.payload
 HasReading plan (NoSession refused) = ⊤
+HasReading plan (Tx tx) = ⊤
+HasReading plan (Full full) = ⊤
 
--- each line of a report does
+-- each line of a log does, those behind its last step too
 abbrev pub LinesHaveReadings : Type 0
-LinesHaveReadings = (plan : Plan) (steps : List Step) → All (HasReading plan) (lines plan steps)
+LinesHaveReadings = (plan : Plan) (steps : List Step) → All (HasReading plan) (all_lines plan steps)

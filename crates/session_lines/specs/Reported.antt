@@ -9,11 +9,11 @@ use Rattle.rx_table.specs.Ports.{Port, port_at}
 use Rattle.once.specs.Report.{Rx as RxOf, reported}
 use Rattle.node_plan.specs.declared.plan.Plan.{Plan}
 use Rattle.node_core.specs.declared.line.Line.{Line}
-use Rattle.node_core.specs.declared.line.Line.TheVariants.{Rx, NoSession}
+use Rattle.node_core.specs.declared.line.Line.TheVariants.{Rx, NoSession, Tx, Full}
 use Rattle.node_core.specs.declared.line.Rx.{Rx as RxLine}
 use Rattle.rx_table.specs.Heard.{frames}
 use Rattle.node_core.specs.Heard.{ports_of}
-use Rattle.node_core.specs.Steps.{Step, records, lines}
+use Rattle.node_core.specs.Steps.{Step, records, lines, emptying, all_lines}
 
 abbrev pub is_source : Option ℕ → ℕ → Bool
 is_source None source = false
@@ -26,10 +26,12 @@ is_key key k = same_kind k.kind key.kind && ((k.port == key.port) && is_source k
 abbrev pub without_key : RxLine → RxOf
 without_key rx = record { moment = rx.moment; bus = rx.bus; priority = rx.priority; tid = rx.tid; first = rx.first; last = rx.last; payload = rx.payload }
 
--- what a line reports of a key
+-- what a line reports of a key; what is sent is no report
 abbrev pub of_line : SessionKey → Line → List RxOf
 of_line key (Rx rx) = if is_key key rx.key then without_key rx ∷ [] else []
 of_line key (NoSession refused) = []
+of_line key (Tx tx) = []
+of_line key (Full full) = []
 
 -- the transfers of a key in a report
 abbrev pub rxs : SessionKey → List Line → List RxOf
@@ -54,3 +56,14 @@ abbrev pub Reported : Type 0
 Reported =
     (plan : Plan) (key : SessionKey) (steps : List Step) (p : Port) → IsSession plan key (records steps) p
     → rxs key (lines plan steps) ≡ reported plan.timeout p.extent (of_key plan key (records steps))
+
+-- what leaves behind the last step reports nothing
+abbrev pub EmptyingIsQuiet : Type 0
+EmptyingIsQuiet =
+    (plan : Plan) (key : SessionKey) (steps : List Step) → rxs key (emptying plan steps) ≡ []
+
+-- so all lines of a log report what those of its steps do
+abbrev pub StepsReportAll : Type 0
+StepsReportAll =
+    (plan : Plan) (key : SessionKey) (steps : List Step)
+    → rxs key (all_lines plan steps) ≡ rxs key (lines plan steps)

@@ -1,6 +1,6 @@
 -- Value to value: what is sent as a value is reported as that value, also where the sender has a newer or an older
 -- version of the type (Cyphal Specification, sections 3.7 and 3.8).
-use Rattle.std.specs.Prelude.{◌≡◌, ℕ, true, List, Option, Some, Contains}
+use Rattle.std.specs.Prelude.{◌≡◌, ℕ, true, List, ◌++◌, Option, Some, Contains}
 use Rattle.dsdl_types.specs.Cast.{cast}
 use Rattle.dsdl_types.specs.Fits.{Fits}
 use Rattle.dsdl_types.specs.Laws.{encoding}
@@ -22,8 +22,8 @@ use Rattle.once.specs.Report.{Explains, IsDue, pair_on}
 use Rattle.value_text.specs.Texts.{value_text}
 use Rattle.node_plan.specs.IsPlan.{TypesKeepRules}
 use Rattle.node_plan.specs.declared.plan.Plan.{Plan}
-use Rattle.node_core.specs.Steps.{Step, lines, records}
-use Rattle.node_core.specs.Types.{type_among}
+use Rattle.node_core.specs.Steps.{Step, lines, all_lines, records}
+use Rattle.node_core.specs.Types.{type_on}
 use Rattle.node_core.specs.declared.line.Line.{Line}
 use Rattle.node_core.specs.declared.line.Line.TheVariants.{Rx}
 use Rattle.node_core.specs.declared.line.Reading.{Reading}
@@ -58,7 +58,8 @@ SaysValue port payload reading =
 
 -- the type of a session's port; a port of bytes has none
 abbrev pub type_of : Plan → SessionKey → Option Sch
-type_of plan key = type_among key.kind key.port plan.subs
+type_of plan key =
+    type_on plan (record { kind = key.kind; port = key.port; source = Some key.source })
 
 -- one of these lines is on a transfer of this session
 pub record IsLineOf (key : SessionKey) (lines : List Line) (rx : Received) : Type 0 where
@@ -90,17 +91,21 @@ pub record IsSentTo (plan : Plan) (key : SessionKey) (past : List Record) (p : P
   pub log : IsLog (frames plan.node past)
   pub explains : Explains plan.timeout sent key origin (of_key plan key past)
 
--- values: the lines of a report say of each session the values that its transfers were sent as
+-- values: the lines of a log, and each front of them, say of each session the values that its
+-- transfers were sent as
 abbrev pub ValuesInReport : Type 0
 ValuesInReport =
     (plan : Plan) (key : SessionKey) (steps : List Step) (p : Port) (port : Sch) (sent : Sent) (origin : List Pair)
-    → IsSentTo plan key (records steps) p port sent origin
-    → SayValues key port sent origin (of_key plan key (records steps)) (lines plan steps)
+    (front rest : List Line)
+    → IsSentTo plan key (records steps) p port sent origin → all_lines plan steps ≡ front ++ rest
+    → SayValues key port sent origin (of_key plan key (records steps)) front
 
--- and each due transfer is reported as the value that it was sent as
+-- and each due transfer is reported as the value that it was sent as, whatever lines come behind
+-- those of the steps
 abbrev pub DueValuesInReport : Type 0
 DueValuesInReport =
     (plan : Plan) (key : SessionKey) (steps : List Step) (p : Port) (port : Sch) (sent : Sent) (origin : List Pair) (q : KeyRecord)
+    (behind : List Line)
     → IsSentTo plan key (records steps) p port sent origin
     → (due : IsDue plan.timeout sent origin (of_key plan key (records steps)) q)
-    → SaysDueValue key port (transfer_at sent due.j).payload q (lines plan steps)
+    → SaysDueValue key port (transfer_at sent due.j).payload q (lines plan steps ++ behind)

@@ -3,7 +3,7 @@
 ghost use Rattle.session_lines.specs.Example.{ValuesExample};
 ghost use Rattle.session_lines.specs.OneReport.{TextTellsLines};
 ghost use Rattle.session_lines.specs.Readings.{LinesHaveReadings};
-ghost use Rattle.session_lines.specs.Reported.{Reported};
+ghost use Rattle.session_lines.specs.Reported.{EmptyingIsQuiet, Reported, StepsReportAll};
 ghost use Rattle.session_lines.specs.Values.{DueValuesInReport, ValuesInReport};
 
 /// The lines of each session are what its records deliver, in order.
@@ -14,19 +14,29 @@ pub fn reported()
     rx_table::laws::quiet();
 }
 
+/// What leaves behind the last step is in no report of a session: all lines of a log report what
+/// those of its steps do.
+pub fn emptying()
+    ensures quiet { EmptyingIsQuiet }
+    ensures reported { StepsReportAll }
+{}
+
 /// Each line on a transfer has the reading of its payload by the type of its port.
 pub fn readings()
     ensures { LinesHaveReadings }
 {}
 
 /// What is sent as a value is reported as that value, also where the sender has a newer or an older
-/// version of the port's type (Cyphal Specification, sections 3.7 and 3.8).
+/// version of the port's type (Cyphal Specification, sections 3.7 and 3.8), in each front of the
+/// lines of a log.
 pub fn values()
     ensures { ValuesInReport }
 {
     reported();
+    emptying();
     readings();
     once::once_in_report();
+    std_types::laws::schemas_keep_rules();
     dsdl_types::laws::rules_suffice();
     dsdl_types::laws::round_trip();
     dsdl_types::laws::within_extent();

@@ -1,5 +1,5 @@
 -- The status of a command that hears a log without a plan is that of the log's end.
-use Rattle.std.proofs.Common.{◌≡◌, ◌∙◌, inr, ℕ, true, false, List, Option, Some, None, refl, sym, ap, subst}
+use Rattle.std.proofs.Common.{◌≡◌, ◌∙◌, inr, ℕ, true, false, List, Option, Some, None, refl, sym, ap}
 use Rattle.cy_outside.specs.Outside.{Rose}
 use Rattle.frame_log.specs.Log.{Log, log_of}
 use Rattle.tail_frame.specs.declared.logged.Record.{Record}
@@ -14,16 +14,23 @@ use Rattle.node_run.specs.declared.status.Status.TheVariants as status
 use Rattle.cyphal.specs.Cause.{Outside, is_refused, HasCauseOver}
 use Rattle.cyphal.specs.Job.{is_fault}
 use Rattle.cyphal.specs.LogEnds.{ending, EndsAsLog}
-use Rattle.cyphal.specs.jobs.Reach.{reach_job}
+use Rattle.cyphal.specs.declared.jobs.reach.Hearing.{Hearing}
+use Rattle.cyphal.specs.declared.jobs.reach.Hearing.TheVariants as hearing
+use Rattle.cyphal.specs.jobs.Reach.{voice_of, reach_job}
 use Rattle.cyphal.proofs.LogEnds.{named, one_log_end}
 use Rattle.cyphal.proofs.statuses.Single.{IsSingle}
 
 pub single : (said : Voice) → IsSingle (reach_job said)
 single said told s t h a b = one_log_end bus_names told.input h s t a b
 
-module _ (said : Voice) (heard broke : List Record → Type 0) where
+-- every voice is of the same buses
+pub voice_names : (hears : Hearing) (own : ℕ) → (voice_of hears own).names ≡ bus_names
+voice_names hearing.Monitor own = refl
+voice_names hearing.Allocate own = refl
+
+module _ (said : Voice) (heard ended broke cut_short : List Record → Type 0) where
   -- an end that is no fault is that of the log
-  ended_so : (log : Log) (ended : Ended) (before after : Option (List ℕ)) → is_fault (status_of ended) ≡ false → Gone said heard broke log ended before after → status_of ended ≡ ending log.refusal
+  ended_so : (log : Log) (how : Ended) (before after : Option (List ℕ)) → is_fault (status_of how) ≡ false → Gone said heard ended broke cut_short log how before after → status_of how ≡ ending log.refusal
   ended_so log end.Ok before after h g = ap ending (sym g.0)
   ended_so log (end.Log line w) before after h g = sym (ap ending g.0 ∙ named line w)
   ended_so log end.LogLong before after h g = ap ending (sym g.0)
@@ -32,10 +39,10 @@ module _ (said : Voice) (heard broke : List Record → Type 0) where
   ended_so log end.NoMemory before after h g = absurd cc
 
   -- of the log that the input has, where it is told
-  pub ends_as_log : (input : Option (List ℕ)) (ended : Ended) (before after : Option (List ℕ)) (stat : Status) → stat ≡ status_of ended → is_fault stat ≡ false → HasGone said heard broke input ended before after → EndsAsLog said.names input stat
-  ends_as_log None ended before after stat e h g = tt
-  ends_as_log (Some bytes) ended before after stat e h g =
-      e ∙ ended_so (log_of said.names g.bytes) ended before after (sym (ap is_fault e) ∙ h) g.gone ∙ ap (λ (b : List ℕ). ending (log_of said.names b).refusal) g.is
+  pub ends_as_log : (input : Option (List ℕ)) (how : Ended) (before after : Option (List ℕ)) (stat : Status) → stat ≡ status_of how → is_fault stat ≡ false → HasGone said heard ended broke cut_short input how before after → EndsAsLog said.names input stat
+  ends_as_log None how before after stat e h g = tt
+  ends_as_log (Some bytes) how before after stat e h g =
+      e ∙ ended_so (log_of said.names g.bytes) how before after (sym (ap is_fault e) ∙ h) g.gone ∙ ap (λ (b : List ℕ). ending (log_of said.names b).refusal) g.is
 
 -- no end of a log is a refusal before it
 no_refusal : (ended : Ended) → is_refused (status_of ended) ≡ true → ⊥

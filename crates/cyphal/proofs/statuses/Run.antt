@@ -1,5 +1,5 @@
 -- A run has one status, that of its log's end.
-use Rattle.std.proofs.Common.{◌≡◌, ◌∙◌, ℕ, true, false, List, Option, Some, None, refl, sym, ap, is_some}
+use Rattle.std.proofs.Common.{◌≡◌, ◌∙◌, ℕ, true, false, List, Option, Some, None, sym, ap, is_some}
 use Rattle.clap.proofs.WalkLemmas.{both}
 use Rattle.dsdl_resolve.specs.Laws.{HaveOneAnswer}
 use Rattle.node_plan.specs.declared.plan.Plan.{Plan}

@@ -7,8 +7,9 @@ use Rattle.node_run.specs.declared.status.Status.{Status}
 use Rattle.cyphal.specs.Job.{Job, ReportsNothing, flow_of}
 use Rattle.cyphal.specs.jobs.Reach.{HasListened, reach_job}
 
--- The log was heard, and what was written is what the client says of it. Where the log was heard to its end, its replies are
--- those of a server that answers from one file, and the client is done, the last line is that of this very file.
+-- The log was heard, and what was written is what the client says of it. Where the log was heard to
+-- its end, its replies are those of a server that answers from one file, and the end behind all of
+-- them is Done, the last line is that of this very file.
 pub record HasFetched (client : Client) (stat : Status) (told : Flow) : Type 0 where
   pub listened : HasListened (fetch_voice client) stat told
   pub fetched : WritesFile client told.left listened.ended told.before told.after

@@ -2,7 +2,9 @@ use Rattle.cyphal.proofs.law.headline_laws.Goals as goal
 
 pub returns : goal.returns
 returns c = record {
+  records = c.steps_follow.ensures.records;
   sessions = c.reported.ensures;
+  all = c.emptying.ensures.reported;
   fields = c.wire_explains_fields.ensures;
   once = c.once_in_part.ensures;
   due = c.due_in_report.ensures;

@@ -1,11 +1,9 @@
-use Rattle.std.proofs.Common.{◌≡◌, ◌∙◌, ◌<◌, List, length, map, sym, ap, arith, length-append}
+use Rattle.std.proofs.Common.{◌≡◌, ◌∙◌, ◌<◌, length, map, sym, ap, arith, length-append}
 use Rattle.std.specs.Option.{option_to_list}
 use Rattle.node_core.specs.Buses.{queue_of}
 use Rattle.node_core.specs.Queues.{full_line, push}
 use Rattle.node_core.specs.Transfers.{sends_of}
 use Rattle.node_core.specs.declared.bus_queue.BusQueue.{BusQueue}
-use Rattle.node_core.specs.declared.line.FullLine.{FullLine}
-use Rattle.node_core.specs.declared.line.Line.{Line}
 use Rattle.node_core.specs.declared.line.Line.TheVariants.{Full}
 use Rattle.node_core.proofs.Queues.{at_most_one, pushed_more, told_more}
 use Rattle.node_core.proofs.bus_queues.push_on_each.Goals as goal

@@ -1,5 +1,5 @@
 use Rattle.std.proofs.Common.{◌≡◌, ◌∙◌, ◌<◌, List, [], ◌∷◌, ◌++◌, get_or, length, take, ap, subst, arith}
-use Rattle.node_plan.specs.Ports.{PlanPort, port_of_sub, ports, services}
+use Rattle.node_plan.specs.Ports.{PlanPort, port_of_sub, ports}
 use Rattle.node_plan.specs.declared.plan.Sub.{Sub}
 use Rattle.node_core.specs.Tables.{IsTableOf}
 use Rattle.node_core.proofs.Tables.{count_of_ports, not_taken, of_sub, one_more, same_port}

@@ -13,9 +13,9 @@ returns-clause-gone g c =
     let left = g.L.Source.left c.args.input.now in
     let before = g.O.Sink.written c.args.out.now in
     let after = g.O.Sink.written c.listen.new.out in
-    subst (λ own. HasGone (allocate_voice own) Anything Anything Anything left c.listen.result before after) c.new-allocating.ensures.own
-    (subst (λ (names : List (List ℕ)). HasGone (voice names (step_text c.new-allocating.result.own) (last_text c.new-allocating.result.own)) Anything Anything Anything left c.listen.result before after) c.bus_names.ensures
-    (has_gone (voice c.bus_names.result (step_text c.new-allocating.result.own) (last_text c.new-allocating.result.own)) _ _ _ before after left c.listen.result c.listen.ensures.gone))
+    subst (λ own. HasGone (allocate_voice own) Anything Anything Anything Anything left c.listen.result before after) c.new-allocating.ensures.own
+    (subst (λ (names : List (List ℕ)). HasGone (voice names (step_text c.new-allocating.result.own) (last_text c.new-allocating.result.own)) Anything Anything Anything Anything left c.listen.result before after) c.bus_names.ensures
+    (has_gone (voice c.bus_names.result (step_text c.new-allocating.result.own) (last_text c.new-allocating.result.own)) _ _ _ _ before after left c.listen.result c.listen.ensures.gone))
 
 pub returns-clause-taken : goal.returns-clause-taken
 returns-clause-taken g c e =

@@ -28,13 +28,13 @@ last_is laws client file log f =
     ap (λ (o : Option FetchOut). end_text (offset_of (fetched file_limit past)) (fetched file_limit past).file o) f.done
     ∙ ap file_line (laws.whole file file_limit past f.fair f.done)
 
-written_file : FetchLaws → (client : Client) (told : Option (List ℕ)) (ended : Ended) (before after : Option (List ℕ)) → HasGone (fetch_voice client) Anything Anything Anything told ended before after → WritesFile client told ended before after
+written_file : FetchLaws → (client : Client) (told : Option (List ℕ)) (ended : Ended) (before after : Option (List ℕ)) → HasGone (fetch_voice client) Anything Anything Anything Anything told ended before after → WritesFile client told ended before after
 written_file laws client told ended before after g bytes file is ok f =
     let v = fetch_voice client in
     let same : g.bytes ≡ bytes = subst (λ (t : Option (List ℕ)). IfSome t (λ (left : List ℕ). g.bytes ≡ left)) is g.is in
-    let gone : Gone v Anything Anything Anything (log_of bus_names bytes) end.Ok before after =
-    subst (λ (e : Ended). Gone v Anything Anything Anything (log_of bus_names bytes) e before after) ok
-    (subst (λ (b : List ℕ). Gone v Anything Anything Anything (log_of bus_names b) ended before after) same g.gone) in
+    let gone : Gone v Anything Anything Anything Anything (log_of bus_names bytes) end.Ok before after =
+    subst (λ (e : Ended). Gone v Anything Anything Anything Anything (log_of bus_names bytes) e before after) ok
+    (subst (λ (b : List ℕ). Gone v Anything Anything Anything Anything (log_of bus_names b) ended before after) same g.gone) in
     let log = log_of bus_names bytes in
     let past = newest_first log in
     gone.1.written
@@ -43,13 +43,13 @@ written_file laws client told ended before after g bytes file is ok f =
     ∙ ap (λ (t : List ℕ). said v past ++ t) (last_is laws client file log f))
 
 pub returns-in_default-clause-gone : goal.returns-in_default-clause-gone
-returns-in_default-clause-gone g c = has_none _ Anything Anything Anything (g.L.Source.left c.args.input.now) (g.O.Sink.written c.args.out.now) tt
+returns-in_default-clause-gone g c = has_none _ Anything Anything Anything Anything (g.L.Source.left c.args.input.now) (g.O.Sink.written c.args.out.now) tt
 
 pub returns-in_default-clause-streamed : goal.returns-in_default-clause-streamed
 returns-in_default-clause-streamed g c = streamed_none _ _ _ _ _ _ _
 
 pub returns-in_default-new-clause-gone : goal.returns-in_default-new-clause-gone
-returns-in_default-new-clause-gone g c = has_none _ Anything Anything Anything (g.L.Source.left c.args.input.now) (g.O.Sink.written c.args.out.now) tt
+returns-in_default-new-clause-gone g c = has_none _ Anything Anything Anything Anything (g.L.Source.left c.args.input.now) (g.O.Sink.written c.args.out.now) tt
 
 pub returns-in_default-new-clause-streamed : goal.returns-in_default-new-clause-streamed
 returns-in_default-new-clause-streamed g c = streamed_none _ _ _ _ _ _ _
@@ -62,9 +62,9 @@ returns-clause-gone g c =
     let a = c.in-Ok-new.fetching.asking.client in
     let is : a ≡ record { own = c.args.own; server = c.args.server; path = c.args.path.now } =
     (c.in-Ok-new.ensures {u = tt}).client ∙ ap (λ (p : List ℕ). record { own = c.args.own; server = c.args.server; path = p }) (c.in-Ok.ensures {u = tt}) in
-    subst (λ (b : Client). HasGone (fetch_voice b) Anything Anything Anything left c.listen.result before after) is
-    (subst (λ (names : List (List ℕ)). HasGone (voice names (step_text a) (last_text a)) Anything Anything Anything left c.listen.result before after) c.bus_names.ensures
-    (has_gone (voice c.bus_names.result (step_text a) (last_text a)) _ _ _ before after left c.listen.result c.listen.ensures.gone))
+    subst (λ (b : Client). HasGone (fetch_voice b) Anything Anything Anything Anything left c.listen.result before after) is
+    (subst (λ (names : List (List ℕ)). HasGone (voice names (step_text a) (last_text a)) Anything Anything Anything Anything left c.listen.result before after) c.bus_names.ensures
+    (has_gone (voice c.bus_names.result (step_text a) (last_text a)) _ _ _ _ before after left c.listen.result c.listen.ensures.gone))
 
 pub returns-clause-taken : goal.returns-clause-taken
 returns-clause-taken g c e =

@@ -11,7 +11,7 @@ use Rattle.node_reach.proofs.Weaker.{has_gone, has_taken, has_streamed}
 use Rattle.node_reach.proofs.network_watch.monitor.Goals as goal
 
 pub returns-in_default-clause-gone : goal.returns-in_default-clause-gone
-returns-in_default-clause-gone g c = has_none (monitor_voice c.args.own) Anything Anything Anything (g.L.Source.left c.args.input.now) (g.O.Sink.written c.args.out.now) tt
+returns-in_default-clause-gone g c = has_none (monitor_voice c.args.own) Anything Anything Anything Anything (g.L.Source.left c.args.input.now) (g.O.Sink.written c.args.out.now) tt
 
 pub returns-in_default-clause-streamed : goal.returns-in_default-clause-streamed
 returns-in_default-clause-streamed g c = streamed_none _ _ _ _ _ _ _
@@ -22,9 +22,9 @@ returns-clause-gone g c =
     let before = g.O.Sink.written c.args.out.now in
     let after = g.O.Sink.written c.listen.new.out in
     let own = c.in-Ok.monitoring.ear.own in
-    subst (λ own. HasGone (monitor_voice own) Anything Anything Anything left c.listen.result before after) (c.in-Ok.ensures {u = tt}).own
-    (subst (λ (names : List (List ℕ)). HasGone (voice names step_text (last_text own)) Anything Anything Anything left c.listen.result before after) c.bus_names.ensures
-    (has_gone (voice c.bus_names.result step_text (last_text own)) _ _ _ before after left c.listen.result c.listen.ensures.gone))
+    subst (λ own. HasGone (monitor_voice own) Anything Anything Anything Anything left c.listen.result before after) (c.in-Ok.ensures {u = tt}).own
+    (subst (λ (names : List (List ℕ)). HasGone (voice names step_text (last_text own)) Anything Anything Anything Anything left c.listen.result before after) c.bus_names.ensures
+    (has_gone (voice c.bus_names.result step_text (last_text own)) _ _ _ _ before after left c.listen.result c.listen.ensures.gone))
 
 pub returns-clause-taken : goal.returns-clause-taken
 returns-clause-taken g c e =

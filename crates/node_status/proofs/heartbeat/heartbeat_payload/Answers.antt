@@ -1,20 +1,26 @@
-use Rattle.std.proofs.Common.{◌≡◌, ◌∙◌, ℕ, min, List, [], ◌∷◌, sym, ap, arith}
+use Rattle.std.proofs.Common.{◌≡◌, ◌∙◌, ℕ, ◌<◌, ◌^◌, min, List, [], ◌∷◌, sym, ap, arith}
 use Rattle.std.specs.Prelude.{slice_index_or}
 use Rattle.std.specs.Int.{w32, to_le_bytes}
-use Rattle.node_status.specs.Status.{heartbeat_bytes, heartbeat_payload}
+use Rattle.node_status.specs.Status.{heartbeat_payload}
 use Rattle.node_status.proofs.StatusBytes.{heartbeat_encoding}
 use Rattle.node_status.proofs.heartbeat.heartbeat_payload.Goals as goal
 
--- the bytes one by one
-written : (h m c t : ℕ) (l : List ℕ) → l ≡ to_le_bytes w32 t
-    → slice_index_or l 0 0 ∷ slice_index_or l 1 0 ∷ slice_index_or l 2 0 ∷ slice_index_or l 3 0 ∷ h ∷ m ∷ c ∷ [] ≡ heartbeat_bytes h m c t
-written h m c t l e =
-    ap (λ (b : List ℕ). slice_index_or b 0 0 ∷ slice_index_or b 1 0 ∷ slice_index_or b 2 0 ∷ slice_index_or b 3 0 ∷ h ∷ m ∷ c ∷ []) e
+abbrev item : List ℕ → ℕ → ℕ
+item bytes place = slice_index_or bytes place 0
+
+-- the bytes of the uptime one by one, before the others
+abbrev written : ℕ → ℕ → ℕ → List ℕ → List ℕ
+written health mode code uptime =
+    item uptime 0 ∷ item uptime 1 ∷ item uptime 2 ∷ item uptime 3 ∷ health ∷ mode ∷ code ∷ []
 
 pub returns : goal.returns
 unfolding heartbeat_payload
 returns c =
-    let t = min c.args.seconds 0xFFFFFFFF in
-    let uptime : c.min-uptime.result ≡ t = c.min-uptime.ensures in
-    written c.args.health c.args.mode c.args.code t _ (c.to_le_bytes-seconds.ensures ∙ ap (to_le_bytes w32) uptime)
-    ∙ sym (heartbeat_encoding c.args.health c.args.mode c.args.code t c.requires.health c.requires.mode (omega (arith, c.ranges.code)) (omega arith))
+    let a = c.args in
+    let r = c.requires in
+    let uptime = min a.seconds 0xFFFFFFFF in
+    let said : c.min-uptime.result ≡ uptime = c.min-uptime.ensures in
+    let four = c.to_le_bytes-seconds.ensures ∙ ap (to_le_bytes w32) said in
+    let code : a.code < 2 ^ 8 = omega (arith, c.ranges.code) in
+    let bytes = heartbeat_encoding a.health a.mode a.code uptime r.health r.mode code (omega arith) in
+    ap (written a.health a.mode a.code) four ∙ sym bytes

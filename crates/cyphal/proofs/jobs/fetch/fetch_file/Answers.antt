@@ -9,7 +9,7 @@ use Rattle.cyphal.proofs.jobs.fetch.fetch_file.Goals as goal
 pub returns-clause-answer : goal.returns-clause-answer
 returns-clause-answer g c h =
     let client = client_of c.args.file.own.number c.args.file.server.number c.as_bytes-path.result.now in
-    ends_as_log (fetch_voice client) Anything Anything (g.L.Source.left c.args.input.now) c.fetch.result (g.O.Sink.written c.args.out.now) (g.O.Sink.written c.fetch.new.out) c.status_of.result c.status_of.ensures h c.fetch.ensures.gone
+    ends_as_log (fetch_voice client) Anything Anything Anything Anything (g.L.Source.left c.args.input.now) c.fetch.result (g.O.Sink.written c.args.out.now) (g.O.Sink.written c.fetch.new.out) c.status_of.result c.status_of.ensures h c.fetch.ensures.gone
 
 pub returns-clause-usage : goal.returns-clause-usage
 returns-clause-usage g c = no_usage c.fetch.result c.status_of.result c.status_of.ensures

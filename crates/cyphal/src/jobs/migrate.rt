@@ -1,0 +1,97 @@
+//! `migrate ROOT PLAN`: a plan's text in version 2.
+ghost use Rattle.std.specs.Prelude.{◌≡◌, ◌⊎◌, false, IfErr, IfOk, OnOk};
+ghost use Rattle.cy_outside.specs.Outside.{Rose};
+ghost use Rattle.dsdl_types.specs.Definitions.{IsNamespace};
+ghost use Rattle.cyphal.specs.Job.{is_fault, is_settled, printed, WroteNothing};
+ghost use Rattle.cyphal.specs.Cause.{counts, HasCause};
+ghost use Rattle.cyphal.specs.Plans.{EndsAt, EndsIn, without_plan};
+ghost use Rattle.cyphal.specs.jobs.Bound.{bounded};
+ghost use Rattle.cyphal.specs.jobs.Migrate.{Becomes, BecomesAt, HasMigratedAt};
+
+use crate::plan_file::{plan_refused, text_at};
+use cy_bits::Bytes;
+use cy_outside::{Sink, Tree, put_all};
+use dsdl_types::Namespace;
+use node_plan::migrate;
+use node_run::{Status, load};
+use std::alloc::Global;
+
+/// Writes what the plan at a path, which is read in the namespace of a root, is in version 2.
+pub fn migrate_plan<T: Tree, O: Sink>(
+    alloc: Global,
+    root: &str,
+    path: &str,
+    tree: &mut T,
+    out: &mut O,
+) -> Status
+    ensures answer { is_fault result ≡ false
+        → EndsAt bounded root.now path.now (T.files tree.old) result }
+    ensures cause { let old = counts (T.faults tree.old) (O.faults out.old) in
+        let new = counts (T.faults tree.new) (O.faults out.new) in
+        HasCause result old new }
+    ensures ran { let print = printed result (O.written out.old) (O.written out.new) in
+        WroteNothing print ⊎ HasMigratedAt root.now path.now (T.files tree.old) print }
+{
+    let text = match migrated_at(alloc, root, path, tree) {
+        Ok(text) => text,
+        Err(status) => return status,
+    };
+    match put_all(out, text.as_slice()) {
+        Ok(()) => Status::Ok,
+        Err(_) => Status::WriteFault,
+    }
+}
+
+/// What the plan at a path becomes, or how the command ends for want of a plan. The root comes
+/// first, as in `plan_at`.
+fn migrated_at<T: Tree>(
+    alloc: Global,
+    root: &str,
+    path: &str,
+    tree: &mut T,
+) -> Result<Bytes, Status>
+    ensures becomes { IfOk result (BecomesAt root.now path.now (T.files tree.old)) }
+    ensures plan { OnOk result (EndsAt bounded root.now path.now (T.files tree.old) Status.Ok) }
+    ensures kept { OnOk result (T.faults tree.new ≡ T.faults tree.old) }
+    ensures answer { IfErr result (λ stat. is_fault stat ≡ false
+        → EndsAt without_plan root.now path.now (T.files tree.old) stat) }
+    ensures usage { IfErr result (λ stat. ¬ (stat ≡ Status.Usage)) }
+    ensures read { IfErr result (λ stat. stat ≡ Status.ReadFault
+        → Rose (T.faults tree.old) (T.faults tree.new)) }
+    ensures write { IfErr result (λ stat. ¬ (stat ≡ Status.WriteFault)) }
+    ensures early { IfErr result (λ stat. is_settled stat ≡ false) }
+{
+    let names = match load(alloc, tree, root) {
+        Ok(names) => names,
+        Err(status) => return Err(status),
+    };
+    migrated_in(alloc, &names, path, tree)
+}
+
+/// What the plan at a path becomes, read in a namespace.
+fn migrated_in<T: Tree>(
+    alloc: Global,
+    names: &Namespace,
+    path: &str,
+    tree: &mut T,
+) -> Result<Bytes, Status>
+    requires { IsNamespace names.now }
+    ensures becomes { IfOk result (Becomes names.now path.now (T.files tree.old)) }
+    ensures kept { OnOk result (T.faults tree.new ≡ T.faults tree.old) }
+    ensures answer { IfErr result (λ stat. is_fault stat ≡ false
+        → EndsIn without_plan names.now path.now (T.files tree.old) stat) }
+    ensures usage { IfErr result (λ stat. ¬ (stat ≡ Status.Usage)) }
+    ensures read { IfErr result (λ stat. stat ≡ Status.ReadFault
+        → Rose (T.faults tree.old) (T.faults tree.new)) }
+    ensures write { IfErr result (λ stat. ¬ (stat ≡ Status.WriteFault)) }
+    ensures early { IfErr result (λ stat. is_settled stat ≡ false) }
+{
+    let text = match text_at(alloc, path, tree) {
+        Ok(text) => text,
+        Err(status) => return Err(status),
+    };
+    match migrate(alloc, text.as_slice(), names) {
+        Ok(new) => Ok(new),
+        Err(error) => Err(plan_refused(error)),
+    }
+}

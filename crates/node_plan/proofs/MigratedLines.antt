@@ -1,0 +1,222 @@
+-- A line of version 1 and its migrated line.
+use Rattle.std.proofs.Common.{◌≡◌, ◌∙◌, ◌+◌, ◌*◌, ◌≤◌, ◌==◌, ◌⊎◌, inl, inr, ℕ, Bool, true, false, List, [], ◌∷◌, ◌++◌, Some, length, refl, sym, ap, subst, arith, length-append, decimal}
+use Rattle.std.specs.Prelude.{Ok, Err, codes, if◌then◌else◌}
+use Rattle.std.specs.Str.{bytes_eq}
+use Rattle.std.proofs.lemmas.Slice.Eq.{bytes_eq-Decides}
+use Rattle.dsdl_types.specs.declared.namespace.Namespace.{Namespace}
+use Rattle.node_plan.specs.declared.draft.Draft.{Draft}
+use Rattle.node_plan.specs.declared.line.PlanVersion.TheVariants as version
+use Rattle.node_plan.specs.declared.line.Said.{Said}
+use Rattle.node_plan.specs.declared.line.Said.TheVariants as said
+use Rattle.node_plan.specs.declared.plan.BusPlan.{BusPlan}
+use Rattle.node_plan.specs.declared.words.Number.TheVariants as number
+use Rattle.node_plan.specs.Draft.{step}
+use Rattle.node_plan.specs.Line.{said_of, said_of_bus, said_of_clients, said_of_five, said_of_four, said_of_many, said_of_node, said_of_one, said_of_queue, said_of_status, said_of_timeout, said_of_two, said_of_type, said_of_words}
+use Rattle.node_plan.specs.Migrate.{migrated_line, migrated_two, migrated_words, numbers_text}
+use Rattle.node_plan.specs.Words.{joined, mtu_in, number_in, parts_of, words_of}
+use Rattle.node_plan.proofs.DecimalLemmas.{AreNumbers}
+use Rattle.node_plan.proofs.JoinedLemmas.{parts-append, parts-free}
+use Rattle.node_plan.proofs.MigratedSteps.{Kept, bus_step, first_bus, mtu_step, plain_step, rate_step, two_of, version_step}
+use Rattle.node_plan.proofs.PlainLines.{AnyShape, Plain, plain, plain_four}
+use Rattle.node_plan.proofs.SaidTables as tables
+
+-- buses of version 1 before `mtu` and `rate` count
+abbrev pub AreFirst : List BusPlan → Type 0
+AreFirst [] = Unit {0}
+AreFirst (b ∷ bs) = (b.mtu ≡ 8) × (b.rate ≡ 4096) × AreFirst bs
+
+first-push : (buses : List BusPlan) (name : List ℕ) → AreFirst buses → AreFirst (buses ++ first_bus name ∷ [])
+first-push [] name h = (refl, refl, tt)
+first-push (b ∷ bs) name h = (h.0, h.1, first-push bs name h.2)
+
+-- what the migrated line makes of the migrated text's draft, and how much longer it is
+pub record Moved (names : Namespace) (m r : ℕ) (d new : Draft) (line made : List ℕ) : Type 0 where
+  pub step : step (two_of m r d) (said_of names true made) ≡ Ok (two_of m r new)
+  pub version : new.version ≡ Some version.One
+  pub first : AreFirst new.buses
+  pub longer : length made + 8 * length d.buses ≤ length line + 8 * length new.buses
+
+-- ---- a line's words
+
+-- a line that isn't skipped
+pub said_line : (names : Namespace) (two : Bool) (b : ℕ) (s : List ℕ) → (b == 35) ≡ false → said_of names two (b ∷ s) ≡ said_of_words names two (words_of (b ∷ s))
+said_line names two b s e = ap (λ test. if test then said.Nothing else said_of_words names two (words_of (b ∷ s))) e
+
+-- whether a word is this one
+pub word_case : (a w : List ℕ) → (a ≡ w) ⊎ (bytes_eq a w ≡ false)
+word_case a w = of_test (bytes_eq a w) (λ t. (bytes_eq-Decides a w).0 t)
+  where
+    of_test : (t : Bool) → (t ≡ true → a ≡ w) → (a ≡ w) ⊎ (t ≡ false)
+    of_test true h = inl (h refl)
+    of_test false h = inr refl
+
+module _ (names : Namespace) (m r : ℕ) (numbers : AreNumbers m r) (d new : Draft) (first : d.version ≡ Some version.One) (ones : AreFirst d.buses) where
+  -- a line that stays
+  of_kept : (line made : List ℕ) → length made ≤ length line → step (two_of m r d) (said_of names true made) ≡ Ok (two_of m r new) → Kept d new → Moved names m r d new line made
+  of_kept line made short h kept = record {
+    step = h;
+    version = kept.version ∙ first;
+    first = subst AreFirst (sym kept.buses) ones;
+    longer = let same : length new.buses ≡ length d.buses = ap (λ bs. length {A = BusPlan} bs) kept.buses in omega arith;
+  }
+
+  stays : (line : List ℕ) (s : Said) → said_of names true line ≡ s → Plain false s → step d s ≡ Ok new → Moved names m r d new line line
+  stays line s e p h =
+      let same = plain_step m r d new first s p h in
+      of_kept line line (omega arith) (ap (step (two_of m r d)) e ∙ same.0) same.1
+
+  -- ---- lines of two words
+
+  module _ (b : ℕ) (s : List ℕ) (said_something : (b == 35) ≡ false) (value : List ℕ) where
+    abbrev line : List ℕ
+    line = b ∷ s
+
+    abbrev IsTwo : List ℕ → Type 0
+    IsTwo word = words_of (b ∷ s) ≡ word ∷ value ∷ []
+
+    abbrev Goes : List ℕ → Type 0
+    Goes word = IsTwo word → step d (said_of_two false word value) ≡ Ok new → Moved names m r d new (b ∷ s) (migrated_two (numbers_text m r) (b ∷ s) word)
+
+    of_plan : Goes (codes "plan")
+    of_plan e h = absurd (version_step d new first value h)
+
+    -- what a line of version 2 says whose words are these
+    says : (word : List ℕ) → IsTwo word → said_of names true (b ∷ s) ≡ said_of_two true word value
+    says word e = said_line names true b s said_something ∙ ap (said_of_words names true) e
+
+    of_node : Goes (codes "node")
+    of_node e h = stays (b ∷ s) (said_of_node (number_in 0 127 value)) (says (codes "node") e) (tables.of_node (Plain false) AnyShape (plain false) (number_in 0 127 value)) h
+
+    of_timeout : Goes (codes "timeout")
+    of_timeout e h = stays (b ∷ s) (said_of_timeout (number_in 1 60_000_000 value)) (says (codes "timeout") e) (tables.of_timeout (Plain false) AnyShape (plain false) (number_in 1 60_000_000 value)) h
+
+    of_clients : Goes (codes "clients")
+    of_clients e h = stays (b ∷ s) (said_of_clients (number_in 1 128 value)) (says (codes "clients") e) (tables.of_clients (Plain false) AnyShape (plain false) (number_in 1 128 value)) h
+
+    of_queue : Goes (codes "queue")
+    of_queue e h = stays (b ∷ s) (said_of_queue (number_in 1 4096 value)) (says (codes "queue") e) (tables.of_queue (Plain false) AnyShape (plain false) (number_in 1 4096 value)) h
+
+    of_mtu : Goes (codes "mtu")
+    of_mtu e h =
+        let g = mtu_step m r d new first (mtu_in value) h in
+        of_kept (b ∷ s) [] (omega arith) (ap Ok g.0) g.1
+
+    of_rate : Goes (codes "rate")
+    of_rate e h =
+        let g = rate_step m r d new first (number_in 1 4096 value) h in
+        of_kept (b ∷ s) [] (omega arith) (ap Ok g.0) g.1
+
+    -- the words of a bus's line, behind which its numbers stand
+    bus_words : IsTwo (codes "bus") → words_of (b ∷ (s ++ numbers_text m r)) ≡ codes "bus" ∷ value ∷ decimal m ∷ decimal r ∷ []
+    bus_words e =
+        parts-append 32 (b ∷ s) (decimal m ++ 32 ∷ decimal r)
+        ∙ ap (λ ws. ws ++ parts_of 32 (decimal m ++ 32 ∷ decimal r)) e
+        ∙ ap (λ ws. codes "bus" ∷ value ∷ ws) (parts-append 32 (decimal m) (decimal r)
+        ∙ ap (λ ws. ws ++ parts_of 32 (decimal r)) (parts-free 32 (decimal m) numbers.mtu_word)
+        ∙ ap (λ ws. decimal m ∷ ws) (parts-free 32 (decimal r) numbers.rate_word))
+
+    bus_says : IsTwo (codes "bus") → said_of names true (b ∷ (s ++ numbers_text m r)) ≡ said_of_bus value (number.Within m) (number.Within r)
+    bus_says e =
+        said_line names true b (s ++ numbers_text m r) said_something
+        ∙ ap (said_of_words names true) (bus_words e)
+        ∙ ap (λ n. said_of_bus value n (number_in 1 4096 (decimal r))) numbers.mtu
+        ∙ ap (said_of_bus value (number.Within m)) numbers.rate
+
+    of_bus : Goes (codes "bus")
+    of_bus e h =
+        let g = bus_step m r d new first value h in
+        let more : length new.buses ≡ length d.buses + 1 = ap (λ bs. length {A = BusPlan} bs) g.2 ∙ length-append d.buses (first_bus value ∷ []) in
+        let long : length ((b ∷ s) ++ numbers_text m r) ≡ length (b ∷ s) + length (numbers_text m r) = length-append (b ∷ s) (numbers_text m r) in
+        let short : length (numbers_text m r) ≤ 8 = numbers.short in record {
+          step = ap (step (two_of m r d)) (bus_says e) ∙ g.0;
+          version = g.1 ∙ first;
+          first = subst AreFirst (sym g.2) (first-push d.buses value ones);
+          longer = omega (arith, more, long, short);
+        }
+
+    at : (word w : List ℕ) → word ≡ w → Goes w → Goes word
+    at word w e g = subst Goes (sym e) g
+
+    of_two : (word : List ℕ) → Goes word
+    of_two word = elim (word_case word (codes "plan")) [
+      | inl e ↦ at word (codes "plan") e of_plan
+      | inr not_plan ↦
+          elim (word_case word (codes "node")) [
+            | inl e ↦ at word (codes "node") e of_node
+            | inr not_node ↦
+                elim (word_case word (codes "timeout")) [
+                  | inl e ↦ at word (codes "timeout") e of_timeout
+                  | inr not_timeout ↦
+                      elim (word_case word (codes "clients")) [
+                        | inl e ↦ at word (codes "clients") e of_clients
+                        | inr not_clients ↦
+                            elim (word_case word (codes "queue")) [
+                              | inl e ↦ at word (codes "queue") e of_queue
+                              | inr not_queue ↦
+                                  elim (word_case word (codes "bus")) [
+                                    | inl e ↦ at word (codes "bus") e of_bus
+                                    | inr not_bus ↦
+                                        elim (word_case word (codes "mtu")) [
+                                          | inl e ↦ at word (codes "mtu") e of_mtu
+                                          | inr not_mtu ↦
+                                              elim (word_case word (codes "rate")) [
+                                                | inl e ↦ at word (codes "rate") e of_rate
+                                                | inr not_rate ↦
+                                                    λ e h. absurd (none word not_plan not_node not_timeout not_clients not_queue not_bus not_mtu not_rate h)
+                                              ]
+                                        ]
+                                  ]
+                            ]
+                      ]
+                ]
+          ]
+    ]
+      where
+        none : (word : List ℕ) → bytes_eq word (codes "plan") ≡ false → bytes_eq word (codes "node") ≡ false → bytes_eq word (codes "timeout") ≡ false → bytes_eq word (codes "clients") ≡ false
+            → bytes_eq word (codes "queue") ≡ false → bytes_eq word (codes "bus") ≡ false → bytes_eq word (codes "mtu") ≡ false → bytes_eq word (codes "rate") ≡ false
+            → step d (said_of_two false word value) ≡ Ok new → ⊥
+        none word p n t c q b m r h =
+            let e : said_of_two false word value ≡ said.NoForm = rw (p, n, t, c, q, b, m, r) in
+            let g : Err _ ≡ Ok new = sym (ap (step d) e) ∙ h in cc
+
+  -- ---- all lines
+
+  -- a line of four words that version 1 has
+  four_same : (a v c e : List ℕ) → step d (said_of_four names false a v c e) ≡ Ok new → said_of_four names true a v c e ≡ said_of_four names false a v c e
+  four_same a v c e h = of_tests (bytes_eq a (codes "sub")) (bytes_eq a (codes "status")) (bytes_eq a (codes "bus")) h
+    where
+      of_tests : (t u w : Bool) → step d (if t then said_of_type names v c e else (if u then said_of_status (number_in 0 3 v) (number_in 0 3 c) (number_in 0 255 e) else said.NoForm)) ≡ Ok new
+          → (if t then said_of_type names v c e else (if u then said_of_status (number_in 0 3 v) (number_in 0 3 c) (number_in 0 255 e)
+          else (if w then said_of_bus v (mtu_in c) (number_in 1 4096 e) else said.NoForm)))
+          ≡ (if t then said_of_type names v c e else (if u then said_of_status (number_in 0 3 v) (number_in 0 3 c) (number_in 0 255 e) else said.NoForm))
+      of_tests true u w h = refl
+      of_tests false true w h = refl
+      of_tests false false w h = absurd cc
+
+  of_words : (b : ℕ) (s : List ℕ) → (b == 35) ≡ false → (words : List (List ℕ)) → words_of (b ∷ s) ≡ words → step d (said_of_words names false words) ≡ Ok new
+      → Moved names m r d new (b ∷ s) (migrated_words (numbers_text m r) (b ∷ s) words)
+  of_words b s t [] e h = absurd cc
+  of_words b s t (a ∷ []) e h = stays (b ∷ s) (said_of_one a) (said_line names true b s t ∙ ap (said_of_words names true) e) (tables.of_one (Plain false) AnyShape (plain false) a) h
+  of_words b s t (a ∷ v ∷ []) e h = of_two b s t v a e h
+  of_words b s t (a ∷ v ∷ c ∷ []) e h = absurd cc
+  of_words b s t (a ∷ v ∷ c ∷ f ∷ []) e h =
+      stays (b ∷ s) (said_of_four names false a v c f) (said_line names true b s t ∙ ap (said_of_words names true) e ∙ four_same a v c f h) (plain_four false names a v c f) h
+  of_words b s t (a ∷ v ∷ c ∷ f ∷ g ∷ []) e h =
+      stays (b ∷ s) (said_of_five a v c f g) (said_line names true b s t ∙ ap (said_of_words names true) e) (tables.of_five (Plain false) AnyShape (plain false) a v c f g) h
+  of_words b s t (a ∷ v ∷ c ∷ f ∷ g ∷ i ∷ more) e h =
+      stays (b ∷ s) (said_of_many a v c f g (joined 32 (i ∷ more))) (said_line names true b s t ∙ ap (said_of_words names true) e) (tables.of_many (Plain false) AnyShape (plain false) a v c f g (joined 32 (i ∷ more))) h
+
+  -- a line that is skipped
+  of_skipped : (line : List ℕ) → said_of names true line ≡ said.Nothing → step d said.Nothing ≡ Ok new → Moved names m r d new line line
+  of_skipped line e h =
+      let same : d ≡ new = cc in
+      of_kept line line (omega arith) (ap (step (two_of m r d)) e ∙ ap (λ y. Ok (two_of m r y)) same) (subst (Kept d) same (record { version = refl; buses = refl }))
+
+  pub line_moved : (line : List ℕ) → step d (said_of names false line) ≡ Ok new → Moved names m r d new line (migrated_line (numbers_text m r) line)
+  line_moved [] h = of_skipped [] refl h
+  line_moved (b ∷ s) h = of_test (b == 35) refl h
+    where
+      of_test : (t : Bool) → (b == 35) ≡ t → step d (if t then said.Nothing else said_of_words names false (words_of (b ∷ s))) ≡ Ok new
+          → Moved names m r d new (b ∷ s) (if t then b ∷ s else migrated_words (numbers_text m r) (b ∷ s) (words_of (b ∷ s)))
+      of_test true e h = of_skipped (b ∷ s) (ap (λ test. if test then said.Nothing else said_of_words names true (words_of (b ∷ s))) e) h
+      of_test false e h = of_words b s e (words_of (b ∷ s)) refl h
