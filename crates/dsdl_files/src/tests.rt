@@ -71,17 +71,17 @@ fn limits(rt: HostRuntime) -> Result<(), Fail> {
     Ok(())
 }
 
-/// Five listings and nine reads: one of the empty file, and two of each other one.
+/// Five listings, and one read of each of the five files.
 #[test]
 fn a_fault_at_each_call(rt: HostRuntime) -> Result<(), Fail> {
     let alloc = rt.alloc();
-    for call in 0..15u64 {
+    for call in 0..11u64 {
         let failing = [call];
         let mut tree = tree(alloc, &failing)?;
         let answer = read_folder(alloc, &mut tree, "root");
-        let expected = if call < 14 { "Failed" } else { ALL };
+        let expected = if call < 10 { "Failed" } else { ALL };
         assert_eq!(rt; shown(alloc, &answer)?.as_str(), expected);
-        assert_eq!(rt; tree.calls.faults, u64::from(call < 14));
+        assert_eq!(rt; tree.calls.faults, u64::from(call < 10));
     }
     Ok(())
 }

@@ -5,6 +5,7 @@ pub mod Steps
 pub mod Counts
 pub mod Goes
 pub mod Ticks
+pub mod Hearing
 pub mod Starts
 pub mod Runs
 pub mod Streams

@@ -1,5 +1,5 @@
 -- From what a listener's loop did to what a run did.
-use Rattle.std.proofs.Common.{◌≡◌, ◌∙◌, ◌⊎◌, inl, inr, ◌<◌, ℕ, List, length, [], ◌∷◌, ◌++◌, Option, Some, None, refl, sym, ap, ap₂, subst, append_assoc, append-nil, count_by}
+use Rattle.std.proofs.Common.{◌≡◌, ◌∙◌, ◌⊎◌, inl, inr, ◌<◌, ◌≤◌, ℕ, List, length, [], ◌∷◌, ◌++◌, Option, Some, None, refl, sym, ap, ap₂, subst, append_assoc, append-nil, arith}
 use mathlib.Core.List.{reverse_aux}
 use Rattle.tail_frame.specs.declared.logged.Record.{Record}
 use Rattle.cy_outside.specs.Written.{behind, Begins}
@@ -12,6 +12,7 @@ use Rattle.log_loop.specs.Streamed.{IsStreamed as HeardStreamed, HasWritten}
 use Rattle.log_loop.specs.declared.ended.Ended.{Ended}
 use Rattle.log_loop.specs.declared.ended.Ended.TheVariants as end
 use Rattle.log_loop.proofs.Logs.{newest_onto}
+use Rattle.node_plan.specs.Bound.{bound_of}
 use Rattle.node_plan.specs.declared.plan.Plan.{Plan}
 use Rattle.node_core.specs.declared.line.Line.{Line}
 use Rattle.node_core.specs.declared.numbers.Numbers.{Numbers}
@@ -205,6 +206,21 @@ module _ (plan of_node : Plan) (same : of_node ≡ plan) (names : List (List ℕ
       (has_streamed of_node before s sent heard ended broke cut h e b c left new how before_text after
       (subst (λ (t : List (List ℕ)). HeardStreamed (voice t (step_text of_node) (last_text of_node)) heard ended left new how before_text after) named_so x))))
 
+-- what was taken, and how far, of the same run
+pub taken_of : {heard ended broke cut : List Record → Type 0} (plan of_node : Plan) (same : of_node ≡ plan) (names : List (List ℕ)) (named : names ≡ names_of plan) (before : Option (List Line)) (s : State) (sent : ℕ) (told : Option (List Line)) (is : told ≡ s.told) (n : Numbers) (how : Ended) (counted : n ≡ end_sent how s.numbers sent)
+    (left new before_text after : Option (List ℕ)) → HasGone (voice names (step_text of_node) (last_text of_node)) heard ended broke cut left how before_text after → ((past : List Record) → heard past → Runs of_node before s (steps of_node past)) → ((past : List Record) → ended past → HasEnded of_node (report_of before s) sent past)
+    → ((past : List Record) → broke past → Broke of_node (report_of before s) (steps of_node past)) → ((past : List Record) → cut past → CutShort of_node (report_of before s) past) → how ≡ end.ReadFault
+    → HeardTaken (voice names (step_text of_node) (last_text of_node)) heard left new before_text after → IsOfTaken plan left new (reported before told n) before_text after
+taken_of {heard} {ended} {broke} {cut} plan of_node same names named before s sent told is n how counted left new before_text after gone h e b c fault t =
+    run_taken plan of_node same names named before s sent heard ended broke cut h e b c told is n how counted (status_of how) refl left new before_text after fault t
+
+pub streamed_of : {heard ended broke cut : List Record → Type 0} (plan of_node : Plan) (same : of_node ≡ plan) (names : List (List ℕ)) (named : names ≡ names_of plan) (before : Option (List Line)) (s : State) (sent : ℕ) (told : Option (List Line)) (is : told ≡ s.told) (n : Numbers) (how : Ended) (counted : n ≡ end_sent how s.numbers sent) (stat : Status) (by : stat ≡ status_of how)
+    (left new before_text after : Option (List ℕ)) → HasGone (voice names (step_text of_node) (last_text of_node)) heard ended broke cut left how before_text after → ((past : List Record) → heard past → Runs of_node before s (steps of_node past)) → ((past : List Record) → ended past → HasEnded of_node (report_of before s) sent past)
+    → ((past : List Record) → broke past → Broke of_node (report_of before s) (steps of_node past)) → ((past : List Record) → cut past → CutShort of_node (report_of before s) past)
+    → HeardStreamed (voice names (step_text of_node) (last_text of_node)) heard ended left new how before_text after → IsStreamed plan left new stat (reported before told n) before_text after
+streamed_of {heard} {ended} {broke} {cut} plan of_node same names named before s sent told is n how counted stat by left new before_text after gone h e b c x =
+    run_streamed plan of_node same names named before s sent heard ended broke cut h e b c told is n how counted stat by left new before_text after x
+
 pub of_read_fault : (how : Ended) → status_of how ≡ status.ReadFault → how ≡ end.ReadFault
 of_read_fault end.Ok e = absurd cc
 of_read_fault (end.Log line why) e = absurd cc
@@ -212,3 +228,29 @@ of_read_fault end.LogLong e = absurd cc
 of_read_fault end.ReadFault e = refl
 of_read_fault end.WriteFault e = absurd cc
 of_read_fault end.NoMemory e = absurd cc
+
+-- The memory bound, and what is held.
+
+end_bound : (how : Ended) (n : Numbers) (sent : ℕ) → (end_sent how n sent).bound ≡ n.bound
+end_bound end.Ok n sent = refl
+end_bound (end.Log line why) n sent = refl
+end_bound end.LogLong n sent = refl
+end_bound end.ReadFault n sent = refl
+end_bound end.WriteFault n sent = refl
+end_bound end.NoMemory n sent = refl
+
+end_held : (how : Ended) (n : Numbers) (sent : ℕ) → (end_sent how n sent).held ≡ n.held
+end_held end.Ok n sent = refl
+end_held (end.Log line why) n sent = refl
+end_held end.LogLong n sent = refl
+end_held end.ReadFault n sent = refl
+end_held end.WriteFault n sent = refl
+end_held end.NoMemory n sent = refl
+
+pub run_bound : (plan of_node : Plan) → of_node ≡ plan → (how : Ended) (s n : Numbers) (sent : ℕ) → n ≡ end_sent how s sent → s.bound ≡ bound_of of_node → n.bound ≡ bound_of plan
+run_bound plan of_node same how s n sent e b = ap (λ (m : Numbers). m.bound) e ∙ (end_bound how s sent ∙ (b ∙ ap bound_of same))
+
+pub run_held : (of_node : Plan) (how : Ended) (s n : Numbers) (sent : ℕ) → n ≡ end_sent how s sent → (s.bound ≡ bound_of of_node) × (s.held ≤ bound_of of_node) → n.held ≤ n.bound
+run_held of_node how s n sent e b =
+    let held = ap (λ (m : Numbers). m.held) e ∙ end_held how s sent in
+    let bound = ap (λ (m : Numbers). m.bound) e ∙ end_bound how s sent in omega (arith, held, bound, b.0, b.1)

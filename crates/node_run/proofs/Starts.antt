@@ -1,7 +1,7 @@
 -- A run that heard nothing.
-use Rattle.std.proofs.Common.{◌≡◌, ◌∙◌, ℕ, ◌+◌, ◌*◌, List, [], ◌∷◌, length, take, Option, Some, None, refl, sym, ap, subst, append-nil, arith}
+use Rattle.std.proofs.Common.{◌≡◌, ◌∙◌, ◌^◌, ℕ, ◌+◌, ◌*◌, ◌≤◌, Bool, true, false, List, [], ◌∷◌, length, take, Option, Some, None, refl, sym, ap, subst, append-nil, arith}
 use Rattle.std.proofs.lemmas.Grind.{common_steps}
-use Rattle.std.specs.Prelude.{unwrap_or}
+use Rattle.std.specs.Prelude.{if◌then◌else◌, unwrap_or}
 use Rattle.rx_table.specs.Ports.{Port, held}
 use Rattle.frame_log.specs.Log.{log_of}
 use Rattle.log_loop.proofs.Runs.{told_none}
@@ -10,7 +10,16 @@ use Rattle.node_plan.specs.Bound.{bound_of}
 use Rattle.node_plan.specs.declared.plan.Plan.{Plan}
 use Rattle.node_core.specs.declared.line.Line.{Line}
 use Rattle.node_core.specs.Heard.{ports_of}
-use Rattle.node_core.specs.Steps.{Step, held_at}
+use Rattle.node_core.specs.Keeps.{keeps}
+use Rattle.node_core.specs.Queues.{waiting}
+use Rattle.node_core.specs.Stands.{Stands}
+use Rattle.node_core.specs.Steps.{Step, held_at, kept}
+use Rattle.node_core.proofs.Queues.{nothing_waits}
+use Rattle.node_plan.specs.IsPlan.{IsPlan}
+use Rattle.node_run.specs.declared.log.clock.Clock.{Clock}
+use Rattle.node_run.specs.Goes.{State, report_of}
+use Rattle.node_run.specs.Hears.{Hears, next_of, ticks_of}
+use Rattle.node_run.proofs.Waits.{none_rounds}
 use Rattle.node_run.specs.declared.status.Status.TheVariants as status
 use Rattle.node_run.specs.Ran.{names_of, steps_of, reported, no_numbers, At, AtFirst, HasRun, whole_text}
 use Rattle.node_run.proofs.Goes.{first_none}
@@ -46,4 +55,35 @@ has_none plan told lines bound before b =
         first = subst (λ (ss : List Step). AtFirst plan ss log.refusal (reported lines lines (record no_numbers { bound = bound }))) (append-nil all) (first_none plan all [] log.refusal (reported lines lines (record no_numbers { bound = bound })) (at_none plan lines 0 bound (sym (held_none plan)) b));
         written = begins_none (whole_text plan all log.refusal) before;
       };
+    }
+
+no_ticks : (plan : Plan) → ticks_of plan [] ≡ 0
+no_ticks plan = go plan.silent
+  where
+    go : (b : Bool) → (if◌then◌else◌ {A = ℕ} b 0 0) ≡ 0
+    go true = refl
+    go false = refl
+
+-- a run before its first record
+pub hears_none : (plan : Plan) (before : Option (List Line)) (s : State) (clock : Clock) → IsPlan plan → plan ≡ s.node.plan → Stands s.node [] → keeps s.node ≡ kept plan [] → s.buses ≡ plan.buses → At s.node.plan [] (report_of before s) → s.numbers.held ≤ bound_of s.node.plan
+    → clock.number ≡ 0 → clock.next ≡ next_of s.node.plan [] → s.numbers.records ≡ 0 → Hears s.node.plan before s clock []
+hears_none plan before s clock is same stands keep buses at held number next none =
+    let qs = (kept s.node.plan []).queues in record {
+      runs = record {
+        is = subst IsPlan same is;
+        same = refl;
+        stands = stands;
+        keeps_are = keep ∙ ap (λ (p : Plan). kept p []) same;
+        names = buses ∙ ap (λ (p : Plan). p.buses) same;
+        at = at;
+        within = held;
+      };
+      clock_is = record {
+        number = number ∙ sym (no_ticks s.node.plan);
+        next = next;
+        last = none_rounds (waiting qs) clock.last qs (nothing_waits s.node.plan.queue s.node.plan.buses);
+      };
+      few = omega arith;
+      few_records = omega arith;
+      few_ticks = omega arith;
     }

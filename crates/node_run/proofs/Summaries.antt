@@ -8,6 +8,7 @@ use Rattle.frame_log.specs.declared.error.LogError.{LogError}
 use Rattle.log_gen.specs.Rules.{log_text, plan_text}
 use Rattle.log_gen.specs.Laws.{records_by, IsRead}
 use Rattle.dsdl_types.specs.declared.namespace.Namespace.{Namespace}
+use Rattle.node_plan.specs.Limit.{begins_two}
 use Rattle.node_plan.specs.Plan.{Good, plan_of}
 use Rattle.node_plan.specs.declared.plan.Plan.{Plan}
 use Rattle.node_core.specs.Steps.{end_numbers, numbers, steps}
@@ -20,6 +21,7 @@ use Rattle.node_run.specs.declared.status.Status.TheVariants as status
 
 -- in every namespace the plan's text is the plan's
 pub is_plan : (names : Namespace) → plan_of names plan_text ≡ Good generated_plan
+unfolding begins_two
 is_plan names = refl
 
 pub good_is : (p q : Plan) → Good p ≡ Good q → p ≡ q

@@ -69,3 +69,7 @@ on_ok_by (Err e) f p = p
 pub on_err_by : {A E P Q : Type 0} (r : Result A E) → (P → Q) → OnErr r P → OnErr r Q
 on_err_by (Ok a) f p = p
 on_err_by (Err e) f p = f p
+
+pub on_ok_both : {A E : Type 0} (P Q : Type 0) (r : Result A E) → OnOk r P → OnOk r Q → OnOk r (P × Q)
+on_ok_both P Q (Ok a) p q = (p, q)
+on_ok_both P Q (Err e) p q = tt

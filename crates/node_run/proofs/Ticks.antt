@@ -159,3 +159,10 @@ before_are plan rec past number next en ex low last =
           number_is = ap (λ m. ticks_of plan past + m) left ∙ d.number_is;
           next_is = ap (λ (b : Bool). if b then next_of plan past else begun_next (ticks_of plan past) (next_of plan past) rec.moment + ticks_due (begun_next (ticks_of plan past) (next_of plan past) rec.moment) rec.moment * 1000000) e ∙ d.next_is;
         }
+
+pub left_due : (number next moment : ℕ) → next ≤ moment → ticks_left number next moment ≡ ticks_due (begun_next number next moment) moment
+left_due number next moment h = go (nat_lt moment next) refl
+  where
+    go : (b : Bool) → nat_lt moment next ≡ b → ticks_left number next moment ≡ ticks_due (begun_next number next moment) moment
+    go true e = absurd (let f = ltb-true moment next e in omega arith)
+    go false e = ap (λ (b : Bool). if b then 0 else ticks_due (begun_next number next moment) moment) e

@@ -1,17 +1,13 @@
-//! Tests of types: their names, lengths, layouts and versions, the texts of their layouts and of their
-//! values, and fractions. They stand in a crate of their own, since a crate with tests is proved twice.
+//! Tests of types: their names, lengths and versions, the texts of their values, and fractions. They stand in a crate
+//! of their own, since a crate with tests is proved twice.
 #![tactic(auto)]
 
 #[cfg(test)]
 mod clashes;
 #[cfg(test)]
-mod layouts;
-#[cfg(test)]
 mod lengths;
 #[cfg(test)]
 mod names;
-#[cfg(test)]
-mod namespace_texts;
 #[cfg(test)]
 mod ratios;
 #[cfg(test)]

@@ -1,11 +1,12 @@
-//! Parts of types.
+//! Parts of types, and types of texts.
 ghost use Rattle.std.specs.Prelude.{◌≡◌, true, IfOk};
-ghost use Rattle.dsdl_types.specs.Schemas.{PUint, Simple, Struct, Var};
-ghost use Rattle.dsdl_types.specs.Views.{Typed, flds, kind_of, named};
+ghost use Rattle.dsdl_types.specs.Schemas.{PUint, Simple, Var};
+ghost use Rattle.dsdl_types.specs.Views.{Typed, kind_of, named};
 
 use cy_bits::{Boxed, List, NoMemory, Text};
 use dsdl_types::{Body, Cast, Field, Schema};
 use std::alloc::Global;
+use std::test::Fail;
 
 /// A saturated unsigned integer.
 pub fn uint(bits: u8) -> Schema
@@ -37,13 +38,61 @@ pub fn field(alloc: Global, name: &str, schema: Schema) -> Result<Field, NoMemor
     })
 }
 
-/// A structure.
-pub fn structure(fields: List<Field>, extent: u64, sealed: bool) -> Schema
-    ensures { kind_of result ≡ Typed (Struct (flds fields) (record { extent = extent; sealed = sealed })) }
-{
-    Schema::Struct(Body {
-        fields,
-        extent,
-        sealed,
+/// The type of a sign with a number: `b`, `u8`, `i8` and `f16` are primitive types, `v8` is padding,
+/// `*3` and `<3` are arrays of the item, of 3 items and of at most 3.
+fn typed(alloc: Global, sign: char, number: u8, item: Schema) -> Result<Schema, NoMemory> {
+    let cast = Cast::Saturated;
+    Ok(match sign {
+        'b' => Schema::Bool,
+        'u' => Schema::Uint { bits: number, cast },
+        'i' => Schema::Int { bits: number },
+        'f' => Schema::Float { bits: number, cast },
+        'v' => Schema::Void { bits: number },
+        '*' => Schema::Fixed {
+            item: Boxed::new(alloc, item)?,
+            len: u32::from(number),
+        },
+        _ => Schema::Var {
+            item: Boxed::new(alloc, item)?,
+            cap: u32::from(number),
+        },
     })
+}
+
+/// The type of a text. Each word of `typed` makes a type, which `.name` gives as a field to the composite that `{`
+/// began; `}64`, `|64` and `!64` end that as a structure, a union and a sealed structure of this extent.
+pub fn schema_of(alloc: Global, text: &str) -> Result<Schema, Fail> {
+    let mut last = Schema::Bool;
+    let mut open = Vec::new(alloc);
+    for word in text.split_whitespace() {
+        let mut rest = word.chars();
+        let sign = rest.next().ok_or("a word")?;
+        let number: u8 = rest.as_str().parse().unwrap_or(0);
+        last = match sign {
+            '{' => {
+                open.push(List::empty(alloc))?;
+                last
+            }
+            '.' => {
+                let mut fields = open.pop().ok_or("a composite")?;
+                fields.push(field(alloc, rest.as_str(), last)?)?;
+                open.push(fields)?;
+                Schema::Bool
+            }
+            '}' | '|' | '!' => {
+                let body = Body {
+                    fields: open.pop().ok_or("a composite")?,
+                    extent: u64::from(number),
+                    sealed: sign == '!',
+                };
+                if sign == '|' {
+                    Schema::Union(body)
+                } else {
+                    Schema::Struct(body)
+                }
+            }
+            _ => typed(alloc, sign, number, last)?,
+        };
+    }
+    Ok(last)
 }

@@ -5,56 +5,25 @@ ghost use Rattle.dsdl_types.specs.Rules.{IsSchema};
 ghost use Rattle.dsdl_types.specs.Views.{sch};
 ghost use Rattle.dsdl_types.specs.OneWay.{schema_prop};
 
-use crate::samples::field;
-use cy_bits::{Boxed, List, NoMemory, Text, TryCopy};
+use crate::samples::{field, schema_of};
+use cy_bits::{List, NoMemory, Text, TryCopy};
 use dsdl_names::parse_type_id;
 use dsdl_types::laws::shape_laws;
 use dsdl_types::{
-    Body, Cast, Definition, Namespace, Parts, Schema, Shape, Step, Value, path_text, zero_of,
+    Body, Definition, Namespace, Parts, Schema, Shape, Step, Value, path_text, zero_of,
 };
 use std::alloc::Global;
+use std::test::Fail;
 
-/// The body of two fields, the first without a name.
-fn body(alloc: Global, first: Schema, second: Schema) -> Result<Body, NoMemory> {
-    let mut fields = List::empty(alloc);
-    fields.push(field(alloc, "", first)?)?;
-    fields.push(field(alloc, "b", second)?)?;
-    Ok(Body {
-        fields,
-        extent: 64,
-        sealed: false,
-    })
-}
-
-/// Schemas, each with the text of its zero.
-fn rows(alloc: Global) -> Result<Vec<(Schema, &'static str)>, NoMemory> {
-    let cast = Cast::Truncated;
-    let byte = || Schema::Uint { bits: 8, cast };
-    let half = || Schema::Float { bits: 16, cast };
-    let bool3 = Schema::Fixed {
-        item: Boxed::new(alloc, Schema::Bool)?,
-        len: 3,
-    };
-    let bytes = Schema::Var {
-        item: Boxed::new(alloc, byte())?,
-        cap: 2,
-    };
-    let inner = body(alloc, Schema::Void { bits: 3 }, half())?;
-    let outer = body(alloc, Schema::Int { bits: 5 }, Schema::Struct(inner))?;
-    let choice = body(alloc, half(), byte())?;
-    let two = Schema::Fixed {
-        item: Boxed::new(alloc, Schema::Union(choice))?,
-        len: 2,
-    };
-    let mut rows = Vec::new(alloc);
-    rows.push((Schema::Bool, "f"))?;
-    rows.push((byte(), "0"))?;
-    rows.push((bool3, "[fff]"))?;
-    rows.push((bytes, "[]"))?;
-    rows.push((Schema::Struct(outer), "{0{b}}"))?;
-    rows.push((two, "[(0b)(0b)]"))?;
-    Ok(rows)
-}
+/// Types, each with the text of its zero.
+const ZEROS: [(&str, &str); 6] = [
+    ("b", "f"),
+    ("u8", "0"),
+    ("b *3", "[fff]"),
+    ("u8 <2", "[]"),
+    ("{ i5 . { v3 . f16 .b }64 .b }64", "{0{b}}"),
+    ("{ f16 . u8 .b |64 *2", "[(0b)(0b)]"),
+];
 
 /// The value's text: `f` and `t`, a number, `b` for the raw bits 0.
 fn show(text: &mut String, value: &Value) -> Result<(), NoMemory> {
@@ -182,12 +151,13 @@ fn shapes(rt: HostRuntime) {
 }
 
 #[test]
-fn zeros(rt: HostRuntime) {
-    let rows = rows(rt.alloc()).expect(&rt, "memory");
-    for (schema, want) in &rows {
-        let text = zero_text(rt.alloc(), schema).expect(&rt, "memory");
-        assert!(rt; text.as_str() == *want, "at {want}");
+fn zeros(rt: HostRuntime) -> Result<(), Fail> {
+    for (schema, want) in &ZEROS {
+        let schema = schema_of(rt.alloc(), schema)?;
+        let text = zero_text(rt.alloc(), &schema)?;
+        assert_eq!(rt; text.as_str(), *want);
     }
+    Ok(())
 }
 
 #[test]
