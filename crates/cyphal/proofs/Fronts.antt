@@ -80,10 +80,9 @@ pub came_lines : (plan : Plan) (log : Log) (came left : List Record) → log.rec
 came_lines plan log came left e =
     let first : newest_first log ≡ reverse_aux left came = ap (λ t. reverse_aux t []) e ∙ newest_onto came left in
     let f = lines_front plan came left in
-    let d = steps_due plan (steps_of plan log) log.refusal in
-    (
+    let d = steps_due plan (steps_of plan log) log.refusal in (
       f.0 ++ d.0,
       d.1
-      ∙ (ap (λ t. lines plan (steps plan t) ++ d.0) first
-      ∙ (ap (λ t. t ++ d.0) f.1 ∙ append_assoc (lines plan (steps plan came)) f.0 d.0)),
+          ∙ (ap (λ t. lines plan (steps plan t) ++ d.0) first
+          ∙ (ap (λ t. t ++ d.0) f.1 ∙ append_assoc (lines plan (steps plan came)) f.0 d.0)),
     )
