@@ -1,5 +1,5 @@
 -- The numbers behind one more step.
-use Rattle.std.proofs.Common.{◌≡◌, ◌∙◌, ◌^◌, ℕ, suc, ◌+◌, ◌-◌, ◌*◌, ◌≤◌, cond, min, Bool, true, false, List, [], ◌∷◌, ◌++◌, length, map, Option, Some, None, refl, sym, ap, ap₂, subst, arith, count_by}
+use Rattle.std.proofs.Common.{◌≡◌, ◌∙◌, ◌^◌, ℕ, suc, ◌+◌, ◌-◌, ◌*◌, ◌≤◌, cond, min, Bool, true, false, List, [], ◌∷◌, length, Option, Some, None, refl, sym, ap, ap₂, arith, count_by}
 use Rattle.std.specs.Prelude.{if◌then◌else◌}
 use Rattle.tail_frame.specs.Frames.{FrameOf}
 use Rattle.tail_frame.specs.declared.logged.Record.{Record}
@@ -18,9 +18,9 @@ use Rattle.node_core.specs.declared.line.FullLine.{FullLine}
 use Rattle.node_core.specs.declared.line.Line.TheVariants.{Full}
 use Rattle.node_core.specs.declared.numbers.Numbers.{Numbers}
 use Rattle.node_core.specs.Heard.{ports_of}
-use Rattle.node_core.specs.Queues.{Queue, Sends, full_line, fulls, fulls_from, leaving, push_all, takes, waiting}
+use Rattle.node_core.specs.Queues.{Queue, Sends, full_line, fulls, fulls_from, leaving, takes, waiting}
 use Rattle.node_core.specs.Received.{of_delivery, of_frame, of_session, of_source, on_port, refused_line}
-use Rattle.node_core.specs.Steps.{Step, Heard, Tick, all_lines, bad_at, emptying, badcrcs, got, held_at, is_bad_at, is_nosession, is_rx, is_tx, kept, lines, lines_at, moment_of, node_lines, numbers, one_if, pushed, received_at, records, sends}
+use Rattle.node_core.specs.Steps.{Step, Heard, Tick, all_lines, emptying, badcrcs, got, held_at, is_bad_at, is_nosession, is_rx, is_tx, kept, lines, lines_at, moment_of, node_lines, numbers, one_if, pushed, received_at, records, sends}
 use Rattle.node_run.specs.Goes.{IsFew, with_sent}
 use Rattle.node_run.specs.Hears.{counted}
 use Rattle.node_run.specs.declared.log.tally.Seen.{Seen}

@@ -1,13 +1,13 @@
 -- Frames that leave, one after another and bus by bus.
 use Rattle.std.proofs.Common.{◌≡◌, ◌∙◌, ℕ, zero, suc, ◌+◌, ◌<◌, List, [], ◌∷◌, ◌++◌, length, map, take, drop, Option, Some, None, refl, sym, ap, subst, arith, append_assoc, add-one, length-append, length-drop, length-set, length-take}
-use Rattle.std.specs.Prelude.{set, get_or}
+use Rattle.std.specs.Prelude.{set}
 use Rattle.std.proofs.lemmas.List.{get_or-set_same, set-set, set-get_or, length-map, map-append}
 use Rattle.std.proofs.Math.Seq.{drop-cons, get_or-append_seam, set-append_seam, take-suc}
 use Rattle.tx_queue.specs.Waiting.{least, leaving as leaver, staying}
 use Rattle.tx_queue.specs.declared.frame.OutFrame.{OutFrame}
 use Rattle.node_core.specs.declared.line.Line.{Line}
 use Rattle.node_core.specs.Pops.{Pops, queue_at, with_waiting}
-use Rattle.node_core.specs.Queues.{Queue, leave, stay, tx_line, bus_lines, leaving_from, drained}
+use Rattle.node_core.specs.Queues.{Queue, leave, stay, bus_lines, leaving_from, drained}
 use Rattle.node_core.specs.Steps.{Kept}
 use Rattle.node_run.specs.Leaves.{bus_left}
 

@@ -1,6 +1,5 @@
 -- How a run goes on, step by step.
 use Rattle.std.proofs.Common.{◌≡◌, ◌∙◌, ◌^◌, ◌*◌, ℕ, ◌+◌, ◌-◌, ◌<◌, ◌≤◌, min, List, [], ◌∷◌, ◌++◌, length, Option, Some, None, refl, sym, ap, ap₂, subst, arith, append_assoc, append-nil}
-use Rattle.tail_frame.specs.declared.logged.Record.{Record}
 use Rattle.frame_log.specs.declared.error.LogError.{LogError}
 use Rattle.frame_log.specs.declared.error.LogError.TheVariants as error
 use Rattle.node_plan.specs.Bound.{bound_of}
@@ -13,12 +12,12 @@ use Rattle.node_core.specs.Queues.{Queue, fulls, leaving, waiting}
 use Rattle.node_core.proofs.Waits.{all_stay, none_leaves}
 use Rattle.node_plan.specs.declared.plan.BusPlan.{BusPlan}
 use Rattle.node_core.specs.Stands.{Stands}
-use Rattle.node_core.specs.Steps.{Step, Tick, Kept, ticks_from, emptying, kept, left, lines, lines_at, lines_behind, moment_of, numbers, pushed, received_at, records, sends, all_lines}
+use Rattle.node_core.specs.Steps.{Step, Tick, Kept, ticks_from, emptying, kept, left, lines, lines_at, lines_behind, moment_of, numbers, pushed, received_at, records, sends}
 use Rattle.node_core.specs.Text.{text}
 use Rattle.node_run.specs.Goes.{BreaksOff, Broke, GoesOn, IsFew, Runs, State, report_of, with_sent}
 use Rattle.node_run.specs.Tells.{HasTold}
-use Rattle.node_run.specs.Ran.{AtFirst, Emptied, Reported, Tells, At, first_lines, next_lines}
-use Rattle.node_run.proofs.Steps.{behind_newer, length_behind, lines_newer, tick_more, ticks_split}
+use Rattle.node_run.specs.Ran.{AtFirst, Emptied, Reported, At, first_lines, next_lines}
+use Rattle.node_run.proofs.Steps.{behind_newer, length_behind, tick_more, ticks_split}
 use Rattle.node_run.proofs.Tells.{put_more, text_append, told_more, told_none}
 
 -- a step's lines, from what it received and what it sends
@@ -158,8 +157,8 @@ goes_more a b old mid new t now after x y plan before past few h =
     let g = y plan before (a ++ past) (subst IsFew all few) f.0 in (
       subst (λ (l : List Step). Runs plan before new l) (sym all) g.0,
       g.1 ∙ (ap (λ s. s ++ text plan.buses (lines_behind plan b (a ++ past))) f.1
-      ∙ (append_assoc t (text plan.buses (lines_behind plan a past)) (text plan.buses (lines_behind plan b (a ++ past)))
-      ∙ ap (λ s. t ++ s) (sym (text_append plan.buses (lines_behind plan a past) (lines_behind plan b (a ++ past))) ∙ ap (text plan.buses) (sym (behind_newer plan b a past))))),
+          ∙ (append_assoc t (text plan.buses (lines_behind plan a past)) (text plan.buses (lines_behind plan b (a ++ past)))
+          ∙ ap (λ s. t ++ s) (sym (text_append plan.buses (lines_behind plan a past) (lines_behind plan b (a ++ past))) ∙ ap (text plan.buses) (sym (behind_newer plan b a past))))),
     )
   where
     longer : (c d : List Step) → length d ≤ length (c ++ d)

@@ -1,5 +1,5 @@
 -- One more record is heard: the ticks before it, and its step.
-use Rattle.std.proofs.Common.{◌≡◌, ◌∙◌, ◌⊎◌, ◌^◌, ℕ, suc, ◌+◌, ◌-◌, ◌*◌, ◌/◌, ◌<◌, ◌≤◌, Bool, true, false, List, [], ◌∷◌, ◌++◌, Option, length, refl, sym, ap, subst, inl, inr, arith}
+use Rattle.std.proofs.Common.{◌≡◌, ◌∙◌, ◌^◌, ℕ, ◌+◌, ◌<◌, ◌≤◌, Bool, true, false, List, [], ◌∷◌, ◌++◌, Option, length, sym, ap, subst, inl, inr, arith}
 use Rattle.std.specs.Prelude.{if◌then◌else◌}
 use Rattle.tail_frame.specs.declared.logged.Record.{Record}
 use Rattle.node_plan.specs.declared.plan.Plan.{Plan}
@@ -7,12 +7,12 @@ use Rattle.node_core.specs.declared.line.Line.{Line}
 use Rattle.node_core.specs.declared.numbers.Numbers.{Numbers}
 use Rattle.node_core.specs.Keeps.{keeps}
 use Rattle.node_core.specs.Queues.{Queue, rounds, waiting}
-use Rattle.node_core.specs.Steps.{Step, Heard, Kept, emptying, first_of, kept, lines_at, lines_behind, steps, ticks_before, ticks_done, ticks_from, ticks_until}
+use Rattle.node_core.specs.Steps.{Step, Heard, Kept, first_of, kept, lines_behind, steps, ticks_done, ticks_from}
 use Rattle.node_core.specs.Text.{text}
 use Rattle.node_core.proofs.Waits.{records_of_steps}
 use Rattle.node_run.specs.declared.log.clock.Clock.{Clock}
 use Rattle.node_run.specs.Goes.{BreaksOff, Broke, GoesOn, IsFew, IsFrom, IsLast, Runs, State, last_tick, next_behind, report_of, ticks_left}
-use Rattle.node_run.specs.Hears.{Hears, next_of, step_text, ticks_of}
+use Rattle.node_run.specs.Hears.{Hears, step_text, ticks_of}
 use Rattle.node_run.proofs.Goes.{broke_grow, goes_more}
 use Rattle.node_run.proofs.Steps.{length_behind}
 use Rattle.node_run.proofs.Ticks.{Before, before_are}

@@ -1,5 +1,5 @@
 -- From what a listener's loop did to what a run did.
-use Rattle.std.proofs.Common.{◌≡◌, ◌∙◌, ◌⊎◌, inl, inr, ◌<◌, ◌≤◌, ℕ, List, length, [], ◌∷◌, ◌++◌, Option, Some, None, refl, sym, ap, ap₂, subst, append_assoc, append-nil, arith}
+use Rattle.std.proofs.Common.{◌≡◌, ◌∙◌, inl, inr, ◌<◌, ◌≤◌, ℕ, List, length, [], ◌∷◌, ◌++◌, Option, Some, None, refl, sym, ap, ap₂, subst, append_assoc, append-nil, arith}
 use mathlib.Core.List.{reverse_aux}
 use Rattle.tail_frame.specs.declared.logged.Record.{Record}
 use Rattle.cy_outside.specs.Written.{behind, Begins}
@@ -16,11 +16,11 @@ use Rattle.node_plan.specs.Bound.{bound_of}
 use Rattle.node_plan.specs.declared.plan.Plan.{Plan}
 use Rattle.node_core.specs.declared.line.Line.{Line}
 use Rattle.node_core.specs.declared.numbers.Numbers.{Numbers}
-use Rattle.node_core.specs.Steps.{Step, emptying, new_steps, steps, lines, lines_on, numbers, is_tx, all_lines, end_numbers}
+use Rattle.node_core.specs.Steps.{Step, emptying, new_steps, steps, lines, lines_on, end_numbers}
 use Rattle.node_core.specs.Text.{text, end_text}
 use Rattle.node_run.specs.declared.status.Status.{Status}
 use Rattle.node_run.specs.declared.status.Status.TheVariants as status
-use Rattle.node_run.specs.Ran.{Reported, reported, Tells, At, AtEnd, AtFirst, due_lines, due_numbers, end_sent, Settled, Begun, Upto, Ran, HasRun, names_of, steps_of, whole_text, end_part, status_of}
+use Rattle.node_run.specs.Ran.{Reported, reported, Tells, AtEnd, AtFirst, due_lines, due_numbers, end_sent, Settled, Begun, Upto, Ran, HasRun, names_of, steps_of, whole_text, status_of}
 use Rattle.node_run.specs.Taken.{IsOfTaken}
 use Rattle.node_run.specs.Streamed.{IsReported, IsStreamed, records_of_front}
 use Rattle.node_run.specs.Goes.{Broke, Runs, State, report_of}

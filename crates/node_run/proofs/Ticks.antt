@@ -1,9 +1,9 @@
 -- Which ticks are due.
-use Rattle.std.proofs.Common.{◌≡◌, ◌∙◌, ◌^◌, ℕ, zero, suc, ◌+◌, ◌-◌, ◌*◌, ◌/◌, ◌<◌, ◌≤◌, Bool, true, false, List, [], ◌∷◌, refl, sym, ap, ap₂, subst, eqb-true, ltb-true, ltb-false, arith}
+use Rattle.std.proofs.Common.{◌≡◌, ◌∙◌, ◌^◌, ℕ, ◌+◌, ◌-◌, ◌*◌, ◌<◌, ◌≤◌, Bool, true, false, List, [], ◌∷◌, refl, sym, ap, ap₂, subst, eqb-true, ltb-true, ltb-false, arith}
 use Rattle.std.specs.Prelude.{if◌then◌else◌, ◌==◌, nat_lt}
 use Rattle.tail_frame.specs.declared.logged.Record.{Record}
 use Rattle.node_plan.specs.declared.plan.Plan.{Plan}
-use Rattle.node_core.specs.Steps.{Step, first_of, ticks_before, ticks_done, ticks_from, ticks_until, ticks_upto}
+use Rattle.node_core.specs.Steps.{first_of, ticks_before, ticks_done, ticks_from, ticks_until, ticks_upto}
 use Rattle.node_run.specs.Goes.{IsFrom, begun_next, last_tick, next_behind, ticks_due, ticks_left}
 use Rattle.node_run.specs.Hears.{next_of, ticks_of}
 

@@ -4,7 +4,7 @@ use Rattle.std.specs.Prelude.{sum_by, if◌then◌else◌, ⊤}
 use Rattle.std.proofs.lemmas.Bool.{leb-true}
 use Rattle.std.proofs.lemmas.List.{length-map}
 use Rattle.std.proofs.lemmas.List.Sums.{sum_by-append}
-use Rattle.tx_queue.specs.Waiting.{least, least_of, is_less, out_frames}
+use Rattle.tx_queue.specs.Waiting.{least, is_less, out_frames}
 use Rattle.tx_queue.specs.declared.frame.OutFrame.{OutFrame}
 use Rattle.node_plan.specs.IsPlan.{IsBus, IsPlan}
 use Rattle.node_plan.specs.declared.plan.BusPlan.{BusPlan}

@@ -50,7 +50,13 @@ fn push_subs(text: &mut Vec<u8>, plan: &Plan) -> Result<(), NoMemory>
         OnOk result (text.new.items ≡ text.old.items ++ flat_map port_line subs) }
 {
     for sub in plan.subs.as_slice() {
-        push_port(text, b"port msg ", sub.port, sub.sources, sub.shape.extent())?;
+        push_port(
+            text,
+            b"port msg ",
+            sub.port,
+            sub.sources,
+            sub.shape.extent(),
+        )?;
     }
     Ok(())
 }
@@ -62,7 +68,13 @@ fn push_services(text: &mut Vec<u8>, plan: &Plan) -> Result<(), NoMemory>
         OnOk result (text.new.items ≡ text.old.items ++ flat_map port_line services) }
 {
     for service in plan.services().as_slice() {
-        push_port(text, b"port req ", service.port, service.sources, service.extent())?;
+        push_port(
+            text,
+            b"port req ",
+            service.port,
+            service.sources,
+            service.extent(),
+        )?;
     }
     Ok(())
 }

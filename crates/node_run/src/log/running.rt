@@ -81,7 +81,13 @@ impl<'a, K: LineSink> Listener for Running<'a, K> {
 
     /// What still waits leaves, and then the last line comes.
     fn finish(&mut self, gathered: &mut TextBuffer) -> Result<(), NoMemory> {
-        let emptied = empty(self.node, self.clock.last, self.writer, self.lines, gathered)?;
+        let emptied = empty(
+            self.node,
+            self.clock.last,
+            self.writer,
+            self.lines,
+            gathered,
+        )?;
         let sent = self.tally.numbers.sent.saturating_add(emptied);
         let numbers = Numbers {
             sent,
@@ -125,17 +131,15 @@ impl<'a, K: LineSink> Running<'a, K> {
         ensures number { self.new.clock.number ≡ self.old.clock.number }
         ensures next { self.new.clock.next ≡ self.old.clock.next }
         ensures last { OnOk result (IsLast rec.now.moment (keeps self.new.node.now).queues self.new.clock.last) }
-        ensures ok {
-            let old = state self.old.node.now (writes_for self.old.writer.now)
-                (K.lines self.old.lines.now) self.old.tally.numbers in
+        ensures ok { let old = state self.old.node.now (writes_for self.old.writer.now)
+            (K.lines self.old.lines.now) self.old.tally.numbers in
             let new = state self.new.node.now (writes_for self.new.writer.now)
-                (K.lines self.new.lines.now) self.new.tally.numbers in
+            (K.lines self.new.lines.now) self.new.tally.numbers in
             OnOk result (GoesOn (Heard rec.now ∷ []) old new (text_of gathered.old) (text_of gathered.new)) }
-        ensures err {
-            let old = state self.old.node.now (writes_for self.old.writer.now)
-                (K.lines self.old.lines.now) self.old.tally.numbers in
+        ensures err { let old = state self.old.node.now (writes_for self.old.writer.now)
+            (K.lines self.old.lines.now) self.old.tally.numbers in
             let new = state self.new.node.now (writes_for self.new.writer.now)
-                (K.lines self.new.lines.now) self.new.tally.numbers in
+            (K.lines self.new.lines.now) self.new.tally.numbers in
             OnErr result (BreaksOff (Heard rec.now ∷ []) old new) }
     {
         let came = self.node.step(rec)?;
@@ -167,19 +171,16 @@ impl<'a, K: LineSink> Running<'a, K> {
         ensures next { self.new.clock.next ≡ self.old.clock.next }
         ensures keeps { let reply = option_and_then (reply_to self.old.node.now.plan) request in
             OnOk result (keeps self.new.node.now ≡ left (sent reply (keeps self.old.node.now))) }
-        ensures told {
-            let reply = option_and_then (reply_to self.old.node.now.plan) request in
+        ensures told { let reply = option_and_then (reply_to self.old.node.now.plan) request in
             let qs = (keeps self.old.node.now).queues in
             OnOk result (HasTold (writes_for self.old.writer.now)
             (fulls moment reply qs ++ leaving moment (push_all reply qs)) (text_of gathered.old) (text_of gathered.new)
             (K.lines self.old.lines.now) (K.lines self.new.lines.now)) }
-        ensures numbers {
-            let reply = option_and_then (reply_to self.old.node.now.plan) request in
+        ensures numbers { let reply = option_and_then (reply_to self.old.node.now.plan) request in
             let more = length (leaving moment (push_all reply (keeps self.old.node.now).queues)) in
             OnOk result (self.new.tally.numbers ≡ with_sent self.old.tally.numbers more) }
         ensures last { OnOk result (IsLast moment (keeps self.new.node.now).queues self.new.clock.last) }
-        ensures err {
-            let reply = option_and_then (reply_to self.old.node.now.plan) request in
+        ensures err { let reply = option_and_then (reply_to self.old.node.now.plan) request in
             let qs = (keeps self.old.node.now).queues in
             OnErr result (BeginsList (fulls moment reply qs ++ leaving moment (push_all reply qs))
             (K.lines self.old.lines.now) (K.lines self.new.lines.now)) }
@@ -211,33 +212,23 @@ impl<'a, K: LineSink> Running<'a, K> {
         ensures next { self.new.clock.next ≡ self.old.clock.next }
         ensures keeps { let reply = option_and_then (reply_to self.old.node.now.plan) request in
             OnOk result (keeps self.new.node.now ≡ left (sent reply (keeps self.old.node.now))) }
-        ensures told {
-            let reply = option_and_then (reply_to self.old.node.now.plan) request in
+        ensures told { let reply = option_and_then (reply_to self.old.node.now.plan) request in
             let qs = (keeps self.old.node.now).queues in
             OnOk result (HasTold (writes_for self.old.writer.now)
             (fulls moment reply qs ++ leaving moment (push_all reply qs)) (text_of gathered.old) (text_of gathered.new)
             (K.lines self.old.lines.now) (K.lines self.new.lines.now)) }
-        ensures numbers {
-            let reply = option_and_then (reply_to self.old.node.now.plan) request in
+        ensures numbers { let reply = option_and_then (reply_to self.old.node.now.plan) request in
             let more = length (leaving moment (push_all reply (keeps self.old.node.now).queues)) in
             OnOk result (self.new.tally.numbers ≡ with_sent self.old.tally.numbers more) }
         ensures last { OnOk result (self.new.clock.last ≡ moment) }
-        ensures err {
-            let reply = option_and_then (reply_to self.old.node.now.plan) request in
+        ensures err { let reply = option_and_then (reply_to self.old.node.now.plan) request in
             let qs = (keeps self.old.node.now).queues in
             OnErr result (BeginsList (fulls moment reply qs ++ leaving moment (push_all reply qs))
             (K.lines self.old.lines.now) (K.lines self.new.lines.now)) }
         ensures uncounted { OnErr result (self.new.tally.numbers ≡ self.old.tally.numbers) }
     {
         let full = put_reply(self.node, moment, request);
-        let sent = send(
-            self.node,
-            moment,
-            &full,
-            self.writer,
-            self.lines,
-            gathered,
-        )?;
+        let sent = send(self.node, moment, &full, self.writer, self.lines, gathered)?;
         self.tally.send(sent);
         self.clock.last = moment;
         Ok(())
@@ -256,21 +247,19 @@ impl<'a, K: LineSink> Running<'a, K> {
             OnOk result (self.new.clock.number ≡ self.old.clock.number + due) }
         ensures next { let next = next_behind self.old.clock.number self.old.clock.next moment in
             OnOk result (self.new.clock.next ≡ next) }
-        ensures ok {
-            let old = state self.old.node.now (writes_for self.old.writer.now)
-                (K.lines self.old.lines.now) self.old.tally.numbers in
+        ensures ok { let old = state self.old.node.now (writes_for self.old.writer.now)
+            (K.lines self.old.lines.now) self.old.tally.numbers in
             let new = state self.new.node.now (writes_for self.new.writer.now)
-                (K.lines self.new.lines.now) self.new.tally.numbers in
+            (K.lines self.new.lines.now) self.new.tally.numbers in
             let number = self.old.clock.number in
             let next = self.old.clock.next in
             OnOk result ((first : ℕ) → IsFrom first number next moment
             → GoesOn (ticks_from first number (ticks_left number next moment)) old new
             (text_of gathered.old) (text_of gathered.new)) }
-        ensures err {
-            let old = state self.old.node.now (writes_for self.old.writer.now)
-                (K.lines self.old.lines.now) self.old.tally.numbers in
+        ensures err { let old = state self.old.node.now (writes_for self.old.writer.now)
+            (K.lines self.old.lines.now) self.old.tally.numbers in
             let new = state self.new.node.now (writes_for self.new.writer.now)
-                (K.lines self.new.lines.now) self.new.tally.numbers in
+            (K.lines self.new.lines.now) self.new.tally.numbers in
             let number = self.old.clock.number in
             let next = self.old.clock.next in
             OnErr result ((first : ℕ) → IsFrom first number next moment
@@ -291,26 +280,22 @@ impl<'a, K: LineSink> Running<'a, K> {
         ensures latest { self.new.node.now.latest ≡ self.old.node.now.latest }
         ensures records { self.new.tally.numbers.records ≡ self.old.tally.numbers.records }
         ensures last { last_tick self.new.clock.number self.new.clock.next ≤ moment }
-        ensures number {
-            let next = begun_next self.old.clock.number self.old.clock.next moment in
+        ensures number { let next = begun_next self.old.clock.number self.old.clock.next moment in
             OnOk result (self.new.clock.number ≡ self.old.clock.number + ticks_due next moment) }
-        ensures next {
-            let next = begun_next self.old.clock.number self.old.clock.next moment in
+        ensures next { let next = begun_next self.old.clock.number self.old.clock.next moment in
             OnOk result (self.new.clock.next ≡ next + ticks_due next moment * 1000000) }
-        ensures ok {
-            let old = state self.old.node.now (writes_for self.old.writer.now)
-                (K.lines self.old.lines.now) self.old.tally.numbers in
+        ensures ok { let old = state self.old.node.now (writes_for self.old.writer.now)
+            (K.lines self.old.lines.now) self.old.tally.numbers in
             let new = state self.new.node.now (writes_for self.new.writer.now)
-                (K.lines self.new.lines.now) self.new.tally.numbers in
+            (K.lines self.new.lines.now) self.new.tally.numbers in
             let next = begun_next self.old.clock.number self.old.clock.next moment in
             OnOk result ((first : ℕ) → next ≡ first + self.old.clock.number * 1000000
             → GoesOn (ticks_from first self.old.clock.number (ticks_due next moment)) old new
             (text_of gathered.old) (text_of gathered.new)) }
-        ensures err {
-            let old = state self.old.node.now (writes_for self.old.writer.now)
-                (K.lines self.old.lines.now) self.old.tally.numbers in
+        ensures err { let old = state self.old.node.now (writes_for self.old.writer.now)
+            (K.lines self.old.lines.now) self.old.tally.numbers in
             let new = state self.new.node.now (writes_for self.new.writer.now)
-                (K.lines self.new.lines.now) self.new.tally.numbers in
+            (K.lines self.new.lines.now) self.new.tally.numbers in
             let next = begun_next self.old.clock.number self.old.clock.next moment in
             OnErr result ((first : ℕ) → next ≡ first + self.old.clock.number * 1000000
             → BreaksOff (ticks_from first self.old.clock.number (ticks_due next moment)) old new) }
@@ -331,32 +316,23 @@ impl<'a, K: LineSink> Running<'a, K> {
         ensures records { self.new.tally.numbers.records ≡ self.old.tally.numbers.records }
         ensures number { OnOk result (self.new.clock.number ≡ self.old.clock.number + 1) }
         ensures next { OnOk result (self.new.clock.next ≡ self.old.clock.next + 1000000) }
-        ensures ok {
-            let old = state self.old.node.now (writes_for self.old.writer.now)
-                (K.lines self.old.lines.now) self.old.tally.numbers in
+        ensures ok { let old = state self.old.node.now (writes_for self.old.writer.now)
+            (K.lines self.old.lines.now) self.old.tally.numbers in
             let new = state self.new.node.now (writes_for self.new.writer.now)
-                (K.lines self.new.lines.now) self.new.tally.numbers in
+            (K.lines self.new.lines.now) self.new.tally.numbers in
             OnOk result (GoesOn (Tick self.old.clock.number self.old.clock.next ∷ []) old new
             (text_of gathered.old) (text_of gathered.new)) }
-        ensures err {
-            let old = state self.old.node.now (writes_for self.old.writer.now)
-                (K.lines self.old.lines.now) self.old.tally.numbers in
+        ensures err { let old = state self.old.node.now (writes_for self.old.writer.now)
+            (K.lines self.old.lines.now) self.old.tally.numbers in
             let new = state self.new.node.now (writes_for self.new.writer.now)
-                (K.lines self.new.lines.now) self.new.tally.numbers in
+            (K.lines self.new.lines.now) self.new.tally.numbers in
             OnErr result (BreaksOff (Tick self.old.clock.number self.old.clock.next ∷ []) old new) }
         ensures stays { OnErr result ((self.new.clock.number ≡ self.old.clock.number)
             × (self.new.clock.next ≡ self.old.clock.next)) }
     {
         let moment = self.clock.next;
         let full = self.node.tick(moment, self.clock.number);
-        let sent = send(
-            self.node,
-            moment,
-            &full,
-            self.writer,
-            self.lines,
-            gathered,
-        )?;
+        let sent = send(self.node, moment, &full, self.writer, self.lines, gathered)?;
         self.tally.send(sent);
         self.clock.tick();
         Ok(())

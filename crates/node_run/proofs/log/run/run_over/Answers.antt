@@ -1,11 +1,10 @@
 use Rattle.std.proofs.Common.{◌≡◌, ◌≤◌, Some, refl, sym, ap, subst, ◌∙◌, []}
 use Rattle.frame_log.specs.declared.error.LogError.TheVariants as error
 use Rattle.node_plan.specs.Bound.{bound_of}
-use Rattle.node_plan.specs.declared.plan.Plan.{Plan}
 use Rattle.node_core.specs.declared.numbers.Numbers.{Numbers}
 use Rattle.node_core.specs.Writer.{writes_for}
 use Rattle.node_run.specs.declared.status.Status.TheVariants as status
-use Rattle.node_run.specs.Goes.{State, state}
+use Rattle.node_run.specs.Goes.{state}
 use Rattle.node_run.specs.Ran.{reported, At, HasRun}
 use Rattle.node_run.proofs.Runs.{whichever, run_bound, run_gone, run_held, streamed_of, taken_of, of_read_fault}
 use Rattle.node_run.proofs.Starts.{at_none, has_none, hears_none}

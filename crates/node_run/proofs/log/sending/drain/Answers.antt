@@ -1,6 +1,6 @@
-use Rattle.std.proofs.Common.{◌≡◌, ◌∙◌, ◌+◌, ℕ, map, length, ap, arith}
+use Rattle.std.proofs.Common.{◌≡◌, ◌∙◌, map, ap, arith}
 use Rattle.node_core.specs.Keeps.{keeps}
-use Rattle.node_core.specs.Queues.{drained, leaving, waiting}
+use Rattle.node_core.specs.Queues.{drained, waiting}
 use Rattle.node_core.specs.Steps.{Kept}
 use Rattle.node_run.proofs.Waits.{waiting_left}
 use Rattle.node_run.proofs.log.sending.drain.Goals as goal

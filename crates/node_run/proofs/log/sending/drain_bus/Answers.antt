@@ -1,16 +1,13 @@
-use Rattle.std.proofs.Common.{◌≡◌, ◌∙◌, ◌+◌, ◌-◌, ◌<◌, ◌++◌, ◌∷◌, [], List, map, ℕ, suc, Option, refl, sym, ap, subst, arith, append-nil}
+use Rattle.std.proofs.Common.{◌≡◌, ◌∙◌, ◌+◌, ◌-◌, ◌++◌, ◌∷◌, [], List, map, suc, refl, sym, ap, subst, arith, append-nil}
 use Rattle.line_text.specs.Buffer.{text_of}
 use Rattle.node_core.specs.declared.line.Line.{Line}
 use Rattle.node_core.specs.Keeps.{keeps}
-use Rattle.node_core.specs.LineSinks.{BeginsList}
 use Rattle.node_core.specs.Pops.{queue_at, with_waiting}
-use Rattle.node_core.specs.Queues.{Queue, bus_lines, leave, stay, tx_line}
-use Rattle.node_core.specs.Steps.{Kept}
+use Rattle.node_core.specs.Queues.{Queue, leave, stay, tx_line}
 use Rattle.node_core.specs.Writer.{writes_for}
-use Rattle.node_core.proofs.Steps.{on_err}
 use Rattle.node_run.specs.Tells.{HasTold}
 use Rattle.node_run.proofs.Drains.{set_same, gave_none, gave_some, in_reach, leave_none, stay_none, line_more}
-use Rattle.node_run.proofs.Tells.{broke_at, told_next, told_none}
+use Rattle.node_run.proofs.Tells.{told_next, told_none}
 use Rattle.node_run.proofs.log.sending.drain_bus.Goals as goal
 
 pub pop_out-requires : goal.pop_out-requires

@@ -1,17 +1,17 @@
-use Rattle.std.proofs.Common.{◌≡◌, ◌∙◌, ◌+◌, ◌<◌, ◌++◌, ◌∷◌, [], List, map, take, drop, ℕ, refl, sym, ap, subst, arith}
+use Rattle.std.proofs.Common.{◌≡◌, ◌∙◌, ◌+◌, ◌<◌, ◌++◌, List, drop, sym, ap, subst}
 use Rattle.line_text.specs.Buffer.{text_of}
 use Rattle.node_core.specs.declared.line.Line.{Line}
 use Rattle.node_core.specs.Keeps.{keeps}
 use Rattle.node_core.specs.LineSinks.{BeginsList}
 use Rattle.node_core.specs.Pops.{queue_at}
-use Rattle.node_core.specs.Queues.{Queue, bus_lines, drained, leaving, leaving_from}
+use Rattle.node_core.specs.Queues.{Queue, bus_lines, leaving, leaving_from}
 use Rattle.node_core.specs.Steps.{Kept}
 use Rattle.node_core.specs.Writer.{writes_for}
 use Rattle.node_core.proofs.Steps.{on_err}
 use Rattle.node_run.specs.Leaves.{bus_left}
 use Rattle.node_run.specs.Tells.{HasTold}
 use Rattle.node_run.proofs.Drains.{at_bus, in_done, line_more, next_done, next_lines}
-use Rattle.node_run.proofs.Tells.{begins_later, begins_more, told_more, told_none}
+use Rattle.node_run.proofs.Tells.{begins_later, begins_more, told_more}
 use Rattle.node_run.proofs.log.sending.drain_buses.Goals as goal
 
 pub drain_bus-requires : goal.drain_bus-requires

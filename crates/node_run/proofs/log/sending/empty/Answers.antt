@@ -1,4 +1,4 @@
-use Rattle.std.proofs.Common.{◌≡◌, ◌∙◌, ◌+◌, ◌-◌, ◌++◌, ℕ, suc, List, [], map, length, length-append, refl, sym, ap, subst, arith, append-nil}
+use Rattle.std.proofs.Common.{◌≡◌, ◌∙◌, ◌+◌, ◌-◌, ◌++◌, suc, List, [], map, length, length-append, refl, sym, ap, subst, arith, append-nil}
 use Rattle.line_text.specs.Buffer.{text_of}
 use Rattle.node_core.specs.declared.line.Line.{Line}
 use Rattle.node_core.specs.Keeps.{keeps}

@@ -1,10 +1,10 @@
-use Rattle.std.proofs.Common.{◌≡◌, ◌∙◌, ◌++◌, ◌<◌, ◌^◌, List, Option, None, Some, Bool, false, length, refl, sym, ap, subst, arith}
+use Rattle.std.proofs.Common.{◌≡◌, ◌∙◌, ◌++◌, ◌<◌, ◌^◌, Option, None, Some, false, length, refl, sym, subst, arith}
 use Rattle.std.specs.Prelude.{is_some}
 use Rattle.std.specs.Option.{option_and_then}
 use Rattle.line_text.specs.Buffer.{text_of}
 use Rattle.node_core.specs.declared.request.Request.{Request}
 use Rattle.node_core.specs.Keeps.{keeps, sent}
-use Rattle.node_core.specs.Queues.{fulls, leaving, push_all, waiting}
+use Rattle.node_core.specs.Queues.{fulls, leaving, push_all}
 use Rattle.node_core.specs.Sending.{reply_to}
 use Rattle.node_core.specs.Steps.{left}
 use Rattle.node_core.specs.Writer.{writes_for}

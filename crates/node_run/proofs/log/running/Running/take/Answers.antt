@@ -1,11 +1,9 @@
-use Rattle.std.proofs.Common.{◌≡◌, ◌≤◌, ◌∙◌, [], ◌∷◌, ◌++◌, List, Option, Some, None, count_by, map, refl, sym, ap, subst}
+use Rattle.std.proofs.Common.{◌≡◌, ◌≤◌, ◌∙◌, [], ◌∷◌, ◌++◌, count_by, refl, sym, ap, subst}
 use Rattle.std.specs.Option.{option_and_then}
 use Rattle.line_text.specs.Buffer.{text_of}
 use Rattle.node_plan.specs.Bound.{bound_of}
 use Rattle.node_plan.specs.declared.plan.Plan.{Plan}
-use Rattle.node_core.specs.declared.line.Line.{Line}
 use Rattle.node_core.specs.declared.numbers.Numbers.{Numbers}
-use Rattle.node_core.specs.declared.request.Request.{Request}
 use Rattle.node_core.specs.Came.{came_request}
 use Rattle.node_core.specs.Keeps.{keeps, sent}
 use Rattle.node_core.specs.Queues.{fulls, leaving, push_all}
@@ -14,7 +12,7 @@ use Rattle.node_core.specs.Steps.{Step, Heard, got, held_at, is_bad_at, is_noses
 use Rattle.node_core.specs.Told.{told_lines}
 use Rattle.node_core.specs.Writer.{writes_for}
 use Rattle.node_core.proofs.Steps.{on_err}
-use Rattle.node_run.specs.Goes.{Runs, State, state}
+use Rattle.node_run.specs.Goes.{state}
 use Rattle.node_run.specs.Tells.{HasTold}
 use Rattle.node_run.proofs.Counts.{numbers_heard}
 use Rattle.node_run.proofs.Goes.{all_lines_are, broke_in, broke_none, kept_next, runs_next, sent_is, step_told}
@@ -51,17 +49,17 @@ returns-in_err-follow-clause-err g c =
     let told = told_lines c.told-told.result in
     let request = c.request-request.result in
     on_err _ c.from_residual-in_err-follow.result (λ plan before past few h.
-      let same = c.step.ensures.plan ∙ h.same in
-      let ek : k ≡ kept plan past = c.step.ensures.keeps ∙ h.keeps_are in
-      let lines_are : told ≡ got plan rec (records past) = c.told-told.ensures ∙ (c.in_ok-came.ensures.lines (records past) h.stands ∙ ap (λ (p : Plan). got p rec (records past)) h.same) in
-      let asked : request ≡ request_on plan rec (got plan rec (records past)) =
-      c.request-request.ensures ∙ (ap (came_request c.in_ok-came.came) lines_are ∙ subst (λ (p : Plan). came_request c.in_ok-came.came (got p rec (records past)) ≡ request_on p rec (got p rec (records past))) h.same (c.in_ok-came.ensures.request (records past) h.stands)) in
-      let reply = option_and_then (reply_to node.plan) request in
-      let sends_are : reply ≡ option_and_then (reply_to plan) (request_on plan rec (got plan rec (records past))) = ap (λ (p : Plan). option_and_then (reply_to p) request) same ∙ ap (option_and_then (reply_to plan)) asked in
-      let em : sent reply k ≡ pushed plan s past k = ap (λ x. sent x k) sends_are in
-      let ef = ap (λ x. fulls m x k.queues) sends_are in
-      broke_in plan before s past old new _ h (all_lines_are plan before s past old h k (sent reply k) ek em told (fulls m reply k.queues) lines_are ef)
-      (begins_later told _ old.told (lines c.tell.new.lines) new.told c.in_ok-tell.ensures.adds c.in_err-follow.ensures.err) c.in_err-follow.ensures.uncounted)
+    let same = c.step.ensures.plan ∙ h.same in
+    let ek : k ≡ kept plan past = c.step.ensures.keeps ∙ h.keeps_are in
+    let lines_are : told ≡ got plan rec (records past) = c.told-told.ensures ∙ (c.in_ok-came.ensures.lines (records past) h.stands ∙ ap (λ (p : Plan). got p rec (records past)) h.same) in
+    let asked : request ≡ request_on plan rec (got plan rec (records past)) =
+    c.request-request.ensures ∙ (ap (came_request c.in_ok-came.came) lines_are ∙ subst (λ (p : Plan). came_request c.in_ok-came.came (got p rec (records past)) ≡ request_on p rec (got p rec (records past))) h.same (c.in_ok-came.ensures.request (records past) h.stands)) in
+    let reply = option_and_then (reply_to node.plan) request in
+    let sends_are : reply ≡ option_and_then (reply_to plan) (request_on plan rec (got plan rec (records past))) = ap (λ (p : Plan). option_and_then (reply_to p) request) same ∙ ap (option_and_then (reply_to plan)) asked in
+    let em : sent reply k ≡ pushed plan s past k = ap (λ x. sent x k) sends_are in
+    let ef = ap (λ x. fulls m x k.queues) sends_are in
+    broke_in plan before s past old new _ h (all_lines_are plan before s past old h k (sent reply k) ek em told (fulls m reply k.queues) lines_are ef)
+    (begins_later told _ old.told (lines c.tell.new.lines) new.told c.in_ok-tell.ensures.adds c.in_err-follow.ensures.err) c.in_err-follow.ensures.uncounted)
 
 pub returns-clause-ok : goal.returns-clause-ok
 returns-clause-ok g c plan before past few h =

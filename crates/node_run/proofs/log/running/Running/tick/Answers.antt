@@ -1,17 +1,16 @@
-use Rattle.std.proofs.Common.{◌≡◌, ◌≤◌, ◌∙◌, [], ◌∷◌, ◌++◌, List, Some, map, refl, sym, ap, subst}
+use Rattle.std.proofs.Common.{◌≡◌, ◌≤◌, ◌∙◌, [], Some, map, refl, sym, ap, subst}
 use Rattle.line_text.specs.Buffer.{text_of}
 use Rattle.node_plan.specs.Bound.{bound_of}
 use Rattle.node_plan.specs.declared.plan.Plan.{Plan}
-use Rattle.node_core.specs.declared.line.Line.{Line}
 use Rattle.node_core.specs.declared.line.Line.TheVariants.{Full}
 use Rattle.node_core.specs.declared.numbers.Numbers.{Numbers}
 use Rattle.node_core.specs.Keeps.{beaten, keeps}
 use Rattle.node_core.specs.Queues.{fulls}
 use Rattle.node_core.specs.Sending.{beat}
-use Rattle.node_core.specs.Steps.{Step, Tick, kept, pushed, records}
+use Rattle.node_core.specs.Steps.{Step, Tick, pushed, records}
 use Rattle.node_core.specs.Writer.{writes_for}
 use Rattle.node_core.proofs.Steps.{on_err}
-use Rattle.node_run.specs.Goes.{State, state}
+use Rattle.node_run.specs.Goes.{state}
 use Rattle.node_run.proofs.Counts.{numbers_tick}
 use Rattle.node_run.proofs.Goes.{all_lines_are, broke_in, kept_next, runs_next, sent_is, step_told}
 use Rattle.node_run.proofs.Tells.{told_none}
@@ -28,9 +27,9 @@ returns-in_err-sent-clause-err g c =
     let s : Step = Tick number moment in
     let k = keeps self.node.now in
     on_err _ c.from_residual.result (λ plan before past few h.
-      let em : keeps c.tick-full.new.self ≡ pushed plan s past k = c.tick-full.ensures.keeps ∙ ap (λ (p : Plan). beaten (beat p number k.tid) k) h.same in
-      let ef : map Full c.tick-full.result ≡ fulls moment (Some (beat plan number k.tid)) k.queues = c.tick-full.ensures.fulls ∙ ap (λ (p : Plan). fulls moment (Some (beat p number k.tid)) k.queues) h.same in
-      broke_in plan before s past old new _ h (all_lines_are plan before s past old h k (keeps c.tick-full.new.self) h.keeps_are em [] (map Full c.tick-full.result) refl ef) c.in_err-sent.ensures.err refl)
+    let em : keeps c.tick-full.new.self ≡ pushed plan s past k = c.tick-full.ensures.keeps ∙ ap (λ (p : Plan). beaten (beat p number k.tid) k) h.same in
+    let ef : map Full c.tick-full.result ≡ fulls moment (Some (beat plan number k.tid)) k.queues = c.tick-full.ensures.fulls ∙ ap (λ (p : Plan). fulls moment (Some (beat p number k.tid)) k.queues) h.same in
+    broke_in plan before s past old new _ h (all_lines_are plan before s past old h k (keeps c.tick-full.new.self) h.keeps_are em [] (map Full c.tick-full.result) refl ef) c.in_err-sent.ensures.err refl)
 
 pub returns-clause-ok : goal.returns-clause-ok
 returns-clause-ok g c plan before past few h =

@@ -1,10 +1,10 @@
-use Rattle.std.proofs.Common.{◌≡◌, ◌∙◌, ◌+◌, ◌*◌, ◌<◌, [], ◌∷◌, ◌++◌, List, ℕ, sym, ap, subst, arith}
+use Rattle.std.proofs.Common.{◌≡◌, ◌∙◌, ◌+◌, ◌*◌, ◌<◌, [], ◌∷◌, List, subst, arith}
 use Rattle.line_text.specs.Buffer.{text_of}
 use Rattle.node_core.specs.Steps.{Step, Tick, ticks_from}
 use Rattle.node_core.specs.Writer.{writes_for}
 use Rattle.node_core.proofs.Steps.{on_err}
-use Rattle.node_run.specs.Goes.{BreaksOff, GoesOn, State, begun_next, state, ticks_due}
-use Rattle.node_run.proofs.Goes.{goes_more, goes_none, ticks_broke}
+use Rattle.node_run.specs.Goes.{GoesOn, begun_next, state, ticks_due}
+use Rattle.node_run.proofs.Goes.{goes_more, ticks_broke}
 use Rattle.node_run.proofs.Steps.{tick_more}
 use Rattle.node_run.proofs.log.running.Running.ticks.Goals as goal
 
@@ -50,9 +50,9 @@ returns-in_err-tick-clause-err g c =
     let mid = state now.node.now (writes_for now.writer.now) (lines now.lines.now) now.tally.numbers in
     let new = state after.node.now (writes_for after.writer.now) (lines after.lines.now) after.tally.numbers in
     on_err _ c.from_residual.result (λ first e.
-      let at : now.clock.next ≡ first + (number + n) * 1000000 = omega (arith, i.next_is, e) in
-      let below = subst (λ m. n < m) i.due c.loop-tick-test.true in
-      ticks_broke first number due n now.clock.number now.clock.next below i.number at old mid new (text_of c.args.gathered.now) (text_of c.loop-tick.gathered) (i.ok first e) c.in_err-tick.ensures.err)
+    let at : now.clock.next ≡ first + (number + n) * 1000000 = omega (arith, i.next_is, e) in
+    let below = subst (λ m. n < m) i.due c.loop-tick-test.true in
+    ticks_broke first number due n now.clock.number now.clock.next below i.number at old mid new (text_of c.args.gathered.now) (text_of c.loop-tick.gathered) (i.ok first e) c.in_err-tick.ensures.err)
 
 pub returns-clause-ok : goal.returns-clause-ok
 returns-clause-ok g c first e =

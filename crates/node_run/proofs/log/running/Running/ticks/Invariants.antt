@@ -1,4 +1,4 @@
-use Rattle.std.proofs.Common.{◌≡◌, ◌+◌, ◌*◌, ◌≤◌, ℕ}
+use Rattle.std.proofs.Common.{◌≡◌, ◌+◌, ◌*◌, ℕ}
 use Rattle.line_text.specs.Buffer.{text_of}
 use Rattle.node_core.specs.Steps.{ticks_from}
 use Rattle.node_core.specs.Writer.{writes_for}

@@ -1,17 +1,14 @@
-use Rattle.std.proofs.Common.{◌≡◌, ◌∙◌, ◌+◌, ◌++◌, ◌≤◌, ◌^◌, [], ℕ, List, length, count_by, refl, sym, ap, ap₂, subst, append-nil, append_assoc, arith}
+use Rattle.std.proofs.Common.{◌≡◌, ◌∙◌, ◌++◌, ◌≤◌, ◌^◌, [], List, length, sym, ap, ap₂, subst, append-nil, append_assoc, arith}
 use Rattle.line_text.specs.Buffer.{text_of}
 use Rattle.node_plan.specs.declared.plan.BusPlan.{BusPlan}
 use Rattle.node_core.specs.declared.line.Line.{Line}
 use Rattle.node_core.specs.declared.numbers.Numbers.{Numbers}
-use Rattle.node_core.specs.Keeps.{keeps}
 use Rattle.node_core.specs.LineSinks.{BeginsList, put_behind}
 use Rattle.node_core.specs.Queues.{rounds, waiting}
-use Rattle.node_core.specs.Steps.{Kept, all_lines, emptying, end_numbers, is_tx, lines, numbers, steps}
+use Rattle.node_core.specs.Steps.{Kept, emptying, end_numbers, lines, steps}
 use Rattle.node_core.specs.Text.{end_text, text}
-use Rattle.node_core.specs.Writer.{writes_for}
 use Rattle.node_core.proofs.Steps.{on_err}
 use Rattle.node_run.specs.Ran.{reported}
-use Rattle.node_run.specs.Tells.{HasTold}
 use Rattle.node_run.proofs.Counts.{sent_at_end}
 use Rattle.node_run.proofs.Goes.{first_cut}
 use Rattle.node_run.proofs.Tells.{put_more}
@@ -22,34 +19,34 @@ returns-in_err-emptied-clause-cut_short g c =
     let K = g.K.LineSink.lines in
     let self = c.args.self.now in
     on_err _ c.from_residual.result (λ first past hh.
-      let h = hh.1 in
-      let plan = first.node.now.plan in
-      let all = steps plan past in
-      let same : _ ≡ emptying plan all = ap (λ (k : Kept). rounds (waiting k.queues) self.clock.last k.queues) h.runs.keeps_are ∙ h.clock_is.last in (
-        hh.0,
-        record {
-          first = first_cut plan all (reported (K first.lines.now) (K c.empty.new.lines) self.tally.numbers) (K self.lines.now) h.runs.at.reported
-              (subst (λ (ls : List Line). BeginsList ls (K self.lines.now) (K c.empty.new.lines)) same c.in_err-emptied.ensures.err) h.runs.at.counted;
-          within = h.runs.within;
-        },
-      ))
+    let h = hh.1 in
+    let plan = first.node.now.plan in
+    let all = steps plan past in
+    let same : _ ≡ emptying plan all = ap (λ (k : Kept). rounds (waiting k.queues) self.clock.last k.queues) h.runs.keeps_are ∙ h.clock_is.last in (
+      hh.0,
+      record {
+        first = first_cut plan all (reported (K first.lines.now) (K c.empty.new.lines) self.tally.numbers) (K self.lines.now) h.runs.at.reported
+            (subst (λ (ls : List Line). BeginsList ls (K self.lines.now) (K c.empty.new.lines)) same c.in_err-emptied.ensures.err) h.runs.at.counted;
+        within = h.runs.within;
+      },
+    ))
 
 pub returns-in_err-push_end-clause-cut_short : goal.returns-in_err-push_end-clause-cut_short
 returns-in_err-push_end-clause-cut_short g c =
     let K = g.K.LineSink.lines in
     let self = c.args.self.now in
     on_err _ c.from_residual-in_err-push_end.result (λ first past hh.
-      let h = hh.1 in
-      let plan = first.node.now.plan in
-      let all = steps plan past in
-      let same : _ ≡ emptying plan all = ap (λ (k : Kept). rounds (waiting k.queues) self.clock.last k.queues) h.runs.keeps_are ∙ h.clock_is.last in (
-        hh.0,
-        record {
-          first = first_cut plan all (reported (K first.lines.now) (K c.empty.new.lines) self.tally.numbers) (K self.lines.now) h.runs.at.reported
-              (record { front = emptying plan all; rest = []; whole = sym (append-nil (emptying plan all)); put = c.in_ok-emptied.ensures.told.put ∙ ap (put_behind (K self.lines.now)) same }) h.runs.at.counted;
-          within = h.runs.within;
-        },
-      ))
+    let h = hh.1 in
+    let plan = first.node.now.plan in
+    let all = steps plan past in
+    let same : _ ≡ emptying plan all = ap (λ (k : Kept). rounds (waiting k.queues) self.clock.last k.queues) h.runs.keeps_are ∙ h.clock_is.last in (
+      hh.0,
+      record {
+        first = first_cut plan all (reported (K first.lines.now) (K c.empty.new.lines) self.tally.numbers) (K self.lines.now) h.runs.at.reported
+            (record { front = emptying plan all; rest = []; whole = sym (append-nil (emptying plan all)); put = c.in_ok-emptied.ensures.told.put ∙ ap (put_behind (K self.lines.now)) same }) h.runs.at.counted;
+        within = h.runs.within;
+      },
+    ))
 
 pub returns-clause-ended : goal.returns-clause-ended
 returns-clause-ended g c first past hh =

@@ -1,8 +1,8 @@
-use Rattle.std.proofs.Common.{◌≡◌, ◌≤◌, ◌∙◌, max, arith}
+use Rattle.std.proofs.Common.{◌≤◌, ◌∙◌, arith}
 use Rattle.line_text.specs.Buffer.{text_of}
 use Rattle.node_core.specs.Writer.{writes_for}
 use Rattle.node_core.proofs.Steps.{on_err}
-use Rattle.node_run.specs.Goes.{State, last_tick, state}
+use Rattle.node_run.specs.Goes.{last_tick, state}
 use Rattle.node_run.proofs.Hearing.{broke_record, broke_ticks, heard_text, hears_next}
 use Rattle.node_run.proofs.Tells.{on_err_by, on_ok_both, on_ok_by}
 use Rattle.node_run.proofs.log.running.RunningListener.hear.Goals as goal
@@ -62,4 +62,4 @@ returns-clause-text g c =
     let new = state after.node.now (writes_for after.writer.now) (lines after.lines.now) after.tally.numbers in
     let last : last_tick self.clock.number self.clock.next ≤ c.args.rec.now.moment = omega (arith, c.requires.moment) in
     on_ok_by c.take.result (λ goes first past h.
-      heard_text first.node.now.plan (lines first.lines.now) c.args.rec.now past old self.clock h.1 c.requires.moment_low last c.requires.count mid (text_of c.args.gathered.now) (text_of c.tick_up_to.new.gathered) c.in_ok-tick_up_to.ensures.ok new (text_of c.take.new.gathered) goes) c.take.ensures.ok
+    heard_text first.node.now.plan (lines first.lines.now) c.args.rec.now past old self.clock h.1 c.requires.moment_low last c.requires.count mid (text_of c.args.gathered.now) (text_of c.tick_up_to.new.gathered) c.in_ok-tick_up_to.ensures.ok new (text_of c.take.new.gathered) goes) c.take.ensures.ok
