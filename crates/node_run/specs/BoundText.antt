@@ -9,7 +9,8 @@ use Rattle.node_core.specs.Text.{kind_text, line_of}
 use Rattle.node_run.specs.declared.status.Status.{Status}
 use Rattle.node_run.specs.declared.status.Status.TheVariants as status
 
--- a port, from how many sources it is received, its extent in bytes, and how many bytes it may hold at most
+-- a port, from how many sources it is received, its extent in bytes, and how many bytes it may hold
+-- at most
 abbrev pub port_words : PlanPort → List (List ℕ)
 port_words p =
     codes "port" ∷ kind_text p.kind ∷ decimal p.port ∷ codes "sources" ∷ decimal p.sources
@@ -30,7 +31,8 @@ port_numbers port sources extent = line_of (
 abbrev pub bound_line : ℕ → List ℕ
 bound_line bound = line_of (codes "bound" ∷ decimal bound ∷ [])
 
--- the line of each port of the plan, its subscriptions before its services, and that of the memory bound
+-- the line of each port of the plan, its subscriptions before its services, and that of the memory
+-- bound
 abbrev pub bound_text : Plan → List ℕ
 bound_text plan = flat_map port_line (ports plan) ++ bound_line (bound_of plan)
 

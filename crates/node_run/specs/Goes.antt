@@ -1,5 +1,6 @@
 -- How a run goes on, step by step.
-use Rattle.std.specs.Prelude.{◌≡◌, ◌≤◌, ◌⊎◌, ◌+◌, ◌-◌, ◌*◌, ◌/◌, ◌^◌, nat_lt, ◌==◌, ◌++◌, ℕ, min, max, List, Option, if◌then◌else◌, length}
+use Rattle.std.specs.Prelude.{◌≡◌, ◌≤◌, ◌⊎◌, ◌+◌, ◌-◌, ◌*◌, ◌/◌, ◌^◌, nat_lt, ◌==◌, ◌++◌, ℕ, min, max, refl, List, [], Option, if◌then◌else◌, length}
+use Rattle.std.proofs.Common.{◌∙◌, ap, sym, append-nil}
 use Rattle.node_plan.specs.Bound.{bound_of}
 use Rattle.node_plan.specs.IsPlan.{IsPlan}
 use Rattle.node_plan.specs.declared.plan.BusPlan.{BusPlan}
@@ -9,14 +10,16 @@ use Rattle.node_core.specs.declared.line.Line.{Line}
 use Rattle.node_core.specs.declared.node.Node.{Node}
 use Rattle.node_core.specs.declared.numbers.Numbers.{Numbers}
 use Rattle.node_core.specs.Keeps.{keeps}
+use Rattle.node_core.specs.LineSinks.{put_behind}
 use Rattle.node_core.specs.Queues.{Queue, waiting}
 use Rattle.node_core.specs.Stands.{Stands}
-use Rattle.node_core.specs.Steps.{Step, records, kept, lines_behind}
+use Rattle.node_core.specs.Steps.{Step, records, kept, lines, lines_behind}
 use Rattle.node_core.specs.Text.{text}
 use Rattle.node_run.specs.declared.log.clock.Clock.{Clock}
-use Rattle.node_run.specs.Ran.{Reported, reported, At, AtFirst}
+use Rattle.node_run.specs.Ran.{Reported, reported, At, AtFirst, next_lines}
 
--- what a run has come to: its node, the buses whose names its lines have, the lines that were put, and the numbers
+-- what a run has come to: its node, the buses whose names its lines have, the lines that were put,
+-- and the numbers
 pub record State : Type 0 where
   pub node : Node
   pub buses : List BusPlan
@@ -45,11 +48,31 @@ pub record Broke (plan : Plan) (r : Reported) (all : List Step) : Type 0 where
   pub first : (refusal : Option LogError) → AtFirst plan all refusal r
   pub within : r.numbers.held ≤ bound_of plan
 
+-- it has not
+abbrev pub unbroken : (plan : Plan) (before : Option (List Line)) (s : State) (all : List Step)
+    → Runs plan before s all → Broke plan (report_of before s) all
+unbroken plan before s all h = record {
+  first = λ refusal. record {
+    newer = [];
+    past = all;
+    parts = refl;
+    told = [];
+    rest = next_lines plan [] all refusal;
+    next = refl;
+    at = record {
+      reported = h.at.reported ∙ ap (put_behind before) (sym (append-nil (lines plan all)));
+      counted = h.at.counted;
+    };
+  };
+  within = h.within;
+}
+
 -- so few steps that what they send can be counted
 abbrev pub IsFew : List Step → Type 0
 IsFew all = length all ≤ 2 ^ 50
 
--- a run goes on by newer steps: they are reported and counted, and the text of their lines is gathered behind what was
+-- a run goes on by newer steps: they are reported and counted, and the text of their lines is
+-- gathered behind what was
 abbrev pub GoesOn : List Step → State → State → List ℕ → List ℕ → Type 0
 GoesOn newer old new gathered_old gathered_new =
     (plan : Plan) (before : Option (List Line)) (past : List Step)

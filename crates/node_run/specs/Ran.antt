@@ -30,7 +30,8 @@ names_of plan = map (λ (bus : BusPlan). bus.name) plan.buses
 abbrev pub steps_of : Plan → Log → List Step
 steps_of plan log = steps plan (newest_first log)
 
--- what was reported: the lines that a sink of lines told before, those that it tells now, and the numbers
+-- what was reported: the lines that a sink of lines told before, those that it tells now, and the
+-- numbers
 pub record Reported : Type 0 where
   pub old : Option (List Line)
   pub new : Option (List Line)
@@ -88,14 +89,15 @@ abbrev pub first_lines : Plan → Step → List Step → List Step → List Line
 first_lines plan step [] past = lines_at plan step past
 first_lines plan step (older ∷ newer) past = first_lines plan older newer past
 
--- the lines that come next: those of the first of the newer steps, or behind the last one those of what leaves at the end
+-- the lines that come next: those of the first of the newer steps, or behind the last one those of
+-- what leaves at the end
 abbrev pub next_lines : Plan → List Step → List Step → Option LogError → List Line
 next_lines plan [] past None = emptying plan past
 next_lines plan [] past (Some refusal) = []
 next_lines plan (step ∷ newer) past refusal = first_lines plan step newer past
 
--- The first of these steps are reported and counted, and of what comes next the first lines are reported, and nothing is
--- counted.
+-- The first of these steps are reported and counted, and of what comes next the first lines are
+-- reported, and nothing is counted.
 pub record AtFirst (plan : Plan) (all : List Step) (refusal : Option LogError) (r : Reported) : Type 0 where
   pub newer : List Step
   pub past : List Step
@@ -147,7 +149,8 @@ Ran plan log status.ReadFault r before after = Upto plan log r before after
 Ran plan log status.WriteFault r before after = Begun plan (steps_of plan log) log.refusal r before after
 Ran plan log status.NoMemory r before after = Begun plan (steps_of plan log) log.refusal r before after
 
--- what a run has done over the log of an input, which is the told one where the input tells its bytes
+-- what a run has done over the log of an input, which is the told one where the input tells its
+-- bytes
 pub record HasRun (plan : Plan) (told : Option (List ℕ)) (status : Status) (r : Reported) (before after : Option (List ℕ)) : Type 0 where
   pub bytes : List ℕ
   pub is : IfSome told (λ (left : List ℕ). bytes ≡ left)
@@ -171,7 +174,8 @@ status_of end.ReadFault = status.ReadFault
 status_of end.WriteFault = status.WriteFault
 status_of end.NoMemory = status.NoMemory
 
--- the numbers of a run, by how its loop over the log ended: those of its steps, and at the end so many frames sent
+-- the numbers of a run, by how its loop over the log ended: those of its steps, and at the end so
+-- many frames sent
 abbrev pub end_sent : Ended → Numbers → ℕ → Numbers
 end_sent end.Ok numbers sent = record numbers { sent = sent }
 end_sent other numbers sent = numbers

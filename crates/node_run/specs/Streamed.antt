@@ -21,17 +21,18 @@ records_of_front plan bytes = whole_records (names_of plan) bytes
 abbrev pub lines_of_front : Plan → List ℕ → List Line
 lines_of_front plan bytes = lines plan (steps plan (records_of_front plan bytes))
 
--- these steps are reported and counted; so is what left behind them, where the log was read to its end, but that the last
--- line may not be written, and this not be counted
+-- these steps are reported and counted; so is what left behind them, where the log was read to its
+-- end, but that the last line may not be written, and this not be counted
 abbrev pub IsReported : Plan → List Step → Reported → Type 0
 IsReported plan all r = At plan all r ⊎ (AtEnd plan all r ⊎ Emptied plan all r)
 
--- the steps of these records, the first of all, are reported and counted, with those of some newer ones
+-- the steps of these records, the first of all, are reported and counted, with those of some newer
+-- ones
 abbrev pub HasReported : Plan → List Record → Reported → Type 0
 HasReported plan first r = (newer : List Record) × IsReported plan (steps plan (reverse_aux newer first)) r
 
--- However a run ended: of each front of the bytes that it took, behind which it took more than 8,192 bytes, the lines are
--- written. They are reported and counted too, unless memory was wanting.
+-- However a run ended: of each front of the bytes that it took, behind which it took more than
+-- 8,192 bytes, the lines are written. They are reported and counted too, unless memory was wanting.
 pub record IsStreamed (plan : Plan) (left new : Option (List ℕ)) (stat : Status) (r : Reported) (before after : Option (List ℕ)) : Type 0 where
   pub taken : List ℕ
   pub took : Took left new taken

@@ -14,8 +14,8 @@ use cy_outside::{Sink, put_all};
 use node_plan::{Plan, bound as bound_of};
 use std::alloc::Global;
 
-/// Writes how many bytes each port of a plan may hold at most, a line a port in the order of the plan, and then
-/// how many all may. Where memory is wanting, nothing is written.
+/// Writes how many bytes each port of a plan may hold at most, a line a port in the order of the
+/// plan, and then how many all may. Where memory is wanting, nothing is written.
 pub fn bound<O: Sink>(alloc: Global, plan: &Plan, out: &mut O) -> Status
     requires { IsPlan plan.now }
     ensures written { HasBound plan.now result (O.written out.old) (O.written out.new) }

@@ -1,7 +1,8 @@
 //! When a node ticks.
 ghost use Rattle.std.specs.Prelude.{◌≡◌, ◌≤◌, ◌<◌, ◌+◌, ◌*◌, ◌-◌, ◌^◌, if◌then◌else◌};
 
-/// When a node that runs ticks next, and behind which step frames left it last. Moments are in microseconds.
+/// When a node that runs ticks next, and behind which step frames left it last. Moments are in
+/// microseconds.
 #[derive(Clone, Copy, Debug, PartialEq, Eq)]
 pub struct Clock {
     /// The number of the next tick: how many ticks there were.

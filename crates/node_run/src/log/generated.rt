@@ -18,8 +18,8 @@ use node_core::{NoLines, Numbers};
 use node_plan::{Plan, PlanError, read_plan};
 use std::alloc::Global;
 
-/// Makes the log of a number, runs it, and writes one line on it: how many transfers were sent, and the numbers of the
-/// run. Where memory is wanting, nothing is written.
+/// Makes the log of a number, runs it, and writes one line on it: how many transfers were sent, and
+/// the numbers of the run. Where memory is wanting, nothing is written.
 pub fn run_gen<O: Sink>(alloc: Global, number: u32, out: &mut O) -> Status
     ensures written { HasGenerated number result (O.written out.old) (O.written out.new) }
     ensures write { result ≡ Status.WriteFault → Rose (O.faults out.old) (O.faults out.new) }

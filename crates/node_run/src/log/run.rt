@@ -20,8 +20,9 @@ use node_plan::{BusPlan, Plan, bound};
 use std::alloc::Global;
 use std::mem;
 
-/// Runs the node of a plan over a log: a step for each record, and at the log's end the last line. A sink takes the
-/// lines of the steps, their text is written before the input is read again, and the numbers become those of the run.
+/// Runs the node of a plan over a log: a step for each record, and at the log's end the last line.
+/// A sink takes the lines of the steps, their text is written before the input is read again, and
+/// the numbers become those of the run.
 pub fn run_over<L: Source, O: Sink, K: LineSink>(
     alloc: Global,
     plan: Plan,
@@ -98,8 +99,8 @@ pub fn run_log<L: Source, O: Sink>(
     status
 }
 
-/// The numbers of a run, by how its loop over the log ended: those of its steps, and where the last line was written with
-/// all frames that were sent.
+/// The numbers of a run, by how its loop over the log ended: those of its steps, and where the last
+/// line was written with all frames that were sent.
 fn numbers_of(ended: Ended, numbers: &Numbers, sent: u64) -> Numbers
     ensures { result ≡ end_sent ended numbers.now sent }
 {

@@ -1,21 +1,20 @@
 //! A node that runs: the listener that reports what it hears and what it sends.
-ghost use Rattle.std.specs.Prelude.{◌≡◌, ◌≤◌, ◌<◌, ◌+◌, ◌*◌, ◌^◌, ◌++◌, ◌∷◌, [], refl, ℕ, List, OnOk, OnErr, length, map};
+ghost use Rattle.std.specs.Prelude.{◌≡◌, ◌≤◌, ◌<◌, ◌+◌, ◌*◌, ◌^◌, ◌++◌, ◌∷◌, [], ℕ, List, OnOk, OnErr, length, map};
 ghost use Rattle.std.specs.Option.{ForSome, option_and_then};
-ghost use Rattle.std.proofs.Common.{◌∙◌, ap, sym, append-nil};
 ghost use Rattle.tail_frame.specs.declared.logged.Record.{Record};
 ghost use Rattle.line_text.specs.Buffer.{text_of};
 ghost use Rattle.node_core.specs.Keeps.{keeps, sent};
-ghost use Rattle.node_core.specs.LineSinks.{BeginsList, put_behind};
+ghost use Rattle.node_core.specs.LineSinks.{BeginsList};
 ghost use Rattle.node_core.specs.Queues.{fulls, leaving, push_all};
 ghost use Rattle.node_core.specs.Sending.{IsRequestTo, reply_to};
 ghost use Rattle.node_core.specs.Stands.{StandsAsBefore};
-ghost use Rattle.node_core.specs.Steps.{Heard, Tick, left, lines, steps, ticks_from};
+ghost use Rattle.node_core.specs.Steps.{Heard, Tick, left, steps, ticks_from};
 ghost use Rattle.node_core.specs.Writer.{writes_for};
 ghost use Rattle.node_core.specs.declared.line.Line.TheVariants.{Full};
 ghost use Rattle.node_run.specs.Goes.{BreaksOff, GoesOn, IsFrom, IsLast};
-ghost use Rattle.node_run.specs.Goes.{begun_next, last_tick, latest_of, next_behind, state, ticks_due, ticks_left, with_sent};
+ghost use Rattle.node_run.specs.Goes.{begun_next, last_tick, latest_of, next_behind, state, ticks_due, ticks_left, unbroken, with_sent};
 ghost use Rattle.node_run.specs.Hears.{BrokeOff, CutShort, HasEnded, Hears, last_text, step_text};
-ghost use Rattle.node_run.specs.Ran.{next_lines, reported};
+ghost use Rattle.node_run.specs.Ran.{reported};
 ghost use Rattle.node_run.specs.Tells.{HasTold};
 
 use crate::log::clock::Clock;
@@ -47,13 +46,15 @@ pub struct Running<'a, K> {
 
 impl<'a, K: LineSink> Listener for Running<'a, K> {
     ghost heard = { λ first now past.
-        let s = state now.node.now (writes_for now.writer.now) (K.lines now.lines.now) now.tally.numbers in
+        let s = state now.node.now (writes_for now.writer.now) (K.lines now.lines.now)
+        now.tally.numbers in
         (now.lines.ghost_name ≡ first.lines.ghost_name)
         × Hears first.node.now.plan (K.lines first.lines.now) s now.clock past };
 
     ghost ended = { λ first now past.
         let r = reported (K.lines first.lines.now) (K.lines now.lines.now) now.tally.numbers in
-        (now.lines.ghost_name ≡ first.lines.ghost_name) × HasEnded first.node.now.plan r now.sent past };
+        (now.lines.ghost_name ≡ first.lines.ghost_name)
+        × HasEnded first.node.now.plan r now.sent past };
 
     ghost broke = { λ first now past.
         let r = reported (K.lines first.lines.now) (K.lines now.lines.now) now.tally.numbers in
@@ -71,8 +72,8 @@ impl<'a, K: LineSink> Listener for Running<'a, K> {
 
     ghost count = { λ run. run.tally.numbers.records };
 
-    /// The ticks up to the record, and its step. The text of all of them is gathered before any of it is written, that
-    /// of 100,000 ticks too where records are so far apart.
+    /// The ticks up to the record, and its step. The text of all of them is gathered before any of
+    /// it is written, that of 100,000 ticks too where records are so far apart.
     #[inline(always)]
     fn hear(&mut self, rec: &Record, gathered: &mut TextBuffer) -> Result<(), NoMemory> {
         self.tick_up_to(rec.moment, gathered)?;
@@ -98,25 +99,13 @@ impl<'a, K: LineSink> Listener for Running<'a, K> {
         Ok(())
     }
 
-    ghost heard_broke = { λ first now past h. (
-      h.0,
-      record {
-        first = λ refusal. record {
-          newer = [];
-          past = steps first.node.now.plan past;
-          parts = refl;
-          told = [];
-          rest = next_lines first.node.now.plan [] (steps first.node.now.plan past) refusal;
-          next = refl;
-          at = record {
-            reported = h.1.runs.at.reported
-                ∙ ap (put_behind (K.lines first.lines.now)) (sym (append-nil (lines first.node.now.plan (steps first.node.now.plan past))));
-            counted = h.1.runs.at.counted;
-          };
-        };
-        within = h.1.runs.within;
-      },
-    ) };
+    ghost heard_broke = { λ first now past h.
+        let s = state now.node.now (writes_for now.writer.now) (K.lines now.lines.now)
+        now.tally.numbers in (
+          h.0,
+          unbroken first.node.now.plan (K.lines first.lines.now) s
+              (steps first.node.now.plan past) h.1.runs,
+        ) };
 }
 
 impl<'a, K: LineSink> Running<'a, K> {
@@ -130,12 +119,14 @@ impl<'a, K: LineSink> Running<'a, K> {
         ensures count { self.new.tally.numbers.records ≤ self.old.tally.numbers.records + 1 }
         ensures number { self.new.clock.number ≡ self.old.clock.number }
         ensures next { self.new.clock.next ≡ self.old.clock.next }
-        ensures last { OnOk result (IsLast rec.now.moment (keeps self.new.node.now).queues self.new.clock.last) }
+        ensures last { let qs = (keeps self.new.node.now).queues in
+            OnOk result (IsLast rec.now.moment qs self.new.clock.last) }
         ensures ok { let old = state self.old.node.now (writes_for self.old.writer.now)
             (K.lines self.old.lines.now) self.old.tally.numbers in
             let new = state self.new.node.now (writes_for self.new.writer.now)
             (K.lines self.new.lines.now) self.new.tally.numbers in
-            OnOk result (GoesOn (Heard rec.now ∷ []) old new (text_of gathered.old) (text_of gathered.new)) }
+            OnOk result (GoesOn (Heard rec.now ∷ []) old new
+            (text_of gathered.old) (text_of gathered.new)) }
         ensures err { let old = state self.old.node.now (writes_for self.old.writer.now)
             (K.lines self.old.lines.now) self.old.tally.numbers in
             let new = state self.new.node.now (writes_for self.new.writer.now)
@@ -152,8 +143,8 @@ impl<'a, K: LineSink> Running<'a, K> {
         Ok(())
     }
 
-    /// Answers a request, if there is one, and lets frames leave behind the step of a record. A node that has nothing to
-    /// send does nothing.
+    /// Answers a request, if there is one, and lets frames leave behind the step of a record. A
+    /// node that has nothing to send does nothing.
     #[inline(always)]
     fn follow(
         &mut self,
@@ -174,12 +165,14 @@ impl<'a, K: LineSink> Running<'a, K> {
         ensures told { let reply = option_and_then (reply_to self.old.node.now.plan) request in
             let qs = (keeps self.old.node.now).queues in
             OnOk result (HasTold (writes_for self.old.writer.now)
-            (fulls moment reply qs ++ leaving moment (push_all reply qs)) (text_of gathered.old) (text_of gathered.new)
+            (fulls moment reply qs ++ leaving moment (push_all reply qs))
+            (text_of gathered.old) (text_of gathered.new)
             (K.lines self.old.lines.now) (K.lines self.new.lines.now)) }
         ensures numbers { let reply = option_and_then (reply_to self.old.node.now.plan) request in
             let more = length (leaving moment (push_all reply (keeps self.old.node.now).queues)) in
             OnOk result (self.new.tally.numbers ≡ with_sent self.old.tally.numbers more) }
-        ensures last { OnOk result (IsLast moment (keeps self.new.node.now).queues self.new.clock.last) }
+        ensures last { let qs = (keeps self.new.node.now).queues in
+            OnOk result (IsLast moment qs self.new.clock.last) }
         ensures err { let reply = option_and_then (reply_to self.old.node.now.plan) request in
             let qs = (keeps self.old.node.now).queues in
             OnErr result (BeginsList (fulls moment reply qs ++ leaving moment (push_all reply qs))
@@ -215,7 +208,8 @@ impl<'a, K: LineSink> Running<'a, K> {
         ensures told { let reply = option_and_then (reply_to self.old.node.now.plan) request in
             let qs = (keeps self.old.node.now).queues in
             OnOk result (HasTold (writes_for self.old.writer.now)
-            (fulls moment reply qs ++ leaving moment (push_all reply qs)) (text_of gathered.old) (text_of gathered.new)
+            (fulls moment reply qs ++ leaving moment (push_all reply qs))
+            (text_of gathered.old) (text_of gathered.new)
             (K.lines self.old.lines.now) (K.lines self.new.lines.now)) }
         ensures numbers { let reply = option_and_then (reply_to self.old.node.now.plan) request in
             let more = length (leaving moment (push_all reply (keeps self.old.node.now).queues)) in
@@ -298,7 +292,8 @@ impl<'a, K: LineSink> Running<'a, K> {
             (K.lines self.new.lines.now) self.new.tally.numbers in
             let next = begun_next self.old.clock.number self.old.clock.next moment in
             OnErr result ((first : ℕ) → next ≡ first + self.old.clock.number * 1000000
-            → BreaksOff (ticks_from first self.old.clock.number (ticks_due next moment)) old new) }
+            → BreaksOff (ticks_from first self.old.clock.number (ticks_due next moment))
+            old new) }
     {
         self.clock.begin(moment);
         let due = (moment - self.clock.next) / Clock::SECOND + 1;
@@ -326,7 +321,8 @@ impl<'a, K: LineSink> Running<'a, K> {
             (K.lines self.old.lines.now) self.old.tally.numbers in
             let new = state self.new.node.now (writes_for self.new.writer.now)
             (K.lines self.new.lines.now) self.new.tally.numbers in
-            OnErr result (BreaksOff (Tick self.old.clock.number self.old.clock.next ∷ []) old new) }
+            OnErr result (BreaksOff (Tick self.old.clock.number self.old.clock.next ∷ [])
+            old new) }
         ensures stays { OnErr result ((self.new.clock.number ≡ self.old.clock.number)
             × (self.new.clock.next ≡ self.old.clock.next)) }
     {
@@ -339,7 +335,8 @@ impl<'a, K: LineSink> Running<'a, K> {
     }
 }
 
-/// Puts the reply to a request, if there is one, behind the frames that wait; tells on which buses there was no room.
+/// Puts the reply to a request, if there is one, behind the frames that wait; tells on which buses
+/// there was no room.
 fn put_reply(node: &mut Node, moment: u64, request: Option<Request>) -> ShortList<FullLine, 3>
     requires { ForSome request (IsRequestTo node.old.plan.node) }
     ensures plan { node.new.plan ≡ node.old.plan }

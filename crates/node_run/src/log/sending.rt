@@ -17,7 +17,8 @@ use cy_bits::{NoMemory, ShortList};
 use line_text::TextBuffer;
 use node_core::{FullLine, LineRef, LineSink, LineWriter, Node, TxRef};
 
-/// Tells on which buses there was no room for what a step sends, and lets frames leave behind it. Answers how many left.
+/// Tells on which buses there was no room for what a step sends, and lets frames leave behind it.
+/// Answers how many left.
 pub(crate) fn send<K: LineSink>(
     node: &mut Node,
     moment: u64,
@@ -42,9 +43,9 @@ pub(crate) fn send<K: LineSink>(
     drain(node, moment, writer, lines, gathered)
 }
 
-/// Lets frames leave each bus, in the plan's order: at most its rate, the least identifier first. Tells them with a
-/// moment in microseconds, and answers how many they are. Where it fails, some were told, and the node is not to be
-/// used further.
+/// Lets frames leave each bus, in the plan's order: at most its rate, the least identifier first.
+/// Tells them with a moment in microseconds, and answers how many they are. Where it fails, some
+/// were told, and the node is not to be used further.
 fn drain<K: LineSink>(
     node: &mut Node,
     moment: u64,
@@ -57,11 +58,12 @@ fn drain<K: LineSink>(
     ensures stands { StandsAsBefore node.old node.new }
     ensures buses { writes_for writer.new ≡ writes_for writer.old }
     ensures keeps { OnOk result (keeps node.new ≡ left (keeps node.old)) }
-    ensures told { OnOk result (HasTold (writes_for writer.old) (leaving moment (keeps node.old).queues)
+    ensures told { let told = leaving moment (keeps node.old).queues in
+        OnOk result (HasTold (writes_for writer.old) told
         (text_of gathered.old) (text_of gathered.new) (K.lines lines.old) (K.lines lines.new)) }
     ensures sent { IfOk result (λ n. n ≡ length (leaving moment (keeps node.old).queues)) }
-    ensures err { OnErr result
-        (BeginsList (leaving moment (keeps node.old).queues) (K.lines lines.old) (K.lines lines.new)) }
+    ensures err { let told = leaving moment (keeps node.old).queues in
+        OnErr result (BeginsList told (K.lines lines.old) (K.lines lines.new)) }
 {
     let before = node.waiting();
     drain_buses(node, moment, writer, lines, gathered)?;
@@ -81,10 +83,11 @@ fn drain_buses<K: LineSink>(
     ensures stands { StandsAsBefore node.old node.new }
     ensures buses { writes_for writer.new ≡ writes_for writer.old }
     ensures keeps { OnOk result (keeps node.new ≡ left (keeps node.old)) }
-    ensures told { OnOk result (HasTold (writes_for writer.old) (leaving moment (keeps node.old).queues)
+    ensures told { let told = leaving moment (keeps node.old).queues in
+        OnOk result (HasTold (writes_for writer.old) told
         (text_of gathered.old) (text_of gathered.new) (K.lines lines.old) (K.lines lines.new)) }
-    ensures err { OnErr result
-        (BeginsList (leaving moment (keeps node.old).queues) (K.lines lines.old) (K.lines lines.new)) }
+    ensures err { let told = leaving moment (keeps node.old).queues in
+        OnErr result (BeginsList told (K.lines lines.old) (K.lines lines.new)) }
 {
     let buses = node.buses();
     for bus in 0..buses {
@@ -144,7 +147,8 @@ pub(crate) fn empty<K: LineSink>(
     ensures sent { let qs = (keeps node.old).queues in
         IfOk result (λ n. n ≡ length (rounds (waiting qs) moment qs)) }
     ensures err { let qs = (keeps node.old).queues in
-        OnErr result (BeginsList (rounds (waiting qs) moment qs) (K.lines lines.old) (K.lines lines.new)) }
+        OnErr result (BeginsList (rounds (waiting qs) moment qs)
+        (K.lines lines.old) (K.lines lines.new)) }
 {
     let most = node.waiting();
     for round in 0..most {

@@ -29,7 +29,8 @@ pub struct Seen {
 }
 
 impl Seen {
-    /// What is counted of the line on a record, if there is one, and of whether it dropped a transfer for its CRC.
+    /// What is counted of the line on a record, if there is one, and of whether it dropped a
+    /// transfer for its CRC.
     #[inline(always)]
     pub fn of(told: Option<LineRef<'_>>, badcrc: bool) -> Seen
         ensures delivered { result.delivered ≡ count_by is_rx (told_lines told.entry) }

@@ -21,8 +21,8 @@ pub(crate) fn tell<K: LineSink>(
     told: Option<LineRef<'_>>,
 ) -> Result<(), NoMemory>
     ensures buses { writes_for writer.new ≡ writes_for writer.old }
-    ensures text { OnOk result
-        (text_of gathered.new ≡ text_of gathered.old ++ text (writes_for writer.old) (told_lines told.entry)) }
+    ensures text { let told = told_lines told.entry in
+        OnOk result (text_of gathered.new ≡ text_of gathered.old ++ text (writes_for writer.old) told) }
     ensures adds { OnOk result
         (K.lines lines.new ≡ put_behind (K.lines lines.old) (told_lines told.entry)) }
     ensures err { OnErr result (K.lines lines.new ≡ K.lines lines.old) }
@@ -46,7 +46,8 @@ pub(crate) fn tell_fulls<K: LineSink>(
     ensures buses { writes_for writer.new ≡ writes_for writer.old }
     ensures told { OnOk result (HasTold (writes_for writer.old) (map Full fulls.now)
         (text_of gathered.old) (text_of gathered.new) (K.lines lines.old) (K.lines lines.new)) }
-    ensures err { OnErr result (BeginsList (map Full fulls.now) (K.lines lines.old) (K.lines lines.new)) }
+    ensures err { OnErr result
+        (BeginsList (map Full fulls.now) (K.lines lines.old) (K.lines lines.new)) }
 {
     for full in fulls.as_slice() {
         tell(writer, lines, gathered, Some(LineRef::Full(*full)))?;
