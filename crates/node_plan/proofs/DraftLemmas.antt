@@ -1,21 +1,24 @@
 -- Lemmas on what holds of the plan so far.
-use Rattle.std.proofs.Common.{◌≡◌, ◌<◌, ◌≤◌, ◌≢◌, ◌^◌, suc, ℕ, true, false, List, [], ◌∷◌, ◌++◌, Option, Some, None, refl, arith, length, get_or}
-use Rattle.std.specs.Prelude.{map, replicate, unwrap_or}
+use Rattle.std.proofs.Common.{◌≡◌, ◌<◌, ◌≤◌, ◌≢◌, ◌∙◌, ◌^◌, zero, suc, ℕ, true, false, List, [], ◌∷◌, ◌++◌, Option, Some, None, refl, arith, length, get_or, ap, sym, subst, set}
+use Rattle.std.specs.Prelude.{map, replicate, slice_get, unwrap_or}
 use Rattle.std.specs.List.{All, AllPairs}
 use Rattle.std.specs.Option.{ForSome}
 use Rattle.std_types.specs.Held.{IsUniqueId}
 use Rattle.std.specs.Str.{bytes_eq}
 use Rattle.std.proofs.lemmas.Grind.{common_steps}
-use Rattle.std.proofs.lemmas.List.Elements.{All-map, All-nil, All-push}
+use Rattle.std.proofs.lemmas.List.Elements.{All-cons, All-map, All-nil, All-push, All-set}
 use Rattle.std.proofs.lemmas.List.Kept.{AllPairs-cons}
 use Rattle.std.proofs.lemmas.List.{length-map}
 use Rattle.std.proofs.lemmas.List.Quantifiers.{all_pairs_push}
 use Rattle.std.proofs.lemmas.Slice.Eq.{bytes_eq-Decides}
 use Rattle.node_plan.specs.declared.draft.Draft.{Draft}
 use Rattle.node_plan.specs.declared.plan.BusPlan.{BusPlan}
-use Rattle.node_plan.specs.Draft.{has_bus, no_status, on_bus, plan_with}
+use Rattle.node_plan.specs.Draft.{has_bus, has_register, limited, no_status, on_bus, plan_with}
 use Rattle.node_plan.specs.Info.{blank_info}
 use Rattle.node_plan.specs.IsPlan.{IsBus, IsDraft, IsInfo, IsMtu, IsPlan, IsRate, IsStatus}
+use Rattle.node_plan.specs.Registers.{IsRegister, can_limit}
+use Rattle.std_types.specs.declared.registers.Limits.{Limits}
+use Rattle.std_types.specs.declared.registers.Register.{Register}
 use Rattle.node_plan.proofs.NameLemmas.{fails_at, differ}
 
 -- another name
@@ -39,8 +42,95 @@ IsDraft-bus d bus h fits few new = record {
   clients = h.clients;
   status = h.status;
   info = h.info;
+  few_registers = h.few_registers;
+  registers = h.registers;
+  register_names = h.register_names;
+  serve = h.serve;
   queue = h.queue;
 }
+
+-- ---- registers
+
+abbrev Apart : Register → Register → Type 0
+Apart a b = a.name ≢ b.name
+
+pub IsDraft-register : (d : Draft) (r : Register) → IsDraft d → IsRegister r → length d.registers < 256 → has_register r.name d.registers ≡ false
+    → IsDraft (record d { registers = d.registers ++ r ∷ [] })
+IsDraft-register d r h fits few new = record {
+  node = h.node;
+  few_buses = h.few_buses;
+  buses = h.buses;
+  names = h.names;
+  mtu = h.mtu;
+  rate = h.rate;
+  timeout = h.timeout;
+  few_subs = h.few_subs;
+  subs = h.subs;
+  subjects = h.subjects;
+  clients = h.clients;
+  status = h.status;
+  info = h.info;
+  few_registers = grind (arith, common_steps);
+  registers = All-push IsRegister d.registers r h.registers fits;
+  register_names = all_pairs_push Apart d.registers r h.register_names
+      (λ k x l. other_name (get_or d.registers k x).name r.name (fails_at (λ x. bytes_eq x.name r.name) d.registers new k x l));
+  serve = h.serve;
+  queue = h.queue;
+}
+
+-- a register that takes the place of one of the same name
+set_other : (x : Register) (xs : List Register) (i : ℕ) (r y : Register) → slice_get xs i ≡ Some r → r.name ≡ y.name → All (Apart x) xs → All (Apart x) (set xs i y)
+set_other x [] i r y e same h = h
+set_other x (z ∷ zs) zero r y e same h =
+    let is : z ≡ r = cc in
+    All-cons (Apart x) y zs (λ n. h 0 y (omega arith) (n ∙ sym same ∙ ap (λ (w : Register). w.name) (sym is))) (λ k t less. h (suc k) t (omega arith))
+set_other x (z ∷ zs) (suc i) r y e same h = All-cons (Apart x) z (set zs i y) (h 0 y (omega arith)) (set_other x zs i r y e same (λ k t less. h (suc k) t (omega arith)))
+
+set_apart : (xs : List Register) (i : ℕ) (r y : Register) → slice_get xs i ≡ Some r → r.name ≡ y.name → AllPairs Apart xs → AllPairs Apart (set xs i y)
+set_apart [] i r y e same h = h
+set_apart (x ∷ xs) zero r y e same h =
+    let is : x ≡ r = cc in
+    AllPairs-cons Apart y xs (λ k t less n. h 0 (suc k) t (omega arith) (omega arith) (ap (λ (w : Register). w.name) is ∙ same ∙ n))
+    (λ i j t less low. h (suc i) (suc j) t (omega arith) (omega arith))
+set_apart (x ∷ xs) (suc i) r y e same h =
+    AllPairs-cons Apart x (set xs i y) (set_other x xs i r y e same (λ k t less. h 0 (suc k) t (omega arith) (omega arith)))
+    (set_apart xs i r y e same (λ i j t less low. h (suc i) (suc j) t (omega arith) (omega arith)))
+
+held_at : (xs : List Register) (i : ℕ) (r : Register) → slice_get xs i ≡ Some r → All IsRegister xs → IsRegister r
+held_at [] i r e h = absurd cc
+held_at (x ∷ xs) zero r e h = let is : x ≡ r = cc in subst IsRegister is (h 0 x (omega arith))
+held_at (x ∷ xs) (suc i) r e h = held_at xs i r e (λ k t less. h (suc k) t (omega arith))
+
+set_length : (xs : List Register) (i : ℕ) (y : Register) → length (set xs i y) ≡ length xs
+set_length [] i y = refl
+set_length (x ∷ xs) zero y = refl
+set_length (x ∷ xs) (suc i) y = ap suc (set_length xs i y)
+
+pub IsDraft-limits : (d : Draft) (place : ℕ) (limits : Limits) (r : Register) → IsDraft d → slice_get d.registers place ≡ Some r → can_limit limits r.value ≡ true
+    → IsDraft (record d { registers = limited d.registers place limits r })
+IsDraft-limits d place limits r h e can =
+    let was = held_at d.registers place r e h.registers in
+    let new : Register = record r { limits = Some limits } in
+    let fits : IsRegister new = record { some_byte = was.some_byte; bytes = was.bytes; value = was.value; within = can } in record {
+      node = h.node;
+      few_buses = h.few_buses;
+      buses = h.buses;
+      names = h.names;
+      mtu = h.mtu;
+      rate = h.rate;
+      timeout = h.timeout;
+      few_subs = h.few_subs;
+      subs = h.subs;
+      subjects = h.subjects;
+      clients = h.clients;
+      status = h.status;
+      info = h.info;
+      few_registers = subst (λ n. n ≤ 256) (sym (set_length d.registers place new)) h.few_registers;
+      registers = All-set IsRegister d.registers place new fits h.registers;
+      register_names = set_apart d.registers place r new e refl h.register_names;
+      serve = h.serve;
+      queue = h.queue;
+    }
 
 -- ---- the plan of a draft
 
@@ -105,6 +195,10 @@ IsPlan-with d node h low some =
       few_clients = clients.1;
       status = or_default IsStatus d.status no_status h.status (record { health = omega arith; mode = omega arith; code = omega arith });
       info = or_default IsInfo d.info blank_info h.info IsInfo-blank;
+      few_registers = h.few_registers;
+      registers = h.registers;
+      register_names = h.register_names;
+      serve = h.serve;
       some_place = queue.0;
       few_places = queue.1;
     }

@@ -1,5 +1,5 @@
 -- The lines of a text before that of the version, and that.
-use Rattle.std.proofs.Common.{◌≡◌, ◌∙◌, ◌+◌, ◌==◌, ◌⊎◌, inl, inr, suc, ℕ, Bool, true, false, List, [], ◌∷◌, ◌++◌, Some, None, length, refl, sym, ap, subst, arith}
+use Rattle.std.proofs.Common.{◌≡◌, ◌∙◌, ◌+◌, ◌==◌, ◌⊎◌, inl, inr, suc, ℕ, Bool, true, false, List, [], ◌∷◌, ◌++◌, Option, Some, None, length, refl, sym, ap, subst, arith}
 use Rattle.std.specs.Prelude.{Ok, codes, if◌then◌else◌}
 use Rattle.std.specs.Str.{bytes_eq}
 use Rattle.dsdl_types.specs.declared.namespace.Namespace.{Namespace}
@@ -9,13 +9,13 @@ use Rattle.node_plan.specs.declared.line.Said.{Said}
 use Rattle.node_plan.specs.declared.line.Said.TheVariants as said
 use Rattle.node_plan.specs.Draft.{start, step}
 use Rattle.node_plan.specs.Limit.{begins_two}
-use Rattle.node_plan.specs.Line.{said_of, said_of_five, said_of_four, said_of_many, said_of_one, said_of_two, said_of_version, said_of_words}
+use Rattle.node_plan.specs.Line.{RegisterText, Says, SaysEither, register_in, said_of_five, said_of_four, said_of_many, said_of_one, said_of_two, said_of_version, said_of_words}
 use Rattle.node_plan.specs.Words.{joined, words_of}
 use Rattle.node_plan.proofs.JoinedLemmas.{Free}
 use Rattle.node_plan.proofs.LimitLemmas.{begins_two-said, begins_two-skip}
 use Rattle.node_plan.proofs.MigratedLines.{word_case}
 use Rattle.node_plan.proofs.PartsLemmas.{joined-parts}
-use Rattle.node_plan.proofs.PlainLines.{AnyShape, Plain, plain, plain_four, plain_two}
+use Rattle.node_plan.proofs.PlainLines.{AnyShape, Plain, plain, plain_either, plain_four, plain_two}
 use Rattle.node_plan.proofs.SaidTables as tables
 
 -- the draft behind `plan 1`
@@ -45,6 +45,10 @@ module _ (names : Namespace) (new : Draft) (b : ℕ) (s : List ℕ) where
   abbrev Goes : List ℕ → List ℕ → Type 0
   Goes word value = words_of (b ∷ s) ≡ word ∷ value ∷ [] → step start (said_of_two false word value) ≡ Ok new → Begins new (b ∷ s)
 
+  -- nothing else may stand first, a register neither
+  late_either : (o : Option RegisterText) (p s : Said) → Plain true p → SaysEither o p s → step start s ≡ Ok new → ⊥
+  late_either o p s h e g = late s new (plain_either true o p s h e) g
+
   of_one : Goes (codes "plan") (codes "1")
   of_one e h = inr (inl (whole (b ∷ s) (codes "plan" ∷ codes "1" ∷ []) e, let same : begun ≡ new = cc in sym same))
 
@@ -73,23 +77,29 @@ module _ (names : Namespace) (new : Draft) (b : ℕ) (s : List ℕ) where
         λ e h. absurd (late (said_of_two false word value) new (plain_two word value other) h)
   ]
 
-  of_words : (words : List (List ℕ)) → words_of (b ∷ s) ≡ words → step start (said_of_words names false words) ≡ Ok new → Begins new (b ∷ s)
-  of_words [] e h = absurd cc
-  of_words (a ∷ []) e h = absurd (late (said_of_one a) new (tables.of_one (Plain true) AnyShape (plain true) a) h)
-  of_words (a ∷ v ∷ []) e h = of_two a v e h
-  of_words (a ∷ v ∷ c ∷ []) e h = absurd cc
-  of_words (a ∷ v ∷ c ∷ f ∷ []) e h = absurd (late (said_of_four names false a v c f) new (plain_four true names a v c f) h)
-  of_words (a ∷ v ∷ c ∷ f ∷ g ∷ []) e h = absurd (late (said_of_five a v c f g) new (tables.of_five (Plain true) AnyShape (plain true) a v c f g) h)
-  of_words (a ∷ v ∷ c ∷ f ∷ g ∷ i ∷ more) e h =
-      absurd (late (said_of_many a v c f g (joined 32 (i ∷ more))) new (tables.of_many (Plain true) AnyShape (plain true) a v c f g (joined 32 (i ∷ more))) h)
+  of_words : (words : List (List ℕ)) (says : Said) → words_of (b ∷ s) ≡ words → SaysEither (register_in words) (said_of_words names false words) says → step start says ≡ Ok new → Begins new (b ∷ s)
+  of_words [] says e w h = absurd (late_either None said.NoForm says tt w h)
+  of_words (a ∷ []) says e w h = absurd (late_either None (said_of_one a) says (tables.of_one (Plain true) AnyShape (plain true) a) w h)
+  of_words (a ∷ v ∷ []) says e w h = of_two a v e (ap (step start) (sym w) ∙ h)
+  of_words (a ∷ v ∷ c ∷ []) says e w h = absurd (late_either None said.NoForm says tt w h)
+  of_words (a ∷ v ∷ c ∷ f ∷ []) says e w h = absurd (late_either (register_in (a ∷ v ∷ c ∷ f ∷ [])) (said_of_four names false a v c f) says (plain_four true names a v c f) w h)
+  of_words (a ∷ v ∷ c ∷ f ∷ g ∷ []) says e w h =
+      absurd (late_either (register_in (a ∷ v ∷ c ∷ f ∷ g ∷ [])) (said_of_five a v c f g) says (tables.of_five (Plain true) AnyShape (plain true) a v c f g) w h)
+  of_words (a ∷ v ∷ c ∷ f ∷ g ∷ i ∷ more) says e w h =
+      absurd (late_either (register_in (a ∷ v ∷ c ∷ f ∷ g ∷ i ∷ more)) (said_of_many a v c f g (joined 32 (i ∷ more))) says (tables.of_many (Plain true) AnyShape (plain true) a v c f g (joined 32 (i ∷ more))) w h)
 
-pub first_line : (names : Namespace) (new : Draft) (line : List ℕ) → step start (said_of names false line) ≡ Ok new → Begins new line
-first_line names new [] h = inl (tt, let same : start ≡ new = cc in sym same)
-first_line names new (b ∷ s) h = of_test (b == 35) refl h
+  -- a comment
+  of_skip : (o : Option RegisterText) (says : Said) → (b == 35) ≡ true → SaysEither o said.Nothing says → step start says ≡ Ok new → Begins new (b ∷ s)
+  of_skip None says e w h = inl (e, let same : start ≡ new = let g : step start said.Nothing ≡ Ok new = ap (step start) (sym w) ∙ h in cc in sym same)
+  of_skip (Some t) says e w h = absurd (late_either (Some t) said.NoForm says tt w h)
+
+pub first_line : (names : Namespace) (new : Draft) (line : List ℕ) (says : Said) → Says names false line says → step start says ≡ Ok new → Begins new line
+first_line names new [] says w h = inl (tt, let same : start ≡ new = let g : step start said.Nothing ≡ Ok new = ap (step start) (sym w) ∙ h in cc in sym same)
+first_line names new (b ∷ s) says w h = of_test (b == 35) refl w
   where
-    of_test : (t : Bool) → (b == 35) ≡ t → step start (if t then said.Nothing else said_of_words names false (words_of (b ∷ s))) ≡ Ok new → Begins new (b ∷ s)
-    of_test true e h = inl (e, let same : start ≡ new = cc in sym same)
-    of_test false e h = of_words names new b s (words_of (b ∷ s)) refl h
+    of_test : (t : Bool) → (b == 35) ≡ t → SaysEither (register_in (words_of (b ∷ s))) (if t then said.Nothing else said_of_words names false (words_of (b ∷ s))) says → Begins new (b ∷ s)
+    of_test true e w = of_skip names new b s (register_in (words_of (b ∷ s))) says e w h
+    of_test false e w = of_words names new b s (words_of (b ∷ s)) says refl w h
 
 -- ---- the version of a text
 

@@ -12,7 +12,7 @@ use Rattle.node_plan.specs.declared.plan.PlanWhy.{PlanWhy}
 use Rattle.node_plan.specs.declared.plan.PlanWhy.TheVariants as why
 use Rattle.node_plan.specs.declared.words.Number.{Number}
 use Rattle.node_plan.specs.declared.words.Number.TheVariants as number
-use Rattle.node_plan.specs.Draft.{has_bus, has_subject, on_bus, once, step, with_line, with_version}
+use Rattle.node_plan.specs.Draft.{has_bus, has_register, has_subject, on_bus, once, step, with_line, with_version}
 use Rattle.node_plan.specs.Line.{said_of_bus, said_of_mtu, said_of_rate, said_of_version}
 use Rattle.node_plan.specs.Names.{is_bus_name}
 use Rattle.node_plan.proofs.PlainLines.{Plain}
@@ -31,6 +31,8 @@ two_of m r d = record {
   clients = d.clients;
   status = d.status;
   info = d.info;
+  registers = d.registers;
+  serve = d.serve;
   queue = d.queue;
 }
 
@@ -103,6 +105,12 @@ plain_step m r d new v (said.Info i) p h =
     once_two m r (is_some d.info) d (record d { info = Some i }) new (record { version = refl; buses = refl }) (behind (is_some d.version) (with_line d (said.Info i)) new (ap is_some v) h)
 plain_step m r d new v (said.Queue n) p h =
     once_two m r (is_some d.queue) d (record d { queue = Some n }) new (record { version = refl; buses = refl }) (behind (is_some d.version) (with_line d (said.Queue n)) new (ap is_some v) h)
+plain_step m r d new v (said.Register s) p h =
+    within_two m r (nat_le 256 (length d.registers)) (has_register s.name d.registers) d (record d { registers = d.registers ++ s ∷ [] }) new (record { version = refl; buses = refl })
+    (behind (is_some d.version) (with_line d (said.Register s)) new (ap is_some v) h)
+plain_step m r d new v (said.Limits name limits) p h = absurd cc
+plain_step m r d new v (said.Serve path) p h =
+    once_two m r (is_some d.serve) d (record d { serve = Some path }) new (record { version = refl; buses = refl }) (behind (is_some d.version) (with_line d (said.Serve path)) new (ap is_some v) h)
 
 -- ---- `plan N` behind the line of the version
 

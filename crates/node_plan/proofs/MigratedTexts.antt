@@ -15,11 +15,13 @@ use Rattle.node_plan.specs.Answers.{IsMigrated}
 use Rattle.node_plan.specs.Draft.{complete, is_two, on_bus, plan_with, start, step}
 use Rattle.node_plan.specs.IsPlan.{IsBus, IsPlan}
 use Rattle.node_plan.specs.Limit.{begins_two, is_version_two, limit_of}
-use Rattle.node_plan.specs.Line.{said_of}
+use Rattle.node_plan.specs.Line.{Says}
+use Rattle.node_plan.specs.declared.line.Said.{Said}
 use Rattle.node_plan.specs.Migrate.{migrated, migrated_line, migrated_text, migrated_words, numbers_of, numbers_text}
-use Rattle.node_plan.specs.Plan.{PlanIs, Good, Bad, finished, followed, last_line, long_line, plan_of, plan_of_parts}
+use Rattle.node_plan.specs.Plan.{PlanIs, Good, Bad, Ends, Follows, Goes, IsPlanOf, Line, finished}
 use Rattle.node_plan.specs.Words.{joined, parts_of, words_of}
 use Rattle.node_plan.proofs.DecimalLemmas.{AreNumbers, are_numbers}
+use Rattle.node_plan.specs.declared.line.Said.TheVariants as S
 use Rattle.node_plan.proofs.FirstLines.{Begins, IsSkipped, begun, first_line, line_passed, line_two}
 use Rattle.node_plan.proofs.JoinedLemmas.{AllFree, Free, free-append, parts-joined, parts_are_free}
 use Rattle.node_plan.proofs.MigratedLines.{AreFirst, line_moved}
@@ -102,67 +104,87 @@ of_good d n p h = of_option (complete d) h
     of_option None e = absurd cc
     of_option (Some q) e = let same : q ≡ p = cc in ap Some same
 
-followed_good : (r : Result Draft PlanWhy) (n : ℕ) (others : Draft → PlanIs) (p : Plan) → followed r n others ≡ Good p → (new : Draft) × (r ≡ Ok new) × (others new ≡ Good p)
-followed_good (Err e) n others p h = absurd cc
-followed_good (Ok d) n others p h = (d, refl, h)
+followed_good : (r : Result Draft PlanWhy) (n : ℕ) (Others : Draft → PlanIs → Type 0) (p : Plan) → Follows r n Others (Good p) → (new : Draft) × (r ≡ Ok new) × Others new (Good p)
+followed_good (Err e) n Others p h = absurd cc
+followed_good (Ok d) n Others p h = (d, refl, h)
+
+-- a line that is taken
+pub record Taken (names : Namespace) (d : Draft) (line : List ℕ) (Others : Draft → PlanIs → Type 0) (p : Plan) : Type 0 where
+  pub meaning : Said
+  pub says : Says names (is_two d.version) line meaning
+  pub new : Draft
+  pub step : step d meaning ≡ Ok new
+  pub others : Others new (Good p)
+
+line_good : (names : Namespace) (d : Draft) (n : ℕ) (line : List ℕ) (Others : Draft → PlanIs → Type 0) (p : Plan) → Line names d n line Others (Good p) → Taken names d line Others p
+line_good names d n line Others p h =
+    let t = followed_good (step d h.0) n Others p h.2 in
+    record { meaning = h.0; says = h.1; new = t.0; step = t.1; others = t.2 }
+
+-- what a line made of a draft
+line_next : (names : Namespace) (d new : Draft) (n : ℕ) (line : List ℕ) (Others : Draft → PlanIs → Type 0) (is : PlanIs) (said : Said) → Says names (is_two d.version) line said → step d said ≡ Ok new → Others new is → Line names d n line Others is
+line_next names d new n line Others is said w e h = (said, w, subst (λ r. Follows r n Others is) (sym e) h)
 
 -- without a node there is no plan
-no_plan : (d : Draft) (n : ℕ) (p : Plan) → d.node ≡ None → finished d n ≡ Good p → ⊥
-no_plan d n p e h = of_node d.node e (of_good d n p h)
+no_plan : (d : Draft) (n : ℕ) (p : Plan) → d.node ≡ None → Good p ≡ finished d n → ⊥
+no_plan d n p e h = of_node d.node e (of_good d n p (sym h))
   where
     of_node : (node : Option ℕ) → node ≡ None → complete (record d { node = node }) ≡ Some p → ⊥
     of_node None e h = cc
     of_node (Some node) e h = cc
 
 -- a text that is too long is no plan
-long_never : (names : Namespace) (parts : List (List ℕ)) (d : Draft) (n : ℕ) (p : Plan) → plan_of_parts names long_line d n parts ≡ Good p → ⊥
+long_never : (names : Namespace) (parts : List (List ℕ)) (d : Draft) (n : ℕ) (p : Plan) → Goes names true d n parts (Good p) → ⊥
 long_never names [] d n p h = cc
 long_never names (part ∷ []) d n p h = cc
 long_never names (line ∷ part ∷ parts) d n p h =
-    let t = followed_good (step d (said_of names (is_two d.version) line)) n (λ new. plan_of_parts names long_line new (n + 1) (part ∷ parts)) p h in
-    long_never names (part ∷ parts) t.0 (n + 1) p t.2
+    let t = line_good names d n line (λ new is. Goes names true new (n + 1) (part ∷ parts) is) p h in
+    long_never names (part ∷ parts) t.new (n + 1) p t.others
 
 -- ---- the lines of a plan
 
 module _ (names : Namespace) (m r : ℕ) (numbers : AreNumbers m r) (p : Plan) (have : Have m r p.buses) where
-  abbrev Goes : Draft → ℕ → List (List ℕ) → Type 0
-  Goes d n parts = (plan_of_parts names (last_line names) (two_of m r d) n (map (migrated_line (numbers_text m r)) parts) ≡ Good p)
+  abbrev Becomes : Draft → ℕ → List (List ℕ) → Type 0
+  Becomes d n parts = Goes names false (two_of m r d) n (map (migrated_line (numbers_text m r)) parts) (Good p)
       × (length (joined 10 (map (migrated_line (numbers_text m r)) parts)) + 8 * length d.buses ≤ length (joined 10 parts) + 8 * length p.buses)
 
   -- the last line of the migrated text, which may be empty
-  last_two : (d new : Draft) (n : ℕ) (made : List ℕ) → step (two_of m r d) (said_of names true made) ≡ Ok (two_of m r new) → complete (two_of m r new) ≡ Some p
-      → last_line names (two_of m r d) n made ≡ Good p
-  last_two d new n [] e h = let same : two_of m r d ≡ two_of m r new = cc in good (two_of m r d) n p (ap complete same ∙ h)
-  last_two d new n (b ∷ s) e h = ap (λ t. followed t n (λ next. finished next (n + 1))) e ∙ good (two_of m r new) (n + 1) p h
+  last_two : (d new : Draft) (n : ℕ) (made : List ℕ) (says : Said) → Says names true made says → step (two_of m r d) says ≡ Ok (two_of m r new) → complete (two_of m r new) ≡ Some p
+      → Ends names false (two_of m r d) n made (Good p)
+  last_two d new n [] says w e h =
+      let same : two_of m r d ≡ two_of m r new = let g : step (two_of m r d) S.Nothing ≡ Ok (two_of m r new) = ap (step (two_of m r d)) (sym w) ∙ e in cc in
+      sym (good (two_of m r d) n p (ap complete same ∙ h))
+  last_two d new n (b ∷ s) says w e h =
+      line_next names (two_of m r d) (two_of m r new) n (b ∷ s) (λ next is. is ≡ finished next (n + 1)) (Good p) says w e (sym (good (two_of m r new) (n + 1) p h))
 
-  last_moved : (line : List ℕ) (d : Draft) (n : ℕ) → d.version ≡ Some version.One → AreFirst d.buses → last_line names d n line ≡ Good p → Goes d n (line ∷ [])
+  last_moved : (line : List ℕ) (d : Draft) (n : ℕ) → d.version ≡ Some version.One → AreFirst d.buses → Ends names false d n line (Good p) → Becomes d n (line ∷ [])
   last_moved [] d n v first h =
-      let done = completed m r d p first have v (of_good d n p h) in
-      (good (two_of m r d) n p done.0, let same : length p.buses ≡ length d.buses = done.1 in omega arith)
+      let done = completed m r d p first have v (of_good d n p (sym h)) in
+      (sym (good (two_of m r d) n p done.0), let same : length p.buses ≡ length d.buses = done.1 in omega arith)
   last_moved (b ∷ s) d n v first h =
-      let t = followed_good (step d (said_of names (is_two d.version) (b ∷ s))) n (λ new. finished new (n + 1)) p h in
-      let moved = line_moved names m r numbers d t.0 v first (b ∷ s) (sym (ap (λ was. step d (said_of names (is_two was) (b ∷ s))) v) ∙ t.1) in
-      let done = completed m r t.0 p moved.first have moved.version (of_good t.0 (n + 1) p t.2) in (
-        last_two d t.0 n (migrated_line (numbers_text m r) (b ∷ s)) moved.step done.0,
-        let same : length p.buses ≡ length t.0.buses = done.1 in let longer = moved.longer in omega (arith, same, longer),
+      let t = line_good names d n (b ∷ s) (λ new is. is ≡ finished new (n + 1)) p h in
+      let moved = line_moved names m r numbers d t.new v first (b ∷ s) t.meaning (subst (λ was. Says names (is_two was) (b ∷ s) t.meaning) v t.says) t.step in
+      let done = completed m r t.new p moved.first have moved.version (of_good t.new (n + 1) p (sym t.others)) in (
+        last_two d t.new n (migrated_line (numbers_text m r) (b ∷ s)) moved.meaning moved.says moved.step done.0,
+        let same : length p.buses ≡ length t.new.buses = done.1 in let longer = moved.longer in omega (arith, same, longer),
       )
 
   lines_moved : (parts : List (List ℕ)) (d : Draft) (n : ℕ) → d.version ≡ Some version.One → AreFirst d.buses
-      → plan_of_parts names (last_line names) d n parts ≡ Good p → Goes d n parts
+      → Goes names false d n parts (Good p) → Becomes d n parts
   lines_moved [] d n v first h =
-      let done = completed m r d p first have v (of_good d n p h) in
-      (good (two_of m r d) n p done.0, let same : length p.buses ≡ length d.buses = done.1 in omega arith)
+      let done = completed m r d p first have v (of_good d n p (sym h)) in
+      (sym (good (two_of m r d) n p done.0), let same : length p.buses ≡ length d.buses = done.1 in omega arith)
   lines_moved (line ∷ []) d n v first h = last_moved line d n v first h
   lines_moved (line ∷ part ∷ parts) d n v first h =
       let f : List ℕ → List ℕ = migrated_line (numbers_text m r) in
-      let t = followed_good (step d (said_of names (is_two d.version) line)) n (λ new. plan_of_parts names (last_line names) new (n + 1) (part ∷ parts)) p h in
-      let moved = line_moved names m r numbers d t.0 v first line (sym (ap (λ was. step d (said_of names (is_two was) line)) v) ∙ t.1) in
-      let rest = lines_moved (part ∷ parts) t.0 (n + 1) moved.version moved.first t.2 in
+      let t = line_good names d n line (λ new is. Goes names false new (n + 1) (part ∷ parts) is) p h in
+      let moved = line_moved names m r numbers d t.new v first line t.meaning (subst (λ was. Says names (is_two was) line t.meaning) v t.says) t.step in
+      let rest = lines_moved (part ∷ parts) t.new (n + 1) moved.version moved.first t.others in
       let longer = moved.longer in
       let long = rest.1 in
       let old = length-append line (10 ∷ joined 10 (part ∷ parts)) in
       let made = length-append (f line) (10 ∷ joined 10 (map f (part ∷ parts))) in (
-        ap (λ next. followed next n (λ new. plan_of_parts names (last_line names) new (n + 1) (map f (part ∷ parts)))) moved.step ∙ rest.0,
+        line_next names (two_of m r d) (two_of m r t.new) n (f line) (λ new is. Goes names false new (n + 1) (map f (part ∷ parts)) is) (Good p) moved.meaning moved.says moved.step rest.0,
         omega (arith, longer, long, old, made),
       )
 
@@ -170,7 +192,7 @@ module _ (names : Namespace) (m r : ℕ) (numbers : AreNumbers m r) (p : Plan) (
 
   abbrev Starts : ℕ → ℕ → List (List ℕ) → Type 0
   Starts k n parts = (begins_two false k (joined 10 parts) ≡ true)
-      ⊎ ((plan_of_parts names (last_line names) start n (map (migrated_line (numbers_text m r)) parts) ≡ Good p)
+      ⊎ (Goes names false start n (map (migrated_line (numbers_text m r)) parts) (Good p)
       × (begins_two false k (joined 10 (map (migrated_line (numbers_text m r)) parts)) ≡ true)
       × (length (joined 10 (map (migrated_line (numbers_text m r)) parts)) ≤ length (joined 10 parts) + 8 * length p.buses))
 
@@ -184,23 +206,23 @@ module _ (names : Namespace) (m r : ℕ) (numbers : AreNumbers m r) (p : Plan) (
   no_node new line (inr (inl h)) = ap (λ (d : Draft). d.node) h.1
   no_node new line (inr (inr h)) = h.1
 
-  begin : (parts : List (List ℕ)) (k n : ℕ) → AllFree 10 parts → length (joined 10 parts) ≤ k → plan_of_parts names (last_line names) start n parts ≡ Good p → Starts k n parts
+  begin : (parts : List (List ℕ)) (k n : ℕ) → AllFree 10 parts → length (joined 10 parts) ≤ k → Goes names false start n parts (Good p) → Starts k n parts
   begin [] k n free low h = absurd cc
   begin ([] ∷ []) k n free low h = absurd cc
   begin ((b ∷ s) ∷ []) k n free low h =
-      let t = followed_good (step start (said_of names false (b ∷ s))) n (λ new. finished new (n + 1)) p h in
-      absurd (no_plan t.0 (n + 1) p (no_node t.0 (b ∷ s) (first_line names t.0 (b ∷ s) t.1)) t.2)
+      let t = line_good names start n (b ∷ s) (λ new is. is ≡ finished new (n + 1)) p h in
+      absurd (no_plan t.new (n + 1) p (no_node t.new (b ∷ s) (first_line names t.new (b ∷ s) t.meaning t.says t.step)) t.others)
   begin (line ∷ part ∷ parts) k n free low h =
-      let t = followed_good (step start (said_of names false line)) n (λ new. plan_of_parts names (last_line names) new (n + 1) (part ∷ parts)) p h in
+      let t = line_good names start n line (λ new is. Goes names false new (n + 1) (part ∷ parts) is) p h in
       let old = length-append line (10 ∷ joined 10 (part ∷ parts)) in
       let left : ℕ = k - (length line + 1) in
       let less : length (joined 10 (part ∷ parts)) ≤ left = omega (arith, old, low) in
-      of_first t.0 t.1 t.2 (first_line names t.0 line t.1) (λ again. begin (part ∷ parts) left (n + 1) free.1 less again)
+      of_first t.new t.meaning t.says t.step t.others (first_line names t.new line t.meaning t.says t.step) (λ again. begin (part ∷ parts) left (n + 1) free.1 less again)
     where
-      of_first : (new : Draft) → step start (said_of names false line) ≡ Ok new → plan_of_parts names (last_line names) new (n + 1) (part ∷ parts) ≡ Good p → Begins new line
-          → (plan_of_parts names (last_line names) start (n + 1) (part ∷ parts) ≡ Good p → Starts (k - (length line + 1)) (n + 1) (part ∷ parts))
+      of_first : (new : Draft) (says : Said) → Says names false line says → step start says ≡ Ok new → Goes names false new (n + 1) (part ∷ parts) (Good p) → Begins new line
+          → (Goes names false start (n + 1) (part ∷ parts) (Good p) → Starts (k - (length line + 1)) (n + 1) (part ∷ parts))
           → Starts k n (line ∷ part ∷ parts)
-      of_first new e g (inl first) again = of_rest (again (ap (λ d. plan_of_parts names (last_line names) d (n + 1) (part ∷ parts)) (sym first.1) ∙ g))
+      of_first new says w e g (inl first) again = of_rest (again (subst (λ d. Goes names false d (n + 1) (part ∷ parts) (Good p)) first.1 g))
         where
           of_rest : Starts (k - (length line + 1)) (n + 1) (part ∷ parts) → Starts k n (line ∷ part ∷ parts)
           of_rest (inl two) =
@@ -216,18 +238,17 @@ module _ (names : Namespace) (m r : ℕ) (numbers : AreNumbers m r) (p : Plan) (
               let long = rest.2 in
               let count : k ≡ length line + suc (k - (length line + 1)) = omega (arith, old, low) in
               inr (
-                ap (λ l. followed (step start (said_of names false l)) n (λ next. plan_of_parts names (last_line names) next (n + 1) (map f (part ∷ parts)))) kept
-                    ∙ ap (λ u. followed u n (λ next. plan_of_parts names (last_line names) next (n + 1) (map f (part ∷ parts)))) (e ∙ ap Ok first.1)
-                    ∙ rest.0,
+                line_next names start start n (f line) (λ next is. Goes names false next (n + 1) (map f (part ∷ parts)) is) (Good p) says
+                    (subst (λ l. Says names false l says) (sym kept) w) (e ∙ ap Ok first.1) rest.0,
                 ap (λ l. begins_two false k (l ++ 10 ∷ joined 10 (map f (part ∷ parts)))) kept
                     ∙ ap (λ j. begins_two false j (line ++ 10 ∷ joined 10 (map f (part ∷ parts)))) count
                     ∙ line_passed (k - (length line + 1)) line (joined 10 (map f (part ∷ parts))) first.0 free.0
                     ∙ rest.1,
                 omega (arith, old, made, same, long),
               )
-      of_first new e g (inr (inl first)) again =
+      of_first new says w e g (inr (inl first)) again =
           let f : List ℕ → List ℕ = migrated_line (numbers_text m r) in
-          let rest = lines_moved (part ∷ parts) begun (n + 1) refl tt (ap (λ d. plan_of_parts names (last_line names) d (n + 1) (part ∷ parts)) (sym first.1) ∙ g) in
+          let rest = lines_moved (part ∷ parts) begun (n + 1) refl tt (subst (λ d. Goes names false d (n + 1) (part ∷ parts) (Good p)) first.1 g) in
           let becomes : f line ≡ codes "plan 2" = ap f first.0 in
           let old = length-append line (10 ∷ joined 10 (part ∷ parts)) in
           let made = length-append (f line) (10 ∷ joined 10 (map f (part ∷ parts))) in
@@ -236,13 +257,14 @@ module _ (names : Namespace) (m r : ℕ) (numbers : AreNumbers m r) (p : Plan) (
           let long = rest.1 in
           let count : k ≡ suc (k - 1) = omega (arith, old, low, six) in
           inr (
-            ap (λ l. followed (step start (said_of names false l)) n (λ next. plan_of_parts names (last_line names) next (n + 1) (map f (part ∷ parts)))) becomes ∙ rest.0,
+            line_next names start (two_of m r begun) n (f line) (λ next is. Goes names false next (n + 1) (map f (part ∷ parts)) is) (Good p) (S.Version version.Two)
+                (subst (λ l. Says names false l (S.Version version.Two)) (sym becomes) refl) refl rest.0,
             ap (λ l. begins_two false k (l ++ 10 ∷ joined 10 (map f (part ∷ parts)))) becomes
                 ∙ ap (λ j. begins_two false j (codes "plan 2" ++ 10 ∷ joined 10 (map f (part ∷ parts)))) count
                 ∙ line_two (k - 1) (joined 10 (map f (part ∷ parts))),
             omega (arith, old, made, six, six_made, long),
           )
-      of_first new e g (inr (inr first)) again =
+      of_first new says w e g (inr (inr first)) again =
           let old = length-append line (10 ∷ joined 10 (part ∷ parts)) in
           let six : length line ≡ 6 = ap (λ l. length {A = ℕ} l) first.0 in
           let count : k ≡ suc (k - 1) = omega (arith, old, low, six) in
@@ -283,16 +305,22 @@ module _ (names : Namespace) (m r : ℕ) (numbers : AreNumbers m r) (p : Plan) (
       parts-joined 10 (migrated_line (numbers_text m r) part) (map (migrated_line (numbers_text m r)) parts) (free_lines (part ∷ parts) h)
 
   -- the plan of a text of so many bytes
-  within : (most : ℕ) (s : List ℕ) → limit_of s ≡ most → length s ≤ most → plan_of names s ≡ plan_of_parts names (last_line names) start 1 (parts_of 10 s)
-  within most s e low =
-      ap (λ n. plan_of_parts names (if nat_lt n (length s) then long_line else last_line names) start 1 (parts_of 10 (take n s))) e
-      ∙ ap (λ t. plan_of_parts names (if t then long_line else last_line names) start 1 (parts_of 10 (take most s))) (not_less (length s) most low)
-      ∙ ap (λ t. plan_of_parts names (last_line names) start 1 (parts_of 10 t)) (take_all most s low)
+  within : (most : ℕ) (s : List ℕ) → limit_of s ≡ most → length s ≤ most → IsPlanOf names s (Good p) → Goes names false start 1 (parts_of 10 s) (Good p)
+  within most s e low h =
+      subst (λ t. Goes names false start 1 (parts_of 10 t) (Good p)) (take_all most s low)
+      (subst (λ t. Goes names t start 1 (parts_of 10 (take most s)) (Good p)) (not_less (length s) most low)
+      (subst (λ n. Goes names (nat_lt n (length s)) start 1 (parts_of 10 (take n s)) (Good p)) e h))
+
+  whole : (most : ℕ) (s : List ℕ) → limit_of s ≡ most → length s ≤ most → Goes names false start 1 (parts_of 10 s) (Good p) → IsPlanOf names s (Good p)
+  whole most s e low h =
+      subst (λ n. Goes names (nat_lt n (length s)) start 1 (parts_of 10 (take n s)) (Good p)) (sym e)
+      (subst (λ t. Goes names t start 1 (parts_of 10 (take most s)) (Good p)) (sym (not_less (length s) most low))
+      (subst (λ t. Goes names false start 1 (parts_of 10 t) (Good p)) (sym (take_all most s low)) h))
 
   abbrev Migrates : List ℕ → Type 0
-  Migrates t = (plan_of names t ≡ Good p) × (is_version_two t ≡ true)
+  Migrates t = IsPlanOf names t (Good p) × (is_version_two t ≡ true)
 
-  pub text_moved : (text : List ℕ) → length p.buses ≤ 3 → is_version_two text ≡ false → plan_of names text ≡ Good p → Migrates (migrated_text (numbers_text m r) text)
+  pub text_moved : (text : List ℕ) → length p.buses ≤ 3 → is_version_two text ≡ false → IsPlanOf names text (Good p) → Migrates (migrated_text (numbers_text m r) text)
   text_moved text few one h = of_long (nat_lt (2 ^ 20) (length text)) refl
     where
       limit : limit_of text ≡ 2 ^ 20
@@ -303,50 +331,48 @@ module _ (names : Namespace) (m r : ℕ) (numbers : AreNumbers m r) (p : Plan) (
           let again : is_version_two text ≡ true = ap (begins_two false (2 ^ 20)) (sym (joined-parts 10 text)) ∙ two in absurd cc
       of_starts low (inr moved) =
           let made : List ℕ = migrated_text (numbers_text m r) text in
-          let whole : length (joined 10 (parts_of 10 text)) ≡ length text = ap (λ t. length {A = ℕ} t) (joined-parts 10 text) in
+          let same : length (joined 10 (parts_of 10 text)) ≡ length text = ap (λ t. length {A = ℕ} t) (joined-parts 10 text) in
           let long = moved.2 in
           let most : limit_of made ≡ 2 ^ 20 + 32 = ap (λ t. if t then 2 ^ 20 + 32 else 2 ^ 20) moved.1 in
-          let short : length made ≤ 2 ^ 20 + 32 = omega (arith, whole, long, few, low) in (
-            within (2 ^ 20 + 32) made most short
-                ∙ ap (plan_of_parts names (last_line names) start 1) (moved_parts (parts_of 10 text) (with_front-none 10 text) (parts_are_free 10 text))
-                ∙ moved.0,
+          let short : length made ≤ 2 ^ 20 + 32 = omega (arith, same, long, few, low) in (
+            whole (2 ^ 20 + 32) made most short
+                (subst (λ ps. Goes names false start 1 ps (Good p)) (sym (moved_parts (parts_of 10 text) (with_front-none 10 text) (parts_are_free 10 text))) moved.0),
             moved.1,
           )
 
       of_long : (t : Bool) → nat_lt (2 ^ 20) (length text) ≡ t → Migrates (migrated_text (numbers_text m r) text)
       of_long true e = absurd (long_never names (parts_of 10 (take (limit_of text) text)) start 1 p
-          (sym (ap (λ t. plan_of_parts names (if t then long_line else last_line names) start 1 (parts_of 10 (take (limit_of text) text)))
-          (ap (λ n. nat_lt n (length text)) limit ∙ e)) ∙ h))
+          (subst (λ t. Goes names t start 1 (parts_of 10 (take (limit_of text) text)) (Good p)) (ap (λ n. nat_lt n (length text)) limit ∙ e) h))
       of_long false e =
           let low : length text ≤ 2 ^ 20 = less_not (2 ^ 20) (length text) e in
-          let whole : length (joined 10 (parts_of 10 text)) ≡ length text = ap (λ t. length {A = ℕ} t) (joined-parts 10 text) in
-          of_starts low (begin (parts_of 10 text) (2 ^ 20) 1 (parts_are_free 10 text) (omega (arith, whole, low)) (sym (within (2 ^ 20) text limit low) ∙ h))
+          let same : length (joined 10 (parts_of 10 text)) ≡ length text = ap (λ t. length {A = ℕ} t) (joined-parts 10 text) in
+          of_starts low (begin (parts_of 10 text) (2 ^ 20) 1 (parts_are_free 10 text) (omega (arith, same, low)) (within (2 ^ 20) text limit low h))
 
 -- ---- a plan's text
 
 -- what the migrated text of a plan is
-pub migrated_good : (names : Namespace) (text : List ℕ) (p : Plan) → IsPlan p → plan_of names text ≡ Good p
-    → (plan_of names (migrated p text) ≡ Good p) × (is_version_two (migrated p text) ≡ true)
+pub migrated_good : (names : Namespace) (text : List ℕ) (p : Plan) → IsPlan p → IsPlanOf names text (Good p)
+    → IsPlanOf names (migrated p text) (Good p) × (is_version_two (migrated p text) ≡ true)
 migrated_good names text p is h = of_test (is_version_two text) refl
   where
     of_buses : (buses : List BusPlan) → p.buses ≡ buses → is_version_two text ≡ false
-        → (plan_of names (migrated_text (numbers_of p.buses) text) ≡ Good p) × (is_version_two (migrated_text (numbers_of p.buses) text) ≡ true)
+        → IsPlanOf names (migrated_text (numbers_of p.buses) text) (Good p) × (is_version_two (migrated_text (numbers_of p.buses) text) ≡ true)
     of_buses [] e one = absurd (let some : 1 ≤ length p.buses = is.some_bus in let none : length p.buses ≡ 0 = ap (λ bs. length {A = BusPlan} bs) e in omega arith)
     of_buses (b ∷ bs) e one =
         let fits : IsBus b = subst (λ c. IsBus (get_or c 0 b)) e (is.buses 0 b is.some_bus) in
-        subst (λ numbers. (plan_of names (migrated_text numbers text) ≡ Good p) × (is_version_two (migrated_text numbers text) ≡ true))
+        subst (λ numbers. IsPlanOf names (migrated_text numbers text) (Good p) × (is_version_two (migrated_text numbers text) ≡ true))
         (sym (ap numbers_of e))
         (text_moved names b.mtu b.rate (are_numbers b.mtu b.rate fits.mtu fits.some_rate fits.low_rate) p (subst (Have b.mtu b.rate) (sym e) (refl, refl)) text is.few_buses one h)
 
     of_test : (t : Bool) → is_version_two text ≡ t
-        → (plan_of names (if t then text else migrated_text (numbers_of p.buses) text) ≡ Good p) × (is_version_two (if t then text else migrated_text (numbers_of p.buses) text) ≡ true)
+        → IsPlanOf names (if t then text else migrated_text (numbers_of p.buses) text) (Good p) × (is_version_two (if t then text else migrated_text (numbers_of p.buses) text) ≡ true)
     of_test true e = (h, e)
     of_test false e = of_buses p.buses refl e
 
 -- the text that was made
-pub migrated_answer : (names : Namespace) (text numbers t : List ℕ) (p : Plan) → IsPlan p → plan_of names text ≡ Good p → is_version_two text ≡ false → numbers ≡ numbers_of p.buses
+pub migrated_answer : (names : Namespace) (text numbers t : List ℕ) (p : Plan) → IsPlan p → IsPlanOf names text (Good p) → is_version_two text ≡ false → numbers ≡ numbers_of p.buses
     → t ≡ migrated_text numbers text → IsMigrated names text t
 migrated_answer names text numbers t p is h one e f =
     let same : t ≡ migrated p text = f ∙ ap (λ n. migrated_text n text) e ∙ sym (ap (λ two. if two then text else migrated_text (numbers_of p.buses) text) one) in
     let made = migrated_good names text p is h in
-    (p, h, same, ap (plan_of names) same ∙ made.0, ap is_version_two same ∙ made.1)
+    (p, h, same, subst (λ u. IsPlanOf names u (Good p)) (sym same) made.0, ap is_version_two same ∙ made.1)

@@ -9,6 +9,7 @@ use Rattle.std.proofs.lemmas.List.Folds.{list_any_at}
 use Rattle.std.proofs.lemmas.List.Sums.{AllPass-from_list_all}
 use Rattle.std.proofs.lemmas.Str.{IsUtf8-from_ascii}
 use Rattle.node_plan.specs.Names.{is_name_byte}
+use Rattle.node_plan.specs.Registers.{is_register_byte}
 
 -- bytes that pass such a test are a text
 pub IsUtf8-from_bytes : (p : ℕ → Bool) → ((b : ℕ) → p b ≡ true → b < 128) → (s : List ℕ) → list_all p s ≡ true → IsUtf8 s
@@ -23,6 +24,13 @@ is_name_byte-ascii b h = grind (arith, nat_tests)
 -- a name's bytes are a text
 pub IsUtf8-from_name : (name : List ℕ) → list_all is_name_byte name ≡ true → IsUtf8 name
 IsUtf8-from_name name h = IsUtf8-from_bytes is_name_byte is_name_byte-ascii name h
+
+is_register_byte-ascii : (b : ℕ) → is_register_byte b ≡ true → b < 128
+is_register_byte-ascii b h = grind (arith, nat_tests)
+
+-- and those of a register's name
+pub IsUtf8-from_register : (name : List ℕ) → list_all is_register_byte name ≡ true → IsUtf8 name
+IsUtf8-from_register name h = IsUtf8-from_bytes is_register_byte is_register_byte-ascii name h
 
 pub differ : (b : Bool) → b ≡ true → b ≡ false → ⊥
 differ b t f = cc

@@ -1,7 +1,7 @@
 -- What holds of all that a line may say, by what it says.
-use Rattle.std.proofs.Common.{◌==◌, ◌&&◌, ℕ, Bool, List, Option, Some, None, length}
-use Rattle.std.specs.Prelude.{◌||◌, IfSome, codes, if◌then◌else◌, nat_lt}
-use Rattle.std.specs.Str.{bytes_eq}
+use Rattle.std.proofs.Common.{◌==◌, ◌&&◌, ℕ, Bool, true, false, List, Option, Some, None, length}
+use Rattle.std.specs.Prelude.{◌||◌, IfSome, codes, if◌then◌else◌, int_le, nat_lt, not}
+use Rattle.std.specs.Str.{bytes_eq, is_utf8}
 use Rattle.std.proofs.lemmas.Bool.{cond_both}
 use Rattle.dsdl_types.specs.declared.namespace.Namespace.{Namespace}
 use Rattle.std_types.specs.declared.node.NodeInfo.{NodeInfo}
@@ -17,12 +17,18 @@ use Rattle.node_plan.specs.declared.plan.SubShape.{SubShape}
 use Rattle.node_plan.specs.declared.plan.SubShape.TheVariants as shape
 use Rattle.node_plan.specs.declared.words.Number.{Number}
 use Rattle.node_plan.specs.declared.words.Number.TheVariants as number
+use Rattle.node_plan.specs.declared.words.Whole.{Whole}
+use Rattle.node_plan.specs.declared.words.Whole.TheVariants as whole
+use Rattle.std_types.specs.declared.register_value.RegisterValue.{RegisterValue}
+use Rattle.std_types.specs.declared.registers.Limits.{Limits}
+use Rattle.std_types.specs.declared.registers.Register.{Register}
+use Rattle.node_plan.specs.Registers.{is_register_name}
 use Rattle.node_plan.specs.Info.{info_with, is_node_name, revision_in, said_of_info, said_of_parts, said_of_version_words, unique_id_in, version_in}
-use Rattle.node_plan.specs.Line.{said_of_node, said_of_name, said_of_numbers, said_of_bus, said_of_mtu, said_of_rate, said_of_timeout, said_of_clients, said_of_queue, said_of_status, said_of_shape, said_of_sub, said_of_type, said_of_raw, said_of_one, said_of_all, said_of_four, said_of_five, said_of_many}
+use Rattle.node_plan.specs.Line.{said_of_node, said_of_name, said_of_numbers, said_of_bus, said_of_mtu, said_of_rate, said_of_timeout, said_of_clients, said_of_queue, said_of_status, said_of_shape, said_of_sub, said_of_type, said_of_raw, said_of_one, said_of_all, said_of_four, said_of_five, said_of_many, access_in, said_of_access, said_of_between, said_of_limits, said_of_named, said_of_register, said_of_serve, said_of_wholes}
 use Rattle.node_plan.specs.Names.{is_bus_name}
 use Rattle.node_plan.specs.Ports.{extent_of}
 use Rattle.node_plan.specs.Types.{shape_named}
-use Rattle.node_plan.specs.Words.{mtu_in, number_in}
+use Rattle.node_plan.specs.Words.{mtu_in, number_in, whole_in}
 
 -- a fact on what is said that holds of all but versions, nothing and buses; of a subscription where S holds of its shape
 pub record Holds (P : Said → Type 0) (S : SubShape → Type 0) : Type 0 where
@@ -39,6 +45,8 @@ pub record Holds (P : Said → Type 0) (S : SubShape → Type 0) : Type 0 where
   pub status : (s : NodeStatus) → P (said.Status s)
   pub info : (i : NodeInfo) → P (said.Info i)
   pub queue : (n : ℕ) → P (said.Queue n)
+  pub register : (r : Register) → P (said.Register r)
+  pub serve : (path : List ℕ) → P (said.Serve path)
 
 -- and of buses
 pub record HoldsOfBuses (P : Said → Type 0) : Type 0 where
@@ -105,13 +113,45 @@ module _ (P : Said → Type 0) (S : SubShape → Type 0) (h : Holds P S) where
   pub of_one : (a : List ℕ) → P (said_of_one a)
   of_one a = both (bytes_eq a (codes "silent")) said.Silent said.NoForm h.silent h.no_form
 
-  -- where it holds of a bus of version 2
+  pub of_serve : (path : List ℕ) → P (said_of_serve path)
+  of_serve path = both (length path == 0 || not (is_utf8 path)) said.NoForm (said.Serve path) h.no_form (h.serve path)
+
+  of_named : (is_name : Bool) (name : List ℕ) (mutable : Bool) (value : Option RegisterValue) → P (said_of_named is_name name mutable value)
+  of_named is_name name mutable None = h.outside
+  of_named false name mutable (Some v) = h.outside
+  of_named true name mutable (Some v) = h.register (record { name = name; mutable = mutable; value = v; limits = None })
+
+  of_access : (access : Option Bool) (name : List ℕ) (value : Option RegisterValue) → P (said_of_access access name value)
+  of_access None name value = h.no_form
+  of_access (Some mutable) name value = of_named (is_register_name name) name mutable value
+
+  pub of_register : (name access text : List ℕ) (value : Option RegisterValue) → P (said_of_register name access text value)
+  of_register name access text value =
+      both (length name == 0 || length text == 0) said.NoForm (said_of_access (access_in access) name value) h.no_form (of_access (access_in access) name value)
+
+  -- where it holds of limits
+  module _ (limited : (name : List ℕ) (limits : Limits) → P (said.Limits name limits)) where
+    of_between : (name : List ℕ) (limits : Limits) → P (said_of_between name limits)
+    of_between name limits = both (int_le limits.low limits.high && is_register_name name) (said.Limits name limits) said.Outside (limited name limits) h.outside
+
+    of_wholes : (name : List ℕ) (low high : Whole) → P (said_of_wholes name low high)
+    of_wholes name whole.NoNumber high = h.no_form
+    of_wholes name low whole.NoNumber = h.no_form
+    of_wholes name (whole.Within l) (whole.Within k) = of_between name (record { low = l; high = k })
+    of_wholes name low high = h.outside
+
+    pub of_limits : (name : List ℕ) (low high : Whole) → P (said_of_limits name low high)
+    of_limits name low high = both (length name == 0) said.NoForm (said_of_wholes name low high) h.no_form (of_wholes name low high)
+
+  -- where it holds of a bus and of limits of version 2
   pub of_four : (names : Namespace) (two : Bool) (word a b c : List ℕ) → IfSome (shape_named names c) S
-      → P (if two && bytes_eq word (codes "bus") then said_of_bus a (mtu_in b) (number_in 1 4096 c) else said.NoForm) → P (said_of_four names two word a b c)
+      → P (if two && bytes_eq word (codes "bus") then said_of_bus a (mtu_in b) (number_in 1 4096 c)
+      else (if two && bytes_eq word (codes "limits") then said_of_limits a (whole_in b) (whole_in c) else said.NoForm)) → P (said_of_four names two word a b c)
   of_four names two word a b c s bus =
       let status = said_of_status (number_in 0 3 a) (number_in 0 3 b) (number_in 0 255 c) in
       let is_status = bytes_eq word (codes "status") in
-      let from_bus = if two && bytes_eq word (codes "bus") then said_of_bus a (mtu_in b) (number_in 1 4096 c) else said.NoForm in
+      let from_bus = if two && bytes_eq word (codes "bus") then said_of_bus a (mtu_in b) (number_in 1 4096 c)
+      else (if two && bytes_eq word (codes "limits") then said_of_limits a (whole_in b) (whole_in c) else said.NoForm) in
       both (bytes_eq word (codes "sub")) (said_of_type names a b c) (if is_status then status else from_bus) (of_type names a b c s)
       (both is_status status from_bus (of_status (number_in 0 3 a) (number_in 0 3 b) (number_in 0 255 c)) bus)
 

@@ -1,6 +1,6 @@
 -- The types of a plan's subscriptions keep the rules.
-use Rattle.std.proofs.Common.{◌==◌, ◌&&◌, ◌+◌, ℕ, Bool, true, List, [], ◌∷◌, ◌++◌, Option, Some, None, length, take, subst}
-use Rattle.std.specs.Prelude.{IfOk, IfSome, Result, Ok, Err, codes, if◌then◌else◌, is_some, nat_le, nat_lt}
+use Rattle.std.proofs.Common.{◌==◌, ◌&&◌, ◌+◌, ℕ, Bool, true, false, List, [], ◌∷◌, ◌++◌, Option, Some, None, length, take, subst, sym, ◌≡◌}
+use Rattle.std.specs.Prelude.{IfOk, IfSome, Result, Ok, Err, codes, if◌then◌else◌, is_some, nat_le, nat_lt, slice_get}
 use Rattle.std.specs.List.{All}
 use Rattle.std.specs.Str.{bytes_eq}
 use Rattle.std.proofs.lemmas.Bool.{cond_both}
@@ -23,16 +23,18 @@ use Rattle.node_plan.specs.declared.plan.Plan.{Plan}
 use Rattle.node_plan.specs.declared.plan.PlanWhy.{PlanWhy}
 use Rattle.node_plan.specs.declared.plan.PlanWhy.TheVariants as why
 use Rattle.node_plan.specs.declared.plan.Sub.{Sub}
-use Rattle.node_plan.specs.Draft.{start, has_all, has_bus, has_subject, is_two, once, plan_with, with_version, with_line, step, complete}
+use Rattle.node_plan.specs.Draft.{start, has_all, has_bus, has_register, has_subject, is_two, limited, limited_at, limits_at, once, place_of, plan_with, with_version, with_line, step, complete}
 use Rattle.node_plan.specs.IsPlan.{IsShape}
 use Rattle.node_plan.specs.Laws.{PlansKeepTypeRules}
 use Rattle.node_plan.specs.Limit.{limit_of}
-use Rattle.node_plan.specs.Line.{said_of, said_of_version, said_of_bus, said_of_all, said_of_two, said_of_four, said_of_words}
-use Rattle.node_plan.specs.Plan.{PlanIs, Good, Bad, finished, followed, last_line, long_line, plan_of_parts}
+use Rattle.node_plan.specs.Line.{RegisterText, Says, SaysEither, register_in, said_of, said_of_limits, said_of_serve, said_of_value, said_of_version, said_of_bus, said_of_all, said_of_two, said_of_four, said_of_words}
+use Rattle.node_plan.specs.Plan.{PlanIs, Good, Bad, Ends, Follows, Goes, Line, finished}
+use Rattle.node_plan.specs.Registers.{can_limit}
+use Rattle.std_types.specs.declared.registers.Register.{Register}
 use Rattle.node_plan.specs.Types.{message_with, message_in, message_at}
-use Rattle.node_plan.specs.Words.{joined, mtu_in, number_in, parts_of, words_of}
+use Rattle.node_plan.specs.Words.{joined, mtu_in, number_in, parts_of, whole_in, words_of}
 use Rattle.node_plan.proofs.SaidTables as tables
-use Rattle.node_plan.proofs.SaidTables.{Holds, HoldsOfBuses, both, of_all, of_bus, of_five, of_many, of_one, of_value}
+use Rattle.node_plan.proofs.SaidTables.{Holds, HoldsOfBuses, both, of_all, of_bus, of_five, of_limits, of_many, of_one, of_register, of_serve, of_value}
 use Rattle.node_plan.proofs.TypeLemmas.{definition_rules}
 
 -- subscriptions whose types keep the rules
@@ -72,6 +74,8 @@ keeps = record {
   status = λ s. tt;
   info = λ i. tt;
   queue = λ n. tt;
+  register = λ r. tt;
+  serve = λ p. tt;
 }
 
 keeps_buses : HoldsOfBuses KeepsRules
@@ -84,15 +88,19 @@ of_version word = both KeepsRules IsShape keeps (bytes_eq word (codes "1")) (sai
 of_two : (two : Bool) (word value : List ℕ) → KeepsRules (said_of_two two word value)
 of_two two word value =
     let last = if two then said.NoForm else said_of_all word value in
-    both KeepsRules IsShape keeps (bytes_eq word (codes "plan")) (said_of_version value) _ (of_version value)
+    both KeepsRules IsShape keeps (bytes_eq word (codes "serve")) (said_of_serve value) (said_of_value two word value) (of_serve KeepsRules IsShape keeps value)
+    (both KeepsRules IsShape keeps (bytes_eq word (codes "plan")) (said_of_version value) _ (of_version value)
     (of_value KeepsRules IsShape keeps word value last
-    (both KeepsRules IsShape keeps two said.NoForm (said_of_all word value) tt (of_all KeepsRules IsShape keeps keeps_buses word value)))
+    (both KeepsRules IsShape keeps two said.NoForm (said_of_all word value) tt (of_all KeepsRules IsShape keeps keeps_buses word value))))
 
 of_four : (names : Namespace) → IsNamespace names → (two : Bool) (word a b c : List ℕ) → KeepsRules (said_of_four names two word a b c)
 of_four names h two word a b c =
     let bus = said_of_bus a (mtu_in b) (number_in 1 4096 c) in
+    let limits = said_of_limits a (whole_in b) (whole_in c) in
+    let is_limits = two && bytes_eq word (codes "limits") in
     tables.of_four KeepsRules IsShape keeps names two word a b c (shape_rules names h (type_id_of c))
-    (both KeepsRules IsShape keeps (two && bytes_eq word (codes "bus")) bus said.NoForm (of_bus KeepsRules IsShape keeps keeps_buses a (mtu_in b) (number_in 1 4096 c)) tt)
+    (both KeepsRules IsShape keeps (two && bytes_eq word (codes "bus")) bus (if is_limits then limits else said.NoForm) (of_bus KeepsRules IsShape keeps keeps_buses a (mtu_in b) (number_in 1 4096 c))
+    (both KeepsRules IsShape keeps is_limits limits said.NoForm (of_limits KeepsRules IsShape keeps (λ name l. tt) a (whole_in b) (whole_in c)) tt))
 
 of_words : (names : Namespace) → IsNamespace names → (two : Bool) (words : List (List ℕ)) → KeepsRules (said_of_words names two words)
 of_words names h two [] = tt
@@ -106,6 +114,13 @@ of_words names h two (a ∷ b ∷ c ∷ d ∷ e ∷ f ∷ more) = of_many KeepsR
 of_line : (names : Namespace) → IsNamespace names → (two : Bool) (line : List ℕ) → KeepsRules (said_of names two line)
 of_line names h two [] = tt
 of_line names h two (b ∷ s) = both KeepsRules IsShape keeps (b == 35) said.Nothing (said_of_words names two (words_of (b ∷ s))) tt (of_words names h two (words_of (b ∷ s)))
+
+of_either : (o : Option RegisterText) (p s : Said) → KeepsRules p → SaysEither o p s → KeepsRules s
+of_either None p s h e = subst KeepsRules (sym e) h
+of_either (Some w) p s h e = subst KeepsRules (sym e.2) (of_register KeepsRules IsShape keeps w.name w.access w.text e.0)
+
+of_says : (names : Namespace) → IsNamespace names → (two : Bool) (line : List ℕ) (s : Said) → Says names two line s → KeepsRules s
+of_says names h two line s w = of_either (register_in (words_of line)) (said_of names two line) s (of_line names h two line) w
 
 -- ---- the plan so far
 
@@ -152,6 +167,22 @@ of_with_line d (said.Clients n) h k = of_once (is_some d.clients) (record d { cl
 of_with_line d (said.Status s) h k = of_once (is_some d.status) (record d { status = Some s }) h
 of_with_line d (said.Info i) h k = of_once (is_some d.info) (record d { info = Some i }) h
 of_with_line d (said.Queue n) h k = of_once (is_some d.queue) (record d { queue = Some n }) h
+of_with_line d (said.Register r) h k =
+    let new = record d { registers = d.registers ++ r ∷ [] } in
+    let stands = has_register r.name d.registers in
+    either (nat_le 256 (length d.registers)) (Err why.Range) (once stands new) tt (of_once stands new h)
+of_with_line d (said.Limits name limits) h k = of_place (place_of name d.registers)
+  where
+    of_limited : (place : ℕ) (o : Option Register) → Stays (limited_at d place limits o)
+    of_limited place None = tt
+    of_limited place (Some r) =
+        let new = record d { registers = limited d.registers place limits r } in
+        either (can_limit limits r.value) (once (is_some r.limits) new) (Err why.Range) (of_once (is_some r.limits) new h) tt
+
+    of_place : (o : Option ℕ) → Stays (limits_at d limits o)
+    of_place None = tt
+    of_place (Some place) = of_limited place (slice_get d.registers place)
+of_with_line d (said.Serve path) h k = of_once (is_some d.serve) (record d { serve = Some path }) h
 
 of_behind : (d : Draft) (s : Said) → HaveRules d.subs → KeepsRules s → Stays (if is_some d.version then with_line d s else Err why.Line)
 of_behind d s h k = either (is_some d.version) (with_line d s) (Err why.Line) (of_with_line d s h k) tt
@@ -174,6 +205,9 @@ of_step d (said.Clients n) h k = of_behind d (said.Clients n) h k
 of_step d (said.Status s) h k = of_behind d (said.Status s) h k
 of_step d (said.Info i) h k = of_behind d (said.Info i) h k
 of_step d (said.Queue n) h k = of_behind d (said.Queue n) h k
+of_step d (said.Register r) h k = of_behind d (said.Register r) h k
+of_step d (said.Limits name limits) h k = of_behind d (said.Limits name limits) h k
+of_step d (said.Serve path) h k = of_behind d (said.Serve path) h k
 
 -- ---- the plan of a text
 
@@ -197,32 +231,27 @@ of_complete d (Some node) h =
 of_finished : (d : Draft) (n : ℕ) → HaveRules d.subs → IfGood (finished d n)
 of_finished d n h = if_good n (complete d) (of_complete d d.node h)
 
-of_followed : (r : Result Draft PlanWhy) (n : ℕ) (others : Draft → PlanIs) → Stays r → ((new : Draft) → HaveRules new.subs → IfGood (others new)) → IfGood (followed r n others)
-of_followed (Err e) n others h k = tt
-of_followed (Ok d) n others h k = k d h
-
 module _ (names : Namespace) (types : IsNamespace names) where
-  -- what is made of the part behind the last newline
-  abbrev Last : Type 0
-  Last = Draft → ℕ → List ℕ → PlanIs
+  of_follows : (r : Result Draft PlanWhy) (n : ℕ) (Others : Draft → PlanIs → Type 0) (is : PlanIs) → Stays r → ((new : Draft) → HaveRules new.subs → Others new is → IfGood is) → Follows r n Others is → IfGood is
+  of_follows (Err e) n Others is h k f = subst IfGood (sym f) tt
+  of_follows (Ok d) n Others is h k f = k d h f
 
-  abbrev KeepsAtEnd : Last → Type 0
-  KeepsAtEnd last = (d : Draft) (n : ℕ) (part : List ℕ) → HaveRules d.subs → IfGood (last d n part)
+  of_read : (d : Draft) (n : ℕ) (line : List ℕ) (Others : Draft → PlanIs → Type 0) (is : PlanIs) → HaveRules d.subs → ((new : Draft) → HaveRules new.subs → Others new is → IfGood is) → Line names d n line Others is → IfGood is
+  of_read d n line Others is h k t =
+      of_follows (step d t.0) n Others is (of_step d t.0 h (of_says names types (is_two d.version) line t.0 t.1)) k t.2
 
-  of_last : KeepsAtEnd (last_line names)
-  of_last d n [] h = of_finished d n h
-  of_last d n (b ∷ s) h = of_followed (step d (said_of names (is_two d.version) (b ∷ s))) n (λ new. finished new (n + 1)) (of_step d (said_of names (is_two d.version) (b ∷ s)) h (of_line names types (is_two d.version) (b ∷ s))) (λ new g. of_finished new (n + 1) g)
+  of_end : (is_long : Bool) (d : Draft) (n : ℕ) (part : List ℕ) (is : PlanIs) → HaveRules d.subs → Ends names is_long d n part is → IfGood is
+  of_end true d n part is h e = subst IfGood (sym e) tt
+  of_end false d n [] is h e = subst IfGood (sym e) (of_finished d n h)
+  of_end false d n (b ∷ s) is h e =
+      of_read d n (b ∷ s) (λ new is. is ≡ finished new (n + 1)) is h (λ new g e. subst IfGood (sym e) (of_finished new (n + 1) g)) e
 
-  of_parts : (last : Last) → KeepsAtEnd last → (d : Draft) (n : ℕ) (parts : List (List ℕ)) → HaveRules d.subs → IfGood (plan_of_parts names last d n parts)
-  of_parts last keeps d n [] h = keeps d n [] h
-  of_parts last keeps d n (part ∷ []) h = keeps d n part h
-  of_parts last keeps d n (line ∷ part ∷ parts) h =
-      of_followed (step d (said_of names (is_two d.version) line)) n (λ new. plan_of_parts names last new (n + 1) (part ∷ parts)) (of_step d (said_of names (is_two d.version) line) h (of_line names types (is_two d.version) line))
-      (λ new g. of_parts last keeps new (n + 1) (part ∷ parts) g)
+  of_parts : (is_long : Bool) (d : Draft) (n : ℕ) (parts : List (List ℕ)) (is : PlanIs) → HaveRules d.subs → Goes names is_long d n parts is → IfGood is
+  of_parts is_long d n [] is h g = of_end is_long d n [] is h g
+  of_parts is_long d n (part ∷ []) is h g = of_end is_long d n part is h g
+  of_parts is_long d n (line ∷ part ∷ parts) is h g =
+      of_read d n line (λ new is. Goes names is_long new (n + 1) (part ∷ parts) is) is h (λ new k t. of_parts is_long new (n + 1) (part ∷ parts) is k t) g
 
 pub plans_keep_type_rules : PlansKeepTypeRules
-plans_keep_type_rules names text plan types e =
-    let is_long = nat_lt (limit_of text) (length text) in
-    subst IfGood e
-    (of_parts names types (if is_long then long_line else last_line names) (cond_both is_long long_line (last_line names) (KeepsAtEnd names types) (λ _ d n part h. tt) (λ _. of_last names types)) start 1
-    (parts_of 10 (take (limit_of text) text)) (All-nil (λ sub. IsShape sub.shape)))
+plans_keep_type_rules names text plan types g =
+    of_parts names types (nat_lt (limit_of text) (length text)) start 1 (parts_of 10 (take (limit_of text) text)) (Good plan) (All-nil (λ sub. IsShape sub.shape)) g

@@ -1,6 +1,6 @@
 -- The plan as far as its lines were read, and what a line makes of it.
-use Rattle.std.specs.Prelude.{ℕ, Bool, true, false, List, [], ◌∷◌, ◌++◌, ◌==◌, ◌&&◌, Option, None, Some, Result, Ok, Err, if◌then◌else◌, is_some, length, map, nat_le, nat_lt, unwrap_or}
-use Rattle.std.specs.List.{list_any}
+use Rattle.std.specs.Prelude.{ℕ, Bool, true, false, List, [], ◌∷◌, ◌++◌, ◌==◌, ◌&&◌, Option, None, Some, Result, Ok, Err, if◌then◌else◌, is_some, length, map, nat_le, nat_lt, set, slice_get, unwrap_or}
+use Rattle.std.specs.List.{list_any, position}
 use Rattle.std.specs.Str.{bytes_eq}
 use Rattle.node_plan.specs.declared.draft.Draft.{Draft}
 use Rattle.node_plan.specs.declared.line.PlanVersion.{PlanVersion}
@@ -14,6 +14,9 @@ use Rattle.node_plan.specs.declared.plan.PlanWhy.{PlanWhy}
 use Rattle.node_plan.specs.declared.plan.PlanWhy.TheVariants as why
 use Rattle.node_plan.specs.declared.plan.Sub.{Sub}
 use Rattle.node_plan.specs.Info.{blank_info}
+use Rattle.node_plan.specs.Registers.{can_limit}
+use Rattle.std_types.specs.declared.registers.Limits.{Limits}
+use Rattle.std_types.specs.declared.registers.Register.{Register}
 
 -- no line yet
 abbrev pub start : Draft
@@ -29,6 +32,7 @@ start = record {
   clients = None;
   status = None;
   info = None;
+  registers = [];
   queue = None;
 }
 
@@ -72,6 +76,39 @@ abbrev pub without_type : Draft → ℕ → PlanWhy → Result Draft PlanWhy
 without_type d port cause = if nat_le 64 (length d.subs) then Err why.Range
     else (if has_subject port d.subs then Err why.Repeated else Err cause)
 
+-- whether a register has this name
+abbrev pub has_register : List ℕ → List Register → Bool
+has_register name registers = list_any (λ r. bytes_eq r.name name) registers
+
+-- the place of the register with this name, if any
+abbrev pub place_of : List ℕ → List Register → Option ℕ
+place_of name registers = position (λ r. bytes_eq r.name name) registers
+
+-- a register behind the others, of which there are at most 256
+abbrev pub with_register : Draft → Register → Result Draft PlanWhy
+with_register d r = if nat_le 256 (length d.registers) then Err why.Range
+    else once (has_register r.name d.registers) (record d { registers = d.registers ++ r ∷ [] })
+
+-- a register at a place, with these limits
+abbrev pub limited : List Register → ℕ → Limits → Register → List Register
+limited registers place limits r = set registers place (record r { limits = Some limits })
+
+-- limits of the register at a place, which keeps its value within them and had none
+abbrev pub limited_at : Draft → ℕ → Limits → Option Register → Result Draft PlanWhy
+limited_at d place limits None = Err why.Range
+limited_at d place limits (Some r) = if can_limit limits r.value
+    then once (is_some r.limits) (record d { registers = limited d.registers place limits r })
+    else Err why.Range
+
+-- limits of the register at a place, if any
+abbrev pub limits_at : Draft → Limits → Option ℕ → Result Draft PlanWhy
+limits_at d limits None = Err why.Range
+limits_at d limits (Some place) = limited_at d place limits (slice_get d.registers place)
+
+-- limits of a register of an earlier line
+abbrev pub with_limits : Draft → List ℕ → Limits → Result Draft PlanWhy
+with_limits d name limits = limits_at d limits (place_of name d.registers)
+
 -- a line behind that of the version: range comes before repetition, that before an unknown type,
 -- and that before the range of a type's extent
 abbrev pub with_line : Draft → Said → Result Draft PlanWhy
@@ -88,6 +125,8 @@ with_line d (said.Clients n) = once (is_some d.clients) (record d { clients = So
 with_line d (said.Status status) = once (is_some d.status) (record d { status = Some status })
 with_line d (said.Info info) = once (is_some d.info) (record d { info = Some info })
 with_line d (said.Queue n) = once (is_some d.queue) (record d { queue = Some n })
+with_line d (said.Register r) = with_register d r
+with_line d (said.Limits name limits) = with_limits d name limits
 with_line d other = Err why.Range
 
 -- a line: that of the version is the first that says something
@@ -120,6 +159,7 @@ plan_with d node = record {
   clients = unwrap_or d.clients 4;
   status = unwrap_or d.status no_status;
   info = unwrap_or d.info blank_info;
+  registers = d.registers;
   queue = unwrap_or d.queue 64;
 }
 

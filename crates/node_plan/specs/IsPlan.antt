@@ -13,6 +13,7 @@ use Rattle.std_types.specs.declared.node.NodeInfo.{NodeInfo}
 use Rattle.node_plan.specs.declared.plan.NodeStatus.{NodeStatus}
 use Rattle.node_plan.specs.Ports.{extent_of}
 use Rattle.node_plan.specs.Names.{is_bus_name}
+use Rattle.node_plan.specs.Registers.{IsRegister}
 
 -- frames carry at most 8 bytes, or 64
 abbrev pub IsMtu : ℕ → Type 0
@@ -57,7 +58,7 @@ pub record IsSub (sub : Sub) : Type 0 where
   pub shape : IsShape sub.shape
   pub extent : extent_of sub.shape ≤ 65536
 
--- a plan in its ranges, which names no bus and no subject twice
+-- a plan in its ranges, which names no bus, no subject and no register twice
 pub record IsPlan (plan : Plan) : Type 0 where
   pub node : plan.node < 128
   pub some_bus : 1 ≤ length plan.buses
@@ -73,6 +74,9 @@ pub record IsPlan (plan : Plan) : Type 0 where
   pub few_clients : plan.clients ≤ 128
   pub status : IsStatus plan.status
   pub info : IsInfo plan.info
+  pub few_registers : length plan.registers ≤ 256
+  pub registers : All IsRegister plan.registers
+  pub register_names : AllPairs (λ a b. a.name ≢ b.name) plan.registers
   pub some_place : 1 ≤ plan.queue
   pub few_places : plan.queue ≤ 4096
 
@@ -91,6 +95,9 @@ pub record IsDraft (draft : Draft) : Type 0 where
   pub clients : ForSome draft.clients (λ n. (1 ≤ n) × (n ≤ 128))
   pub status : ForSome draft.status IsStatus
   pub info : ForSome draft.info IsInfo
+  pub few_registers : length draft.registers ≤ 256
+  pub registers : All IsRegister draft.registers
+  pub register_names : AllPairs (λ a b. a.name ≢ b.name) draft.registers
   pub queue : ForSome draft.queue (λ n. (1 ≤ n) × (n ≤ 4096))
 
 -- the types of a plan's subscriptions keep the rules

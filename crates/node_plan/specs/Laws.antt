@@ -4,14 +4,25 @@ use Rattle.dsdl_types.specs.Definitions.{IsNamespace}
 use Rattle.dsdl_types.specs.declared.namespace.Namespace.{Namespace}
 use Rattle.node_plan.specs.IsPlan.{IsPlan, TypesKeepRules}
 use Rattle.node_plan.specs.Ports.{Differ, IsPort, ports}
-use Rattle.node_plan.specs.Plan.{Good, plan_of}
+use Rattle.node_plan.specs.PlainPlan.{plan_of}
+use Rattle.node_plan.specs.Plan.{Good, IsPlanOf, PlanIs}
 use Rattle.node_plan.specs.declared.plan.Plan.{Plan}
 
 -- its types keep the rules, where those of the namespace do
 abbrev pub PlansKeepTypeRules : Type 0
 PlansKeepTypeRules =
     (names : Namespace) (text : List ℕ) (plan : Plan) → IsNamespace names
-    → plan_of names text ≡ Good plan → TypesKeepRules plan
+    → IsPlanOf names text (Good plan) → TypesKeepRules plan
+
+-- a text has one meaning
+abbrev pub OnePlan : Type 0
+OnePlan = (names : Namespace) (text : List ℕ) (is also : PlanIs)
+    → IsPlanOf names text is → IsPlanOf names text also → is ≡ also
+
+-- where a plan is worked out of a text without registers, it is that text's
+abbrev pub PlainPlans : Type 0
+PlainPlans = (names : Namespace) (text : List ℕ) (plan : Plan)
+    → plan_of names text ≡ Good plan → IsPlanOf names text (Good plan)
 
 -- its ports are in their ranges
 abbrev pub PortsFit : Type 0

@@ -2,10 +2,12 @@ pub mod Words
 pub mod Names
 pub mod Types
 pub mod Info
+pub mod Registers
 pub mod Line
 pub mod Limit
 pub mod Draft
 pub mod Plan
+pub mod PlainPlan
 pub mod Migrate
 pub mod Answers
 pub mod IsPlan

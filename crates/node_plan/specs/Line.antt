@@ -1,5 +1,5 @@
 -- What a line of a plan says.
-use Rattle.std.specs.Prelude.{ℕ, Bool, List, [], ◌∷◌, ◌==◌, ◌&&◌, ◌≤◌, ◌<◌, Option, Some, None, if◌then◌else◌, length, codes, nat_lt}
+use Rattle.std.specs.Prelude.{◌≡◌, ℕ, Bool, true, false, List, [], ◌∷◌, ◌==◌, ◌&&◌, ◌||◌, ◌≤◌, ◌<◌, Option, Some, None, if◌then◌else◌, int_le, length, codes, nat_lt}
 use Rattle.std.specs.Str.{bytes_eq}
 use Rattle.dsdl_types.specs.declared.namespace.Namespace.{Namespace}
 use Rattle.node_plan.specs.declared.line.PlanVersion.TheVariants as version
@@ -9,12 +9,17 @@ use Rattle.node_plan.specs.declared.plan.SubShape.{SubShape}
 use Rattle.node_plan.specs.declared.plan.SubShape.TheVariants as shape
 use Rattle.node_plan.specs.declared.words.Number.{Number}
 use Rattle.node_plan.specs.declared.words.Number.TheVariants as number
+use Rattle.node_plan.specs.declared.words.Whole.{Whole}
+use Rattle.node_plan.specs.declared.words.Whole.TheVariants as whole
 use Rattle.node_plan.specs.Info.{said_of_info, version_in}
 use Rattle.node_plan.specs.IsPlan.{IsBus, IsInfo, IsMtu, IsRate, IsStatus, IsSub}
 use Rattle.node_plan.specs.Names.{is_bus_name}
 use Rattle.node_plan.specs.Ports.{extent_of}
+use Rattle.node_plan.specs.Registers.{IsRegister, Reads, is_register_name}
 use Rattle.node_plan.specs.Types.{shape_named}
-use Rattle.node_plan.specs.Words.{joined, mtu_in, number_in, words_of}
+use Rattle.node_plan.specs.Words.{joined, mtu_in, number_in, whole_in, words_of}
+use Rattle.std_types.specs.declared.register_value.RegisterValue.{RegisterValue}
+use Rattle.std_types.specs.declared.registers.Limits.{Limits}
 
 -- `plan 1` and `plan 2`: there is no other version
 abbrev pub said_of_version : List ℕ → Said
@@ -122,6 +127,24 @@ said_of_all word value =
     else (if bytes_eq word (codes "rate") then said_of_rate (number_in 1 4096 value)
     else said.NoForm))
 
+-- limits of a register with a name: the least number isn't above the greatest
+abbrev pub said_of_between : List ℕ → Limits → Said
+said_of_between name limits = if int_le limits.low limits.high && is_register_name name
+    then said.Limits name limits else said.Outside
+
+-- the numbers of limits
+abbrev pub said_of_wholes : List ℕ → Whole → Whole → Said
+said_of_wholes name whole.NoNumber high = said.NoForm
+said_of_wholes name low whole.NoNumber = said.NoForm
+said_of_wholes name (whole.Within l) (whole.Within h) =
+    said_of_between name (record { low = l; high = h })
+said_of_wholes name low high = said.Outside
+
+-- `limits NAME LOW HIGH`; an empty word is no name
+abbrev pub said_of_limits : List ℕ → Whole → Whole → Said
+said_of_limits name low high =
+    if length name == 0 then said.NoForm else said_of_wholes name low high
+
 -- a word and what it sets
 abbrev pub said_of_two : Bool → List ℕ → List ℕ → Said
 said_of_two two word value =
@@ -132,7 +155,7 @@ said_of_two two word value =
     else (if bytes_eq word (codes "queue") then said_of_queue (number_in 1 4096 value)
     else (if two then said.NoForm else said_of_all word value)))))
 
--- a subscription to a type, a status, and a bus of version 2
+-- a subscription to a type, a status, and a bus and limits of version 2
 abbrev pub said_of_four : Namespace → Bool → List ℕ → List ℕ → List ℕ → List ℕ → Said
 said_of_four names two word a b c =
     if bytes_eq word (codes "sub") then said_of_type names a b c
@@ -140,7 +163,9 @@ said_of_four names two word a b c =
     then said_of_status (number_in 0 3 a) (number_in 0 3 b) (number_in 0 255 c)
     else (if two && bytes_eq word (codes "bus")
     then said_of_bus a (mtu_in b) (number_in 1 4096 c)
-    else said.NoForm))
+    else (if two && bytes_eq word (codes "limits")
+    then said_of_limits a (whole_in b) (whole_in c)
+    else said.NoForm)))
 
 -- a subscription to bytes
 abbrev pub said_of_five : List ℕ → List ℕ → List ℕ → List ℕ → List ℕ → Said
@@ -168,11 +193,60 @@ said_of_words names two (a ∷ b ∷ c ∷ d ∷ e ∷ f ∷ more) =
     said_of_many a b c d e (joined 32 (f ∷ more))
 said_of_words names two words = said.NoForm
 
--- a line, of version 2 or not; an empty line says nothing, and none that begins with `#`
+-- a line that says no register, of version 2 or not; an empty line says nothing, and none that
+-- begins with `#`
 abbrev pub said_of : Namespace → Bool → List ℕ → Said
 said_of names two [] = said.Nothing
 said_of names two (b ∷ s) = if b == 35 then said.Nothing
     else said_of_words names two (words_of (b ∷ s))
+
+-- the words behind `register`; the text of the value is all that stands behind the others
+pub record RegisterText : Type 0 where
+  pub name : List ℕ
+  pub access : List ℕ
+  pub text : List ℕ
+
+-- a register's line has four words or more
+abbrev pub register_in : List (List ℕ) → Option RegisterText
+register_in (word ∷ name ∷ access ∷ first ∷ more) = if bytes_eq word (codes "register")
+    then Some (record { name = name; access = access; text = joined 32 (first ∷ more) }) else None
+register_in words = None
+
+-- `rw` and `ro`: whether others can write the register
+abbrev pub access_in : List ℕ → Option Bool
+access_in word = if bytes_eq word (codes "rw") then Some true
+    else (if bytes_eq word (codes "ro") then Some false else None)
+
+-- a register with a name and an access, where the text is that of this value, if any
+abbrev pub said_of_named : Bool → List ℕ → Bool → Option RegisterValue → Said
+said_of_named is_name name mutable None = said.Outside
+said_of_named false name mutable value = said.Outside
+said_of_named true name mutable (Some value) =
+    said.Register (record { name = name; mutable = mutable; value = value; limits = None })
+
+-- an access, if any
+abbrev pub said_of_access : Option Bool → List ℕ → Option RegisterValue → Said
+said_of_access None name value = said.NoForm
+said_of_access (Some mutable) name value = said_of_named (is_register_name name) name mutable value
+
+-- `register NAME rw VALUE` or `ro`, where VALUE is the text of this value, if any; no word is empty
+abbrev pub said_of_register : List ℕ → List ℕ → List ℕ → Option RegisterValue → Said
+said_of_register name access text value = if length name == 0 || length text == 0 then said.NoForm
+    else said_of_access (access_in access) name value
+
+-- what a register's line says: there is a value of which VALUE is the text, or there is none
+abbrev pub SaysRegister : RegisterText → Said → Type 0
+SaysRegister words said = (value : Option RegisterValue) × Reads words.text value
+    × (said ≡ said_of_register words.name words.access words.text value)
+
+-- what a line says, by the words of a register, if any, and what it says otherwise
+abbrev pub SaysEither : Option RegisterText → Said → Said → Type 0
+SaysEither None plain said = said ≡ plain
+SaysEither (Some words) plain said = SaysRegister words said
+
+-- what a line says, of version 2 or not
+abbrev pub Says : Namespace → Bool → List ℕ → Said → Type 0
+Says names two line = SaysEither (register_in (words_of line)) (said_of names two line)
 
 -- what is said lies in its ranges
 abbrev pub IsSaid : Said → Type 0
@@ -186,4 +260,5 @@ IsSaid (said.Clients n) = (1 ≤ n) × (n ≤ 128)
 IsSaid (said.Status status) = IsStatus status
 IsSaid (said.Info info) = IsInfo info
 IsSaid (said.Queue n) = (1 ≤ n) × (n ≤ 4096)
+IsSaid (said.Register r) = IsRegister r
 IsSaid other = Unit {0}

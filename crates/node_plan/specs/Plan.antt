@@ -1,12 +1,14 @@
--- The plan of a text.
-use Rattle.std.specs.Prelude.{ℕ, List, [], ◌∷◌, ◌+◌, Option, None, Some, Result, Ok, Err, if◌then◌else◌, length, nat_lt, take}
+-- The plan of a text. A value's text is what is printed of it, and no function reads one; so what a
+-- plan's text says is a relation.
+use Rattle.std.specs.Prelude.{◌≡◌, ℕ, Bool, true, false, List, [], ◌∷◌, ◌+◌, Option, None, Some, Result, Ok, Err, length, nat_lt, take}
 use Rattle.dsdl_types.specs.declared.namespace.Namespace.{Namespace}
 use Rattle.node_plan.specs.declared.draft.Draft.{Draft}
+use Rattle.node_plan.specs.declared.line.Said.{Said}
 use Rattle.node_plan.specs.declared.plan.Plan.{Plan}
 use Rattle.node_plan.specs.declared.plan.PlanWhy.{PlanWhy}
 use Rattle.node_plan.specs.declared.plan.PlanWhy.TheVariants as why
 use Rattle.node_plan.specs.Words.{parts_of}
-use Rattle.node_plan.specs.Line.{said_of}
+use Rattle.node_plan.specs.Line.{Says}
 use Rattle.node_plan.specs.Draft.{start, step, complete, is_two}
 use Rattle.node_plan.specs.Limit.{limit_of}
 
@@ -23,37 +25,35 @@ finished d n = of_plan (complete d)
     of_plan None = Bad n why.Line
     of_plan (Some plan) = Good plan
 
--- a line with the number n, and then the others
-abbrev pub followed : Result Draft PlanWhy → ℕ → (Draft → PlanIs) → PlanIs
-followed (Err e) n others = Bad n e
-followed (Ok d) n others = others d
+-- what a line with the number n made of a draft, and then the others
+abbrev pub Follows : Result Draft PlanWhy → ℕ → (Draft → PlanIs → Type 0) → PlanIs → Type 0
+Follows (Err e) n Others is = is ≡ Bad n e
+Follows (Ok d) n Others is = Others d is
 
--- what stands behind the last newline is a line where it isn't empty
-abbrev pub last_line : Namespace → Draft → ℕ → List ℕ → PlanIs
-last_line names d n [] = finished d n
-last_line names d n (b ∷ s) =
-    followed (step d (said_of names (is_two d.version) (b ∷ s))) n (λ new. finished new (n + 1))
+-- what a line with the number n says, and then the others
+abbrev pub Line : Namespace → Draft → ℕ → List ℕ → (Draft → PlanIs → Type 0) → PlanIs → Type 0
+Line names d n line Others is =
+    (said : Said) × Says names (is_two d.version) line said × Follows (step d said) n Others is
 
--- a line that reaches past the greatest number of bytes
-abbrev pub long_line : Draft → ℕ → List ℕ → PlanIs
-long_line d n part = Bad n why.Line
+-- What stands behind the last newline is a line where it isn't empty; it is refused where it
+-- reaches past the greatest number of bytes.
+abbrev pub Ends : Namespace → Bool → Draft → ℕ → List ℕ → PlanIs → Type 0
+Ends names true d n part is = is ≡ Bad n why.Line
+Ends names false d n [] is = is ≡ finished d n
+Ends names false d n (b ∷ s) is = Line names d n (b ∷ s) (λ new is. is ≡ finished new (n + 1)) is
 
--- the parts between newlines are lines from the number n on, and `last` says what is made of the
--- part behind them
-abbrev pub plan_of_parts : Namespace → (Draft → ℕ → List ℕ → PlanIs) → Draft → ℕ
-    → List (List ℕ) → PlanIs
-plan_of_parts names last d n [] = last d n []
-plan_of_parts names last d n (part ∷ []) = last d n part
-plan_of_parts names last d n (line ∷ part ∷ parts) =
-    followed (step d (said_of names (is_two d.version) line)) n
-    (λ new. plan_of_parts names last new (n + 1) (part ∷ parts))
+-- the parts between newlines are lines from the number n on, of a text that is too long or not
+abbrev pub Goes : Namespace → Bool → Draft → ℕ → List (List ℕ) → PlanIs → Type 0
+Goes names is_long d n [] is = Ends names is_long d n [] is
+Goes names is_long d n (part ∷ []) is = Ends names is_long d n part is
+Goes names is_long d n (line ∷ part ∷ parts) is =
+    Line names d n line (λ new is. Goes names is_long new (n + 1) (part ∷ parts) is) is
 
 -- the plan of a text of which so many bytes count
-abbrev pub plan_within : Namespace → ℕ → List ℕ → PlanIs
-plan_within names most text =
-    plan_of_parts names (if nat_lt most (length text) then long_line else last_line names) start 1
-    (parts_of 10 (take most text))
+abbrev pub IsPlanWithin : Namespace → ℕ → List ℕ → PlanIs → Type 0
+IsPlanWithin names most text =
+    Goes names (nat_lt most (length text)) start 1 (parts_of 10 (take most text))
 
 -- the plan of a text, with the types of a namespace
-abbrev pub plan_of : Namespace → List ℕ → PlanIs
-plan_of names text = plan_within names (limit_of text) text
+abbrev pub IsPlanOf : Namespace → List ℕ → PlanIs → Type 0
+IsPlanOf names text = IsPlanWithin names (limit_of text) text

@@ -9,6 +9,7 @@ use Rattle.dsdl_types.specs.Views.{sch}
 use Rattle.std_types.specs.Types.{schema_of}
 use Rattle.std_types.specs.declared.std_name.StdName.{StdName}
 use Rattle.std_types.specs.declared.std_name.StdName.TheVariants as N
+use Rattle.std_types.specs.declared.registers.Register.{Register}
 use Rattle.node_plan.specs.declared.plan.Plan.{Plan}
 use Rattle.node_plan.specs.declared.plan.Sub.{Sub}
 use Rattle.node_plan.specs.declared.plan.SubShape.{SubShape}
@@ -43,17 +44,33 @@ port_of_sub s = record {
   type = type_in s.shape;
 }
 
--- `uavcan.node.GetInfo` for so many clients
-abbrev pub get_info : ℕ → Service
-get_info clients = record { port = 430; sources = clients; request = N.NodeInfoRequest }
+-- a service of this number for the clients of a plan
+abbrev pub service : Plan → ℕ → StdName → Service
+service plan port request = record { port = port; sources = plan.clients; request = request }
+
+-- `uavcan.node.GetInfo`, unless the node is silent
+abbrev pub status_services : Plan → List Service
+status_services plan = if plan.silent then [] else service plan 430 N.NodeInfoRequest ∷ []
+
+-- `uavcan.register.Access` and `List`, where there is a register
+abbrev pub register_services : Plan → List Service
+register_services plan = of_registers plan.registers
+  where
+    of_registers : List Register → List Service
+    of_registers [] = []
+    of_registers (r ∷ rs) = service plan 384 N.AccessRequest ∷ service plan 385 N.ListRequest ∷ []
 
 -- the services that a node answers
 abbrev pub services : Plan → List Service
-services plan = if plan.silent then [] else get_info plan.clients ∷ []
+services plan = status_services plan ++ register_services plan
+
+-- the extent of a standard type in bytes
+abbrev pub bytes_of : StdName → ℕ
+bytes_of name = S.extent_of (schema_of name) / 8
 
 -- the extent of a service's requests in bytes
 abbrev pub service_extent : Service → ℕ
-service_extent s = S.extent_of (schema_of s.request) / 8
+service_extent s = bytes_of s.request
 
 -- the port of a service's requests
 abbrev pub port_of_service : Service → PlanPort
@@ -71,7 +88,10 @@ ports plan = map port_of_sub plan.subs ++ map port_of_service (services plan)
 
 -- the types of the requests of the services that a node answers
 abbrev pub IsRequest : StdName → Type 0
-IsRequest name = name ≡ N.NodeInfoRequest
+IsRequest N.NodeInfoRequest = Unit {0}
+IsRequest N.AccessRequest = Unit {0}
+IsRequest N.ListRequest = Unit {0}
+IsRequest other = ⊥
 
 -- a service in its ranges
 pub record IsService (s : Service) : Type 0 where

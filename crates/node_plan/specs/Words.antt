@@ -1,7 +1,9 @@
 -- Lines, words and numbers of a text.
-use Rattle.std.specs.Prelude.{◌≡◌, ◌⊎◌, ℕ, List, [], ◌∷◌, ◌++◌, ◌+◌, ◌*◌, ◌-◌, ◌≤◌, ◌==◌, ◌||◌, Option, Some, None, if◌then◌else◌, nat_lt}
+use Rattle.std.specs.Prelude.{◌≡◌, ◌⊎◌, ℕ, pos, neg_ℤ, ◌^◌, List, [], ◌∷◌, ◌++◌, ◌+◌, ◌*◌, ◌-◌, ◌≤◌, ◌==◌, ◌||◌, Option, Some, None, if◌then◌else◌, nat_lt}
 use Rattle.node_plan.specs.declared.words.Number.{Number}
 use Rattle.node_plan.specs.declared.words.Number.TheVariants as number
+use Rattle.node_plan.specs.declared.words.Whole.{Whole}
+use Rattle.node_plan.specs.declared.words.Whole.TheVariants as whole
 
 -- a byte in front of the first part
 abbrev pub with_first : ℕ → List (List ℕ) → List (List ℕ)
@@ -43,6 +45,23 @@ number_in low high word = ranged low high (number_of word)
 abbrev pub IsWithin : ℕ → ℕ → Number → Type 0
 IsWithin low high (number.Within n) = (low ≤ n) × (n ≤ high)
 IsWithin low high other = Unit {0}
+
+-- a number with a `-` in front, and one without
+abbrev pub below : Number → Whole
+below number.NoNumber = whole.NoNumber
+below number.Outside = whole.Outside
+below (number.Within n) = whole.Within (neg_ℤ (pos n))
+
+abbrev pub above : Number → Whole
+above number.NoNumber = whole.NoNumber
+above number.Outside = whole.Outside
+above (number.Within n) = whole.Within (pos n)
+
+-- a word, where a whole number from -2^63 to 2^64 - 1 stands
+abbrev pub whole_in : List ℕ → Whole
+whole_in [] = whole.NoNumber
+whole_in (b ∷ s) = if b == 45 then below (ranged 0 (2 ^ 63) (number_of s))
+    else above (ranged 0 (2 ^ 64 - 1) (number_of (b ∷ s)))
 
 -- a number, where an MTU stands: 8 or 64
 abbrev pub mtu_of : Number → Number

@@ -1,18 +1,24 @@
 //! The plan as far as its lines were read.
-ghost use Rattle.std.specs.Prelude.{◌≡◌, map, unwrap_or};
+ghost use Rattle.std.specs.Prelude.{◌≡◌, ◌<◌, Some, length, map, slice_get, unwrap_or};
+ghost use Rattle.std_types.specs.declared.registers.Register.{Register as Held};
 ghost use Rattle.node_plan.specs.Info.{blank_info};
-ghost use Rattle.node_plan.specs.Draft.{has_bus, has_subject, on_bus};
+ghost use Rattle.node_plan.specs.Draft.{has_bus, has_register, has_subject, limited, on_bus, place_of};
 
 use crate::info::blank_info;
 use crate::line::{PlanVersion, Said};
 use crate::plan::{BusPlan, NodeStatus, Plan, PlanError, PlanWhy, Sub};
-use cy_bits::{BusName, List, ShortList};
+use crate::registers::can_limit;
+use cy_bits::{BusName, List, ShortList, Text};
 use std::alloc::Global;
+use std::mem::replace;
 use std_types::node::NodeInfo;
+use std_types::registers::{Limits, Register};
 
 const MAX_BUSES: usize = 3;
 
 const MAX_SUBS: usize = 64;
+
+const MAX_REGISTERS: usize = 256;
 
 /// The status of a node of which nothing is said.
 const NO_STATUS: NodeStatus = NodeStatus {
@@ -38,15 +44,17 @@ pub struct Draft {
     pub clients: Option<u16>,
     pub status: Option<NodeStatus>,
     pub info: Option<NodeInfo>,
+    pub registers: List<Register>,
     pub queue: Option<u32>,
 }
 
 impl Draft {
-    ghost use Rattle.std.specs.Prelude.{◌≡◌, ◌<◌, ◌≤◌, Err, IfSome};
+    ghost use Rattle.std.specs.Prelude.{◌≡◌, ◌<◌, ◌≤◌, Err, IfSome, length};
     ghost use Rattle.node_plan.specs.Answers.{IsStep};
-    ghost use Rattle.node_plan.specs.Draft.{start, complete, is_two, plan_with, without_type, with_line, step};
+    ghost use Rattle.node_plan.specs.Draft.{start, complete, is_two, plan_with, without_type, with_limits, with_line, step};
     ghost use Rattle.node_plan.specs.IsPlan.{IsBus, IsDraft, IsInfo, IsMtu, IsPlan, IsRate, IsStatus, IsSub};
     ghost use Rattle.node_plan.specs.Line.{IsSaid};
+    ghost use Rattle.node_plan.specs.Registers.{IsRegister};
 
     /// Nothing was said yet.
     pub fn new(alloc: Global) -> Draft
@@ -65,6 +73,7 @@ impl Draft {
             clients: None,
             status: None,
             info: None,
+            registers: List::empty(alloc),
             queue: None,
         }
     }
@@ -254,6 +263,50 @@ impl Draft {
         }
     }
 
+    fn add_register(&mut self, n: u32, register: Register) -> Result<(), PlanError>
+        requires sound { IsDraft self.old }
+        requires fits { IsRegister register }
+        ensures value { IsStep (with_line self.old (Said.Register register)) n self.new result }
+        ensures sound { IsDraft self.new }
+    {
+        if self.registers.len() >= MAX_REGISTERS {
+            return Err(out_of_range(n));
+        }
+        if has_register(self.registers.as_slice(), &register.name) {
+            return Err(repeated(n));
+        }
+        match self.registers.push(register) {
+            Ok(()) => Ok(()),
+            Err(_) => Err(PlanError::NoMemory),
+        }
+    }
+
+    /// Keeps a register within limits, where a line before named it.
+    fn set_limits(
+        &mut self,
+        alloc: Global,
+        n: u32,
+        name: &Text,
+        limits: Limits,
+    ) -> Result<(), PlanError>
+        requires sound { IsDraft self.old }
+        ensures value { IsStep (with_limits self.old name.now limits) n self.new result }
+        ensures sound { IsDraft self.new }
+    {
+        let Some(place) = place_of(self.registers.as_slice(), name.as_str().as_bytes()) else {
+            return Err(out_of_range(n));
+        };
+        let register = &self.registers.as_slice()[place];
+        if !can_limit(limits, &register.value) {
+            return Err(out_of_range(n));
+        }
+        if register.limits.is_some() {
+            return Err(repeated(n));
+        }
+        limit_at(alloc, &mut self.registers, place, limits);
+        Ok(())
+    }
+
     /// Why a subscription is refused whose type can't be subscribed to for this cause.
     fn why_no_type(&self, port: u16, cause: PlanWhy) -> PlanWhy
         ensures { Err result ≡ without_type self.now port cause }
@@ -268,7 +321,7 @@ impl Draft {
     }
 
     /// Takes what line `n` says, behind the line of the version.
-    fn take_behind(&mut self, n: u32, said: Said) -> Result<(), PlanError>
+    fn take_behind(&mut self, alloc: Global, n: u32, said: Said) -> Result<(), PlanError>
         requires sound { IsDraft self.old }
         requires fits { IsSaid said }
         ensures value { IsStep (with_line self.old said) n self.new result }
@@ -286,6 +339,8 @@ impl Draft {
             Said::Status(status) => self.set_status(n, status),
             Said::Info(info) => self.set_info(n, info),
             Said::Queue(queue) => self.set_queue(n, queue),
+            Said::Register(register) => self.add_register(n, register),
+            Said::Limits { name, limits } => self.set_limits(alloc, n, &name, limits),
             Said::UnknownType { port } => Err(PlanError::Refused {
                 n,
                 why: self.why_no_type(port, PlanWhy::UnknownType),
@@ -302,7 +357,7 @@ impl Draft {
     }
 
     /// Takes what line `n` says.
-    pub fn take(&mut self, n: u32, said: Said) -> Result<(), PlanError>
+    pub fn take(&mut self, alloc: Global, n: u32, said: Said) -> Result<(), PlanError>
         requires sound { IsDraft self.old }
         requires fits { IsSaid said }
         ensures value { IsStep (step self.old said) n self.new result }
@@ -322,7 +377,7 @@ impl Draft {
                         why: PlanWhy::Line,
                     });
                 }
-                self.take_behind(n, said)
+                self.take_behind(alloc, n, said)
             }
         }
     }
@@ -343,6 +398,7 @@ impl Draft {
             clients,
             status,
             info,
+            registers,
             queue,
         } = self;
         Plan {
@@ -354,6 +410,7 @@ impl Draft {
             clients: clients.unwrap_or(4),
             status: status.unwrap_or(NO_STATUS),
             info: info_or_blank(alloc, info),
+            registers,
             queue: queue.unwrap_or(64),
         }
     }
@@ -379,6 +436,42 @@ fn info_or_blank(alloc: Global, info: Option<NodeInfo>) -> NodeInfo
     match info {
         Some(info) => info,
         None => blank_info(alloc),
+    }
+}
+
+/// Gives limits to the register at a place.
+fn limit_at(alloc: Global, registers: &mut List<Register>, place: usize, limits: Limits)
+    requires { place < length registers.old }
+    ensures { (r : Held) → slice_get registers.old place ≡ Some r
+        → registers.new ≡ limited registers.old place limits r }
+{
+    let mut items = replace(registers, List::empty(alloc)).into_vec();
+    items[place].limits = Some(limits);
+    *registers = List::new(items);
+}
+
+fn has_register(registers: &[Register], name: &Text) -> bool
+    ensures { result ≡ has_register name.now registers.now }
+{
+    registers.iter().any(|r| r.name.as_str() == name.as_str())
+}
+
+/// The place of the register with this name.
+fn place_of(registers: &[Register], name: &[u8]) -> Option<usize>
+    ensures { result ≡ place_of name.now registers.now }
+{
+    registers
+        .iter()
+        .position(|r| r.name.as_str().as_bytes() == name)
+}
+
+/// That a part of line `n` is outside its range.
+fn out_of_range(n: u32) -> PlanError
+    ensures { result ≡ PlanError.Refused n PlanWhy.Range }
+{
+    PlanError::Refused {
+        n,
+        why: PlanWhy::Range,
     }
 }
 

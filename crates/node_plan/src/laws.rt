@@ -1,5 +1,15 @@
 //! Laws of plans, each the contract of a call that does nothing.
-ghost use Rattle.node_plan.specs.Laws.{PlansKeepTypeRules, PortsDiffer, PortsFit};
+ghost use Rattle.node_plan.specs.Laws.{OnePlan, PlainPlans, PlansKeepTypeRules, PortsDiffer, PortsFit};
+
+/// A text says one plan, or is refused at one line for one cause.
+pub fn one_plan()
+    ensures { OnePlan }
+{}
+
+/// The plan that is worked out of a text without registers is the text's.
+pub fn plain_plans()
+    ensures { PlainPlans }
+{}
 
 /// The types of a plan's subscriptions keep the rules, where those of the namespace do.
 pub fn plans_keep_type_rules()

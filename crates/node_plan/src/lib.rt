@@ -13,6 +13,7 @@ mod migration;
 mod numbers;
 pub mod plan;
 mod read;
+mod registers;
 pub mod services;
 mod sub;
 mod types;

@@ -1,20 +1,22 @@
 //! What a line of a plan says.
 ghost use Rattle.std.specs.Prelude.{◌≡◌, IfOk};
 ghost use Rattle.dsdl_types.specs.Definitions.{IsNamespace};
-ghost use Rattle.node_plan.specs.Line.{said_of, said_of_one, said_of_two, said_of_all, said_of_type, said_of_four, said_of_five, said_of_many, said_of_words, IsSaid};
+ghost use Rattle.node_plan.specs.Line.{Says, said_of, said_of_one, said_of_two, said_of_all, said_of_type, said_of_four, said_of_five, said_of_many, said_of_words, IsSaid};
 ghost use Rattle.node_plan.specs.Words.{words_of};
 
 use crate::bus::{bus, mtu_in};
 use crate::info::{InfoWords, info};
 use crate::numbers::{clients, mtu, node, queue, rate, status, timeout, version};
 use crate::plan::{BusPlan, NodeStatus, Sub};
+use crate::registers::{limits, register, register_words};
 use crate::sub::{MAX_EXTENT, raw_sub, sub_of_type};
 use crate::types::shape_named;
-use crate::words::{Number, cut, number_in};
-use cy_bits::NoMemory;
+use crate::words::{Number, cut, number_in, whole_in};
+use cy_bits::{NoMemory, Text};
 use dsdl_types::Namespace;
 use std::alloc::Global;
 use std_types::node::NodeInfo;
+use std_types::registers::{Limits, Register};
 
 /// The version of a plan's lines.
 #[derive(Clone, Copy)]
@@ -63,6 +65,10 @@ pub enum Said {
     Info(NodeInfo),
     /// `queue N`.
     Queue(u32),
+    /// `register NAME rw VALUE` or `register NAME ro VALUE`, without limits.
+    Register(Register),
+    /// `limits NAME LOW HIGH`.
+    Limits { name: Text, limits: Limits },
 }
 
 fn one_word(word: &[u8]) -> Said
@@ -156,6 +162,8 @@ fn four_words(
         ))
     } else if is_two && word == b"bus".as_slice() {
         Ok(bus(first, mtu_in(second), number_in(1, 4096, third)))
+    } else if is_two && word == b"limits".as_slice() {
+        limits(alloc, first, whole_in(second), whole_in(third))
     } else {
         Ok(Said::NoForm)
     }
@@ -224,13 +232,8 @@ fn words(alloc: Global, names: &Namespace, is_two: bool, line: &[u8]) -> Result<
     }
 }
 
-/// What a line says, where `is_two` tells whether it is one of version 2.
-pub fn read_line(
-    alloc: Global,
-    names: &Namespace,
-    is_two: bool,
-    line: &[u8],
-) -> Result<Said, NoMemory>
+/// What a line says that says no register.
+fn plain_line(alloc: Global, names: &Namespace, is_two: bool, line: &[u8]) -> Result<Said, NoMemory>
     requires { IsNamespace names.now }
     ensures value { IfOk result (λ said. said ≡ said_of names.now is_two line.now) }
     ensures sound { IfOk result IsSaid }
@@ -239,5 +242,22 @@ pub fn read_line(
         [] => Ok(Said::Nothing),
         [b'#', ..] => Ok(Said::Nothing),
         _ => words(alloc, names, is_two, line),
+    }
+}
+
+/// What a line says, where `is_two` tells whether it is one of version 2.
+pub fn read_line(
+    alloc: Global,
+    names: &Namespace,
+    is_two: bool,
+    line: &[u8],
+) -> Result<Said, NoMemory>
+    requires { IsNamespace names.now }
+    ensures value { IfOk result (Says names.now is_two line.now) }
+    ensures sound { IfOk result IsSaid }
+{
+    match register_words(line) {
+        Some(words) => register(alloc, &words),
+        None => plain_line(alloc, names, is_two, line),
     }
 }

@@ -3,7 +3,7 @@ ghost use Rattle.std.specs.Prelude.{◌≡◌, ◌++◌, ◌∷◌, ℕ, Err, If
 ghost use Rattle.dsdl_types.specs.Definitions.{IsNamespace};
 ghost use Rattle.node_plan.specs.Answers.{IsMigrated};
 ghost use Rattle.node_plan.specs.Migrate.{migrated_line, migrated_text, migrated_two, migrated_words, numbers_of, numbers_text};
-ghost use Rattle.node_plan.specs.Plan.{Bad, plan_of};
+ghost use Rattle.node_plan.specs.Plan.{Bad, IsPlanOf};
 ghost use Rattle.node_plan.specs.Words.{words_of};
 ghost use Rattle.node_plan.specs.declared.plan.PlanWhy.{PlanWhy as Why};
 
@@ -111,7 +111,7 @@ pub fn migrate(alloc: Global, text: &[u8], names: &Namespace) -> Result<Bytes, P
     requires { IsNamespace names.now }
     ensures migrated { IfOk result (IsMigrated names.now text.now) }
     ensures refused { (n : ℕ) (why : Why) → result ≡ Err (PlanError.Refused n why)
-        → plan_of names.now text.now ≡ Bad n why }
+        → IsPlanOf names.now text.now (Bad n why) }
 {
     let plan = read_plan(alloc, text, names)?;
     if is_version_two(text) {

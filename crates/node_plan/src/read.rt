@@ -1,11 +1,11 @@
 //! A plan from its text.
-ghost use Rattle.std.specs.Prelude.{◌≡◌, ◌<◌, ◌≤◌, ◌+◌, ◌^◌, ℕ, List, Err, IfOk, if◌then◌else◌, length, take};
+ghost use Rattle.std.specs.Prelude.{◌≡◌, ◌↔◌, ◌<◌, ◌≤◌, ◌+◌, ◌^◌, ℕ, List, Err, IfOk, length, take};
 ghost use Rattle.dsdl_types.specs.Definitions.{IsNamespace};
 ghost use Rattle.dsdl_types.specs.declared.namespace.Namespace.{Namespace as Names};
 ghost use Rattle.node_plan.specs.Answers.{IsPlanAnswer};
 ghost use Rattle.node_plan.specs.Draft.{start};
 ghost use Rattle.node_plan.specs.IsPlan.{IsDraft, IsPlan};
-ghost use Rattle.node_plan.specs.Plan.{Good, Bad, finished, last_line, long_line, plan_of, plan_of_parts};
+ghost use Rattle.node_plan.specs.Plan.{Bad, Ends, Goes, Good, IsPlanOf, PlanIs, finished};
 ghost use Rattle.node_plan.specs.Words.{parts_of};
 ghost use Rattle.node_plan.specs.declared.plan.PlanWhy.{PlanWhy as Why};
 
@@ -20,7 +20,7 @@ use std::alloc::Global;
 /// The plan of all lines, where `n` is the number of the line that would follow.
 fn finished(alloc: Global, draft: Draft, n: u32) -> Result<Plan, PlanError>
     requires { IsDraft draft }
-    ensures value { IsPlanAnswer (finished draft n) result }
+    ensures value { IsPlanAnswer (λ is. is ≡ finished draft n) result }
     ensures sound { IfOk result IsPlan }
 {
     draft.finish(alloc).ok_or(PlanError::Refused {
@@ -29,10 +29,12 @@ fn finished(alloc: Global, draft: Draft, n: u32) -> Result<Plan, PlanError>
     })
 }
 
-/// The plan, once what stands behind the last newline was read as line `n`, if it is one.
+/// The plan, once what stands behind the last newline was read as line `n`, if it is one; it is
+/// refused in a text that is too long.
 fn read_last(
     alloc: Global,
     names: &Namespace,
+    is_long: bool,
     mut draft: Draft,
     n: u32,
     line: &[u8],
@@ -40,14 +42,20 @@ fn read_last(
     requires types { IsNamespace names.now }
     requires sound { IsDraft draft }
     requires few { n < 2 ^ 31 }
-    ensures value { IsPlanAnswer (last_line names.now draft n line.now) result }
+    ensures value { IsPlanAnswer (Ends names.now is_long draft n line.now) result }
     ensures sound { IfOk result IsPlan }
 {
+    if is_long {
+        return Err(PlanError::Refused {
+            n,
+            why: PlanWhy::Line,
+        });
+    }
     if line.is_empty() {
         return finished(alloc, draft, n);
     }
     let said = read_line(alloc, names, draft.is_two(), line)?;
-    draft.take(n, said)?;
+    draft.take(alloc, n, said)?;
     finished(alloc, draft, n + 1)
 }
 
@@ -60,8 +68,7 @@ fn read_lines(
 ) -> Result<Plan, PlanError>
     requires types { IsNamespace names.now }
     requires few { length text.now ≤ MAX_TEXT }
-    ensures value { let last = (if is_long then long_line else last_line names.now) in
-        IsPlanAnswer (plan_of_parts names.now last start 1 (parts_of 10 text.now)) result }
+    ensures value { IsPlanAnswer (Goes names.now is_long start 1 (parts_of 10 text.now)) result }
     ensures sound { IfOk result IsPlan }
 {
     let mut behind = text;
@@ -69,26 +76,22 @@ fn read_lines(
     let mut n = 1;
     while let Some((line, rest)) = cut(b'\n', behind) {
         let said = read_line(alloc, names, draft.is_two(), line)?;
-        draft.take(n, said)?;
+        draft.take(alloc, n, said)?;
         n += 1;
         behind = rest;
     }
-    if is_long {
-        return Err(PlanError::Refused {
-            n,
-            why: PlanWhy::Line,
-        });
-    }
-    read_last(alloc, names, draft, n, behind)
+    read_last(alloc, names, is_long, draft, n, behind)
 }
 
 /// Reads a plan of version 1 or 2, whose types are messages of a namespace. Line `n` is refused as
 /// - `Line` where it is no line of a plan of its version, where it reaches past the bytes that a
 ///   text may have, or where it would stand behind the last line of a text that lacks `plan`,
 ///   `node` or `bus`;
-/// - `Range` where a number, a name or hex is outside its range, or for a fourth bus and a 65th
-///   subscription;
-/// - `Repeated` where it says again what may be said once, or names a bus or a subject again;
+/// - `Range` where a number, a name, hex or the text of a register's value is outside its range, for
+///   limits that no register of an earlier line can have, or for a fourth bus, a 65th subscription
+///   and a 257th register;
+/// - `Repeated` where it says again what may be said once, or names a bus, a subject or a register
+///   again;
 /// - `UnknownType` where it subscribes to a type that is no message of the namespace;
 /// - `Range` where it subscribes to a type whose extent is above 65,536 bytes.
 ///
@@ -99,12 +102,12 @@ fn read_lines(
 /// all of it.
 pub fn read_plan(alloc: Global, text: &[u8], names: &Namespace) -> Result<Plan, PlanError>
     requires { IsNamespace names.now }
-    ensures plan { IfOk result (λ p. plan_of names.now text.now ≡ Good p) }
+    ensures plan { IfOk result (λ p. IsPlanOf names.now text.now (Good p)) }
     ensures refused { (n : ℕ) → (why : Why) → result ≡ Err (PlanError.Refused n why)
-        → plan_of names.now text.now ≡ Bad n why }
+        → IsPlanOf names.now text.now (Bad n why) }
     ensures sound { IfOk result IsPlan }
-    ensures enough { (names : Names) (all : List ℕ)
-        → plan_of names (take (MAX_TEXT + 1) all) ≡ plan_of names all }
+    ensures enough { (names : Names) (all : List ℕ) (is : PlanIs)
+        → IsPlanOf names (take (MAX_TEXT + 1) all) is ↔ IsPlanOf names all is }
 {
     let most = limit_of(text);
     let first = &text[..text.len().min(most)];
