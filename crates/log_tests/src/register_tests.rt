@@ -104,7 +104,7 @@ fn registers_that_are_refused(rt: HostRuntime) {
 
 /// A plan with two registers, of which one has limits.
 const READ: &[u8] = b"plan 2\nnode 1\nbus a 8 1\nregister a.b! ro {integer16: {value: [-5, 7]}}\n\
-limits a.b! -5 18446744073709551615\nregister c rw {natural8: {value: #0aFF}}\n";
+limits a.b! -5 18446744073709551615\nregister c rw {natural8: {value: #0aff}}\n";
 
 #[test]
 fn registers_that_are_read(rt: HostRuntime) -> Result<(), Fail> {
@@ -113,7 +113,7 @@ fn registers_that_are_read(rt: HostRuntime) -> Result<(), Fail> {
     let [first, second] = plan.registers.as_slice() else {
         panic!(rt; "there are {} registers", plan.registers.len());
     };
-    assert!(rt; first.name.as_bytes() == b"a.b!".as_slice());
+    assert!(rt; first.name.as_str().as_bytes() == b"a.b!".as_slice());
     assert!(rt; !first.mutable);
     let RegisterValue::Integer16(numbers) = &first.value else {
         panic!(rt; "it is of another variant");
@@ -123,7 +123,7 @@ fn registers_that_are_read(rt: HostRuntime) -> Result<(), Fail> {
         panic!(rt; "there are no limits");
     };
     assert_eq!(rt; (limits.low, limits.high), (-5, u64::MAX as i128));
-    assert!(rt; second.name.as_bytes() == b"c".as_slice());
+    assert!(rt; second.name.as_str().as_bytes() == b"c".as_slice());
     assert!(rt; second.mutable);
     assert!(rt; second.limits.is_none());
     let services = plan.services();
