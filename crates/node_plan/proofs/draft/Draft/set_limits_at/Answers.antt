@@ -1,6 +1,5 @@
 use Rattle.std.proofs.Common.{◌≡◌, ◌∙◌, true, Some, sym, subst}
 use Rattle.std.specs.Prelude.{slice_get}
-use Rattle.std.proofs.lemmas.Option.{slice_get_read}
 use Rattle.std_types.specs.declared.registers.Register.{Register}
 use Rattle.node_plan.specs.IsPlan.{IsDraft}
 use Rattle.node_plan.specs.Registers.{can_limit}
