@@ -14,6 +14,7 @@ use Rattle.once.specs.Report.{AnyRx, Explains, IsDue, SelectedRx}
 use Rattle.once.specs.Report as rx_report
 use Rattle.cy_outside.specs.Written.{behind, Begins}
 use Rattle.dsdl_resolve.specs.Laws.{HaveOneAnswer}
+use Rattle.node_plan.specs.Laws.{OnePlan}
 use Rattle.dsdl_types.specs.Schemas.{Sch}
 use Rattle.node_plan.specs.IsPlan.{TypesKeepRules}
 use Rattle.node_plan.specs.declared.plan.Plan.{Plan}
@@ -142,11 +143,11 @@ run_done words told came old new plan bytes (inl n) a = inl n
 run_done words told came old new plan bytes (inr d) a = inr (did_run words told came plan bytes d a)
 
 -- it was of the plan that is asked for
-pub the_plan : HaveOneAnswer → (words : List (List ℕ)) (told : Told) (came : Outcome) (plan : Plan) (bytes : List ℕ) (a : Asked words told plan bytes) (r : HasRunAt a.root a.path told came) → r.plan ≡ plan
+pub the_plan : HaveOneAnswer × OnePlan → (words : List (List ℕ)) (told : Told) (came : Outcome) (plan : Plan) (bytes : List ℕ) (a : Asked words told plan bytes) (r : HasRunAt a.root a.path told came) → r.plan ≡ plan
 the_plan one words told came plan bytes a r = one_plan one a.root a.path a.tree r.plan plan (subst (λ f. PlanAt a.root a.path f r.plan) a.is_tree r.is) a.is_plan
 
 -- a run of a told plan over a told input
-ran : HaveOneAnswer → (words : List (List ℕ)) (told : Told) (came : Outcome) (plan : Plan) (bytes : List ℕ) (a : Asked words told plan bytes) → HasRunAt a.root a.path told came
+ran : HaveOneAnswer × OnePlan → (words : List (List ℕ)) (told : Told) (came : Outcome) (plan : Plan) (bytes : List ℕ) (a : Asked words told plan bytes) → HasRunAt a.root a.path told came
     → Ran plan (log_in plan bytes) came.status came.reported told.written came.written
 ran one words told came plan bytes a r =
     let stat = came.status in
@@ -234,7 +235,7 @@ due_values_in law plan bytes rules key p port sent origin q s t x due =
     subst (λ (ls : List Line). SaysDueValue key port (transfer_at sent due.j).payload q ls) (sym all.1)
     (behind_values law plan bytes key all.0 p port sent origin q (sent_to law plan bytes rules key p port sent origin s t x) due)
 
-module _ {L : Type 0} (one : HaveOneAnswer) (words : List (List ℕ)) (told : Told) (came : Outcome) (old new : Outside L) (done : WasDone words told came old new) where
+module _ {L : Type 0} (one : HaveOneAnswer × OnePlan) (words : List (List ℕ)) (told : Told) (came : Outcome) (old new : Outside L) (done : WasDone words told came old new) where
   settled_text : (plan : Plan) (bytes : List ℕ) → Asked words told plan bytes → is_settled came.status ≡ true → came.written ≡ behind told.written (report_text plan bytes)
   settled_text plan bytes a s = by_run (run_done words told came old new plan bytes done a)
     where

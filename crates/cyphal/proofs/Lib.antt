@@ -1,7 +1,6 @@
 pub mod ClapWords
 pub mod Parts
 pub mod Plans
-pub mod ShortPlans
 pub mod Migrations
 pub mod Loaded
 pub mod Ended

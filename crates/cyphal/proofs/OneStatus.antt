@@ -1,6 +1,7 @@
 -- What is asked for has one status, where all that decides it is told.
 use Rattle.std.proofs.Common.{◌∙◌, Option, Some, None, sym}
 use Rattle.dsdl_resolve.specs.Laws.{HaveOneAnswer}
+use Rattle.node_plan.specs.Laws.{OnePlan}
 use Rattle.value_lines.specs.Decoded.{Decodes}
 use Rattle.value_lines.specs.Encoded.{Encodes}
 use Rattle.node_reach.specs.Allocated.{allocate_voice}
@@ -18,12 +19,12 @@ use Rattle.cyphal.proofs.statuses.Bound as bound
 use Rattle.cyphal.proofs.statuses.Gen as gen
 use Rattle.cyphal.proofs.statuses.Reach as reach
 
-module _ (law : HaveOneAnswer) (encodes : HasOneStatus Encodes) (decodes : HasOneStatus Decodes) where
+module _ (law : HaveOneAnswer × OnePlan) (encodes : HasOneStatus Encodes) (decodes : HasOneStatus Decodes) where
   single : (command : Command) → IsSingle (job_of command)
-  single (Compile root) = compile.single law root
-  single (Compat root new old) = compat.single law root new old
-  single (Encode root name) = values.single law Encodes encodes root name
-  single (Decode root name) = values.single law Decodes decodes root name
+  single (Compile root) = compile.single law.0 root
+  single (Compat root new old) = compat.single law.0 root new old
+  single (Encode root name) = values.single law.0 Encodes encodes root name
+  single (Decode root name) = values.single law.0 Decodes decodes root name
   single (Run root path) = run.single law root path
   single (Bound root path) = bound.single law root path
   single (Migrate root path) = bound.single law root path

@@ -23,7 +23,9 @@ use Rattle.node_plan.specs.Info.{blank_info}
 use Rattle.node_plan.specs.Limit.{begins_two}
 use Rattle.node_plan.specs.declared.plan.Plan.{Plan}
 use Rattle.node_plan.specs.declared.plan.SubShape.TheVariants.{Raw}
-use Rattle.node_plan.specs.Plan.{Good, plan_of}
+use Rattle.node_plan.specs.Laws.{PlainPlans}
+use Rattle.node_plan.specs.PlainPlan.{plan_of}
+use Rattle.node_plan.specs.Plan.{Good}
 use Rattle.node_plan.specs.Types.{none}
 use Rattle.node_run.specs.Loaded.{IsLoaded}
 use Rattle.dsdl_resolve.specs.Passes.{Compiled}
@@ -44,6 +46,7 @@ plan = record {
   clients = 4;
   status = record { health = 0; mode = 0; code = 0 };
   info = blank_info;
+  registers = [];
   queue = 64;
 }
 
@@ -267,25 +270,25 @@ due (suc (suc j)) l = absurd (omega arith)
 is_there : map.get files (codes "plan") ≡ Some plan_text
 is_there = map.get-from_sorted (slice_cmp nat_cmp) ((codes "plan", plan_text) ∷ []) (codes "plan") tt
 
-asked : Asked (codes "run" ∷ codes "none" ∷ codes "plan" ∷ []) (told_by (Some files) (Some log_text) (Some [])) plan log_text
-asked = record {
+asked : PlainPlans → Asked (codes "run" ∷ codes "none" ∷ codes "plan" ∷ []) (told_by (Some files) (Some log_text) (Some [])) plan log_text
+asked plain = record {
   root = codes "none";
   path = codes "plan";
   command = refl;
   tree = files;
   is_tree = refl;
-  is_plan = record { names = none; is = no_root; gives = (plan_text, is_there, is_plan) };
+  is_plan = record { names = none; is = no_root; gives = (plan_text, is_there, plain none plan_text plan is_plan) };
   is_input = refl;
 }
 
-pub premises : PremisesCanBeMet
-premises = record {
+pub premises : PlainPlans → PremisesCanBeMet
+premises plain = record {
   plan = plan;
   bytes = log_text;
   key = key;
   port = port;
   origin = origin;
-  asked = asked;
+  asked = asked plain;
   session = subst (λ (t : List Record). IsSession plan key t port) (sym logged) session;
   explains = subst (λ (t : List Record). WireExplains (heard_as 10) 2000000 sent key origin t) (sym logged) explains;
   due = λ j l. subst (λ (t : List Record). IsDueAt 2000000 sent origin (of_key plan key t) j) (sym logged) (due j l);

@@ -1,6 +1,7 @@
 -- From what was taken to what is promised of it.
 use Rattle.std.proofs.Common.{◌≡◌, ◌⊎◌, inl, inr, ℕ, List, Option, sym, subst}
 use Rattle.dsdl_resolve.specs.Laws.{HaveOneAnswer}
+use Rattle.node_plan.specs.Laws.{OnePlan}
 use Rattle.node_plan.specs.declared.plan.Plan.{Plan}
 use Rattle.node_run.specs.Streamed.{IsStreamed}
 use Rattle.node_run.specs.Taken.{IsOfTaken}
@@ -13,7 +14,7 @@ use Rattle.cyphal.specs.Expected.{WasDone}
 use Rattle.cyphal.specs.Streaming.{TakenOf, StreamedOf}
 use Rattle.cyphal.proofs.Headlines.{did_run, run_done, the_plan}
 
-module _ {L : Type 0} (one : HaveOneAnswer) (words : List (List ℕ)) (told : Told) (came : Outcome) (old new : Outside L) where
+module _ {L : Type 0} (one : HaveOneAnswer × OnePlan) (words : List (List ℕ)) (told : Told) (came : Outcome) (old new : Outside L) where
   pub taken_of : WasDone words told came old new → came.status ≡ status.ReadFault → NotDone told came old new ⊎ TakenOf words told came
   taken_of (inl n) e = inl n
   taken_of (inr d) e = inr (λ plan bytes a.

@@ -3,7 +3,7 @@ use Rattle.std.specs.Prelude.{◌≡◌, ◌⊎◌, ℕ, false, List, Option, So
 use Rattle.std.specs.FinMap as map
 use Rattle.cy_outside.specs.Files.{Files}
 use Rattle.dsdl_types.specs.declared.namespace.Namespace.{Namespace}
-use Rattle.node_plan.specs.Plan.{PlanIs, Good, Bad, plan_of}
+use Rattle.node_plan.specs.Plan.{PlanIs, Good, Bad, IsPlanOf}
 use Rattle.node_plan.specs.declared.plan.Plan.{Plan}
 use Rattle.node_run.specs.Loaded.{IsLoaded, IsNotLoaded}
 use Rattle.node_run.specs.declared.status.Status.{Status}
@@ -14,15 +14,22 @@ use Rattle.cyphal.specs.Job.{is_fault}
 abbrev pub PlanEnds : Type 1
 PlanEnds = Plan → Status → Type 0
 
--- over a text: as its refused line says, or as over the plan
-abbrev pub EndsOnText : PlanEnds → PlanIs → Status → Type 0
-EndsOnText ends (Bad n why) stat = stat ≡ status.Plan n why
-EndsOnText ends (Good plan) stat = ends plan stat
+-- over what a text is: as its refused line says, or as over the plan
+abbrev pub EndsAs : PlanEnds → PlanIs → Status → Type 0
+EndsAs ends (Bad n why) stat = stat ≡ status.Plan n why
+EndsAs ends (Good plan) stat = ends plan stat
+
+-- over a text that is read in a namespace
+pub record EndsOnText (ends : PlanEnds) (names : Namespace) (text : List ℕ)
+    (stat : Status) : Type 0 where
+  pub plan : PlanIs
+  pub is : IsPlanOf names text plan
+  pub end : EndsAs ends plan stat
 
 -- over what is at a path: no file, or a text that is read in a namespace
 abbrev pub EndsOnFile : PlanEnds → Namespace → List ℕ → Option (List ℕ) → Status → Type 0
 EndsOnFile ends names path None stat = stat ≡ status.NoFile path
-EndsOnFile ends names path (Some text) stat = EndsOnText ends (plan_of names text) stat
+EndsOnFile ends names path (Some text) stat = EndsOnText ends names text stat
 
 -- in a namespace, where the files are told
 abbrev pub EndsIn : PlanEnds → Namespace → List ℕ → Option Files → Status → Type 0
@@ -49,7 +56,7 @@ without_plan plan stat = ⊥
 -- in a namespace, where the files are told, the file at a path gives this plan
 abbrev pub GivesPlan : Namespace → List ℕ → Option Files → Plan → Type 0
 GivesPlan names path files plan = IfSome files (λ tree.
-    (text : List ℕ) × (map.get tree path ≡ Some text) × (plan_of names text ≡ Good plan))
+    (text : List ℕ) × (map.get tree path ≡ Some text) × IsPlanOf names text (Good plan))
 
 -- the plan is that of the file at a path, read in the namespace of a root
 pub record PlanAt (root path : List ℕ) (files : Option Files) (plan : Plan) : Type 0 where

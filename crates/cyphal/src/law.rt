@@ -5,7 +5,7 @@ ghost use Rattle.cyphal.specs.Premises.{PremisesCanBeMet};
 use dsdl_resolve::namespaces_keep_rules;
 use frame_log::ordered;
 use node_core::laws::steps_follow;
-use node_plan::laws::plans_keep_type_rules;
+use node_plan::laws::{plain_plans, plans_keep_type_rules};
 use once::{due_in_report, once_in_part, wire_explains_fields};
 use session_lines::laws::{due_values, emptying, reported, values};
 
@@ -29,4 +29,6 @@ pub fn headline_laws()
 /// The premises of the headline can be met.
 pub fn premises_can_be_met()
     ensures { PremisesCanBeMet }
-{}
+{
+    plain_plans();
+}

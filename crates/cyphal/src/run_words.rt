@@ -19,6 +19,7 @@ use cy_outside::{Sink, Source, Tree};
 use dsdl_resolve::one_answer;
 use node_core::{LineSink, Numbers};
 use node_run::Status;
+use node_plan::laws::one_plan;
 use node_run::values::laws::one_status;
 use std::alloc::Global;
 
@@ -114,6 +115,7 @@ pub fn run_words<T: Tree, L: Source, O: Sink, E: Sink, K: LineSink>(
 {
     headline_laws();
     one_answer();
+    one_plan();
     one_status();
     let mut numbers = no_numbers();
     let status = work(alloc, words, tree, input, out, lines, &mut numbers);

@@ -10,7 +10,17 @@ const RUN: Call = Call {
     ..CALL
 };
 
-const ROWS: [Call; 7] = [
+/// A run of the plan of a silent node with a register that is kept from 0 to 100.
+const REGISTER: Call = Call {
+    files: &[(
+        "plan",
+        b"plan 2\nnode 42\nbus can0 8 4096\nsilent\n\
+          register x rw {natural16: {value: [5]}}\nlimits x 0 100\n",
+    )],
+    ..RUN
+};
+
+const ROWS: [Call; 10] = [
     // Its first heartbeat, the request, and the reply.
     Call {
         written: b"tx 5.000000 can0 107D552A 00000000000000E0\n\
@@ -101,6 +111,52 @@ const ROWS: [Call; 7] = [
               0000000000000000000000000000000000000000000000E1\n\
               end records 1 delivered 1 badcrc 0 nosession 0 sent 8 held 0 bound 0\n",
         ..RUN
+    },
+    // Its registers are listed: past the last there is none.
+    Call {
+        text: b"(5.000000) can0 1360557B#0000E3\n(5.000001) can0 1360557B#0100E4\n",
+        written: b"rx 5.000000 can0 req 385 123 4 3 1 1 0000 {index: 0}\n\
+              tx 5.000000 can0 12607DAA 0178E3\n\
+              rx 5.000001 can0 req 385 123 4 4 2 2 0100 {index: 1}\n\
+              tx 5.000001 can0 12607DAA 00E4\n\
+              end records 2 delivered 2 badcrc 0 nosession 0 sent 2 held 2 bound 2068\n",
+        ..REGISTER
+    },
+    // A register is written within its limits alone, and as its own variant; another isn't there.
+    Call {
+        text: b"(5.000000) can0 1360157B#01780A016500E0\n\
+              (5.000001) can0 1360157B#01780A016400E1\n\
+              (5.000002) can0 1360157B#017806010100E2\n\
+              (5.000003) can0 1360157B#01790A010100E3\n",
+        written: b"rx 5.000000 can0 req 384 123 4 0 1 1 01780A016500 \
+              {name: {name: #78}, value: {natural16: {value: [101]}}}\n\
+              tx 5.000000 can0 12603DAA 00000000000000A0\n\
+              tx 5.000000 can0 12603DAA 010A0105008EC640\n\
+              rx 5.000001 can0 req 384 123 4 1 2 2 01780A016400 \
+              {name: {name: #78}, value: {natural16: {value: [100]}}}\n\
+              tx 5.000001 can0 12603DAA 00000000000000A1\n\
+              tx 5.000001 can0 12603DAA 010A016400B6DD41\n\
+              rx 5.000002 can0 req 384 123 4 2 3 3 017806010100 \
+              {name: {name: #78}, value: {integer16: {value: [1]}}}\n\
+              tx 5.000002 can0 12603DAA 00000000000000A2\n\
+              tx 5.000002 can0 12603DAA 010A016400B6DD42\n\
+              rx 5.000003 can0 req 384 123 4 3 4 4 01790A010100 \
+              {name: {name: #79}, value: {natural16: {value: [1]}}}\n\
+              tx 5.000003 can0 12603DAA 00000000000000A3\n\
+              tx 5.000003 can0 12603DAA 0000187243\n\
+              end records 4 delivered 4 badcrc 0 nosession 0 sent 8 held 515 bound 2068\n",
+        ..REGISTER
+    },
+    // Limits that the register's value is outside of.
+    Call {
+        files: &[(
+            "plan",
+            b"plan 2\nnode 42\nbus can0 8 4096\n\
+              register x rw {natural16: {value: [5]}}\nlimits x 6 100\n",
+        )],
+        code: 3,
+        line: b"cyphal: plan line 5: Range\n",
+        ..REGISTER
     },
 ];
 

@@ -1,5 +1,5 @@
 -- What a record came to at a node, and the lines on it.
-use Rattle.std.specs.Prelude.{◌≡◌, ℕ, ◌-◌, Bool, if◌then◌else◌, List, [], length, take, Option, Some, None}
+use Rattle.std.specs.Prelude.{◌≡◌, ℕ, ◌-◌, Bool, List, [], length, take, Option, Some, None}
 use Rattle.std.specs.Option.{option_and_then}
 use Rattle.can_id.specs.Identifiers.{key_of}
 use Rattle.can_id.specs.declared.ident.Ident.{Ident}
@@ -18,7 +18,7 @@ use Rattle.node_core.specs.declared.request.Request.{Request}
 use Rattle.node_core.specs.Sending.{request_with}
 use Rattle.node_core.specs.Shapes.{shape_extent}
 use Rattle.node_core.specs.Stands.{Stands}
-use Rattle.node_core.specs.Steps.{got, has_rx, request_on}
+use Rattle.node_core.specs.Steps.{got, payload_in, request_on}
 use Rattle.node_core.specs.Told.{answer_lines, answer_is_bad}
 use Rattle.node_core.specs.Types.{type_at}
 
@@ -53,12 +53,14 @@ heard_is_bad node rec heard = answer_is_bad (answer_in node (frame_with rec hear
 unfoldable pub came_lines : Node → Record → Came → List Line
 came_lines node rec came = heard_lines node rec came.heard
 
+-- the request that a frame which was heard ended, where this is the transfer's payload
+abbrev pub heard_request : Option Heard → List ℕ → Option Request
+heard_request None payload = None
+heard_request (Some heard) payload = request_with heard.tail.tid heard.ident payload
+
 -- the request that a record ended, where it gave these lines
 abbrev pub came_request : Came → List Line → Option Request
-came_request came lines =
-    if has_rx lines
-    then option_and_then (λ heard. request_with heard.tail.tid heard.ident) came.heard
-    else None
+came_request came lines = option_and_then (heard_request came.heard) (payload_in lines)
 
 -- it is the one that the log says
 abbrev pub TellsRequest : Node → Record → Came → Type 0

@@ -1,22 +1,39 @@
 -- What a node keeps beside its sessions.
 use Rattle.std.specs.Prelude.{◌≡◌, ◌+◌, ◌%◌, List, ◌++◌, map, Option, Some}
+use Rattle.node_plan.specs.declared.plan.Plan.{Plan}
 use Rattle.tail_frame.specs.declared.logged.Record.{Record}
 use Rattle.node_core.specs.Buses.{queue_of}
 use Rattle.node_core.specs.Queues.{Sends, push_all}
+use Rattle.node_core.specs.Sending.{registers_behind, reply_on}
 use Rattle.node_core.specs.Stands.{Stands}
 use Rattle.node_core.specs.Steps.{Step, Heard, Kept, node_lines, pushed, records}
 use Rattle.node_core.specs.declared.line.Line.{Line}
 use Rattle.node_core.specs.declared.node.Node.{Node}
+use Rattle.node_core.specs.declared.request.Request.{Request}
 
--- the frames that wait on each bus, and the transfer-ID of the next heartbeat
+-- the frames that wait on each bus, the transfer-ID of the next heartbeat, and what the registers hold
 abbrev pub keeps : Node → Kept
-keeps node = record { queues = map queue_of node.queues.buses.items; tid = node.tid }
+keeps node = record {
+  queues = map queue_of node.queues.buses.items;
+  tid = node.tid;
+  registers = node.registers.list.items;
+}
 
 -- as if a transfer were pushed
 abbrev pub sent : Option Sends → Kept → Kept
 sent x k = record k { queues = push_all x k.queues }
 
--- and a heartbeat's transfer-ID used
+-- the reply to a request, if there is one, by what is kept before it
+abbrev pub reply_by : Plan → Option Request → Kept → Option Sends
+reply_by plan request k = reply_on plan k.registers request
+
+-- as if a request were answered: its reply is pushed, and the registers did what it asks
+abbrev pub answered : Plan → Option Request → Kept → Kept
+answered plan request k = record (sent (reply_by plan request k) k) {
+  registers = registers_behind plan request k.registers;
+}
+
+-- as if a heartbeat were pushed, and its transfer-ID used
 abbrev pub beaten : Sends → Kept → Kept
 beaten x k = record (sent (Some x) k) { tid = (k.tid + 1) % 32 }
 

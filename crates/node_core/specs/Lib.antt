@@ -8,6 +8,7 @@ pub mod Laws
 pub mod LineSinks
 pub mod Pops
 pub mod Puts
+pub mod Questions
 pub mod Queues
 pub mod Raw
 pub mod Readings

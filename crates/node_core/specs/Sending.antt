@@ -1,12 +1,22 @@
 -- What a node sends: its heartbeat each second, and the replies to requests (Cyphal Specification, section 5.3).
-use Rattle.std.specs.Prelude.{◌≢◌, ◌<◌, ℕ, true, false, ◌==◌, if◌then◌else◌, List, Option, Some, None, option_map}
+use Rattle.std.specs.Prelude.{◌≢◌, ◌<◌, ℕ, Bool, true, false, List, Option, Some, None, option_map}
 use Rattle.can_id.specs.Identifiers.{bits}
 use Rattle.can_id.specs.declared.ident.Ident.{Ident}
 use Rattle.can_id.specs.declared.ident.Ident.TheVariants.{Message, Anonymous, Service}
+use Rattle.dsdl_types.specs.Laws.{encoding}
 use Rattle.tail_frame.specs.Frames.{FrameOf}
 use Rattle.node_plan.specs.declared.plan.Plan.{Plan}
 use Rattle.node_status.specs.Status.{heartbeat_payload, info_payload}
+use Rattle.register_service.specs.RegisterMap.{access_reply as accessed, after_access, list_reply as listed}
+use Rattle.register_service.specs.Within.{is_allowed, limits_of}
+use Rattle.std_types.specs.Registers.{access_reply_value, list_reply_value}
+use Rattle.std_types.specs.Schemas.{access_reply, list_reply}
+use Rattle.std_types.specs.declared.register_value.RegisterValue.{RegisterValue}
+use Rattle.std_types.specs.declared.registers.Register.{Register}
+use Rattle.node_core.specs.Questions.{FitsQuestion, question_in}
 use Rattle.node_core.specs.Queues.{Sends}
+use Rattle.node_core.specs.declared.question.Question.{Question}
+use Rattle.node_core.specs.declared.question.Question.TheVariants.{Info, Access, Listing}
 use Rattle.node_core.specs.declared.request.Request.{Request}
 
 -- the heartbeat of a tick, with a transfer-ID
@@ -18,28 +28,61 @@ beat plan number tid = record {
   payload = heartbeat_payload plan.status.health plan.status.mode plan.status.code number;
 }
 
-abbrev pub request_with : ℕ → Ident → Option Request
-request_with tid (Message priority subject source) = None
-request_with tid (Anonymous priority subject pseudo) = None
-request_with tid (Service priority false service destination source) = None
-request_with tid (Service priority true service destination source) =
-    Some (record { service = service; client = source; priority = priority; tid = tid })
+-- a request of a service that asks this
+abbrev pub request_that : ℕ → ℕ → ℕ → ℕ → Question → Request
+request_that service client priority tid question = record {
+  service = service;
+  client = client;
+  priority = priority;
+  tid = tid;
+  question = question;
+}
 
--- a request of another node: its numbers are in their ranges
+-- the request that a frame with this transfer-ID and identifier ended, where this is the transfer's payload and the
+-- node answers it
+abbrev pub request_with : ℕ → Ident → List ℕ → Option Request
+request_with tid (Message priority subject source) payload = None
+request_with tid (Anonymous priority subject pseudo) payload = None
+request_with tid (Service priority false service destination source) payload = None
+request_with tid (Service priority true service destination source) payload =
+    option_map (request_that service source priority tid) (question_in service payload)
+
+-- a request of another node: its numbers are in their ranges, and it asks a value of its type
 pub record IsRequestTo (node : ℕ) (r : Request) : Type 0 where
   pub service : r.service < 512
   pub client : r.client < 128
   pub other : r.client ≢ node
   pub priority : r.priority < 8
   pub tid : r.tid < 32
+  pub question : FitsQuestion r.question
 
--- the request that a frame is of
-abbrev pub request_of : FrameOf → Option Request
-request_of f = request_with f.tail.tid f.ident
+-- the request that a frame is of, where this is the transfer's payload
+abbrev pub request_of : List ℕ → FrameOf → Option Request
+request_of payload f = request_with f.tail.tid f.ident payload
 
--- what a node answers to a request of a service: information on itself
-abbrev pub answer_to : Plan → ℕ → Option (List ℕ)
-answer_to plan service = if service == 430 then Some (info_payload plan.info) else None
+-- whether the register with a number may hold a value of its variant: by the limits of the plan
+abbrev pub may_hold : Plan → ℕ → RegisterValue → Bool
+may_hold plan = is_allowed (limits_of plan.registers)
+
+-- the payload of the answer to a question, by what the registers hold before it
+abbrev pub answer_to : Plan → List Register → Question → List ℕ
+answer_to plan registers Info = info_payload plan.info
+answer_to plan registers (Access request) =
+    encoding access_reply (access_reply_value (accessed (may_hold plan) registers request.name request.value))
+answer_to plan registers (Listing request) =
+    encoding list_reply (list_reply_value (listed registers request.index))
+
+-- what the registers hold behind a question
+abbrev pub registers_after : Plan → List Register → Question → List Register
+registers_after plan registers Info = registers
+registers_after plan registers (Access request) =
+    after_access (may_hold plan) registers request.name request.value
+registers_after plan registers (Listing request) = registers
+
+-- what they hold behind a request, if there is one
+abbrev pub registers_behind : Plan → Option Request → List Register → List Register
+registers_behind plan None registers = registers
+registers_behind plan (Some r) registers = registers_after plan registers r.question
 
 -- the reply to a request: to the one who asks, with the request's priority and transfer-ID
 abbrev pub reply_with : Plan → Request → List ℕ → Sends
@@ -50,5 +93,9 @@ reply_with plan r payload = record {
   payload = payload;
 }
 
-abbrev pub reply_to : Plan → Request → Option Sends
-reply_to plan r = option_map (reply_with plan r) (answer_to plan r.service)
+abbrev pub reply_to : Plan → List Register → Request → Sends
+reply_to plan registers r = reply_with plan r (answer_to plan registers r.question)
+
+-- the reply to a request, if there is one
+abbrev pub reply_on : Plan → List Register → Option Request → Option Sends
+reply_on plan registers request = option_map (reply_to plan registers) request

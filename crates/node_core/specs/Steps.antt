@@ -10,11 +10,12 @@ use Rattle.node_plan.specs.declared.plan.Plan.{Plan}
 use Rattle.node_core.specs.Heard.{ports_of}
 use Rattle.node_core.specs.Queues.{Sends, Queue, push_all, fulls, leaving, drained, rounds, waiting}
 pub use Rattle.node_core.specs.Received.{rx_line, of_delivery, anonymous_line, refused_line, of_session, of_source, on_port, of_frame, got, bad_of_source, bad_on_port, bad_of_frame, is_bad_at}
-use Rattle.node_core.specs.Sending.{beat, reply_to, request_of}
+use Rattle.node_core.specs.Sending.{beat, registers_behind, reply_on, request_of}
 use Rattle.node_core.specs.declared.line.Line.{Line}
 use Rattle.node_core.specs.declared.line.Line.TheVariants.{Rx, NoSession, Tx, Full}
 use Rattle.node_core.specs.declared.numbers.Numbers.{Numbers}
 use Rattle.node_core.specs.declared.request.Request.{Request}
+use Rattle.std_types.specs.declared.registers.Register.{Register}
 
 -- a step of a node: a record, or a tick with its number and moment
 pub data Step : Type 0 where
@@ -67,10 +68,12 @@ abbrev pub steps : Plan → List Record → List Step
 steps plan [] = []
 steps plan (rec ∷ past) = new_steps plan rec past ++ steps plan past
 
--- what a node keeps from step to step beside its sessions: the frames that wait, and the next heartbeat's transfer-ID
+-- what a node keeps from step to step beside its sessions: the frames that wait, the next heartbeat's transfer-ID, and
+-- what its registers hold
 pub record Kept : Type 0 where
   pub queues : List Queue
   pub tid : ℕ
+  pub registers : List Register
 
 abbrev pub is_rx : Line → Bool
 is_rx (Rx rx) = true
@@ -90,19 +93,25 @@ is_tx (NoSession refused) = false
 is_tx (Tx tx) = true
 is_tx (Full full) = false
 
--- whether one of these lines is on a transfer that was received
-abbrev pub has_rx : List Line → Bool
-has_rx [] = false
-has_rx (line ∷ lines) = is_rx line || has_rx lines
+-- the payload of the first of these lines that is on a transfer that was received
+abbrev pub payload_in : List Line → Option (List ℕ)
+payload_in [] = None
+payload_in (Rx rx ∷ lines) = Some rx.payload
+payload_in (line ∷ lines) = payload_in lines
 
 -- the request that a record ended, where it gave these lines
 abbrev pub request_on : Plan → Record → List Line → Option Request
 request_on plan rec lines =
-    if has_rx lines then option_and_then request_of (frame_for plan.node rec) else None
+    option_and_then (λ payload. option_and_then (request_of payload) (frame_for plan.node rec)) (payload_in lines)
+
+-- the request that a step ended; a tick ends none
+abbrev pub request_at : Plan → Step → List Step → Option Request
+request_at plan (Heard rec) past = request_on plan rec (got plan rec (records past))
+request_at plan (Tick number moment) past = None
 
 -- what a step sends: a tick the heartbeat, a record the reply to the request that it ended
 abbrev pub sends : Plan → Step → List Step → Kept → Option Sends
-sends plan (Heard rec) past k = option_and_then (reply_to plan) (request_on plan rec (got plan rec (records past)))
+sends plan (Heard rec) past k = reply_on plan k.registers (request_at plan (Heard rec) past)
 sends plan (Tick number moment) past k = Some (beat plan number k.tid)
 
 -- a heartbeat uses a transfer-ID, also where no bus has room for it
@@ -110,11 +119,12 @@ abbrev pub next_tid : Step → ℕ → ℕ
 next_tid (Heard rec) tid = tid
 next_tid (Tick number moment) tid = (tid + 1) % 32
 
--- what is kept once a step's transfer was pushed, and then behind the step
+-- what is kept once a step's transfer was pushed and the registers did what was asked, and then behind the step
 abbrev pub pushed : Plan → Step → List Step → Kept → Kept
 pushed plan step past k = record {
   queues = push_all (sends plan step past k) k.queues;
   tid = next_tid step k.tid;
+  registers = registers_behind plan (request_at plan step past) k.registers;
 }
 
 abbrev pub left : Kept → Kept
@@ -125,7 +135,11 @@ abbrev pub empty_queue : ℕ → BusPlan → Queue
 empty_queue places bus = record { mtu = bus.mtu; rate = bus.rate; places = places; waiting = [] }
 
 abbrev pub nothing_kept : Plan → Kept
-nothing_kept plan = record { queues = map (empty_queue plan.queue) plan.buses; tid = 0 }
+nothing_kept plan = record {
+  queues = map (empty_queue plan.queue) plan.buses;
+  tid = 0;
+  registers = plan.registers;
+}
 
 -- what is kept behind steps
 abbrev pub kept : Plan → List Step → Kept

@@ -3,8 +3,6 @@ ghost use Rattle.std.specs.Prelude.{◌≡◌};
 ghost use Rattle.tail_frame.specs.Frames.{seen};
 ghost use Rattle.node_core.specs.Came.{frame_with};
 
-use crate::line_ref::LineRef;
-use crate::request::Request;
 use can_id::Ident;
 use rx_table::Met;
 use tail_frame::{Frame, Record, Tail};
@@ -27,25 +25,6 @@ pub struct Heard {
     pub tail: Tail,
     /// What it came to in the table of sessions.
     pub met: Met,
-}
-
-impl Came {
-    ghost use Rattle.node_core.specs.Came.{came_request};
-    ghost use Rattle.node_core.specs.Told.{told_lines};
-
-    /// The request that the record ended, where this was told of it.
-    #[inline(always)]
-    pub fn request(self, told: Option<LineRef<'_>>) -> Option<Request>
-        ensures { result ≡ came_request self (told_lines told.entry) }
-    {
-        match told {
-            Some(LineRef::Rx(_)) => {
-                let heard = self.heard?;
-                Request::with(heard.tail.tid, heard.ident)
-            }
-            _ => None,
-        }
-    }
 }
 
 impl Heard {

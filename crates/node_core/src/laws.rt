@@ -2,7 +2,8 @@
 
 ghost use Rattle.node_core.specs.Held.{HeldRises};
 ghost use Rattle.node_core.specs.Laws.{LinesJoin, NothingEmptied, NothingLeaves, RecordsOfSteps};
-ghost use Rattle.node_core.specs.Laws.{SilentKeepNothing, SilentReceive};
+ghost use Rattle.node_core.specs.Laws.{MuteKeepNothing, MuteReceive};
+ghost use Rattle.node_core.specs.Laws.{RegistersAre, RegistersStay};
 
 /// The bytes that a log makes a node hold never fall: after its last record they are the most.
 pub fn held_rises()
@@ -22,8 +23,15 @@ pub fn nothing_leaves()
     ensures end { NothingEmptied }
 {}
 
-/// A silent node sends nothing: its lines are those on what it receives.
-pub fn silent_sends_nothing()
-    ensures keeps { SilentKeepNothing }
-    ensures lines { SilentReceive }
+/// A silent node that answers no service sends nothing: its lines are those on what it receives.
+pub fn mute_sends_nothing()
+    ensures keeps { MuteKeepNothing }
+    ensures lines { MuteReceive }
+{}
+
+/// The registers of a node are those of its plan after all that was asked, and each stays within its
+/// limits.
+pub fn registers_stay()
+    ensures registers { RegistersAre }
+    ensures within { RegistersStay }
 {}

@@ -1,5 +1,6 @@
 ghost use Rattle.std.specs.Prelude.{◌≡◌, ◌<◌, ◌≤◌};
 ghost use Rattle.node_status.specs.Status.{info_payload};
+ghost use Rattle.register_service.specs.Within.{limits_of};
 ghost use Rattle.rx_table.specs.Table.{states, HeardBy};
 ghost use Rattle.node_core.specs.InTime.{HeardBy-prop};
 ghost use Rattle.node_core.specs.Shapes.{shape_extent};
@@ -13,10 +14,12 @@ use crate::line_ref::LineRef;
 use crate::port_shape::PortShape;
 use crate::ports::table_of;
 use crate::pushes::push_told;
+use crate::request::Request;
 use can_id::Kind;
 use cy_bits::{List, NoMemory, ShortList};
 use node_plan::Plan;
 use node_status::info_payload;
+use register_service::Limited;
 use rx_table::{Met, Table};
 use std::alloc::Global;
 use tail_frame::{Frame, Record};
@@ -34,6 +37,8 @@ pub struct Node {
     pub queues: BusQueues,
     /// The transfer-ID of the next heartbeat, 0 to 31.
     pub tid: u8,
+    /// What its registers hold, each within its limits.
+    pub registers: Limited,
     /// What it says of itself where it is asked: the payload of each reply of GetInfo.
     pub info: ShortList<u8, 128>,
     alloc: Global,
@@ -42,6 +47,7 @@ pub struct Node {
     pub ghost mode: { plan.status.mode ≤ 3 },
     pub ghost few_ids: { tid < 32 },
     pub ghost tells: { info ≡ info_payload plan.info },
+    pub ghost limits: { limits_of registers.list.items ≡ limits_of plan.registers },
     ghost in_time: { HeardBy latest (states shape_extent table.ports.items) } by { HeardBy-prop latest (states shape_extent table.ports.items) },
 }
 
@@ -83,6 +89,7 @@ impl Node {
     {
         let table = table_of(alloc, &plan)?;
         let queues = BusQueues::new(alloc, &plan)?;
+        let registers = Limited::open(alloc, plan.registers.as_slice())?;
         let info = info_payload(&plan.info);
         Ok(Node {
             plan,
@@ -90,6 +97,7 @@ impl Node {
             latest: 0,
             queues,
             tid: 0,
+            registers,
             info,
             alloc,
         })
@@ -97,8 +105,8 @@ impl Node {
 
     /// Takes the next record of the log, at a moment not before the last one, and appends the lines on
     /// what it gives, and those on the buses that have no room for its reply. Memory is taken for these
-    /// lines, and for a new source's session; where it is wanting, the lines are left as they were, and
-    /// the node is not to be used further.
+    /// lines, for a new source's session, and for what is asked of registers; where it is wanting, the
+    /// lines are left as they were, and the node is not to be used further.
     pub fn frame(&mut self, rec: &Record, lines: &mut List<Line>) -> Result<Stepped, NoMemory>
         requires { self.old.latest ≤ rec.now.moment }
         ensures plan { self.new.plan ≡ self.old.plan }
@@ -112,7 +120,7 @@ impl Node {
     {
         let came = self.step(rec)?;
         let told = self.told(rec, came);
-        let request = came.request(told);
+        let request = self.request(came, told)?;
         let before = lines.len();
         push_told(self.alloc, lines, told)?;
         match self.answer(rec.moment, request, lines) {
@@ -176,6 +184,26 @@ impl Node {
         let heard = came.heard?;
         let frame = heard.frame(rec);
         line_on(&self.table, &frame, self.table.lend(heard.met, &frame))
+    }
+
+    /// The request that the record ended, where this was told of it and the node answers it. Takes
+    /// memory for what is asked of registers alone.
+    #[inline(always)]
+    pub fn request(
+        &self,
+        came: Came,
+        told: Option<LineRef<'_>>,
+    ) -> Result<Option<Request>, NoMemory>
+        ensures { IfOk result (λ request.
+            request ≡ came_request came (told_lines told.entry)) }
+    {
+        let Some(LineRef::Rx(rx)) = told else {
+            return Ok(None);
+        };
+        let Some(heard) = came.heard else {
+            return Ok(None);
+        };
+        Request::with(self.alloc, heard.tail.tid, heard.ident, rx.payload)
     }
 
     /// Whether a record is of a message on no port of the plan. Its identifier says so, before it is read

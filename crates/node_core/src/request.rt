@@ -1,12 +1,15 @@
-ghost use Rattle.std.specs.Prelude.{◌≡◌, ◌<◌, false};
+ghost use Rattle.std.specs.Prelude.{◌≡◌, ◌<◌, IfOk, false};
 ghost use Rattle.can_id.specs.Identifiers.{bits};
 ghost use Rattle.can_id.specs.declared.ident.Ident.TheVariants.{Service};
 ghost use Rattle.node_core.specs.Sending.{IsRequestTo, request_with};
 
+use crate::question::Question;
 use can_id::{Ident, make};
+use cy_bits::NoMemory;
+use std::alloc::Global;
 
 /// A request to the node, which a frame ended.
-#[derive(Clone, Copy, Debug, PartialEq, Eq)]
+#[derive(Drop)]
 pub struct Request {
     /// The service-ID, below 512.
     pub service: u16,
@@ -16,36 +19,48 @@ pub struct Request {
     pub priority: u8,
     /// Its transfer-ID, 0 to 31.
     pub tid: u8,
+    /// What it asks.
+    pub question: Question,
 }
 
 impl Request {
-    /// The request that a frame with this transfer-ID and this identifier is of.
-    #[inline(always)]
-    pub(crate) fn with(tid: u8, ident: Ident) -> Option<Request>
-        ensures { result ≡ request_with tid ident }
+    /// The request that a frame with this transfer-ID and this identifier ended, where this is the
+    /// transfer's payload; `None` where the node doesn't answer it.
+    pub(crate) fn with(
+        alloc: Global,
+        tid: u8,
+        ident: Ident,
+        payload: &[u8],
+    ) -> Result<Option<Request>, NoMemory>
+        ensures { IfOk result (λ request. request ≡ request_with tid ident payload.now) }
     {
-        match ident {
-            Ident::Service {
-                priority,
-                request: true,
-                service,
-                source,
-                ..
-            } => Some(Request {
+        let Ident::Service {
+            priority,
+            request: true,
+            service,
+            source,
+            ..
+        } = ident
+        else {
+            return Ok(None);
+        };
+        match Question::of(alloc, service, payload)? {
+            Some(question) => Ok(Some(Request {
                 service,
                 client: source,
                 priority,
                 tid,
-            }),
-            _ => None,
+                question,
+            })),
+            None => Ok(None),
         }
     }
 
     /// The identifier of a node's reply: the one who asks is its receiver.
-    pub(crate) fn reply_ident(self, node: u8) -> u32
+    pub(crate) fn reply_ident(&self, node: u8) -> u32
         requires node { node < 128 }
-        requires request { IsRequestTo node self }
-        ensures { let r = self in
+        requires request { IsRequestTo node self.now }
+        ensures { let r = self.now in
             result ≡ bits (Service r.priority false r.service r.client node) }
     {
         make(Ident::Service {

@@ -1,10 +1,10 @@
 //! What a node sends.
-ghost use Rattle.std.specs.Prelude.{◌≡◌, ◌<◌, ◌++◌, OnOk, Some, length, map, take};
-ghost use Rattle.std.specs.Option.{ForSome, option_and_then};
-ghost use Rattle.node_core.specs.Keeps.{beaten, keeps, sent};
+ghost use Rattle.std.specs.Prelude.{◌≡◌, ◌<◌, ◌++◌, IfOk, OnOk, Some, length, map, take};
+ghost use Rattle.std.specs.Option.{ForSome};
+ghost use Rattle.node_core.specs.Keeps.{answered, beaten, keeps, reply_by};
 ghost use Rattle.node_core.specs.Pops.{Pops, queue_at};
 ghost use Rattle.node_core.specs.Queues.{fulls, waiting};
-ghost use Rattle.node_core.specs.Sending.{IsRequestTo, beat, reply_to};
+ghost use Rattle.node_core.specs.Sending.{IsRequestTo, beat};
 ghost use Rattle.node_core.specs.Stands.{StandsAsBefore};
 ghost use Rattle.node_core.specs.declared.line.Line.TheVariants.{Full};
 
@@ -12,40 +12,47 @@ use crate::line::{FullLine, Line};
 use crate::node::Node;
 use crate::pushes::push_fulls;
 use crate::request::Request;
-use crate::transfer::{GET_INFO, HEARTBEAT, Transfer, beat_ident};
+use crate::transfer::{HEARTBEAT, Transfer, beat_ident};
 use cy_bits::{List, NoMemory, ShortList};
 use node_status::heartbeat_payload;
 use tx_queue::OutFrame;
 
 impl Node {
-    /// Puts the reply to a request behind the frames that wait on each bus: to the one who asks, with
-    /// the request's priority and transfer-ID (Cyphal Specification, section 5.3.3). Tells on which
-    /// buses there is no room for it, at a moment in microseconds. A request of another service than
-    /// GetInfo has no reply. Takes no memory.
+    /// Does what a request asks, and puts the reply behind the frames that wait on each bus: to the
+    /// one who asks, with the request's priority and transfer-ID (Cyphal Specification, section
+    /// 5.3.3). Tells on which buses there is no room for it, at a moment in microseconds. Memory is
+    /// taken for what is asked of registers alone; where it is wanting, no frame was put, and the
+    /// node is not to be used further.
     #[inline(never)]
-    pub fn reply(&mut self, moment: u64, request: Request) -> ShortList<FullLine, 3>
+    pub fn reply(
+        &mut self,
+        moment: u64,
+        request: Request,
+    ) -> Result<ShortList<FullLine, 3>, NoMemory>
         requires { IsRequestTo self.old.plan.node request }
         ensures plan { self.new.plan ≡ self.old.plan }
         ensures latest { self.new.latest ≡ self.old.latest }
         ensures stands { StandsAsBefore self.old self.new }
-        ensures keeps { keeps self.new ≡ sent (reply_to self.old.plan request) (keeps self.old) }
-        ensures fulls { let reply = reply_to self.old.plan request in
-            map Full result ≡ fulls moment reply (keeps self.old).queues }
+        ensures keeps { let old = keeps self.old in
+            OnOk result (keeps self.new ≡ answered self.old.plan (Some request) old) }
+        ensures fulls { let old = keeps self.old in
+            let reply = reply_by self.old.plan (Some request) old in
+            IfOk result (λ full. map Full full ≡ fulls moment reply old.queues) }
     {
-        if request.service != GET_INFO {
-            return ShortList::new();
-        }
+        let mut out = [0; MAX_REPLY];
+        let ident = request.reply_ident(self.plan.node);
+        let size = self.answer_with(&request.question, &mut out)?;
         let reply = Transfer {
-            ident: request.reply_ident(self.plan.node),
+            ident,
             tid: request.tid,
-            port: GET_INFO,
-            payload: self.info.as_slice(),
+            port: request.service,
+            payload: &out[..size],
         };
-        self.queues.push_all(moment, &reply)
+        Ok(self.queues.push_all(moment, &reply))
     }
 
     /// The same of a request, if there is one, with the lines on full buses put behind others. Where
-    /// memory for these is wanting, some of them are.
+    /// memory is wanting, some of them are.
     pub(crate) fn answer(
         &mut self,
         moment: u64,
@@ -56,15 +63,16 @@ impl Node {
         ensures plan { self.new.plan ≡ self.old.plan }
         ensures latest { self.new.latest ≡ self.old.latest }
         ensures stands { StandsAsBefore self.old self.new }
-        ensures keeps { let x = option_and_then (reply_to self.old.plan) request in
-            keeps self.new ≡ sent x (keeps self.old) }
-        ensures lines { let x = option_and_then (reply_to self.old.plan) request in
-            OnOk result (lines.new ≡ lines.old ++ fulls moment x (keeps self.old).queues) }
+        ensures keeps { let old = keeps self.old in
+            OnOk result (keeps self.new ≡ answered self.old.plan request old) }
+        ensures lines { let old = keeps self.old in
+            let reply = reply_by self.old.plan request old in
+            OnOk result (lines.new ≡ lines.old ++ fulls moment reply old.queues) }
         ensures behind { take (length lines.old) lines.new ≡ lines.old }
     {
         match request {
             Some(request) => {
-                let fulls = self.reply(moment, request);
+                let fulls = self.reply(moment, request)?;
                 push_fulls(lines, &fulls)
             }
             None => Ok(()),

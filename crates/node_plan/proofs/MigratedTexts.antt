@@ -1,5 +1,5 @@
 -- The migrated text of a plan is a text of the same plan.
-use Rattle.std.proofs.Common.{◌≡◌, ◌∙◌, ◌+◌, ◌*◌, ◌-◌, ◌^◌, ◌≤◌, ◌==◌, ◌⊎◌, inl, inr, suc, ℕ, Bool, true, false, List, [], ◌∷◌, ◌++◌, Option, Some, None, get_or, length, refl, sym, ap, subst, take, arith, length-append}
+use Rattle.std.proofs.Common.{◌≡◌, ◌∙◌, ◌+◌, ◌*◌, ◌-◌, ◌^◌, ◌≤◌, ◌<◌, ◌==◌, ◌⊎◌, inl, inr, suc, ℕ, Bool, true, false, List, [], ◌∷◌, ◌++◌, Option, Some, None, get_or, length, refl, sym, ap, subst, take, arith, length-append}
 use Rattle.std.specs.Prelude.{◌&&◌, ◌||◌, Result, Ok, Err, codes, if◌then◌else◌, is_some, map, nat_lt, unwrap_or}
 use Rattle.std.specs.Str.{bytes_eq}
 use Rattle.std.proofs.lemmas.Bool.Decides.{nat_tests}
@@ -14,12 +14,14 @@ use Rattle.node_plan.specs.declared.plan.PlanWhy.TheVariants as why
 use Rattle.node_plan.specs.Answers.{IsMigrated}
 use Rattle.node_plan.specs.Draft.{complete, is_two, on_bus, plan_with, start, step}
 use Rattle.node_plan.specs.IsPlan.{IsBus, IsPlan}
+use Rattle.node_plan.specs.Laws.{PlansAreShort}
 use Rattle.node_plan.specs.Limit.{begins_two, is_version_two, limit_of}
 use Rattle.node_plan.specs.Line.{Says}
 use Rattle.node_plan.specs.declared.line.Said.{Said}
 use Rattle.node_plan.specs.Migrate.{migrated, migrated_line, migrated_text, migrated_words, numbers_of, numbers_text}
 use Rattle.node_plan.specs.Plan.{PlanIs, Good, Bad, Ends, Follows, Goes, IsPlanOf, Line, finished}
 use Rattle.node_plan.specs.Words.{joined, parts_of, words_of}
+use Rattle.node_plan.proofs.LimitLemmas.{limit_of-low}
 use Rattle.node_plan.proofs.DecimalLemmas.{AreNumbers, are_numbers}
 use Rattle.node_plan.specs.declared.line.Said.TheVariants as S
 use Rattle.node_plan.proofs.FirstLines.{Begins, IsSkipped, begun, first_line, line_passed, line_two}
@@ -140,6 +142,20 @@ long_never names (part ∷ []) d n p h = cc
 long_never names (line ∷ part ∷ parts) d n p h =
     let t = line_good names d n line (λ new is. Goes names true new (n + 1) (part ∷ parts) is) p h in
     long_never names (part ∷ parts) t.new (n + 1) p t.others
+
+-- a plan's text has at most the bytes that count
+pub plans_are_short : PlansAreShort
+plans_are_short names text p h = of_test (nat_lt (limit_of text) (length text)) refl
+  where
+    most : limit_of text < 2 ^ 20 + 33
+    most = limit_of-low text
+
+    of_test : (t : Bool) → nat_lt (limit_of text) (length text) ≡ t → length text ≤ 2 ^ 20 + 32
+    of_test true e = absurd (long_never names (parts_of 10 (take (limit_of text) text)) start 1 p
+        (subst (λ t. Goes names t start 1 (parts_of 10 (take (limit_of text) text)) (Good p)) e h))
+    of_test false e =
+        let low : length text ≤ limit_of text = less_not (limit_of text) (length text) e in
+        omega (arith, low, most)
 
 -- ---- the lines of a plan
 

@@ -1,5 +1,5 @@
 -- What holds of each plan.
-use Rattle.std.specs.Prelude.{◌≡◌, ℕ, List, All, AllPairs}
+use Rattle.std.specs.Prelude.{◌≡◌, ◌↔◌, ◌≤◌, ◌+◌, ◌^◌, ℕ, List, All, AllPairs, length, take}
 use Rattle.dsdl_types.specs.Definitions.{IsNamespace}
 use Rattle.dsdl_types.specs.declared.namespace.Namespace.{Namespace}
 use Rattle.node_plan.specs.IsPlan.{IsPlan, TypesKeepRules}
@@ -31,3 +31,13 @@ PortsFit = (plan : Plan) → IsPlan plan → All IsPort (ports plan)
 -- no key is that of two of its ports
 abbrev pub PortsDiffer : Type 0
 PortsDiffer = (plan : Plan) → IsPlan plan → AllPairs Differ (ports plan)
+
+-- a byte more than a text may have decides: the first bytes of a text have its meaning
+abbrev pub FrontDecides : Type 0
+FrontDecides = (names : Namespace) (text : List ℕ) (is : PlanIs)
+    → IsPlanOf names (take (2 ^ 20 + 33) text) is ↔ IsPlanOf names text is
+
+-- and a text that is a plan's isn't longer than a text may be
+abbrev pub PlansAreShort : Type 0
+PlansAreShort = (names : Namespace) (text : List ℕ) (plan : Plan)
+    → IsPlanOf names text (Good plan) → length text ≤ 2 ^ 20 + 32

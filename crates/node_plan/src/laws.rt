@@ -1,4 +1,5 @@
 //! Laws of plans, each the contract of a call that does nothing.
+ghost use Rattle.node_plan.specs.Laws.{FrontDecides, PlansAreShort};
 ghost use Rattle.node_plan.specs.Laws.{OnePlan, PlainPlans, PlansKeepTypeRules, PortsDiffer, PortsFit};
 
 /// A text says one plan, or is refused at one line for one cause.
@@ -21,4 +22,11 @@ pub fn plans_keep_type_rules()
 pub fn ports_are_fit()
     ensures fit { PortsFit }
     ensures differ { PortsDiffer }
+{}
+
+/// As many first bytes of a text as a text may have, and one more, decide which plan it is; a plan's
+/// text has no more than it may have.
+pub fn front_decides()
+    ensures front { FrontDecides }
+    ensures short { PlansAreShort }
 {}

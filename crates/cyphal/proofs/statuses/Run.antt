@@ -2,6 +2,7 @@
 use Rattle.std.proofs.Common.{◌≡◌, ◌∙◌, ℕ, true, false, List, Option, Some, None, sym, ap, is_some}
 use Rattle.clap.proofs.WalkLemmas.{both}
 use Rattle.dsdl_resolve.specs.Laws.{HaveOneAnswer}
+use Rattle.node_plan.specs.Laws.{OnePlan}
 use Rattle.node_plan.specs.declared.plan.Plan.{Plan}
 use Rattle.frame_log.specs.Log.{Log, log_of}
 use Rattle.node_run.specs.Ran.{Reported, Ran, HasRun, names_of}
@@ -56,7 +57,7 @@ no_refusal plan log status.NoMemory put before after h r = absurd cc
 pub run_not_refused : (plan : Plan) (input : Option (List ℕ)) (stat : Status) (put : Reported) (before after : Option (List ℕ)) → is_refused stat ≡ true → HasRun plan input stat put before after → ⊥
 run_not_refused plan input stat put before after h r = no_refusal plan (log_of (names_of plan) r.bytes) stat put before after h r.ran
 
-pub single : HaveOneAnswer → (root path : List ℕ) → IsSingle (run_job root path)
+pub single : HaveOneAnswer × OnePlan → (root path : List ℕ) → IsSingle (run_job root path)
 single law root path told s t h a b =
     let all = both (is_some told.files) (is_some told.input) h in
     one_end law root path (over told.input) (λ plan. one_log_end (names_of plan) told.input all.1) told.files all.0 s t a b

@@ -12,6 +12,7 @@ use crate::plan_file::{plan_refused, text_at};
 use cy_bits::Bytes;
 use cy_outside::{Sink, Tree, put_all};
 use dsdl_types::Namespace;
+use node_plan::laws::front_decides;
 use node_plan::migrate;
 use node_run::{Status, load};
 use std::alloc::Global;
@@ -90,6 +91,7 @@ fn migrated_in<T: Tree>(
         Ok(text) => text,
         Err(status) => return Err(status),
     };
+    front_decides();
     match migrate(alloc, text.as_slice(), names) {
         Ok(new) => Ok(new),
         Err(error) => Err(plan_refused(error)),

@@ -1,0 +1,67 @@
+//! What a request to a node asks.
+ghost use Rattle.std.specs.Prelude.{◌≡◌, IfOk, option_map};
+ghost use Rattle.std.specs.Option.{ForSome};
+ghost use Rattle.node_core.specs.Questions.{FitsQuestion, question_in};
+ghost use Rattle.serdes.specs.Payloads.{payload_value};
+ghost use Rattle.std_types.specs.Types.{schema_of};
+
+use cy_bits::NoMemory;
+use serdes::payload_value;
+use std::alloc::Global;
+use std_types::register::{AccessRequest, ListRequest};
+use std_types::{Standard, StdName, std_type};
+
+/// What a request asks that a node answers.
+#[derive(Drop)]
+pub enum Question {
+    /// What the node is (Cyphal Specification, section 5.3.3).
+    Info,
+    /// A register's value, which is written first where the request bears one (Cyphal
+    /// Specification, section 5.3.10).
+    Access(AccessRequest),
+    /// The name of the register with a number.
+    Listing(ListRequest),
+}
+
+impl Question {
+    /// What a request of a service asks, by its payload; `None` where it has no answer.
+    pub(crate) fn of(
+        alloc: Global,
+        service: u16,
+        payload: &[u8],
+    ) -> Result<Option<Question>, NoMemory>
+        ensures value { IfOk result (λ question. question ≡ question_in service payload.now) }
+        ensures fits { IfOk result (λ question. ForSome question FitsQuestion) }
+    {
+        match service {
+            GET_INFO => Ok(Some(Question::Info)),
+            ACCESS => {
+                let request = request_as(alloc, StdName::AccessRequest, payload)?;
+                Ok(request.map(Question::Access))
+            }
+            LIST => {
+                let request = request_as(alloc, StdName::ListRequest, payload)?;
+                Ok(request.map(Question::Listing))
+            }
+            _ => Ok(None),
+        }
+    }
+}
+
+/// The request that a payload is read as, by the name of its type; `None` where it can't be read.
+fn request_as<S: Standard>(
+    alloc: Global,
+    name: StdName,
+    payload: &[u8],
+) -> Result<Option<S>, NoMemory>
+    requires { schema_of name ≡ S.schema }
+    ensures value { IfOk result (λ request.
+        request ≡ option_map S.made_of (payload_value S.schema payload.now)) }
+    ensures fits { IfOk result (λ request. ForSome request S.fits) }
+{
+    let standard = std_type(alloc, name)?;
+    match payload_value(alloc, &standard.schema, payload)? {
+        Some(value) => Ok(Some(S::of_value(alloc, &value)?)),
+        None => Ok(None),
+    }
+}
