@@ -4,7 +4,6 @@
 
 pub mod laws;
 pub mod limits;
-mod number;
 pub mod open_error;
 pub mod service;
 #[cfg(test)]
