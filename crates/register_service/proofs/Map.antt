@@ -196,5 +196,3 @@ pub ruleset opening = (outside_here, no_outside, AllWithin-more)
 pub ruleset finding = (entry_here, entry_next, entry_end)
 
 pub ruleset accessing = (kept_set, guard_set, guard_of, limits_set, alike_variant, after_unknown, after_refused, after_taken, reply_unknown, reply_refused, reply_taken, access_unknown, access_refused, access_taken)
-
-pub ruleset standing = (stand_next)

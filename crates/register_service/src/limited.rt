@@ -73,7 +73,7 @@ impl Limited {
     {
         let limits = self.limits.as_slice();
         let guard = |number: u16, value: &RegisterValue| -> bool
-            ensures { result ≡ is_allowed limits.now number value.now }
+            ensures { result ≡ is_allowed limits.entry.now number value.now }
         { is_allowed(limits, number, value) };
         access(self.alloc, &mut self.list, &guard, name, value)
     }

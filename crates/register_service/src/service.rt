@@ -61,7 +61,6 @@ impl<G: Fn(u16, &RegisterValue) -> bool + Drop> Registers<G> {
     /// as many items (strings and unstructured aside), and the guard says yes. The reply has the
     /// value after the call; of an unknown name it is empty and not mutable. Want of memory changes
     /// nothing.
-    #[tactic(auto, using(crate::proofs::Map::standing))]
     pub fn access(&mut self, name: &[u8], value: RegisterValue) -> Result<AccessReply, NoMemory>
         requires guarded { AreGuarded G.Fn self.old }
         requires fits { FitsRegisterValue value }
