@@ -8,7 +8,7 @@ use Rattle.node_plan.specs.Registers.{IsRegister, is_limited, is_register_byte}
 use Rattle.node_plan.specs.declared.plan.Plan.{Plan}
 use Rattle.register_service.specs.Kept.{AreKept}
 use Rattle.register_service.specs.Laws.{AllFit, RegisterLaws}
-use Rattle.register_service.specs.RegisterMap.{Request as Asked, Access as Accessing, Listing as Naming, after}
+use Rattle.register_service.specs.RegisterMap.{Request as RegisterRequest, Access as RegisterAccess, Listing as RegisterListing, after}
 use Rattle.register_service.specs.Within.{is_within}
 use Rattle.std_types.specs.Limits.{is_whole, lie_within}
 use Rattle.std_types.specs.RegisterValues.{FitsRegisterValue}
@@ -44,13 +44,13 @@ kept_registers plan is = record {
 }
 
 -- what a question leaves of registers that other requests left
-after_question : (plan : Plan) (opened : List Register) (past : List Asked) (q : Question)
+after_question : (plan : Plan) (opened : List Register) (past : List RegisterRequest) (q : Question)
     → registers_after plan (after (may_hold plan) opened past) q ≡ after (may_hold plan) opened (asks_of q ++ past)
 after_question plan opened past Info = refl
 after_question plan opened past (Access request) = refl
 after_question plan opened past (Listing request) = refl
 
-after_behind : (plan : Plan) (opened : List Register) (past : List Asked) (request : Option Request)
+after_behind : (plan : Plan) (opened : List Register) (past : List RegisterRequest) (request : Option Request)
     → registers_behind plan request (after (may_hold plan) opened past) ≡ after (may_hold plan) opened (asked_by request ++ past)
 after_behind plan opened past None = refl
 after_behind plan opened past (Some r) = after_question plan opened past r.question
@@ -62,10 +62,10 @@ registers_are plan (step ∷ past) =
     ∙ after_behind plan plan.registers (asked plan past) (request_at plan step past)
 
 -- what was asked bears values
-all_fit_append : (newer past : List Asked) → AllFit newer → AllFit past → AllFit (newer ++ past)
+all_fit_append : (newer past : List RegisterRequest) → AllFit newer → AllFit past → AllFit (newer ++ past)
 all_fit_append [] past n p = p
-all_fit_append (Accessing name v ∷ newer) past n p = (n.0, all_fit_append newer past n.1 p)
-all_fit_append (Naming number ∷ newer) past n p = all_fit_append newer past n p
+all_fit_append (RegisterAccess name v ∷ newer) past n p = (n.0, all_fit_append newer past n.1 p)
+all_fit_append (RegisterListing number ∷ newer) past n p = all_fit_append newer past n p
 
 question_asks : (q : Question) → FitsQuestion q → AllFit (asks_of q)
 question_asks Info fits = tt
