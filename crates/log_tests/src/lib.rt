@@ -15,4 +15,6 @@ mod plan_tests;
 #[cfg(test)]
 mod plan_types;
 #[cfg(test)]
+mod register_tests;
+#[cfg(test)]
 mod text_tests;

@@ -1,11 +1,12 @@
 -- Lemmas on the parts of a text.
-use Rattle.std.proofs.Common.{◌≡◌, ◌==◌, Bool, true, false, List, [], ◌∷◌, ◌++◌, ◌∙◌, ℕ, refl, sym, ap}
-use Rattle.std.specs.Prelude.{if◌then◌else◌}
+use Rattle.std.proofs.Common.{◌≡◌, ◌==◌, Bool, true, false, List, [], ◌∷◌, ◌++◌, ◌∙◌, ℕ, Option, Some, None, refl, sym, ap}
+use Rattle.std.specs.Prelude.{codes, if◌then◌else◌}
+use Rattle.std.specs.Str.{bytes_eq}
 use Rattle.std.proofs.lemmas.Bool.{eqb-true}
 use Rattle.dsdl_types.specs.declared.namespace.Namespace.{Namespace}
 use Rattle.node_plan.specs.declared.info.VersionWord.TheVariants as word
 use Rattle.node_plan.specs.Info.{version_of_parts}
-use Rattle.node_plan.specs.Line.{said_of_many, said_of_words}
+use Rattle.node_plan.specs.Line.{RegisterText, register_in, said_of_many, said_of_words}
 use Rattle.node_plan.specs.Words.{joined, parts_of, with_first}
 
 -- bytes in front of the first part
@@ -57,3 +58,20 @@ version_of_parts-many a b s = of_parts (parts_of 46 s) (with_front-none 46 s)
     of_parts : (ps : List (List ℕ)) → ps ≡ with_front [] ps → version_of_parts (a ∷ b ∷ ps) ≡ word.NoVersion
     of_parts [] h = absurd cc
     of_parts (p ∷ ps) h = refl
+
+-- the words of a register's line, where they begin with this one
+abbrev pub register_by : Bool → RegisterText → Option RegisterText
+register_by true words = Some words
+register_by false words = None
+
+-- four words or more are those of a register, or not
+pub register_in-more : (a b c s : List ℕ) → register_in (a ∷ b ∷ c ∷ parts_of 32 s) ≡ register_by (bytes_eq a (codes "register")) (record { name = b; access = c; text = s })
+register_in-more a b c s = of_parts (parts_of 32 s) (with_front-none 32 s) ∙ of_test (bytes_eq a (codes "register")) (joined 32 (parts_of 32 s)) (joined-parts 32 s)
+  where
+    of_parts : (ps : List (List ℕ)) → ps ≡ with_front [] ps → register_in (a ∷ b ∷ c ∷ ps) ≡ (if bytes_eq a (codes "register") then Some (record { name = b; access = c; text = joined 32 ps }) else None)
+    of_parts [] h = absurd cc
+    of_parts (p ∷ ps) h = refl
+
+    of_test : (is : Bool) (t : List ℕ) → t ≡ s → (if is then Some (record { name = b; access = c; text = t }) else None) ≡ register_by is (record { name = b; access = c; text = s })
+    of_test true t e = ap (λ u. Some (record { name = b; access = c; text = u })) e
+    of_test false t e = refl

@@ -138,6 +138,26 @@ none_kept v text fits is not r h =
 pub none_read : (text : List ℕ) → ((v : Val) → Fits register_value v → value_text register_value v ≡ text → ⊥) → Reads text None
 none_read text not r h = not (variant_value r) (value_fits r h.0) h.1
 
+-- the same with a schema that is that of a register's value
+pub none_read_by : (s : Sch) (text : List ℕ) → s ≡ register_value → ((v : Val) → Fits s v → value_text s v ≡ text → ⊥) → Reads text None
+none_read_by s text e not = none_read text (subst (λ t. (v : Val) → Fits t v → value_text t v ≡ text → ⊥) e not)
+
+-- the value made of what was read is kept where it is printed as the text, and there is none otherwise
+module _ (s : Sch) (v x : Val) (kept : RegisterValue) (printed : List ℕ) (is : s ≡ register_value) (fits : Fits s v) (made : kept ≡ variant_of v) (again : x ≡ variant_value kept) (print : printed ≡ value_text s x) where
+  text_again : value_text register_value (variant_value kept) ≡ printed
+  text_again = ap (λ y. value_text register_value y) (sym again) ∙ ap (λ t. value_text t x) (sym is) ∙ sym print
+
+  fits_schema : Fits register_value v
+  fits_schema = subst (λ t. Fits t v) is fits
+
+  pub text_kept : (text : List ℕ) → printed ≡ text → IsTextOf kept text
+  text_kept text same = (subst FitsRegisterValue (sym made) (made_fits v fits_schema), text_again ∙ same)
+
+  pub text_lost : (text : List ℕ) → value_text s v ≡ text → (printed ≡ text → ⊥) → Reads text None
+  text_lost text read differ =
+      none_kept v text fits_schema (ap (λ t. value_text t v) (sym is) ∙ read)
+      (λ h. differ (sym text_again ∙ ap (λ q. value_text register_value (variant_value q)) made ∙ h))
+
 -- what was read fits
 pub fits_of_read : (text : List ℕ) (o : Option RegisterValue) → Reads text o → IfSome o FitsRegisterValue
 fits_of_read text None h = tt

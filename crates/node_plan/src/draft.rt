@@ -1,5 +1,5 @@
 //! The plan as far as its lines were read.
-ghost use Rattle.std.specs.Prelude.{◌≡◌, ◌<◌, Some, length, map, slice_get, unwrap_or};
+ghost use Rattle.std.specs.Prelude.{◌≡◌, ◌<◌, IfSome, Some, length, map, slice_get, unwrap_or};
 ghost use Rattle.std_types.specs.declared.registers.Register.{Register as Held};
 ghost use Rattle.node_plan.specs.Info.{blank_info};
 ghost use Rattle.node_plan.specs.Draft.{has_bus, has_register, has_subject, limited, on_bus, place_of};
@@ -49,9 +49,9 @@ pub struct Draft {
 }
 
 impl Draft {
-    ghost use Rattle.std.specs.Prelude.{◌≡◌, ◌<◌, ◌≤◌, Err, IfSome, length};
+    ghost use Rattle.std.specs.Prelude.{◌≡◌, ◌<◌, ◌≤◌, Err, IfSome, Some, length};
     ghost use Rattle.node_plan.specs.Answers.{IsStep};
-    ghost use Rattle.node_plan.specs.Draft.{start, complete, is_two, plan_with, without_type, with_limits, with_line, step};
+    ghost use Rattle.node_plan.specs.Draft.{start, complete, is_two, limits_at, plan_with, without_type, with_limits, with_line, step};
     ghost use Rattle.node_plan.specs.IsPlan.{IsBus, IsDraft, IsInfo, IsMtu, IsPlan, IsRate, IsStatus, IsSub};
     ghost use Rattle.node_plan.specs.Line.{IsSaid};
     ghost use Rattle.node_plan.specs.Registers.{IsRegister};
@@ -281,7 +281,7 @@ impl Draft {
         }
     }
 
-    /// Keeps a register within limits, where a line before named it.
+    /// Keeps the register of this name within limits, where a line before said it.
     fn set_limits(
         &mut self,
         alloc: Global,
@@ -293,9 +293,25 @@ impl Draft {
         ensures value { IsStep (with_limits self.old name.now limits) n self.new result }
         ensures sound { IsDraft self.new }
     {
-        let Some(place) = place_of(self.registers.as_slice(), name.as_str().as_bytes()) else {
-            return Err(out_of_range(n));
-        };
+        match place_of(self.registers.as_slice(), name.as_str().as_bytes()) {
+            Some(place) => self.set_limits_at(alloc, n, place, limits),
+            None => Err(out_of_range(n)),
+        }
+    }
+
+    /// Keeps the register at a place within limits, where it has none.
+    fn set_limits_at(
+        &mut self,
+        alloc: Global,
+        n: u32,
+        place: usize,
+        limits: Limits,
+    ) -> Result<(), PlanError>
+        requires sound { IsDraft self.old }
+        requires held { place < length self.old.registers }
+        ensures value { IsStep (limits_at self.old limits (Some place)) n self.new result }
+        ensures sound { IsDraft self.new }
+    {
         let register = &self.registers.as_slice()[place];
         if !can_limit(limits, &register.value) {
             return Err(out_of_range(n));
@@ -458,7 +474,8 @@ fn has_register(registers: &[Register], name: &Text) -> bool
 
 /// The place of the register with this name.
 fn place_of(registers: &[Register], name: &[u8]) -> Option<usize>
-    ensures { result ≡ place_of name.now registers.now }
+    ensures value { result ≡ place_of name.now registers.now }
+    ensures held { IfSome result (λ place. place < length registers.now) }
 {
     registers
         .iter()

@@ -1,5 +1,5 @@
 -- Registers one by one: what a name finds, and what stays where a value is written.
-use Rattle.std.proofs.Common.{◌≡◌, ℕ, suc, ◌+◌, ◌<◌, ◌≤◌, Bool, true, false, not, eqb, ltb, ◌&&◌, ◌||◌, IsTrue, List, [], ◌∷◌, Some, None, length, get_or, set, drop, refl, sym, ap, subst, ◌∙◌, add-one, drop-cons, arith}
+use Rattle.std.proofs.Common.{◌≡◌, ℕ, suc, ◌+◌, ◌<◌, ◌≤◌, Bool, true, false, not, eqb, ltb, ◌&&◌, ◌||◌, IsTrue, List, [], ◌∷◌, Option, Some, None, length, get_or, set, drop, refl, sym, ap, subst, ◌∙◌, add-one, drop-cons, arith}
 use Rattle.std.proofs.Math.ListN.{get_or-map, length-set, drop_of_length-le}
 use Rattle.std.proofs.Math.Seq.{map-set_same}
 use Rattle.std.proofs.lemmas.Bool.{and_from, and_parts, cond-true, cond-false, eqb-true, le-ltb, lt-ltb}
@@ -14,12 +14,13 @@ use Rattle.std_types.specs.RegisterValues.{FitsRegisterValue}
 use Rattle.std_types.specs.declared.register.AccessReply.{AccessReply}
 use Rattle.std_types.specs.declared.register_value.RegisterValue.{RegisterValue}
 use Rattle.std_types.specs.declared.register_value.RegisterValue.TheVariants as V
+use Rattle.std_types.specs.declared.registers.Limits.{Limits}
 use Rattle.std_types.specs.declared.registers.Register.{Register}
-use Rattle.register_service.specs.Kept.{AllowsBy, AreKept, AreWithin, IsGuard, Stand}
+use Rattle.register_service.specs.Kept.{AllowsBy, AreKept, AreWithin, IsAt, IsGuard, IsGuardOf, Stand}
 use Rattle.register_service.specs.declared.service.Registers.{Registers}
 use Rattle.register_service.specs.RegisterMap.{Access, IsAccess, Request, access_reply, after_access, entry, entry_from, is_alike, reply, reply_at, takes, written_at}
 use Rattle.register_service.specs.Variants.{count, is_text, variant}
-use Rattle.register_service.specs.Within.{first_outside, is_within}
+use Rattle.register_service.specs.Within.{first_outside, is_within, limits_of}
 
 -- a name is not the one at a place: what is found is found behind it
 pub entry_next : (n : ℕ) (name : List ℕ) (xs : List Register) (r : Register) → n < length xs → r ≡ get_or xs n r → bytes_eq r.name name ≡ false
@@ -87,6 +88,18 @@ guard_set g guard xs i r v k e same =
           subst (λ l. IsTrue (is_within l p.now)) (sym (ap (λ x. x.limits) is ∙ limits j t))
           (k.within j (get_or xs j t) p low (get_or_default xs j t (get_or xs j t) low) (of.0 ∙ ap (λ x. variant x.value) is ∙ variants j t, of.1) yes');
     }
+
+-- of one of them it is its guard
+pub guard_of : {G : Type 0} (g : Shared G (ℕ × (Bor RegisterValue × Unit {0})) Bool) (guard : G) (xs : List Register) (i : ℕ) (r : Register)
+    → IsGuard g guard xs → IsAt xs i r → IsGuardOf g guard i r
+guard_of g guard xs i r k at = record {
+  callable = λ p of. k.callable i r p at.0 at.1 of;
+  within = λ p of yes'. k.within i r p at.0 at.1 of yes';
+}
+
+-- a value that is written changes no limits
+pub limits_set : (xs : List Register) (i : ℕ) (r : Register) (v : RegisterValue) → r ≡ get_or xs i r → limits_of (set xs i (record r { value = v })) ≡ limits_of xs
+limits_set xs i r v e = let limits : Register → Option Limits = λ x. x.limits in map-set_same limits xs i (record r { value = v }) r (ap limits e)
 
 -- what an access leaves and answers, by what its name finds and whether the register takes the value
 pub after_unknown : (allowed : ℕ → RegisterValue → Bool) (xs : List Register) (name : List ℕ) (v : RegisterValue) → entry name xs ≡ None
@@ -182,4 +195,4 @@ pub ruleset opening = (outside_here, no_outside, AllWithin-more)
 
 pub ruleset finding = (entry_here, entry_next, entry_end)
 
-pub ruleset accessing = (kept_set, guard_set, alike_variant, after_unknown, after_refused, after_taken, reply_unknown, reply_refused, reply_taken, access_unknown, access_refused, access_taken, stand_next)
+pub ruleset accessing = (kept_set, guard_set, guard_of, limits_set, alike_variant, after_unknown, after_refused, after_taken, reply_unknown, reply_refused, reply_taken, access_unknown, access_refused, access_taken)

@@ -19,7 +19,7 @@ use Rattle.register_service.specs.Within.{is_allowed, is_allowed_by, limits_of}
 use Rattle.register_service.proofs.Alike.{takes_empty, takes_nothing}
 use Rattle.register_service.proofs.Entries.{at_entry, found_at, found_name, some_inj, unknown_entry}
 use Rattle.register_service.proofs.Map.{after_refused, after_taken, after_unknown, reply_refused, reply_taken, reply_unknown}
-use Rattle.register_service.proofs.Written.{after_length, after_map, distinct_after, keep_after, name_stays, never_written, stays, takes_same, wrote}
+use Rattle.register_service.proofs.Written.{access_map, after_length, after_map, distinct_after, keep_after, name_stays, never_written, stays, takes_same, wrote}
 
 value : (allowed : ℕ → RegisterValue → Bool) (opened : List Register) (past : List Request) (i : ℕ) (r : Register) → AreRegisters opened → IsAt opened i r
     → IsAt (after allowed opened past) i (record r { value = last_written (takes allowed i r) r.name r.value past })
@@ -170,6 +170,7 @@ hold_after allowed opened past = record {
   unknown_stays = unknown_stays allowed opened past;
   read = read allowed opened past;
   listed = listed allowed opened past;
+  limits = after_map (λ r. r.limits) (λ r v. refl) allowed opened past;
   within = λ g k f. (keep_after allowed opened past f (k, g)).0;
 }
 
@@ -178,6 +179,7 @@ register_laws = record {
   after_all = hold_after;
   parts = parts;
   replies_in_parts = replies_in_parts;
+  limits_stay = access_map (λ r. r.limits) (λ r v. refl);
   read_again = λ allowed registers name v h. again_by allowed registers name v (entry name registers) h refl;
   listed_once = listed_once;
   listed_all = λ registers i. (listed_none registers i, λ past. ap (option_map (λ (x : Register). x.name)) (slice_get_past registers i past));

@@ -41,7 +41,7 @@ access_cases allowed xs name v = cases_by allowed xs name v (entry name xs) refl
 
 -- what is told without the value stays
 module _ {A : Type 0} (f : Register → A) (blind : (r : Register) (v : RegisterValue) → f (record r { value = v }) ≡ f r) where
-  access_map : (allowed : ℕ → RegisterValue → Bool) (xs : List Register) (name : List ℕ) (v : RegisterValue) → map f (after_access allowed xs name v) ≡ map f xs
+  pub access_map : (allowed : ℕ → RegisterValue → Bool) (xs : List Register) (name : List ℕ) (v : RegisterValue) → map f (after_access allowed xs name v) ≡ map f xs
   access_map allowed xs name v = elim (access_cases allowed xs name v) [
     | inl t ↦
         ap (map f) (sym t.after)

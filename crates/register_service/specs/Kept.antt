@@ -42,6 +42,12 @@ pub record IsGuard {G : Type 0} (g : Shared G (ℕ × (Bor RegisterValue × Unit
   pub within : (i : ℕ) (r : Register) (p : Bor RegisterValue) → i < length registers → r ≡ slice_index_or registers i r → IsOfVariant r p.now
       → g.post guard (i, (p, tt)) true → IsTrue (is_within r.limits p.now)
 
+-- a guard of the register r with the number i: it may be asked about each value of its variant, and yes means that the
+-- value is within the register's limits
+pub record IsGuardOf {G : Type 0} (g : Shared G (ℕ × (Bor RegisterValue × Unit {0})) Bool) (guard : G) (i : ℕ) (r : Register) : Type 0 where
+  pub callable : (p : Bor RegisterValue) → IsOfVariant r p.now → g.pre guard (i, (p, tt))
+  pub within : (p : Bor RegisterValue) → IsOfVariant r p.now → g.post guard (i, (p, tt)) true → IsTrue (is_within r.limits p.now)
+
 -- the guard answers by a function of the register's number and the value
 abbrev pub AllowsBy : {G : Type 0} → Shared G (ℕ × (Bor RegisterValue × Unit {0})) Bool → G → (ℕ → RegisterValue → Bool) → Type 0
 AllowsBy g guard allowed = (i : ℕ) (p : Bor RegisterValue) (b : Bool) → i < 2 ^ 16 → g.post guard (i, (p, tt)) b → b ≡ allowed i p.now

@@ -54,6 +54,8 @@ pub record HoldAfter (allowed : ℕ → RegisterValue → Bool) (opened : List R
   pub read : (name : List ℕ) → after allowed opened (Access name V.Empty ∷ past) ≡ after allowed opened past
   -- a listing gives the names in the order in which they were opened
   pub listed : (i : ℕ) → name_at (after allowed opened past) i ≡ name_at opened i
+  -- the limits never change
+  pub limits : limits_of (after allowed opened past) ≡ limits_of opened
   -- each register stays within its limits where the guard keeps it there
   pub within : KeepWithin allowed opened → AreKept opened → AllFit past → AreKept (after allowed opened past)
 
@@ -64,6 +66,9 @@ pub record RegisterLaws : Type 0 where
       → after allowed opened (newer ++ past) ≡ after allowed (after allowed opened past) newer
   pub replies_in_parts : (allowed : ℕ → RegisterValue → Bool) (opened : List Register) (newer past : List Request)
       → replies allowed opened (newer ++ past) ≡ replies allowed (after allowed opened past) newer ++ replies allowed opened past
+  -- an access changes no limits, so that one list of them counts for a whole run
+  pub limits_stay : (allowed : ℕ → RegisterValue → Bool) (registers : List Register) (name : List ℕ) (v : RegisterValue)
+      → limits_of (after_access allowed registers name v) ≡ limits_of registers
   -- the reply to an access is that to a read behind it
   pub read_again : (allowed : ℕ → RegisterValue → Bool) (registers : List Register) (name : List ℕ) (v : RegisterValue) → AreRegisters registers
       → access_reply allowed (after_access allowed registers name v) name V.Empty ≡ access_reply allowed registers name v

@@ -1,28 +1,12 @@
 -- The limits of registers.
-use Rattle.std.specs.Prelude.{ℕ, ℤ, pos, Bool, true, false, ◌&&◌, int_le, List, Option, Some, None, map, not, ◌≡◌, slice_get}
-use Rattle.std.specs.List.{list_all, position}
+use Rattle.std.specs.Prelude.{ℕ, Bool, true, false, List, Option, Some, None, map, not, ◌≡◌, slice_get}
+use Rattle.std.specs.List.{position}
+use Rattle.std_types.specs.Limits.{lie_within}
 use Rattle.std_types.specs.declared.register_value.RegisterValue.{RegisterValue}
-use Rattle.std_types.specs.declared.register_value.RegisterValue.TheVariants as V
 use Rattle.std_types.specs.declared.registers.Limits.{Limits}
 use Rattle.std_types.specs.declared.registers.Register.{Register}
 use Rattle.register_service.specs.declared.open_error.OpenError.{OpenError}
 use Rattle.register_service.specs.declared.open_error.OpenError.TheVariants as E
-
--- whether a number lies from the least to the greatest
-abbrev pub lies : Limits → ℤ → Bool
-lies limits z = int_le limits.low z && int_le z limits.high
-
--- whether each item of an integer or natural variant does; the items of other variants always do
-abbrev pub lie_within : Limits → RegisterValue → Bool
-lie_within limits (V.Integer64 items) = list_all (lies limits) items
-lie_within limits (V.Integer32 items) = list_all (lies limits) items
-lie_within limits (V.Integer16 items) = list_all (lies limits) items
-lie_within limits (V.Integer8 items) = list_all (lies limits) items
-lie_within limits (V.Natural64 items) = list_all (λ n. lies limits (pos n)) items
-lie_within limits (V.Natural32 items) = list_all (λ n. lies limits (pos n)) items
-lie_within limits (V.Natural16 items) = list_all (λ n. lies limits (pos n)) items
-lie_within limits (V.Natural8 items) = list_all (λ n. lies limits (pos n)) items
-lie_within limits _ = true
 
 -- whether a value is within a register's limits, where it has any
 abbrev pub is_within : Option Limits → RegisterValue → Bool

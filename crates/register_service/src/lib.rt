@@ -3,15 +3,19 @@
 #![tactic(auto)]
 
 pub mod laws;
+pub mod limited;
 pub mod limits;
-mod number;
 pub mod open_error;
+pub mod register_list;
 pub mod service;
 #[cfg(test)]
 mod tests;
 mod values;
 
 pub use laws::register_laws;
+pub use limited::Limited;
 pub use limits::{is_allowed, is_within, limits_of};
 pub use open_error::OpenError;
+pub use register_list::access;
 pub use service::Registers;
+pub use values::copy_registers;

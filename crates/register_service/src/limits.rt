@@ -1,45 +1,12 @@
 //! What numbers of registers are kept within.
 ghost use Rattle.std.specs.Prelude.{◌≡◌, IfOk, map};
-ghost use Rattle.std.specs.List.{list_all};
-ghost use Rattle.register_service.specs.Within.{is_allowed, is_within, lies, lie_within, limits_of};
+ghost use Rattle.register_service.specs.Within.{is_allowed, is_within, limits_of};
 
-use crate::number::Number;
 use cy_bits::{List, NoMemory};
 use std::alloc::Global;
+use std_types::limits::lie_within;
 use std_types::register_value::RegisterValue;
 use std_types::registers::{Limits, Register};
-
-/// Whether a number lies from the least to the greatest.
-fn lies(limits: Limits, number: i128) -> bool
-    ensures { result ≡ lies limits number }
-{
-    limits.low <= number && number <= limits.high
-}
-
-/// Whether each of these numbers does.
-fn all_lie<T: Number>(limits: Limits, numbers: &[T]) -> bool
-    ensures { result ≡ list_all (λ n. lies limits (T.worth n)) numbers.now }
-{
-    numbers.iter().all(|n| lies(limits, n.worth()))
-}
-
-/// Whether each item of an integer or natural variant lies within the limits; the items of other
-/// variants always do.
-fn lie_within(limits: Limits, value: &RegisterValue) -> bool
-    ensures { result ≡ lie_within limits value.now }
-{
-    match value {
-        RegisterValue::Integer64(items) => all_lie(limits, items.as_slice()),
-        RegisterValue::Integer32(items) => all_lie(limits, items.as_slice()),
-        RegisterValue::Integer16(items) => all_lie(limits, items.as_slice()),
-        RegisterValue::Integer8(items) => all_lie(limits, items.as_slice()),
-        RegisterValue::Natural64(items) => all_lie(limits, items.as_slice()),
-        RegisterValue::Natural32(items) => all_lie(limits, items.as_slice()),
-        RegisterValue::Natural16(items) => all_lie(limits, items.as_slice()),
-        RegisterValue::Natural8(items) => all_lie(limits, items.as_slice()),
-        _ => true,
-    }
-}
 
 /// Whether a value is within limits, where there are any.
 pub fn is_within(limits: Option<Limits>, value: &RegisterValue) -> bool

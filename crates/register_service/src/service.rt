@@ -1,20 +1,20 @@
-ghost use Rattle.std.specs.Prelude.{◌≡◌, ℕ, ◌≤◌, ◌∷◌, [], Bool, IsTrue, IfOk, IfErr, IfSome, OnErr, List as ListOf, length};
-ghost use Rattle.std.specs.Option.{option_copied, option_map};
+ghost use Rattle.std.specs.Prelude.{◌≡◌, ℕ, ◌≤◌, ◌∷◌, [], Bool, IfOk, IfErr, IfSome, OnErr, List as ListOf, length};
+ghost use Rattle.std.specs.Option.{option_copied};
 ghost use Rattle.std_types.specs.RegisterValues.{FitsRegisterValue};
 ghost use Rattle.std_types.specs.Registers.{FitsAccessReply};
-ghost use Rattle.register_service.specs.Kept.{AllowsBy, AreGuarded, AreKept, AreRegisters, IsAt, IsGuard, IsOfVariant, Stand};
-ghost use Rattle.register_service.specs.RegisterMap.{Access, IsAccess, Listing, Request, access_reply, after, entry, is_alike, name_at, reply, takes};
-ghost use Rattle.register_service.specs.Within.{IsOutside, first_outside, is_within};
+ghost use Rattle.register_service.specs.Kept.{AllowsBy, AreGuarded, AreRegisters, IsGuard, Stand};
+ghost use Rattle.register_service.specs.RegisterMap.{Access, IsAccess, Listing, Request, access_reply, after, name_at};
+ghost use Rattle.register_service.specs.Within.{IsOutside, first_outside};
 
 use crate::OpenError;
 use crate::limits::is_within;
-use crate::values::{copy_register, copy_value, count, is_text, variant};
+use crate::register_list::{access, name};
+use crate::values::copy_registers;
 use cy_bits::{List, NoMemory};
 use std::alloc::Global;
 use std_types::register::AccessReply;
 use std_types::register_value::RegisterValue;
 use std_types::registers::Register;
-use std_types::time::SynchronizedTimestamp;
 
 /// The registers of a node, with the guard that is asked before one of them is written.
 ///
@@ -61,7 +61,6 @@ impl<G: Fn(u16, &RegisterValue) -> bool + Drop> Registers<G> {
     /// as many items (strings and unstructured aside), and the guard says yes. The reply has the
     /// value after the call; of an unknown name it is empty and not mutable. Want of memory changes
     /// nothing.
-    #[tactic(auto, using(crate::proofs::Map::accessing))]
     pub fn access(&mut self, name: &[u8], value: RegisterValue) -> Result<AccessReply, NoMemory>
         requires guarded { AreGuarded G.Fn self.old }
         requires fits { FitsRegisterValue value }
@@ -80,16 +79,7 @@ impl<G: Fn(u16, &RegisterValue) -> bool + Drop> Registers<G> {
             → IfOk result (λ _.
             Stand G.Fn allowed opened (Access name.now value ∷ past) self.new) }
     {
-        let Some((number, register)) = self.entry(name) else {
-            return Ok(reply(false, RegisterValue::Empty));
-        };
-        let mutable = register.mutable;
-        if !self.takes(number, register, &value) {
-            return Ok(reply(mutable, copy_value(self.alloc, &register.value)?));
-        }
-        let copy = copy_value(self.alloc, &value)?;
-        self.list[number as usize].value = value;
-        Ok(reply(mutable, copy))
+        access(self.alloc, &mut self.list, &self.guard, name, value)
     }
 
     /// The name of the register with this number; `None` past the last. Takes no memory.
@@ -104,84 +94,13 @@ impl<G: Fn(u16, &RegisterValue) -> bool + Drop> Registers<G> {
             (past : ListOf Request) → Stand G.Fn allowed opened past self.now
             → Stand G.Fn allowed opened (Listing index ∷ past) self.now }
     {
-        let register = self.list.get(index as usize)?;
-        Some(register.name.as_str().as_bytes())
+        name(self.list.as_slice(), index)
     }
 
     /// An equal list of the registers.
     pub fn copy(&self) -> Result<List<Register>, NoMemory>
         ensures { IfOk result (λ l. l ≡ self.now.list.items) }
     {
-        let mut list = Vec::new(self.alloc);
-        for register in &self.list {
-            list.push(copy_register(self.alloc, register)?)?;
-        }
-        Ok(List::new(list))
-    }
-
-    /// The register with a name, and its number.
-    #[tactic(auto, using(crate::proofs::Map::finding))]
-    fn entry(&self, name: &[u8]) -> Option<(u16, &Register)>
-        requires { length self.now.list.items ≤ 256 }
-        ensures entry { option_map (λ e. (e.0, e.1.now)) result
-            ≡ entry name.now self.now.list.items }
-        ensures at { IfSome result (λ e. IsAt self.now.list.items e.0 e.1.now) }
-    {
-        for (number, register) in self.list.iter().enumerate() {
-            if register.name.as_str().as_bytes() == name {
-                return Some((number as u16, register));
-            }
-        }
-        None
-    }
-
-    /// Whether a register takes a value.
-    #[tactic(auto, using(crate::proofs::Map::alike_variant))]
-    fn takes(&self, number: u16, register: &Register, value: &RegisterValue) -> bool
-        requires guarded { IsGuard G.Fn self.now.guard self.now.list.items }
-        requires at { IsAt self.now.list.items number register.now }
-        requires fits { FitsRegisterValue value.now }
-        ensures within { IsTrue result → IsTrue (is_within register.now.limits value.now) }
-        ensures mutable { IsTrue result → IsTrue register.now.mutable }
-        ensures alike { IsTrue result → IsTrue (is_alike register.now.value value.now) }
-        ensures takes { (allowed : ℕ → RegisterValue → Bool)
-            → AllowsBy G.Fn self.now.guard allowed
-            → result ≡ takes allowed number register.now value.now }
-    {
-        register.mutable && is_alike(&register.value, value) && self.ask(number, register, value)
-    }
-
-    /// Asks the guard whether a register may hold a value of its variant.
-    fn ask(&self, number: u16, register: &Register, value: &RegisterValue) -> bool
-        requires guarded { IsGuard G.Fn self.now.guard self.now.list.items }
-        requires at { IsAt self.now.list.items number register.now }
-        requires variant { IsOfVariant register.now value.now }
-        ensures within { IsTrue result → IsTrue (is_within register.now.limits value.now) }
-        ensures allowed { (allowed : ℕ → RegisterValue → Bool)
-            → AllowsBy G.Fn self.now.guard allowed
-            → result ≡ allowed number value.now }
-    {
-        (self.guard)(number, value)
-    }
-}
-
-/// Whether a register that holds a value can be written with another one.
-fn is_alike(held: &RegisterValue, value: &RegisterValue) -> bool
-    ensures { result ≡ is_alike held.now value.now }
-{
-    variant(value) != 0
-        && variant(value) == variant(held)
-        && (is_text(value) || count(value) == count(held))
-}
-
-/// The reply of a register that is mutable or not, and has a value.
-fn reply(mutable: bool, value: RegisterValue) -> AccessReply
-    ensures { result ≡ reply mutable value }
-{
-    AccessReply {
-        timestamp: SynchronizedTimestamp { microsecond: 0 },
-        mutable,
-        persistent: false,
-        value,
+        copy_registers(self.alloc, self.list.as_slice())
     }
 }

@@ -3,7 +3,7 @@ ghost use Rattle.std_types.specs.RegisterValues.{FitsRegisterValue};
 ghost use Rattle.register_service.specs.Kept.{AreGuarded, AreRegisters};
 ghost use Rattle.register_service.specs.Within.{is_allowed};
 
-use crate::{OpenError, Registers, is_allowed, limits_of};
+use crate::{Limited, OpenError, Registers, is_allowed, limits_of};
 use cy_bits::{Bytes, List, NoMemory, Text};
 use std::alloc::Global;
 use std::process::Abort;
@@ -209,6 +209,24 @@ fn tells<G: Fn(u16, &RegisterValue) -> bool + Drop>(
     Ok(())
 }
 
+/// Asks for each value in turn of registers that are kept within their limits, and lists the names.
+fn keeps(
+    rt: &impl Abort,
+    alloc: Global,
+    registers: &mut Limited,
+    mutable: bool,
+    steps: Steps,
+) -> Result<(), NoMemory> {
+    for (asked, want) in steps {
+        let reply = registers.access(b"x", value_of(rt, alloc, asked)?)?;
+        assert!(rt; is(&reply.value, want));
+        assert_eq!(rt; reply.mutable, mutable);
+    }
+    assert_eq!(rt; registers.name(0), Some(b"x".as_slice()));
+    assert_eq!(rt; registers.name(1), None);
+    Ok(())
+}
+
 /// Opens one register within its limits, and goes through a row.
 #[tactic(auto, using(crate::proofs::Told::by_limits))]
 fn goes(rt: &impl Abort, alloc: Global, row: (bool, Short, Steps)) -> Result<(), Fail> {
@@ -219,6 +237,8 @@ fn goes(rt: &impl Abort, alloc: Global, row: (bool, Short, Steps)) -> Result<(),
         ensures { result ≡ is_allowed limits number value.now }
     { is_allowed(limits.as_slice(), number, value) };
     let mut registers = Registers::open(alloc, list, guard)?;
+    let mut limited = Limited::open(alloc, registers.list.as_slice())?;
+    keeps(rt, alloc, &mut limited, mutable, steps)?;
     asks(rt, alloc, &mut registers, mutable, steps)?;
     tells(rt, alloc, &mut registers, steps[3].1)?;
     Ok(())

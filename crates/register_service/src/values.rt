@@ -93,7 +93,7 @@ pub fn copy_value(alloc: Global, value: &RegisterValue) -> Result<RegisterValue,
 }
 
 /// An equal register.
-pub fn copy_register(alloc: Global, register: &Register) -> Result<Register, NoMemory>
+fn copy_register(alloc: Global, register: &Register) -> Result<Register, NoMemory>
     ensures { IfOk result (λ r. r ≡ register.now) }
 {
     Ok(Register {
@@ -102,4 +102,15 @@ pub fn copy_register(alloc: Global, register: &Register) -> Result<Register, NoM
         value: copy_value(alloc, &register.value)?,
         limits: register.limits,
     })
+}
+
+/// An equal list of registers.
+pub fn copy_registers(alloc: Global, registers: &[Register]) -> Result<List<Register>, NoMemory>
+    ensures { IfOk result (λ l. l ≡ registers.now) }
+{
+    let mut list = Vec::new(alloc);
+    for register in registers {
+        list.push(copy_register(alloc, register)?)?;
+    }
+    Ok(List::new(list))
 }

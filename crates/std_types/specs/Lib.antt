@@ -11,6 +11,7 @@ pub mod Allocation
 pub mod AllocationLaws
 pub mod Arrays
 pub mod ArrayLaws
+pub mod Limits
 pub mod RegisterValues
 pub mod RegisterValueLaws
 pub mod Registers

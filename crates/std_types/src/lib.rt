@@ -9,6 +9,7 @@ pub mod file;
 mod float_bits;
 mod held;
 pub mod laws;
+pub mod limits;
 pub mod node;
 pub mod register;
 pub mod register_value;

@@ -1,12 +1,10 @@
-use Rattle.std.proofs.Common.{◌≡◌, Some, arith}
-use Rattle.std_types.specs.declared.registers.Register.{Register}
-use Rattle.register_service.specs.RegisterMap.{entry, reply}
-use Rattle.register_service.proofs.Map.{access_refused}
+use Rattle.std.proofs.Common.{refl}
+use Rattle.std.proofs.lemmas.Result.{IfOk-weaker}
+use Rattle.register_service.proofs.Map.{stand_next}
 use Rattle.register_service.proofs.service.Registers.access.Goals as goal
 
-pub returns-then-not-takes-clause-access : goal.returns-then-not-takes-clause-access
-returns-then-not-takes-clause-access g c =
-    let r : Register = c.in-Some.register.now in
-    let found : entry c.args.name.now c.args.self.now.list.items ≡ Some (c.in-Some.number, r) = grind arith in
-    let told : c.reply-then-not-takes.result ≡ reply r.mutable r.value = grind arith in
-    access_refused c.args.self.now.list.items c.args.name.now c.args.value c.reply-then-not-takes.result c.in-Some.number r found told
+pub returns-clause-stands : goal.returns-clause-stands
+returns-clause-stands g c = λ allowed opened past s.
+    IfOk-weaker c.access.result _ _
+    (λ x e. stand_next g.G.Fn allowed opened past c.args.self.now (record { list = c.access.new.list; guard = c.args.self.now.guard; alloc = c.args.self.now.alloc }) c.args.name.now c.args.value s refl e)
+    (c.access.ensures.left allowed s.allows)

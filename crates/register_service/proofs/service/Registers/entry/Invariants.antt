@@ -1,6 +1,0 @@
-use Rattle.std.proofs.Common.{◌≡◌, drop}
-use Rattle.register_service.specs.RegisterMap.{entry, entry_from}
-use Rattle.register_service.proofs.service.Registers.entry.Given as goal
-
-abbrev pub invariant-loop-number : goal.invariant-loop-number
-invariant-loop-number g l = entry l.name l.register-items ≡ entry_from l.number l.name (drop l.number l.register-items)
