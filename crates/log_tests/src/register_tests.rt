@@ -6,7 +6,7 @@ use std::test::Fail;
 use std_types::register_value::RegisterValue;
 
 /// Plans that are refused, with the line and the reason.
-const REFUSED: [(&[u8], u32, PlanWhy); 22] = [
+const REFUSED: [(&[u8], u32, PlanWhy); 23] = [
     (b"plan 2\nregister a rw\n", 2, PlanWhy::Line),
     (b"plan 2\nregister a rw \n", 2, PlanWhy::Line),
     (b"plan 2\nregister  rw {empty: {}}\n", 2, PlanWhy::Line),
@@ -14,6 +14,11 @@ const REFUSED: [(&[u8], u32, PlanWhy); 22] = [
     (b"plan 2\nregister \x7f rw {empty: {}}\n", 2, PlanWhy::Range),
     (b"plan 2\nregister a rw empty\n", 2, PlanWhy::Range),
     (b"plan 2\nregister a rw {empty: {}} \n", 2, PlanWhy::Range),
+    (
+        b"plan 2\nregister a rw {natural8: {value: #0a}}\n",
+        2,
+        PlanWhy::Range,
+    ),
     (
         b"plan 2\nregister a rw {integer8: {value: [128]}}\n",
         2,
@@ -104,7 +109,7 @@ fn registers_that_are_refused(rt: HostRuntime) {
 
 /// A plan with two registers, of which one has limits.
 const READ: &[u8] = b"plan 2\nnode 1\nbus a 8 1\nregister a.b! ro {integer16: {value: [-5, 7]}}\n\
-limits a.b! -5 18446744073709551615\nregister c rw {natural8: {value: #0aFF}}\n";
+limits a.b! -5 18446744073709551615\nregister c rw {natural8: {value: #0AFF}}\n";
 
 #[test]
 fn registers_that_are_read(rt: HostRuntime) -> Result<(), Fail> {
@@ -113,7 +118,7 @@ fn registers_that_are_read(rt: HostRuntime) -> Result<(), Fail> {
     let [first, second] = plan.registers.as_slice() else {
         panic!(rt; "there are {} registers", plan.registers.len());
     };
-    assert!(rt; first.name.as_bytes() == b"a.b!".as_slice());
+    assert!(rt; first.name.as_str().as_bytes() == b"a.b!".as_slice());
     assert!(rt; !first.mutable);
     let RegisterValue::Integer16(numbers) = &first.value else {
         panic!(rt; "it is of another variant");
@@ -123,14 +128,17 @@ fn registers_that_are_read(rt: HostRuntime) -> Result<(), Fail> {
         panic!(rt; "there are no limits");
     };
     assert_eq!(rt; (limits.low, limits.high), (-5, u64::MAX as i128));
-    assert!(rt; second.name.as_bytes() == b"c".as_slice());
+    assert!(rt; second.name.as_str().as_bytes() == b"c".as_slice());
     assert!(rt; second.mutable);
     assert!(rt; second.limits.is_none());
     let services = plan.services();
     let [_, access, list] = services.as_slice() else {
         panic!(rt; "there are {} services", services.len());
     };
-    assert_eq!(rt; (access.port, access.sources, access.extent()), (384, 4, 515));
+    assert_eq!(rt;
+        (access.port, access.sources, access.extent()),
+        (384, 4, 515)
+    );
     assert_eq!(rt; (list.port, list.sources, list.extent()), (385, 4, 2));
     Ok(())
 }

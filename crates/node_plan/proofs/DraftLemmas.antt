@@ -10,6 +10,7 @@ use Rattle.std.proofs.lemmas.List.Elements.{All-cons, All-map, All-nil, All-push
 use Rattle.std.proofs.lemmas.List.Kept.{AllPairs-cons}
 use Rattle.std.proofs.lemmas.List.{length-map}
 use Rattle.std.proofs.lemmas.List.Quantifiers.{all_pairs_push}
+use Rattle.std.proofs.lemmas.Option.{slice_get_read}
 use Rattle.std.proofs.lemmas.Slice.Eq.{bytes_eq-Decides}
 use Rattle.node_plan.specs.declared.draft.Draft.{Draft}
 use Rattle.node_plan.specs.declared.plan.BusPlan.{BusPlan}
@@ -93,6 +94,10 @@ set_apart (x ∷ xs) zero r y e same h =
 set_apart (x ∷ xs) (suc i) r y e same h =
     AllPairs-cons Apart x (set xs i y) (set_other x xs i r y e same (λ k t less. h 0 (suc k) t (omega arith) (omega arith)))
     (set_apart xs i r y e same (λ i j t less low. h (suc i) (suc j) t (omega arith) (omega arith)))
+
+-- a register that was read at its place
+pub register_at : (read xs : List Register) (i : ℕ) (r : Register) → read ≡ xs → i < length xs → r ≡ get_or read i r → slice_get xs i ≡ Some r
+register_at read xs i r e less h = slice_get_read xs (length xs) i r refl less (h ∙ ap (λ l. get_or l i r) e)
 
 held_at : (xs : List Register) (i : ℕ) (r : Register) → slice_get xs i ≡ Some r → All IsRegister xs → IsRegister r
 held_at [] i r e h = absurd cc

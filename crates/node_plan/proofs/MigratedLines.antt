@@ -11,7 +11,7 @@ use Rattle.node_plan.specs.declared.line.Said.TheVariants as said
 use Rattle.node_plan.specs.declared.plan.BusPlan.{BusPlan}
 use Rattle.node_plan.specs.declared.words.Number.TheVariants as number
 use Rattle.node_plan.specs.Draft.{step}
-use Rattle.node_plan.specs.Line.{RegisterText, Says, SaysEither, register_in, said_of, said_of_bus, said_of_clients, said_of_five, said_of_four, said_of_limits, said_of_many, said_of_node, said_of_one, said_of_queue, said_of_status, said_of_timeout, said_of_two, said_of_type, said_of_words}
+use Rattle.node_plan.specs.Line.{RegisterText, Says, SaysEither, register_in, said_of, said_of_bus, said_of_clients, said_of_four, said_of_limits, said_of_node, said_of_queue, said_of_status, said_of_timeout, said_of_two, said_of_type, said_of_words}
 use Rattle.node_plan.specs.Migrate.{migrated_line, migrated_two, migrated_words, numbers_text}
 use Rattle.node_plan.specs.Words.{joined, mtu_in, number_in, parts_of, whole_in, words_of}
 use Rattle.node_plan.proofs.DecimalLemmas.{AreNumbers}

@@ -376,9 +376,3 @@ migrated_answer names text numbers t p is h one e f =
     let same : t ≡ migrated p text = f ∙ ap (λ n. migrated_text n text) e ∙ sym (ap (λ two. if two then text else migrated_text (numbers_of p.buses) text) one) in
     let made = migrated_good names text p is h in
     (p, h, same, subst (λ u. IsPlanOf names u (Good p)) (sym same) made.0, ap is_version_two same ∙ made.1)
-
--- a text of version 2 stays
-pub migrated_same : (names : Namespace) (text t : List ℕ) (p : Plan) → IsPlanOf names text (Good p) → is_version_two text ≡ true → t ≡ text → IsMigrated names text t
-migrated_same names text t p h two e =
-    let same : t ≡ migrated p text = e ∙ sym (ap (λ v. if v then text else migrated_text (numbers_of p.buses) text) two) in
-    (p, h, same, subst (λ u. IsPlanOf names u (Good p)) (sym e) h, ap is_version_two e ∙ two)

@@ -1,5 +1,5 @@
 -- A text has one meaning.
-use Rattle.std.proofs.Common.{◌≡◌, ◌∙◌, ◌+◌, ℕ, Bool, true, false, List, [], ◌∷◌, Option, Some, None, sym, ap, subst, refl}
+use Rattle.std.proofs.Common.{◌≡◌, ◌∙◌, ◌+◌, ℕ, Bool, true, false, List, [], ◌∷◌, Option, Some, None, sym, ap, subst}
 use Rattle.std.specs.Prelude.{Result, Ok, Err}
 use Rattle.dsdl_types.specs.declared.namespace.Namespace.{Namespace}
 use Rattle.node_plan.specs.declared.draft.Draft.{Draft}
@@ -8,7 +8,7 @@ use Rattle.node_plan.specs.declared.plan.PlanWhy.{PlanWhy}
 use Rattle.node_plan.specs.Draft.{is_two, start, step}
 use Rattle.node_plan.specs.Laws.{OnePlan}
 use Rattle.node_plan.specs.Limit.{limit_of}
-use Rattle.node_plan.specs.Line.{RegisterText, Says, SaysEither, register_in, said_of, said_of_register}
+use Rattle.node_plan.specs.Line.{RegisterText, SaysEither, register_in, said_of, said_of_register}
 use Rattle.node_plan.specs.Plan.{PlanIs, Ends, Follows, Goes, Line, finished}
 use Rattle.node_plan.specs.Words.{parts_of, words_of}
 use Rattle.node_plan.proofs.ValueTexts.{one_reading}

@@ -1,5 +1,5 @@
 -- The plan that is worked out of a text without registers is the text's.
-use Rattle.std.proofs.Common.{◌≡◌, ◌∙◌, ◌+◌, ◌==◌, ℕ, Bool, true, false, List, [], ◌∷◌, Option, Some, None, length, refl, sym, ap, subst, take}
+use Rattle.std.proofs.Common.{◌≡◌, ◌∙◌, ◌+◌, ◌==◌, ℕ, Bool, true, false, List, [], ◌∷◌, Some, None, length, refl, sym, ap, subst, take}
 use Rattle.std.specs.Prelude.{Result, Ok, Err, codes, if◌then◌else◌, nat_lt}
 use Rattle.std.specs.Str.{bytes_eq}
 use Rattle.std.proofs.lemmas.Bool.{eqb-true}
@@ -13,7 +13,7 @@ use Rattle.node_plan.specs.declared.plan.PlanWhy.{PlanWhy}
 use Rattle.node_plan.specs.Draft.{is_two, start, step}
 use Rattle.node_plan.specs.Laws.{PlainPlans}
 use Rattle.node_plan.specs.Limit.{limit_of}
-use Rattle.node_plan.specs.Line.{RegisterText, Says, SaysEither, register_in, said_of, said_of_five, said_of_four, said_of_many, said_of_words}
+use Rattle.node_plan.specs.Line.{RegisterText, SaysEither, register_in, said_of, said_of_five, said_of_four, said_of_many, said_of_words}
 use Rattle.node_plan.specs.PlainPlan.{followed, last_line, long_line, plan_of_parts}
 use Rattle.node_plan.specs.Plan.{PlanIs, Good, Ends, Follows, Goes, Line, finished}
 use Rattle.node_plan.specs.Words.{joined, parts_of, with_first, words_of}

@@ -1,15 +1,15 @@
 -- Lemmas on the texts of values of registers.
-use Rattle.std.proofs.Common.{◌≡◌, ◌∙◌, ◌-◌, ◌^◌, ◌<◌, ◌≤◌, ℕ, zero, suc, List, [], ◌∷◌, Option, Some, None, arith, sym, ap, subst, refl, length, min}
+use Rattle.std.proofs.Common.{◌≡◌, ◌∙◌, ◌-◌, ◌^◌, ◌<◌, ◌≤◌, ℕ, zero, suc, List, Option, Some, None, arith, sym, ap, subst, refl, length, min}
 use Rattle.std.specs.Prelude.{Bool, true, ℤ, pos, negsuc, IfOk, IfSome, Result, Ok, Err}
 use Rattle.std.specs.List.{All}
 use Rattle.std.proofs.Math.Pow.{ones_sub-lt}
 use Rattle.std.proofs.lemmas.List.Elements.{All-cons, All-nil}
 use Rattle.dsdl_types.specs.Cast.{cast_int, cast_uint}
-use Rattle.dsdl_types.specs.Fits.{AllOf, AreItems, AreParts, Fits, FitsVariant, IsEmpty, IsFirst}
+use Rattle.dsdl_types.specs.Fits.{AreItems, AreParts, Fits, FitsVariant, IsEmpty, IsFirst}
 use Rattle.dsdl_types.specs.Rules.{IsSchema}
 use Rattle.dsdl_types.specs.Schemas.{Sch, Flds, Union, End, Var}
 use Rattle.dsdl_types.specs.Stored.{IsSigned}
-use Rattle.dsdl_types.specs.Values.{Val, Vals, Num, Items, Parts, Tagged, Empty, More, count, items_of}
+use Rattle.dsdl_types.specs.Values.{Val, Vals, Items, Parts, Tagged, Empty, More, count, items_of}
 use Rattle.dsdl_types.proofs.StoredReadings.{stored_fits}
 use Rattle.std_types.specs.Held.{HoldsIntegers, HoldsNaturals, float_bits, floats_of, integer, integers_of, list_of, natural, naturals_of, number_of, part, raw_of, truth_of, truths_of}
 use Rattle.std_types.specs.RegisterValueLaws.{variant_back}

@@ -1,4 +1,4 @@
-use Rattle.std.proofs.Common.{◌≤◌, ◌*◌, ◌∙◌, arith, subst, sym}
+use Rattle.std.proofs.Common.{◌≤◌, ◌*◌, arith, subst, sym}
 use Rattle.std.proofs.Math.Nat.{mul-le-mul}
 use Rattle.node_plan.proofs.PortLemmas.{service_extent-low}
 use Rattle.node_plan.proofs.memory.service_bound.Goals as goal
