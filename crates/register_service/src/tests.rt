@@ -209,7 +209,7 @@ fn tells<G: Fn(u16, &RegisterValue) -> bool + Drop>(
     Ok(())
 }
 
-/// Asks for each value in turn of registers that are kept within their limits, and lists the names.
+/// Asks for each value in turn of registers that are kept within their limits.
 fn keeps(
     rt: &impl Abort,
     alloc: Global,
@@ -222,9 +222,14 @@ fn keeps(
         assert!(rt; is(&reply.value, want));
         assert_eq!(rt; reply.mutable, mutable);
     }
+    lists(rt, registers);
+    Ok(())
+}
+
+/// Lists the names.
+fn lists(rt: &impl Abort, registers: &Limited) {
     assert_eq!(rt; registers.name(0), Some(b"x".as_slice()));
     assert_eq!(rt; registers.name(1), None);
-    Ok(())
 }
 
 /// Opens one register within its limits, and goes through a row.
