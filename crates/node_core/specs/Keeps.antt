@@ -4,11 +4,12 @@ use Rattle.node_plan.specs.declared.plan.Plan.{Plan}
 use Rattle.tail_frame.specs.declared.logged.Record.{Record}
 use Rattle.node_core.specs.Buses.{queue_of}
 use Rattle.node_core.specs.Queues.{Sends, push_all}
-use Rattle.node_core.specs.Sending.{registers_behind, reply_on}
+use Rattle.node_core.specs.Sending.{registers_after, registers_behind, reply_on}
 use Rattle.node_core.specs.Stands.{Stands}
 use Rattle.node_core.specs.Steps.{Step, Heard, Kept, node_lines, pushed, records}
 use Rattle.node_core.specs.declared.line.Line.{Line}
 use Rattle.node_core.specs.declared.node.Node.{Node}
+use Rattle.node_core.specs.declared.question.Question.{Question}
 use Rattle.node_core.specs.declared.request.Request.{Request}
 
 -- the frames that wait on each bus, the transfer-ID of the next heartbeat, and what the registers hold
@@ -16,7 +17,7 @@ abbrev pub keeps : Node → Kept
 keeps node = record {
   queues = map queue_of node.queues.buses.items;
   tid = node.tid;
-  registers = node.registers.list.items;
+  registers = node.registers;
 }
 
 -- as if a transfer were pushed
@@ -32,6 +33,10 @@ abbrev pub answered : Plan → Option Request → Kept → Kept
 answered plan request k = record (sent (reply_by plan request k) k) {
   registers = registers_behind plan request k.registers;
 }
+
+-- as if a question were answered: the registers did what it asks
+abbrev pub questioned : Plan → Question → Kept → Kept
+questioned plan question k = record k { registers = registers_after plan k.registers question }
 
 -- as if a heartbeat were pushed, and its transfer-ID used
 abbrev pub beaten : Sends → Kept → Kept

@@ -5,7 +5,7 @@ use Rattle.node_plan.specs.IsPlan.{IsPlan}
 use Rattle.node_plan.specs.Ports.{services}
 use Rattle.node_plan.specs.declared.plan.Plan.{Plan}
 use Rattle.register_service.specs.Kept.{AreKept}
-use Rattle.register_service.specs.RegisterMap.{Request as Asked, Access as Accessing, Listing as Naming, after}
+use Rattle.register_service.specs.RegisterMap.{Request as RegisterRequest, Access as RegisterAccess, Listing as RegisterListing, after}
 use Rattle.node_core.specs.Queues.{Queue, drained, leaving, waiting}
 use Rattle.node_core.specs.Sending.{may_hold}
 use Rattle.node_core.specs.Steps.{Step, all_lines, end_numbers, got, kept, lines, lines_behind, lines_on, numbers, records, request_at, steps}
@@ -49,17 +49,17 @@ MuteReceive = (plan : Plan) (rec : Record) (past : List Record) → IsMute plan
     → lines_on plan rec past ≡ got plan rec past
 
 -- what a request asks of the registers, if anything
-abbrev pub asks_of : Question → List Asked
+abbrev pub asks_of : Question → List RegisterRequest
 asks_of Info = []
-asks_of (Access request) = Accessing request.name request.value ∷ []
-asks_of (Listing request) = Naming request.index ∷ []
+asks_of (Access request) = RegisterAccess request.name request.value ∷ []
+asks_of (Listing request) = RegisterListing request.index ∷ []
 
-abbrev pub asked_by : Option Request → List Asked
+abbrev pub asked_by : Option Request → List RegisterRequest
 asked_by None = []
 asked_by (Some r) = asks_of r.question
 
 -- what these steps ask of the registers, the newest first
-abbrev pub asked : Plan → List Step → List Asked
+abbrev pub asked : Plan → List Step → List RegisterRequest
 asked plan [] = []
 asked plan (step ∷ past) = asked_by (request_at plan step past) ++ asked plan past
 
@@ -68,6 +68,6 @@ abbrev pub RegistersAre : Type 0
 RegistersAre = (plan : Plan) (all : List Step)
     → (kept plan all).registers ≡ after (may_hold plan) plan.registers (asked plan all)
 
--- each of them stays within its limits, whatever is asked
+-- they stay registers of a node, each within its limits, whatever is asked
 abbrev pub RegistersStay : Type 0
 RegistersStay = (plan : Plan) (all : List Step) → IsPlan plan → AreKept (kept plan all).registers

@@ -5,6 +5,10 @@ ghost use Rattle.node_core.specs.Laws.{LinesJoin, NothingEmptied, NothingLeaves,
 ghost use Rattle.node_core.specs.Laws.{MuteKeepNothing, MuteReceive};
 ghost use Rattle.node_core.specs.Laws.{RegistersAre, RegistersStay};
 
+use dsdl_types::laws::{readings_stored, rules_suffice};
+use register_service::laws::register_laws;
+use std_types::laws::schemas_keep_rules;
+
 /// The bytes that a log makes a node hold never fall: after its last record they are the most.
 pub fn held_rises()
     ensures { HeldRises }
@@ -34,4 +38,9 @@ pub fn mute_sends_nothing()
 pub fn registers_stay()
     ensures registers { RegistersAre }
     ensures within { RegistersStay }
-{}
+{
+    register_laws();
+    schemas_keep_rules();
+    rules_suffice();
+    readings_stored();
+}

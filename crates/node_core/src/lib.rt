@@ -2,6 +2,7 @@
 //! lines.
 #![tactic(auto)]
 
+mod answers;
 mod bus_queue;
 mod bus_queues;
 mod bus_words;

@@ -41,13 +41,13 @@ pub struct Node {
     pub registers: Limited,
     /// What it says of itself where it is asked: the payload of each reply of GetInfo.
     pub info: ShortList<u8, 128>,
-    alloc: Global,
+    pub(crate) alloc: Global,
     pub ghost node_id: { plan.node < 128 },
     pub ghost health: { plan.status.health ≤ 3 },
     pub ghost mode: { plan.status.mode ≤ 3 },
     pub ghost few_ids: { tid < 32 },
     pub ghost tells: { info ≡ info_payload plan.info },
-    pub ghost limits: { limits_of registers.list.items ≡ limits_of plan.registers },
+    pub ghost limits: { limits_of registers ≡ limits_of plan.registers },
     ghost in_time: { HeardBy latest (states shape_extent table.ports.items) } by { HeardBy-prop latest (states shape_extent table.ports.items) },
 }
 

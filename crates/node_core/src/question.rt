@@ -11,6 +11,15 @@ use std::alloc::Global;
 use std_types::register::{AccessRequest, ListRequest};
 use std_types::{Standard, StdName, std_type};
 
+/// The service-ID of requests for information on a node.
+const GET_INFO: u16 = 430;
+
+/// The service-ID of accesses to registers.
+const ACCESS: u16 = 384;
+
+/// The service-ID of listings of registers.
+const LIST: u16 = 385;
+
 /// What a request asks that a node answers.
 #[derive(Drop)]
 pub enum Question {
@@ -25,6 +34,7 @@ pub enum Question {
 
 impl Question {
     /// What a request of a service asks, by its payload; `None` where it has no answer.
+    #[inline(never)]
     pub(crate) fn of(
         alloc: Global,
         service: u16,

@@ -26,6 +26,7 @@ pub struct Request {
 impl Request {
     /// The request that a frame with this transfer-ID and this identifier ended, where this is the
     /// transfer's payload; `None` where the node doesn't answer it.
+    #[inline(always)]
     pub(crate) fn with(
         alloc: Global,
         tid: u8,

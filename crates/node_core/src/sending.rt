@@ -8,6 +8,7 @@ ghost use Rattle.node_core.specs.Sending.{IsRequestTo, beat};
 ghost use Rattle.node_core.specs.Stands.{StandsAsBefore};
 ghost use Rattle.node_core.specs.declared.line.Line.TheVariants.{Full};
 
+use crate::answers::MAX_REPLY;
 use crate::line::{FullLine, Line};
 use crate::node::Node;
 use crate::pushes::push_fulls;
@@ -41,7 +42,7 @@ impl Node {
     {
         let mut out = [0; MAX_REPLY];
         let ident = request.reply_ident(self.plan.node);
-        let size = self.answer_with(&request.question, &mut out)?;
+        let size = self.answer_with(request.question, &mut out)?;
         let reply = Transfer {
             ident,
             tid: request.tid,

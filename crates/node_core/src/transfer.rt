@@ -8,9 +8,6 @@ use can_id::{Ident, make};
 /// The subject-ID of heartbeats (Cyphal Specification, section 5.3.2).
 pub const HEARTBEAT: u16 = 7509;
 
-/// The service-ID of requests for information on a node (Cyphal Specification, section 5.3.3).
-pub const GET_INFO: u16 = 430;
-
 /// A transfer that a node sends on every bus.
 #[derive(Clone, Copy)]
 pub struct Transfer<'a> {

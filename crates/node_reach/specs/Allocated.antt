@@ -13,6 +13,7 @@ use Rattle.pnp_alloc.specs.declared.event.AllocEvent.{AllocEvent}
 use Rattle.pnp_alloc.specs.declared.event.AllocEvent.TheVariants.{Seen, Wanted}
 use Rattle.pnp_alloc.specs.declared.event.AllocOut.{AllocOut}
 use Rattle.pnp_alloc.specs.declared.event.AllocOut.TheVariants.{Noted, Given, Full}
+use Rattle.serdes.specs.Payloads.{payload_value}
 use Rattle.std_types.specs.Allocation.{node_id_allocation_of, node_id_allocation_value}
 use Rattle.std_types.specs.Types.{schema_of}
 use Rattle.std_types.specs.declared.allocation.NodeId.{NodeId}
@@ -22,7 +23,6 @@ use Rattle.tail_frame.specs.Frames.{FrameOf, frame_of}
 use Rattle.tail_frame.specs.declared.logged.Record.{Record}
 use Rattle.node_reach.specs.Buses.{bus_names}
 use Rattle.node_reach.specs.Lines.{tx_lines, given_line, full_line, end_line}
-use Rattle.node_reach.specs.Readings.{reading}
 
 -- a node-ID is wanted where none is listed
 abbrev pub wanted_by : ℕ → List NodeId → Option AllocEvent
@@ -34,7 +34,7 @@ wanted_in message = wanted_by message.unique_id_hash message.allocated_node_id
 
 -- what an anonymous message with this payload on the subject of allocation says
 abbrev pub wanted : List ℕ → Option AllocEvent
-wanted payload = option_and_then (λ (v : Val). wanted_in (node_id_allocation_of v)) (reading (schema_of allocation) payload)
+wanted payload = option_and_then (λ (v : Val). wanted_in (node_id_allocation_of v)) (payload_value (schema_of allocation) payload)
 
 -- another node is seen in each frame that it sends, to whomever
 abbrev pub seen_by : ℕ → ℕ → Option AllocEvent

@@ -13,6 +13,7 @@ use Rattle.file_client.specs.declared.event.FetchOut.TheVariants.{Ask, Wait, Don
 use Rattle.frag.specs.Wire.{frames}
 use Rattle.line_text.specs.Text.{moment_text, line_of}
 use Rattle.log_loop.specs.Voice.{Voice, voice}
+use Rattle.serdes.specs.Payloads.{payload_value}
 use Rattle.std_types.specs.Files.{read_request_value, read_reply_of}
 use Rattle.std_types.specs.Types.{schema_of}
 use Rattle.std_types.specs.declared.file.ReadReply.{ReadReply}
@@ -20,7 +21,6 @@ use Rattle.std_types.specs.declared.std_name.StdName.TheVariants.{ReadRequest as
 use Rattle.tail_frame.specs.declared.logged.Record.{Record}
 use Rattle.node_reach.specs.Buses.{bus_names}
 use Rattle.node_reach.specs.Lines.{tx_lines}
-use Rattle.node_reach.specs.Readings.{reading}
 use Rattle.node_reach.specs.Ticks.{first_moment, tick_moment, last_tick, ticks_before}
 use Rattle.node_reach.specs.Transfers.{Transfer, Ears, port_for, transfer_at}
 use Rattle.node_reach.specs.declared.client.Client.{Client}
@@ -47,7 +47,7 @@ reply_by tid r = reply tid r.error.value r.data
 
 -- the reply that a payload with this transfer-ID is, if it reads as one
 abbrev pub reply_of : ℕ → List ℕ → Option Event
-reply_of tid payload = option_map (λ v. reply_by tid (read_reply_of v)) (reading (schema_of read_reply) payload)
+reply_of tid payload = option_map (λ v. reply_by tid (read_reply_of v)) (payload_value (schema_of read_reply) payload)
 
 -- a transfer of the server is a reply, and that of another node isn't
 abbrev pub reply_in : ℕ → Transfer → Option Event

@@ -1,6 +1,5 @@
 pub mod Buses
 pub mod Anything
-pub mod Readings
 pub mod Lines
 pub mod Allocated
 pub mod Allocates

@@ -6,6 +6,7 @@ use Rattle.log_loop.specs.Voice.{Voice, voice}
 use Rattle.net_monitor.specs.Beats.{Beat}
 use Rattle.net_monitor.specs.Online.{heard, online}
 use Rattle.net_monitor.specs.declared.node_state.NodeState.{NodeState}
+use Rattle.serdes.specs.Payloads.{payload_value}
 use Rattle.std_types.specs.Node.{heartbeat_of}
 use Rattle.std_types.specs.Times.{synchronization_of}
 use Rattle.std_types.specs.Types.{schema_of}
@@ -16,7 +17,6 @@ use Rattle.time_sync.specs.Times.{estimate}
 use Rattle.time_sync.specs.declared.sync.Estimate.{Estimate}
 use Rattle.node_reach.specs.Buses.{bus_names}
 use Rattle.node_reach.specs.Lines.{node_line, offline_line, time_line, no_time_line, end_line}
-use Rattle.node_reach.specs.Readings.{reading}
 use Rattle.node_reach.specs.Transfers.{Transfer, Ears, subject, transfer_at}
 
 -- it listens to heartbeats and to the network's time
@@ -47,7 +47,7 @@ add_beat t past (Some v) = beat_in t past v ∷ past
 
 abbrev pub with_beat : Option Transfer → List Beat → List Beat
 with_beat None past = past
-with_beat (Some t) past = if t.key.port == 7509 then add_beat t past (reading (schema_of Heartbeat) t.payload) else past
+with_beat (Some t) past = if t.key.port == 7509 then add_beat t past (payload_value (schema_of Heartbeat) t.payload) else past
 
 -- the heartbeats in records
 abbrev pub beats : ℕ → List Record → List Beat
@@ -69,7 +69,7 @@ add_message t past (Some v) = message_in t past v ∷ past
 
 abbrev pub with_message : Option Transfer → List Message → List Message
 with_message None past = past
-with_message (Some t) past = if t.key.port == 7168 then add_message t past (reading (schema_of Synchronization) t.payload) else past
+with_message (Some t) past = if t.key.port == 7168 then add_message t past (payload_value (schema_of Synchronization) t.payload) else past
 
 abbrev pub messages : ℕ → List Record → List Message
 messages own [] = []

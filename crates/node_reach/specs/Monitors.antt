@@ -3,6 +3,7 @@ use Rattle.std.specs.Prelude.{◌≡◌, ℕ, List, length, Option}
 use Rattle.dsdl_types.specs.Views.{sch}
 use Rattle.net_monitor.specs.Beats.{Beat}
 use Rattle.net_monitor.specs.Stands.{Stands}
+use Rattle.serdes.specs.Payloads.{payload_value}
 use Rattle.std_types.specs.Types.{schema_of}
 use Rattle.std_types.specs.declared.std_name.StdName.TheVariants.{Heartbeat, Synchronization}
 use Rattle.tail_frame.specs.declared.logged.Record.{Record}
@@ -10,7 +11,6 @@ use Rattle.time_sync.specs.Pairs.{Message}
 use Rattle.time_sync.specs.Stands.{Stands as StandsFor}
 use Rattle.node_reach.specs.Ears.{Hears}
 use Rattle.node_reach.specs.Monitored.{latest_beat, latest_message, add_beat, add_message, with_beat, with_message, last_moment, monitor_ears, beats, messages}
-use Rattle.node_reach.specs.Readings.{reading}
 use Rattle.node_reach.specs.Transfers.{Transfer, HasBegun, HasBegunBy}
 use Rattle.node_reach.specs.declared.monitoring.Monitoring.{Monitoring}
 use Rattle.node_reach.specs.declared.network.Network.{Network}
@@ -34,12 +34,12 @@ Learns moment t old new =
 abbrev pub LearnsBeat : Transfer → Network → Network → Type 0
 LearnsBeat t old new =
     (beats : List Beat) (messages : List Message) → Knows old beats messages
-    → Knows new (add_beat t beats (reading (schema_of Heartbeat) t.payload)) messages
+    → Knows new (add_beat t beats (payload_value (schema_of Heartbeat) t.payload)) messages
 
 abbrev pub LearnsMessage : ℕ → Transfer → Network → Network → Type 0
 LearnsMessage moment t old new =
     (beats : List Beat) (messages : List Message) → HasBegun moment t → Knows old beats messages
-    → Knows new beats (add_message t messages (reading (schema_of Synchronization) t.payload))
+    → Knows new beats (add_message t messages (payload_value (schema_of Synchronization) t.payload))
 
 -- a monitor with this node-ID heard these records
 pub record Monitors (own : ℕ) (now : Monitoring) (past : List Record) : Type 0 where

@@ -3,12 +3,12 @@ ghost use Rattle.std.specs.Prelude.{◌≤◌, ◌<◌};
 
 use crate::answer::{MOST, write_answer};
 use crate::lines::{Outgoing, put_end, put_full, put_given, put_transfer};
-use crate::payload::reading;
 use can_id::{Ident, make};
 use cy_bits::NoMemory;
 use line_text::TextBuffer;
 use log_loop::Listener;
 use pnp_alloc::{AllocEvent, AllocOut, Allocator};
+use serdes::payload_value;
 use std::alloc::Global;
 use std_types::allocation::NodeIdAllocation;
 use std_types::{Standard, StdName, std_type};
@@ -97,7 +97,7 @@ impl Allocating {
         ensures fit { IfOk result (λ event. IfSome event IsFit) }
     {
         let standard = std_type(self.alloc, StdName::NodeIdAllocation)?;
-        let Some(value) = reading(self.alloc, &standard, payload)? else {
+        let Some(value) = payload_value(self.alloc, &standard.schema, payload)? else {
             return Ok(None);
         };
         let message = NodeIdAllocation::of_value(self.alloc, &value)?;

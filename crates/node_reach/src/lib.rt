@@ -17,7 +17,6 @@ mod lines;
 mod monitoring;
 mod network;
 mod network_watch;
-mod payload;
 mod request;
 mod responses;
 mod transfer;

@@ -1,11 +1,11 @@
 //! What is known of a network by its heartbeats and its messages of time.
 ghost use Rattle.std.specs.Prelude.{◌≡◌, ◌<◌, ◌≤◌, ◌^◌};
 
-use crate::payload::reading;
 use crate::transfer::Transfer;
 use cy_bits::NoMemory;
 use dsdl_types::Value;
 use net_monitor::Monitor;
+use serdes::payload_value;
 use std::alloc::Global;
 use std_types::node::Heartbeat;
 use std_types::time::Synchronization;
@@ -100,7 +100,8 @@ impl Network {
         requires source { transfer.source < 128 }
         ensures learns { OnOk result (LearnsBeat (owned transfer.entry) self.old self.new) }
     {
-        let Some(value) = reading(self.alloc, &self.beat_type, transfer.payload)? else {
+        let Some(value) = payload_value(self.alloc, &self.beat_type.schema, transfer.payload)?
+        else {
             return Ok(());
         };
         let beat = Heartbeat::of_value(self.alloc, &value)?;
@@ -118,7 +119,8 @@ impl Network {
         ensures learns { let t = owned transfer.entry in
             OnOk result (LearnsMessage moment t self.old self.new) }
     {
-        let Some(value) = reading(self.alloc, &self.message_type, transfer.payload)? else {
+        let Some(value) = payload_value(self.alloc, &self.message_type.schema, transfer.payload)?
+        else {
             return Ok(());
         };
         let message = Synchronization::of_value(self.alloc, &value)?;

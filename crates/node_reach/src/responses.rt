@@ -2,12 +2,11 @@
 ghost use Rattle.std.specs.Prelude.{◌≤◌, length};
 
 use crate::ear::{Ear, TIMEOUT};
-use crate::payload::reading;
 use crate::transfer::Transfer;
 use can_id::Kind;
 use cy_bits::NoMemory;
-use dsdl_types::laws::{readings_stored, rules_suffice};
 use file_client::FetchEvent;
+use serdes::payload_value;
 use std::alloc::Global;
 use std_types::file::ReadReply;
 use std_types::{Standard, StdName, std_type};
@@ -93,10 +92,8 @@ impl Responses {
         ensures { let t = transfer.entry in IfOk result (λ response.
             option_map event_in response ≡ reply_of t.tid t.payload.now) }
     {
-        rules_suffice();
-        readings_stored();
         let standard = std_type(self.alloc, StdName::ReadReply)?;
-        let Some(value) = reading(self.alloc, &standard, transfer.payload)? else {
+        let Some(value) = payload_value(self.alloc, &standard.schema, transfer.payload)? else {
             return Ok(None);
         };
         let reply = ReadReply::of_value(self.alloc, &value)?;

@@ -83,10 +83,10 @@ fn asked_text(rt: &impl Abort, alloc: Global, lines: &str) -> Result<String, NoM
     assert!(rt; node.latest <= rec.moment);
     let came = node.step(&rec)?;
     let told = node.told(&rec, came);
-    let request = came.request(told);
+    let request = node.request(came, told)?;
     push_told(&mut writer, &mut text, told)?;
     if let Some(request) = request {
-        push_fulls(&mut writer, &mut text, &node.reply(rec.moment, request))?;
+        push_fulls(&mut writer, &mut text, &node.reply(rec.moment, request)?)?;
     }
     leave(&mut node, &mut writer, &mut text, rec.moment)?;
     String::from_str(alloc, from_utf8(text.as_slice()).unwrap_or("no text")).map_err(|_| NoMemory)

@@ -9,6 +9,7 @@ mod misfit;
 mod numbers;
 mod parts;
 mod path;
+mod payload;
 mod put;
 mod reader;
 mod serialized;
@@ -19,4 +20,5 @@ mod window;
 mod writer;
 
 pub use error::{ReadError, WriteError};
+pub use payload::payload_value;
 pub use serialized::{read, read_as, write, write_as};

@@ -93,6 +93,7 @@ plan = record {
   clients = 4;
   status = record { health = 0; mode = 0; code = 0 };
   info = info;
+  registers = [];
   queue = 64;
 }
 

@@ -1,8 +1,8 @@
-use Rattle.node_core.proofs.Silence.{silent_keep_nothing, silent_receive}
-use Rattle.node_core.proofs.laws.silent_sends_nothing.Goals as goal
+use Rattle.node_core.proofs.Silence.{mute_keep_nothing, mute_receive}
+use Rattle.node_core.proofs.laws.mute_sends_nothing.Goals as goal
 
 pub returns-clause-keeps : goal.returns-clause-keeps
-returns-clause-keeps c = silent_keep_nothing
+returns-clause-keeps c = mute_keep_nothing
 
 pub returns-clause-lines : goal.returns-clause-lines
-returns-clause-lines c = silent_receive
+returns-clause-lines c = mute_receive

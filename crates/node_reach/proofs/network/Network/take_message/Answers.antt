@@ -2,13 +2,13 @@ use Rattle.std.proofs.Common.{◌≡◌, ◌∙◌, ℕ, ◌%◌, ◌^◌, ◌<�
 use Rattle.dsdl_types.specs.Schemas.{Sch}
 use Rattle.dsdl_types.specs.Values.{Val}
 use Rattle.dsdl_types.specs.Views.{val}
+use Rattle.serdes.specs.Payloads.{payload_value}
 use Rattle.std_types.specs.Types.{schema_of}
 use Rattle.std_types.specs.declared.std_name.StdName.TheVariants.{Synchronization}
 use Rattle.std_types.specs.declared.time.Synchronization as stored
 use Rattle.time_sync.specs.Pairs.{Message}
 use Rattle.time_sync.specs.Stands.{Stands}
 use Rattle.node_reach.specs.Monitored.{latest_message, message_in, add_message}
-use Rattle.node_reach.specs.Readings.{reading}
 use Rattle.node_reach.specs.Told.{owned}
 use Rattle.node_reach.proofs.Stamps.{stamp_of, stamp_low}
 use Rattle.node_reach.proofs.network.Network.take_message.Goals as goal
@@ -33,8 +33,8 @@ returns c = record {
       let payload = c.args.transfer.payload.now in
       let old = c.args.self.now in
       let v = val c.in-Some.value in
-      let read : Some v ≡ reading (schema_of Synchronization) payload =
-      ap (option_map val) (sym c.in-Some.is) ∙ ((c.in_ok-value.ensures {u = tt}) ∙ ap (λ (s : Sch). reading s payload) k.message_typed) in
+      let read : Some v ≡ payload_value (schema_of Synchronization) payload =
+      ap (option_map val) (sym c.in-Some.is) ∙ ((c.in_ok-value.ensures {u = tt}).value ∙ ap (λ (s : Sch). payload_value s payload) k.message_typed) in
       let moment : c.max-latest.result ≡ max (latest_message messages) t.moment =
       moment_is c.args.moment t.moment (latest_message messages) old.latest_message c.min-began.result c.max-latest.result b.early k.latest_message_is c.min-began.ensures c.max-latest.ensures in
       let stamp : c.in_ok-message.message.previous_transmission_timestamp_microsecond % 2 ^ 56 ≡ stamp_of v =

@@ -1,0 +1,106 @@
+//! What a node answers to requests.
+ghost use Rattle.std.specs.Prelude.{◌≡◌, ◌≤◌, IfOk, OnErr, OnOk, length, take};
+ghost use Rattle.dsdl_types.specs.Laws.{encoding};
+ghost use Rattle.dsdl_types.specs.Schemas.{extent_of};
+ghost use Rattle.register_service.specs.RegisterMap.{list_reply};
+ghost use Rattle.std_types.specs.Registers.{FitsListReply};
+ghost use Rattle.std_types.specs.Types.{schema_of};
+ghost use Rattle.node_core.specs.Keeps.{keeps, questioned};
+ghost use Rattle.node_core.specs.Questions.{FitsQuestion};
+ghost use Rattle.node_core.specs.Sending.{answer_to};
+ghost use Rattle.node_core.specs.Stands.{StandsAsBefore};
+
+use crate::node::Node;
+use crate::question::Question;
+use cy_bits::{Bytes, NoMemory, ShortList};
+use dsdl_types::laws::readings_stored;
+use serdes::laws::{extent_has_room, fits_or_misfit};
+use serdes::{WriteError, write_as};
+use std::alloc::Global;
+use std_types::register::ListReply;
+use std_types::{Standard, StdName, std_type};
+
+/// The most bytes of a reply's payload.
+pub(crate) const MAX_REPLY: usize = 512;
+
+impl Node {
+    /// Does what a question asks, and writes the payload of the answer in front of a buffer. Answers
+    /// the number of its bytes. Takes memory for what is asked of registers alone.
+    pub(crate) fn answer_with(
+        &mut self,
+        question: Question,
+        out: &mut [u8; MAX_REPLY],
+    ) -> Result<usize, NoMemory>
+        requires { FitsQuestion question }
+        ensures plan { self.new.plan ≡ self.old.plan }
+        ensures latest { self.new.latest ≡ self.old.latest }
+        ensures stands { StandsAsBefore self.old self.new }
+        ensures keeps { OnOk result
+            (keeps self.new ≡ questioned self.old.plan question (keeps self.old)) }
+        ensures size { IfOk result (λ n. n ≤ 512) }
+        ensures payload { let registers = (keeps self.old).registers in IfOk result (λ n.
+            take n out.new ≡ answer_to self.old.plan registers question) }
+    {
+        match question {
+            Question::Info => Ok(put(&self.info, out)),
+            Question::Access(request) => {
+                let reply = self
+                    .registers
+                    .access(request.name.as_slice(), request.value)?;
+                encoded(self.alloc, StdName::AccessReply, &reply, out)
+            }
+            Question::Listing(request) => {
+                let reply = self.listed(request.index)?;
+                encoded(self.alloc, StdName::ListReply, &reply, out)
+            }
+        }
+    }
+
+    /// The name of the register with a number; the empty one past the last.
+    fn listed(&self, index: u16) -> Result<ListReply, NoMemory>
+        ensures reply { IfOk result (λ reply. reply ≡ list_reply (keeps self.now).registers index) }
+        ensures fits { IfOk result FitsListReply }
+    {
+        let name = match self.registers.name(index) {
+            Some(name) => Bytes::from_slice(self.alloc, name)?,
+            None => Bytes::new(Vec::new(self.alloc)),
+        };
+        Ok(ListReply { name })
+    }
+}
+
+/// Writes a payload in front of a buffer. Answers the number of its bytes.
+fn put(payload: &ShortList<u8, 128>, out: &mut [u8; MAX_REPLY]) -> usize
+    ensures size { result ≤ 512 }
+    ensures payload { take result out.new ≡ payload.now }
+{
+    let payload = payload.as_slice();
+    out[..payload.len()].copy_from_slice(payload);
+    payload.len()
+}
+
+/// Writes the payload of a standard type in front of a buffer, by the name of the type. Answers the
+/// number of its bytes.
+fn encoded<S: Standard>(
+    alloc: Global,
+    name: StdName,
+    given: &S,
+    out: &mut [u8; MAX_REPLY],
+) -> Result<usize, NoMemory>
+    requires name { schema_of name ≡ S.schema }
+    requires room { extent_of S.schema ≤ 4096 }
+    requires fits { S.fits given.now }
+    ensures size { IfOk result (λ n. n ≤ 512) }
+    ensures payload { IfOk result (λ n. take n out.new ≡ encoding S.schema (S.value given.now)) }
+{
+    extent_has_room();
+    fits_or_misfit();
+    readings_stored();
+    let standard = std_type(alloc, name)?;
+    let value = given.to_value(alloc)?;
+    match write_as(alloc, &standard.schema, &value, out) {
+        Ok(size) => Ok(size),
+        Err(WriteError::NoMemory) => Err(NoMemory),
+        Err(WriteError::Misfit { .. }) => unreachable!(),
+    }
+}
