@@ -1,10 +1,14 @@
 -- What a record came to is what the log says of it.
-use Rattle.std.proofs.Common.{◌≡◌, ◌∙◌, ◌<◌, ℕ, ◌-◌, Bool, true, false, not, ◌&&◌, eqb, List, length, Option, Some, None, refl, sym, ap, subst}
+use Rattle.std.proofs.Common.{◌≡◌, ◌∙◌, ◌<◌, ℕ, ◌-◌, Bool, true, false, not, ◌&&◌, eqb, List, [], length, Option, Some, None, option_map, refl, sym, ap, subst}
 use Rattle.std.proofs.lemmas.Bool.{cond_both, eq-eqb}
+use Rattle.std.proofs.lemmas.Option.{option_and_then_some}
 use Rattle.std.specs.Option.{option_and_then}
 use Rattle.can_id.specs.Identifiers.{IsIdent, ident_of}
 use Rattle.can_id.specs.declared.ident.Ident.{Ident}
 use Rattle.can_id.specs.declared.ident.Ident.TheVariants.{Message, Anonymous, Service}
+use Rattle.dsdl_types.proofs.SchemaRules.{schema_sound}
+use Rattle.dsdl_types.proofs.StoredReadings.{readings_stored}
+use Rattle.std_types.proofs.SchemaRules.{schema_rules}
 use Rattle.tail_frame.specs.Frames.{FrameOf, framed, last_byte, is_discarded, tail_of, frame_of}
 use Rattle.tail_frame.specs.declared.logged.Record.{Record}
 use Rattle.tail_frame.specs.declared.tail.Tail.{Tail}
@@ -14,12 +18,16 @@ use Rattle.rx_table.specs.declared.fed.Met.{Met}
 use Rattle.node_core.specs.Came.{frame_with, met_lines, came_lines, came_request}
 use Rattle.rx_table.specs.Heard.{is_for, if_for, frame_for, frames}
 use Rattle.node_core.specs.Heard.{ports_of}
-use Rattle.node_core.specs.Sending.{IsRequestTo, request_with}
+use Rattle.node_core.specs.Questions.{FitsQuestion, question_in}
+use Rattle.node_core.specs.Sending.{IsRequestTo, request_of, request_that, request_with}
 use Rattle.node_core.specs.Stands.{StandsAt, Stands}
-use Rattle.node_core.specs.Steps.{on_port, of_frame, got, has_rx}
+use Rattle.node_core.specs.Steps.{on_port, of_frame, got, payload_in, request_on}
+use Rattle.node_core.specs.declared.came.Came.{Came}
 use Rattle.node_core.specs.declared.line.Line.{Line}
 use Rattle.node_core.specs.declared.node.Node.{Node}
+use Rattle.node_core.specs.declared.question.Question.{Question}
 use Rattle.node_core.specs.declared.request.Request.{Request}
+use Rattle.node_core.proofs.Questions.{ReadingLaws, request_fits}
 
 -- a frame is its record with its identifier and its tail
 pub record IsOf (rec : Record) (f : FrameOf) : Type 0 where
@@ -66,23 +74,53 @@ apart : (same rest : Bool) → (not same && rest) ≡ true → same ≡ true →
 apart true rest e h = absurd cc
 apart false rest e h = absurd cc
 
--- the request that a frame for the node is of is of another node, in its ranges
-asks_with : (node tid : ℕ) (ident : Ident) (r : Request) → IsIdent ident → is_for node ident ≡ true → tid < 32 → request_with tid ident ≡ Some r → IsRequestTo node r
-asks_with node tid (Message priority subject source) r ranges own short e = cc
-asks_with node tid (Anonymous priority subject pseudo) r ranges own short e = cc
-asks_with node tid (Service priority false service destination source) r ranges own short e = cc
-asks_with node tid (Service priority true service destination source) r ranges own short e =
-    let it : record { service = service; client = source; priority = priority; tid = tid } ≡ r = cc in
-    subst (IsRequestTo node) it (record {
+-- what a record without a frame for the node asks, and one whose lines are none, is what the log says
+pub none_asks : (node : Node) (rec : Record) (badcrc : Bool) (lines : List Line) → None ≡ frame_for node.plan.node rec
+    → came_request (record { badcrc = badcrc; heard = None }) lines ≡ request_on node.plan rec lines
+none_asks node rec badcrc lines e =
+    ap (λ (o : Option FrameOf). option_and_then (λ payload. option_and_then (request_of payload) o) (payload_in lines)) e
+
+pub nothing_asks : (node : Node) (rec : Record) (came : Came) (lines : List Line) → [] ≡ lines
+    → came_request came lines ≡ request_on node.plan rec lines
+nothing_asks node rec came lines e =
+    let P : List Line → Type 0 = λ given. came_request came given ≡ request_on node.plan rec given in subst P e refl
+
+-- and so is what a frame for the node asks
+pub heard_asks : (node : Node) (rec : Record) (f : FrameOf) (met : Met) (badcrc : Bool) (lines : List Line) → Some f ≡ frame_for node.plan.node rec
+    → came_request (record { badcrc = badcrc; heard = Some (record { ident = f.ident; tail = f.tail; met = met }) }) lines ≡ request_on node.plan rec lines
+heard_asks node rec f met badcrc lines e =
+    ap (λ (o : Option FrameOf). option_and_then (λ payload. option_and_then (request_of payload) o) (payload_in lines)) e
+
+-- the standard types keep the rules, and so what is read of one is a value of it
+reading_laws : ReadingLaws
+reading_laws = record { rules = schema_rules; suffice = schema_sound; stored = readings_stored }
+
+-- a request that asks something
+asked_that : (service client priority tid : ℕ) (o : Option Question) (r : Request) → option_map (request_that service client priority tid) o ≡ Some r
+    → (q : Question) × (request_that service client priority tid q ≡ r)
+asked_that service client priority tid None r e = cc
+asked_that service client priority tid (Some q) r e = (q, cc)
+
+-- the request that a frame for the node is of is of another node, in its ranges, and asks a value of its type
+asks_with : (node tid : ℕ) (ident : Ident) (payload : List ℕ) (r : Request) → IsIdent ident → is_for node ident ≡ true → tid < 32
+    → request_with tid ident payload ≡ Some r → IsRequestTo node r
+asks_with node tid (Message priority subject source) payload r ranges own short e = cc
+asks_with node tid (Anonymous priority subject pseudo) payload r ranges own short e = cc
+asks_with node tid (Service priority false service destination source) payload r ranges own short e = cc
+asks_with node tid (Service priority true service destination source) payload r ranges own short e =
+    let that = asked_that service source priority tid (question_in service payload) r e in
+    let fits = request_fits reading_laws tid (Service priority true service destination source) payload r e in
+    subst (IsRequestTo node) that.1 (record {
       service = ranges.1;
       client = ranges.3;
       other = λ same. apart (eqb source node) (eqb destination node) own (eq-eqb source node same);
       priority = ranges.0;
       tid = short;
+      question = subst (λ (x : Request). FitsQuestion x.question) (sym that.1) fits;
     })
 
 pub asks : (node : ℕ) (badcrc : Bool) (ident : Ident) (tail : Tail) (met : Met) (lines : List Line) (r : Request) → IsIdent ident → is_for node ident ≡ true → tail.tid < 32
     → came_request (record { badcrc = badcrc; heard = Some (record { ident = ident; tail = tail; met = met }) }) lines ≡ Some r → IsRequestTo node r
 asks node badcrc ident tail met lines r ranges own short e =
-    cond_both (has_rx lines) (request_with tail.tid ident) None (λ (o : Option Request). o ≡ Some r → IsRequestTo node r)
-    (λ _ n. asks_with node tail.tid ident r ranges own short n) (λ _ n. cc) e
+    option_and_then_some (request_with tail.tid ident) (payload_in lines) r e
+    (λ payload _ n. asks_with node tail.tid ident payload r ranges own short n)

@@ -11,15 +11,26 @@ use std::alloc::Global;
 use std::process::Abort;
 use std::str::from_utf8;
 
+/// A plan of node 42 with a register of numbers from 0 to 100.
+const REGISTERS: &str =
+    "plan 2\nnode 42\nbus can0 8 4096\nsilent\nregister x rw {natural16: {value: [5]}}\nlimits x 0 100\n";
+
+/// The plan of a text.
+fn plan_in(rt: &impl Abort, alloc: Global, text: &str) -> Result<Plan, NoMemory>
+    ensures { IfOk result IsPlan }
+{
+    let Ok(plan) = read_plan(alloc, text.as_bytes(), &no_types(alloc)) else {
+        panic!(rt; "no plan");
+    };
+    Ok(plan)
+}
+
 /// A plan of node 42 with a bus and these lines.
 fn plan_of(rt: &impl Abort, alloc: Global, lines: &str) -> Result<Plan, NoMemory>
     ensures { IfOk result IsPlan }
 {
     let text = format!(in alloc; "plan 1\nnode 42\nbus can0\n{lines}")?;
-    let Ok(plan) = read_plan(alloc, text.as_bytes(), &no_types(alloc)) else {
-        panic!(rt; "no plan");
-    };
-    Ok(plan)
+    plan_in(rt, alloc, text.as_str())
 }
 
 /// Puts the text of a step's frames that leave the first bus behind others.
@@ -121,5 +132,74 @@ fn a_frame_gives_the_lines_on_its_reply(rt: HostRuntime) -> Result<(), NoMemory>
     assert!(&rt; node.latest <= rec.moment);
     let stepped = node.frame(&rec, &mut lines)?;
     assert!(rt; !stepped.badcrc && lines.len() == 2 && node.waiting() == 0);
+    Ok(())
+}
+
+/// The text of the frames that leave a node at 5 seconds on a request of node 123.
+fn answer_text(
+    rt: &impl Abort,
+    alloc: Global,
+    node: &mut Node,
+    ident: u32,
+    data: &[u8],
+) -> Result<String, NoMemory> {
+    let mut writer = LineWriter::new(alloc, &node.plan.buses);
+    let mut text = TextBuffer::new(alloc);
+    let rec = record(rt, 1, (5_000_000, 0, ident, data));
+    assert!(rt; node.latest <= rec.moment);
+    let came = node.step(&rec)?;
+    if let Some(request) = node.request(came, node.told(&rec, came))? {
+        push_fulls(&mut writer, &mut text, &node.reply(rec.moment, request)?)?;
+    }
+    leave(node, &mut writer, &mut text, rec.moment)?;
+    String::from_str(alloc, from_utf8(text.as_slice()).unwrap_or("no text")).map_err(|_| NoMemory)
+}
+
+#[test]
+fn registers_are_read_written_and_listed(rt: HostRuntime) -> Result<(), NoMemory> {
+    let alloc = rt.alloc();
+    let rows = [
+        (
+            "a read",
+            0x1360_157B,
+            b"\x01x\0\xE0".as_slice(),
+            "tx 5.000000 can0 12603DAA 00000000000000A0\ntx 5.000000 can0 12603DAA 010A0105008EC640\n",
+        ),
+        (
+            "a write within the limits",
+            0x1360_157B,
+            b"\x01x\x0A\x01\x64\0\xE1".as_slice(),
+            "tx 5.000000 can0 12603DAA 00000000000000A1\ntx 5.000000 can0 12603DAA 010A016400B6DD41\n",
+        ),
+        (
+            "a write outside",
+            0x1360_157B,
+            b"\x01x\x0A\x01\x65\0\xE2".as_slice(),
+            "tx 5.000000 can0 12603DAA 00000000000000A2\ntx 5.000000 can0 12603DAA 010A016400B6DD42\n",
+        ),
+        (
+            "a value of no variant",
+            0x1360_157B,
+            b"\x01x\xFF\xE3".as_slice(),
+            "",
+        ),
+        (
+            "the first name",
+            0x1360_557B,
+            b"\0\0\xE3".as_slice(),
+            "tx 5.000000 can0 12607DAA 0178E3\n",
+        ),
+        (
+            "past the last name",
+            0x1360_557B,
+            b"\x01\0\xE4".as_slice(),
+            "tx 5.000000 can0 12607DAA 00E4\n",
+        ),
+    ];
+    let mut node = Node::open(alloc, plan_in(&rt, alloc, REGISTERS)?)?;
+    for (what, ident, data, want) in rows {
+        let got = answer_text(&rt, alloc, &mut node, ident, data)?;
+        assert_eq!(rt; got.as_str(), want, "{what}");
+    }
     Ok(())
 }

@@ -1,13 +1,12 @@
-use Rattle.std.proofs.Common.{◌≡◌, ◌∙◌, ◌∷◌, ◌++◌, length, take, ap}
+use Rattle.std.proofs.Common.{◌≡◌, ◌∙◌, List, ◌∷◌, ◌++◌, length, take, ap}
 use Rattle.std.proofs.Math.Seq.{take-length}
-use Rattle.std.specs.Option.{option_and_then}
 use Rattle.node_plan.specs.declared.plan.Plan.{Plan}
-use Rattle.node_core.specs.Keeps.{keeps}
+use Rattle.node_core.specs.Keeps.{answered, keeps, reply_by}
 use Rattle.node_core.specs.Queues.{fulls}
-use Rattle.node_core.specs.Sending.{reply_to}
 use Rattle.node_core.specs.Steps.{Kept, records}
 use Rattle.node_core.specs.Told.{told_lines}
-use Rattle.node_core.proofs.Frames.{cut_again, lines_as}
+use Rattle.node_core.specs.declared.line.Line.{Line}
+use Rattle.node_core.proofs.Frames.{cut_again, keeps_as, lines_as}
 use Rattle.node_core.proofs.node.Node.frame.Goals as goal
 
 pub returns-in-Err-clause-behind : goal.returns-in-Err-clause-behind
@@ -26,15 +25,26 @@ returns-in-Err-clause-err c =
 pub returns-in-Ok-clause-stands : goal.returns-in-Ok-clause-stands
 returns-in-Ok-clause-stands c = λ past s. c.in-Ok.ensures.stands (c.args.rec.now ∷ past) (c.in_ok-came.ensures.stands past s)
 
+pub returns-in-Ok-clause-keeps : goal.returns-in-Ok-clause-keeps
+returns-in-Ok-clause-keeps c = λ past s.
+    let node = c.args.self.now in
+    let rec = c.args.rec.now in
+    let request = c.in_ok-request.request in
+    c.in-Ok.ensures.keeps
+    ∙ (ap (λ (p : Plan). answered p request (keeps c.step.new.self)) c.in_ok-came.ensures.plan
+    ∙ (ap (λ (k : Kept). answered node.plan request k) c.in_ok-came.ensures.keeps
+    ∙ keeps_as node rec c.in_ok-came.came (told_lines c.told-told.result) request c.in_ok-request.ensures c.in_ok-came.ensures.request past s
+      (c.told-told.ensures ∙ c.in_ok-came.ensures.lines (records past) s) (keeps node)))
+
 pub returns-in-Ok-clause-lines : goal.returns-in-Ok-clause-lines
 returns-in-Ok-clause-lines c = λ past s.
     let node = c.args.self.now in
     let rec = c.args.rec.now in
-    let request = c.request-request.result in
+    let request = c.in_ok-request.request in
     let told = c.push_told.new.lines in
-    let answered : c.answer.new.lines ≡ told ++ fulls rec.moment (option_and_then (reply_to node.plan) request) (keeps node).queues =
-    c.in-Ok.ensures.lines
-    ∙ (ap (λ (p : Plan). told ++ fulls rec.moment (option_and_then (reply_to p) request) (keeps c.step.new.self).queues) c.in_ok-came.ensures.plan
-    ∙ ap (λ (k : Kept). told ++ fulls rec.moment (option_and_then (reply_to node.plan) request) k.queues) c.in_ok-came.ensures.keeps) in
-    lines_as node rec c.in_ok-came.came (told_lines c.told-told.result) request c.request-request.ensures c.in_ok-came.ensures.request past s
-    (c.told-told.ensures ∙ c.in_ok-came.ensures.lines (records past) s) (keeps node) c.args.lines.now told c.answer.new.lines c.in_ok-push_told.ensures.ok answered
+    let on : Plan → Kept → List Line = λ p k. told ++ fulls rec.moment (reply_by p request k) k.queues in
+    lines_as node rec c.in_ok-came.came (told_lines c.told-told.result) request c.in_ok-request.ensures c.in_ok-came.ensures.request past s
+    (c.told-told.ensures ∙ c.in_ok-came.ensures.lines (records past) s) (keeps node) c.args.lines.now told c.answer.new.lines c.in_ok-push_told.ensures.ok
+    (c.in-Ok.ensures.lines
+    ∙ (ap (λ (p : Plan). on p (keeps c.step.new.self)) c.in_ok-came.ensures.plan
+    ∙ ap (on node.plan) c.in_ok-came.ensures.keeps))

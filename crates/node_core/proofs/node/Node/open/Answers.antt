@@ -1,6 +1,7 @@
 use Rattle.std.proofs.Common.{◌∙◌, ap, sym, subst}
 use Rattle.rx_table.specs.Ports.{ports_of as ports_in}
 use Rattle.rx_table.specs.Table.{HeardBy}
+use Rattle.node_core.proofs.Registers.{kept_registers}
 use Rattle.node_core.proofs.Tables.{nothing_heard, ports_in-subscribed}
 use Rattle.node_core.proofs.node.Node.open.Goals as goal
 
@@ -14,3 +15,6 @@ returns-clause-stands c = record {
   types = c.in_ok-table.ensures.types;
   sessions = c.in_ok-table.ensures.stands;
 }
+
+pub open-requires : goal.open-requires
+open-requires c = kept_registers c.args.plan c.requires

@@ -1,6 +1,7 @@
 use Rattle.node_core.specs.Came.{came_lines}
+use Rattle.node_core.specs.Steps.{got}
 use Rattle.node_core.proofs.Elsewhere.{takes_by, gives_none, ends_none}
-use Rattle.node_core.proofs.HeardRecords.{asks, heard_got, none_got}
+use Rattle.node_core.proofs.HeardRecords.{asks, heard_asks, heard_got, none_asks, none_got, nothing_asks}
 use Rattle.node_core.proofs.Steps.{frame_stands, stands_as_before, on_err}
 use Rattle.node_core.proofs.node.Node.step.Goals as goal
 
@@ -33,3 +34,18 @@ pub returns-in_ok-met-in-Some-clause-asks : goal.returns-in_ok-met-in-Some-claus
 returns-in_ok-met-in-Some-clause-asks c = λ lines request.
     let ranges = c.in-Some.ensures.ranges in
     asks c.args.self.now.plan.node c.ends_badly.result c.in-Some.frame.ident c.in-Some.frame.tail c.in_ok-met-in-Some.met lines request ranges.1 c.in-Some.ensures.own ranges.0
+
+pub returns-then-passes_by-clause-request : goal.returns-then-passes_by-clause-request
+returns-then-passes_by-clause-request c = λ past s.
+    let node = c.args.self.now in
+    nothing_asks node c.args.rec.now _ (got node.plan c.args.rec.now past) (gives_none node c.args.rec.now c.if-passes_by.ensures past s)
+
+pub returns-in_ok-met-in-Some-clause-request : goal.returns-in_ok-met-in-Some-clause-request
+returns-in_ok-met-in-Some-clause-request c = λ past _.
+    let node = c.args.self.now in
+    heard_asks node c.args.rec.now _ _ _ (got node.plan c.args.rec.now past) c.in-Some.ensures.value
+
+pub returns-in-None-clause-request : goal.returns-in-None-clause-request
+returns-in-None-clause-request c = λ past _.
+    let node = c.args.self.now in
+    none_asks node c.args.rec.now _ (got node.plan c.args.rec.now past) c.in-None.ensures.value
