@@ -13,7 +13,7 @@ pub struct Came {
     /// Whether the record ends a transfer whose bytes don't fit their CRC.
     pub badcrc: bool,
     /// The frame that the record is, where it is one for the node.
-    pub(crate) heard: Option<Heard>,
+    pub heard: Option<Heard>,
 }
 
 /// A frame that a node heard, without its data.

@@ -134,10 +134,15 @@ impl<'a, K: LineSink> Running<'a, K> {
             OnErr result (BreaksOff (Heard rec.now ∷ []) old new) }
     {
         let came = self.node.step(rec)?;
+        if came.heard.is_none() {
+            self.follow(rec.moment, None, gathered)?;
+            self.tally.count(Seen::of(None, came.badcrc), self.node.held());
+            return Ok(());
+        }
         let told = self.node.told(rec, came);
         tell(self.writer, self.lines, gathered, told)?;
         let seen = Seen::of(told, came.badcrc);
-        let request = came.request(told);
+        let request = self.node.request(came, told)?;
         self.follow(rec.moment, request, gathered)?;
         self.tally.count(seen, self.node.held());
         Ok(())
@@ -221,7 +226,7 @@ impl<'a, K: LineSink> Running<'a, K> {
             (K.lines self.old.lines.now) (K.lines self.new.lines.now)) }
         ensures uncounted { OnErr result (self.new.tally.numbers ≡ self.old.tally.numbers) }
     {
-        let full = put_reply(self.node, moment, request);
+        let full = put_reply(self.node, moment, request)?;
         let sent = send(self.node, moment, &full, self.writer, self.lines, gathered)?;
         self.tally.send(sent);
         self.clock.last = moment;
@@ -337,18 +342,22 @@ impl<'a, K: LineSink> Running<'a, K> {
 
 /// Puts the reply to a request, if there is one, behind the frames that wait; tells on which buses
 /// there was no room.
-fn put_reply(node: &mut Node, moment: u64, request: Option<Request>) -> ShortList<FullLine, 3>
+fn put_reply(
+    node: &mut Node,
+    moment: u64,
+    request: Option<Request>,
+) -> Result<ShortList<FullLine, 3>, NoMemory>
     requires { ForSome request (IsRequestTo node.old.plan.node) }
     ensures plan { node.new.plan ≡ node.old.plan }
     ensures latest { node.new.latest ≡ node.old.latest }
     ensures stands { StandsAsBefore node.old node.new }
-    ensures keeps { let reply = option_and_then (reply_to node.old.plan) request in
-        keeps node.new ≡ sent reply (keeps node.old) }
-    ensures full { let reply = option_and_then (reply_to node.old.plan) request in
-        map Full result ≡ fulls moment reply (keeps node.old).queues }
+    ensures keeps { OnOk result (keeps node.new ≡ answered node.old.plan request (keeps node.old)) }
+    ensures full { let old = keeps node.old in
+        let reply = reply_by node.old.plan request old in
+        IfOk result (λ full. map Full full ≡ fulls moment reply old.queues) }
 {
     match request {
         Some(request) => node.reply(moment, request),
-        None => ShortList::new(),
+        None => Ok(ShortList::new()),
     }
 }
