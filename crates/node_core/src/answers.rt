@@ -17,7 +17,7 @@ use dsdl_types::laws::readings_stored;
 use serdes::laws::{extent_has_room, fits_or_misfit};
 use serdes::{WriteError, write_as};
 use std::alloc::Global;
-use std_types::register::ListReply;
+use std_types::register::{AccessRequest, ListReply, ListRequest};
 use std_types::{Standard, StdName, std_type};
 
 /// The most bytes of a reply's payload.
@@ -43,14 +43,12 @@ impl Node {
     {
         match question {
             Question::Info => Ok(put(&self.info, out)),
-            Question::Access(request) => {
-                let reply = self
-                    .registers
-                    .access(request.name.as_slice(), request.value)?;
+            Question::Access(AccessRequest { name, value }) => {
+                let reply = self.registers.access(name.as_slice(), value)?;
                 encoded(self.alloc, StdName::AccessReply, &reply, out)
             }
-            Question::Listing(request) => {
-                let reply = self.listed(request.index)?;
+            Question::Listing(ListRequest { index }) => {
+                let reply = self.listed(index)?;
                 encoded(self.alloc, StdName::ListReply, &reply, out)
             }
         }
@@ -61,11 +59,14 @@ impl Node {
         ensures reply { IfOk result (λ reply. reply ≡ list_reply (keeps self.now).registers index) }
         ensures fits { IfOk result FitsListReply }
     {
-        let name = match self.registers.name(index) {
-            Some(name) => Bytes::from_slice(self.alloc, name)?,
-            None => Bytes::new(Vec::new(self.alloc)),
-        };
-        Ok(ListReply { name })
+        match self.registers.name(index) {
+            Some(name) => Ok(ListReply {
+                name: Bytes::from_slice(self.alloc, name)?,
+            }),
+            None => Ok(ListReply {
+                name: Bytes::new(Vec::new(self.alloc)),
+            }),
+        }
     }
 }
 
