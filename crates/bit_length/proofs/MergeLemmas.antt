@@ -1,17 +1,19 @@
 -- How runs in order are merged one by one.
-use Rattle.std.proofs.Common.{◌≡◌, ℕ, zero, suc, ◌+◌, ◌<◌, ◌≤◌, ◌⊎◌, ◌↔◌, inl, inr, true, false, List, [], ◌∷◌, ◌++◌, length, get_or, refl, sym, ◌∙◌, subst, arith, All, AllPairs, max, add-one, nat_lt, nat_cmp, is_lt, ◌==◌}
+use Rattle.std.proofs.Common.{◌≡◌, ℕ, zero, suc, ◌+◌, ◌<◌, ◌≤◌, ◌⊎◌, ◌↔◌, inl, inr, true, false, List, [], ◌∷◌, ◌++◌, length, get_or, take, refl, sym, ◌∙◌, subst, arith, All, AllPairs, max, add-one, nat_lt, nat_cmp, is_lt, ◌==◌}
 use Rattle.std.specs.Ordering.{ordering_then}
 use Rattle.std.specs.declared.cmp.Ordering.TheVariants.{Less, Equal}
 use Rattle.std.proofs.lemmas.Bool.Decides.{nat_tests}
 use Rattle.std.proofs.lemmas.Bool.{cases_lt, false≢true}
-use Rattle.std.proofs.lemmas.List.Elements.{All-push, All-tail, All-head, All-nil, All-cons, All-weaker}
+use Rattle.std.proofs.lemmas.List.Elements.{All-push, All-tail, All-head, All-nil, All-cons, All-weaker, All-get_or}
 use Rattle.std.proofs.lemmas.List.Quantifiers.{all_pairs_push}
+use Rattle.std.proofs.lemmas.List.{take_more}
 use Rattle.std.specs.List.Sorted.{IsPermutation}
 use Rattle.std.proofs.lemmas.List.Sorted.{All-permutation, list_any-IsPermutation}
 use Rattle.bit_length.specs.declared.run.Run.{Run}
 use Rattle.bit_length.specs.Lengths.{Same}
-use Rattle.bit_length.specs.Runs.{IsRun, IsBefore, IsAtMost, InRun, InSome, AreRuns, MergesInto, IsMerged, in_run}
+use Rattle.bit_length.specs.Runs.{IsRun, IsBefore, IsAtMost, InRun, InSome, AreRuns, MergesInto, IsMerged, TakesRun, in_run}
 use Rattle.bit_length.proofs.MemberLemmas.{InSome-push, InSome-from_test, test_from_InSome}
+use Rattle.bit_length.proofs.SetLemmas.{no_run}
 
 -- two runs that touch, as one
 abbrev pub joined : Run → Run → Run
@@ -192,14 +194,12 @@ order_from runs i a d order lt same le k e low len = elim (cases_lt i k) [
     here : IsAtMost a (get_or runs i e)
     here = rw (get_or_any runs i e d lt) (inr (same, le))
 
--- the first run stands in the list too
-pub first_again : (s : ℕ) (runs : List Run) (d : Run) → 0 < length runs → Same (InSome s (get_or runs 0 d ∷ runs)) (InSome s runs)
-first_again s [] d lt n = absurd (omega arith)
-first_again s (r ∷ runs) d lt n = (there, λ h. inr h)
-  where
-    there : InRun s r n ⊎ (InRun s r n ⊎ InSome s runs n) → InRun s r n ⊎ InSome s runs n
-    there (inl h) = inl h
-    there (inr h) = h
+-- one more run of a list is taken
+pub takes_at : (runs others new_others : List Run) (i : ℕ) (last next new_last : Run) → i < length runs → next ≡ get_or runs i no_run → IsAtMost last next → TakesRun others last next new_others new_last →
+    (s : ℕ) → All (IsRun s) runs → MergesInto s (take i runs) others last → MergesInto s (take (i + 1) runs) new_others new_last
+takes_at runs others new_others i last next new_last lt is most takes s all m =
+    let run : IsRun s next = subst (IsRun s) (sym is) (All-get_or (IsRun s) runs i no_run lt all) in
+    rw (take_more runs i no_run lt) (subst (λ r. MergesInto s (take i runs ++ r ∷ []) new_others new_last) is (takes s (take i runs) m run most))
 
 -- ---- the order of the runs doesn't matter
 

@@ -234,6 +234,16 @@ sums_alike S S' T T' e f n = (
   λ (a, b, x, y, g). (a, b, (e a).1 x, (f b).1 y, g),
 )
 
+pub sums_turned : (S T : Numbers) → Same (Sums S T) (Sums T S)
+sums_turned S T n = (λ (a, b, x, y, e). (b, a, y, x, omega arith), λ (a, b, x, y, e). (b, a, y, x, omega arith))
+
+-- the sums of a number that is all of a set
+pub sums_only : (n : ℕ) (S T : Numbers) → Same (Only n) T → Same (Sums (Only n) S) (Sums T S)
+sums_only n S T e = sums_alike (Only n) T S S e (λ k. (λ x. x, λ x. x))
+
+pub sums_only_right : (n : ℕ) (S T : Numbers) → Same (Only n) T → Same (Sums (Only n) S) (Sums S T)
+sums_only_right n S T e = same_join (Sums (Only n) S) (Sums T S) (Sums S T) (sums_only n S T e) (sums_turned T S)
+
 pub pads_alike : (S S' : Numbers) (to : ℕ) → Same S S' → Same (Pads S to) (Pads S' to)
 pads_alike S S' to e n = (λ (a, x, g). (a, (e a).0 x, g), λ (a, x, g). (a, (e a).1 x, g))
 
@@ -251,7 +261,7 @@ some_sum S T (a, x) (b, y) = (a + b, (a, b, x, y, refl))
 pub some_pad : (S : Numbers) (to : ℕ) → (n : ℕ) × S n → (n : ℕ) × Pads S to n
 some_pad S to (a, x) = (padded to a, (a, x, refl))
 
-append_means : (s : ℕ) (a b : List Run) (n : ℕ) → InSome s (a ++ b) n ↔ (InSome s a n ⊎ InSome s b n)
+pub append_means : (s : ℕ) (a b : List Run) (n : ℕ) → InSome s (a ++ b) n ↔ (InSome s a n ⊎ InSome s b n)
 append_means s [] b n = (λ h. inr h, λ h. elim h [ inl k ↦ absurd k | inr k ↦ k ])
 append_means s (r ∷ a) b n = (there (append_means s a b n).0, back (append_means s a b n).1)
   where

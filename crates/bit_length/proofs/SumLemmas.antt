@@ -1,15 +1,15 @@
 -- Sums and padding of runs.
-use Rattle.std.proofs.Common.{◌≡◌, ℕ, ◌+◌, ◌-◌, ◌*◌, ◌/◌, ◌%◌, ◌^◌, ◌<◌, ◌≤◌, ◌⊎◌, ◌↔◌, inl, inr, List, [], length, take, get_or, refl, sym, ap, ◌∙◌, arith, All, zero, suc}
+use Rattle.std.proofs.Common.{◌≡◌, ℕ, ◌+◌, ◌-◌, ◌*◌, ◌/◌, ◌%◌, ◌^◌, ◌<◌, ◌≤◌, ◌⊎◌, ◌↔◌, inl, inr, List, [], ◌∷◌, ◌++◌, length, take, drop, get_or, refl, sym, ap, subst, ◌∙◌, arith, All, zero, suc}
 use Rattle.std.proofs.lemmas.Nat.{div_below}
 use Rattle.std.proofs.lemmas.List.Elements.{All-nil, All-get_or}
-use Rattle.std.proofs.lemmas.List.{take_more}
+use Rattle.std.proofs.lemmas.List.{take_more, take-append-drop}
 use Rattle.std.proofs.Math.Nat.{mul-le-mul_left, add-mul-div_right, add-mul-mod_self_left, mod-mod_of_dvd}
 use Rattle.std.proofs.lemmas.Nat.Gcd.{dvd_of_mod-eq-zero}
 use Rattle.bit_length.specs.declared.run.Run.{Run}
-use Rattle.bit_length.specs.Lengths.{Numbers, Same, Sums, Pads, padded, SomeLeaves}
+use Rattle.bit_length.specs.Lengths.{Numbers, Same, Sums, Joins, Pads, padded, SomeLeaves}
 use Rattle.bit_length.specs.Runs.{IsRun, InRun, InSome, Adds, AreRunsOf}
-use Rattle.bit_length.proofs.MemberLemmas.{InSome-push}
-use Rattle.bit_length.proofs.SetLemmas.{no_run, InSome-at}
+use Rattle.bit_length.proofs.MemberLemmas.{InSome-push, Adds-push, Adds-join, Adds-same}
+use Rattle.bit_length.proofs.SetLemmas.{no_run, InSome-at, append_means}
 
 -- a multiple of `to` passes through padding
 pub padded_past : (to x k : ℕ) → 0 < to → padded to (x + to * k) ≡ padded to x + to * k
@@ -111,6 +111,43 @@ from_nothing s runs S adds = record {
     λ h. (adds.same n).1 (inr h),
   );
 }
+
+-- ---- all runs and a number
+
+-- the sums with the runs in three parts
+sums_parts : (s : ℕ) (O : Numbers) (k : ℕ) (others : List Run) (last : Run) → Same (Joins (Joins (Sums O (InSome s (drop k others))) (Sums O (InRun s last))) (Sums O (InSome s (take k others)))) (Sums O (InSome s (last ∷ others)))
+sums_parts s O k others last n = (there, back)
+  where
+    parts : (b : ℕ) → InSome s others b ↔ (InSome s (take k others) b ⊎ InSome s (drop k others) b)
+    parts b = subst (λ xs. InSome s xs b ↔ (InSome s (take k others) b ⊎ InSome s (drop k others) b)) (take-append-drop k others) (append_means s (take k others) (drop k others) b)
+
+    there : (Sums O (InSome s (drop k others)) n ⊎ Sums O (InRun s last) n) ⊎ Sums O (InSome s (take k others)) n → Sums O (InSome s (last ∷ others)) n
+    there (inl (inl (a, b, x, y, e))) = (a, b, x, inr ((parts b).1 (inr y)), e)
+    there (inl (inr (a, b, x, y, e))) = (a, b, x, inl y, e)
+    there (inr (a, b, x, y, e)) = (a, b, x, inr ((parts b).1 (inl y)), e)
+
+    back : Sums O (InSome s (last ∷ others)) n → (Sums O (InSome s (drop k others)) n ⊎ Sums O (InRun s last) n) ⊎ Sums O (InSome s (take k others)) n
+    back (a, b, x, inl y, e) = inl (inr (a, b, x, y, e))
+    back (a, b, x, inr y, e) = elim ((parts b).0 y) [ inl h ↦ inr (a, b, x, h, e) | inr h ↦ inl (inl (a, b, x, h, e)) ]
+
+-- those above, the last, and those below are pushed
+pub moved_runs : (s : ℕ) (O : Numbers) (k : ℕ) (others none a b c below above : List Run) (last r : Run) → none ≡ [] → below ≡ take k others → above ≡ drop k others →
+    Adds s none a (Sums O (InSome s above)) → b ≡ a ++ r ∷ [] → IsRun s r → Same (InRun s r) (Sums O (InRun s last)) → Adds s b c (Sums O (InSome s below)) → AreRunsOf s c (Sums O (InSome s (last ∷ others)))
+moved_runs s O k others none a b c below above last r en eb ea x e run same y =
+    let P : Numbers = Sums O (InSome s (drop k others)) in
+    let Q : Numbers = Sums O (InRun s last) in
+    let R : Numbers = Sums O (InSome s (take k others)) in
+    let first : Adds s [] a P = subst (λ xs. Adds s [] a (Sums O (InSome s xs))) ea (subst (λ xs. Adds s xs a (Sums O (InSome s above))) en x) in
+    let second : Adds s [] (a ++ r ∷ []) (Joins P Q) = Adds-push s [] a r P (Joins P Q) first run (either_same (InRun s r) P (Joins P Q) Q same (λ n. (λ h. h, λ h. h))) in
+    let third : Adds s (a ++ r ∷ []) c R = subst (λ xs. Adds s (a ++ r ∷ []) c (Sums O (InSome s xs))) eb (subst (λ xs. Adds s xs c (Sums O (InSome s below))) e y) in
+    from_nothing s c (Sums O (InSome s (last ∷ others))) (Adds-same s [] c (Joins (Joins P Q) R) (Sums O (InSome s (last ∷ others))) (Adds-join s [] (a ++ r ∷ []) c (Joins P Q) R second third) (sums_parts s O k others last))
+
+-- a member of some of the runs is of all
+pub of_below : (s k : ℕ) (others : List Run) (last : Run) (n : ℕ) → InSome s (take k others) n → InSome s (last ∷ others) n
+of_below s k others last n h = inr (subst (λ xs. InSome s xs n) (take-append-drop k others) ((append_means s (take k others) (drop k others) n).1 (inl h)))
+
+pub of_above : (s k : ℕ) (others : List Run) (last : Run) (n : ℕ) → InSome s (drop k others) n → InSome s (last ∷ others) n
+of_above s k others last n h = inr (subst (λ xs. InSome s xs n) (take-append-drop k others) ((append_means s (take k others) (drop k others) n).1 (inr h)))
 
 -- ---- remainders
 

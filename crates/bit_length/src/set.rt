@@ -7,12 +7,12 @@ ghost use Rattle.bit_length.specs.Members.{lesser_of};
 
 use crate::coarse::coarse_runs;
 use crate::merge::{Merged, merge_runs};
-use crate::parts::{parts_of, push_parts};
+use crate::parts::{MOST_PARTS, parts_of, push_parts};
 use crate::residues::{residues, unmarked};
 use crate::run::Run;
 use crate::search::run_with;
 use crate::steps::{common_divisor, common_multiple};
-use crate::sums::{pads, sums};
+use crate::sums::{moved, pads, sums};
 use crate::{LONGEST, LengthError};
 use cy_bits::{List, NoMemory, TryCopy};
 use std::alloc::Global;
@@ -158,27 +158,22 @@ impl LengthSet {
     }
 
     /// The set of the members of some runs of one step, at that step.
-    fn merged(alloc: Global, step: u64, runs: Vec<Run>) -> Result<LengthSet, NoMemory>
+    fn merged(step: u64, runs: Vec<Run>) -> Result<LengthSet, NoMemory>
         requires some { (n : ℕ) × InSome step runs.items n }
         requires each { All (IsRun step) runs.items }
         ensures { IfOk result (λ s. Same (Has s) (InSome step runs.items)) }
     {
-        let Merged { others, last } = merge_runs(alloc, runs)?;
+        let Merged { others, last } = merge_runs(runs)?;
         Ok(LengthSet { step, others, last })
     }
 
     /// The set of the members of some runs of one step, of which another step may be a divisor.
-    fn from_runs(
-        alloc: Global,
-        step: u64,
-        runs: Vec<Run>,
-        finer: u64,
-    ) -> Result<LengthSet, NoMemory>
+    fn from_runs(step: u64, runs: Vec<Run>, finer: u64) -> Result<LengthSet, NoMemory>
         requires some { (n : ℕ) × InSome step runs.items n }
         requires each { All (IsRun step) runs.items }
         ensures { IfOk result (λ s. Same (Has s) (InSome step runs.items)) }
     {
-        LengthSet::merged(alloc, step, runs)?
+        LengthSet::merged(step, runs)?
             .simplified()?
             .coarsened(finer)
     }
@@ -189,7 +184,7 @@ impl LengthSet {
         ensures runs { IfOk result (λ r. AreRunsOf step r.items (Has self.now)) }
         ensures some { IfOk result (λ _. (n : ℕ) × Has self.now n) }
     {
-        let mut parts = Vec::new(self.alloc());
+        let mut parts = Vec::with_capacity(self.alloc(), self.parts_at(step)?)?;
         for run in &self.others {
             push_parts(&mut parts, run, self.step, step)?;
         }
@@ -197,7 +192,16 @@ impl LengthSet {
         Ok(parts)
     }
 
-    /// How many runs of a step `runs_at` makes.
+    /// How many runs of a step `runs_at` makes, where they aren't too many.
+    fn parts_at(&self, step: u64) -> Result<usize, NoMemory> {
+        let cost = self.cost(step);
+        if cost > MOST_PARTS {
+            return Err(NoMemory);
+        }
+        Ok(cost as usize)
+    }
+
+    /// How many runs of a step `runs_at` would make.
     fn cost(&self, step: u64) -> u64 {
         let mut cost = parts_of(&self.last, self.step, step);
         for run in &self.others {
@@ -233,7 +237,7 @@ impl LengthSet {
         if step == 0 {
             return Ok(self);
         }
-        LengthSet::merged(self.alloc(), step, self.runs_at(step)?)
+        LengthSet::merged(step, self.runs_at(step)?)
     }
 
     /// A step at which the runs of two sets are few.
@@ -288,7 +292,7 @@ impl LengthSet {
         if coarse.is_empty() {
             return Ok(None);
         }
-        Ok(Some(LengthSet::merged(self.alloc(), finer, coarse)?))
+        Ok(Some(LengthSet::merged(finer, coarse)?))
     }
 
     /// A step that is a multiple of `to`, at which the runs are few.
@@ -387,6 +391,23 @@ impl LengthSet {
         Some(n)
     }
 
+    /// All sums of a number and a member: the runs of this set, moved by the number.
+    fn moved(&self, n: u64) -> Result<LengthSet, NoMemory>
+        requires number { n ≤ 2 ^ 32 }
+        requires short { (m : ℕ) → Sums (Only n) (Has self.now) m → m ≤ 2 ^ 32 }
+        ensures { IfOk result (λ s. Same (Has s) (Sums (Only n) (Has self.now))) }
+    {
+        let one = Run::single(self.step, n);
+        let runs = moved(
+            self.alloc(),
+            self.step,
+            &one,
+            self.others.as_slice(),
+            &self.last,
+        )?;
+        LengthSet::merged(self.step, runs)
+    }
+
     /// All sums of a member each.
     fn sum_within(&self, o: &LengthSet) -> Result<LengthSet, NoMemory>
         requires { (n : ℕ) → Sums (Has self.now) (Has o.now) n → n ≤ 2 ^ 32 }
@@ -396,8 +417,14 @@ impl LengthSet {
         if let (Some(a), Some(b)) = (self.as_run(step), o.as_run(step)) {
             return Ok(LengthSet::one(self.alloc(), step, a.plus(step, &b)));
         }
+        if let Some(n) = o.single() {
+            return self.moved(n);
+        }
+        if let Some(n) = self.single() {
+            return o.moved(n);
+        }
         let runs = sums(self.alloc(), step, &self.runs_at(step)?, &o.runs_at(step)?)?;
-        LengthSet::from_runs(self.alloc(), step, runs, common_divisor(self.step, o.step))
+        LengthSet::from_runs(step, runs, common_divisor(self.step, o.step))
     }
 
     /// The members of either.
@@ -415,7 +442,7 @@ impl LengthSet {
         let step = self.common_step(o);
         let mut runs = self.runs_at(step)?;
         runs.extend_from_slice(o.runs_at(step)?.as_slice())?;
-        LengthSet::from_runs(self.alloc(), step, runs, common_divisor(self.step, o.step))
+        LengthSet::from_runs(step, runs, common_divisor(self.step, o.step))
     }
 
     /// All sums of `n` members.
@@ -446,7 +473,7 @@ impl LengthSet {
             return Ok(LengthSet::one(self.alloc(), step, run.padded(step, to)));
         }
         let runs = pads(self.alloc(), step, to, &self.runs_at(step)?)?;
-        LengthSet::from_runs(self.alloc(), step, runs, to)
+        LengthSet::from_runs(step, runs, to)
     }
 
     /// The set of all sums of a member each.

@@ -1,4 +1,4 @@
-ghost use Rattle.std.specs.Prelude.{◌≡◌, ℕ, ◌+◌, ◌*◌, ◌%◌, ◌^◌, ◌<◌, ◌≤◌, OnOk, IfOk, All, vec_len};
+ghost use Rattle.std.specs.Prelude.{◌≡◌, ℕ, ◌+◌, ◌*◌, ◌%◌, ◌^◌, ◌<◌, ◌≤◌, ◌∷◌, OnOk, IfOk, All, length, vec_len};
 ghost use Rattle.bit_length.specs.Lengths.{Sums, Pads, padded as padded_of};
 ghost use Rattle.bit_length.specs.Runs.{IsRun, InRun, InSome, Adds, AreRunsOf};
 
@@ -30,14 +30,53 @@ pub fn sums(alloc: Global, step: u64, a: &[Run], b: &[Run]) -> Result<Vec<Run>, 
     ensures { IfOk result
         (λ r. AreRunsOf step r.items (Sums (InSome step a.now) (InSome step b.now))) }
 {
-    if (a.len() as u64).saturating_mul(b.len() as u64) > MOST_PARTS {
+    let many = a.len().saturating_mul(b.len());
+    if many as u64 > MOST_PARTS {
         return Err(NoMemory);
     }
-    let mut sums = Vec::new(alloc);
+    let mut sums = Vec::with_capacity(alloc, many)?;
     for run in a {
         push_sums(&mut sums, step, run, b)?;
     }
     Ok(sums)
+}
+
+/// How many of some runs in order come behind the last of all, where a number is added that brings
+/// those of this residue and above past the step: those below it, if it brings the last past.
+fn behind_last(others: &[Run], last: &Run, residue: u64) -> usize
+    ensures { result ≤ length others.now }
+{
+    if last.residue < residue {
+        return 0;
+    }
+    others.partition_point(|run: &Run| run.residue < residue)
+}
+
+/// The runs of all sums of the number of one run and of a member of some runs, in order where these
+/// are.
+pub fn moved(
+    alloc: Global,
+    step: u64,
+    one: &Run,
+    others: &[Run],
+    last: &Run,
+) -> Result<Vec<Run>, NoMemory>
+    requires one { IsRun step one.now }
+    requires others { All (IsRun step) others.now }
+    requires last { IsRun step last.now }
+    requires short { (m n : ℕ) → InRun step one.now m → InSome step (last.now ∷ others.now) n
+        → m + n ≤ 2 ^ 32 }
+    ensures { IfOk result
+        (λ r. AreRunsOf step r.items
+        (Sums (InRun step one.now) (InSome step (last.now ∷ others.now)))) }
+{
+    let behind = behind_last(others, last, step.saturating_sub(one.residue));
+    let (below, above) = others.split_at(behind);
+    let mut runs = Vec::with_capacity(alloc, others.len().saturating_add(1))?;
+    push_sums(&mut runs, step, one, above)?;
+    runs.push(one.plus(step, last))?;
+    push_sums(&mut runs, step, one, below)?;
+    Ok(runs)
 }
 
 /// The runs of each member, brought up to a multiple of `to`, of which the step is a multiple.
@@ -48,7 +87,7 @@ pub fn pads(alloc: Global, step: u64, to: u64, runs: &[Run]) -> Result<Vec<Run>,
     requires short { (n : ℕ) → Pads (InSome step runs.now) to n → n ≤ 2 ^ 32 }
     ensures { IfOk result (λ r. AreRunsOf step r.items (Pads (InSome step runs.now) to)) }
 {
-    let mut pads = Vec::new(alloc);
+    let mut pads = Vec::with_capacity(alloc, runs.len())?;
     for run in runs {
         pads.push(run.padded(step, to))?;
     }

@@ -9,7 +9,7 @@ use Rattle.bit_length.proofs.sums.pads.Goals as goal
 
 pub loop-run-init : goal.loop-run-init
 loop-run-init c =
-    rw c.new-pads.ensures.items (Adds-none c.args.step [] (Pads (InSome c.args.step []) c.args.to) (λ n (a, x, e). x))
+    rw c.in_ok-pads.ensures.items (Adds-none c.args.step [] (Pads (InSome c.args.step []) c.args.to) (λ n (a, x, e). x))
 
 pub padded-requires-clause-short : goal.padded-requires-clause-short
 padded-requires-clause-short c =

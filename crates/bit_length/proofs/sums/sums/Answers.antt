@@ -9,7 +9,7 @@ use Rattle.bit_length.proofs.sums.sums.Goals as goal
 
 pub loop-run-init : goal.loop-run-init
 loop-run-init c =
-    rw c.new-sums.ensures.items (Adds-none c.args.step [] (Sums (InSome c.args.step []) (InSome c.args.step c.args.b.now)) (λ n (a, b, x, y, e). x))
+    rw c.in_ok-sums.ensures.items (Adds-none c.args.step [] (Sums (InSome c.args.step []) (InSome c.args.step c.args.b.now)) (λ n (a, b, x, y, e). x))
 
 pub push_sums-requires-clause-short : goal.push_sums-requires-clause-short
 push_sums-requires-clause-short c =

@@ -8,7 +8,7 @@ use Rattle.bit_length.proofs.set.LengthSet.runs_at.Goals as goal
 
 pub loop-run-init : goal.loop-run-init
 loop-run-init c =
-    rw c.new-parts.ensures.items (Adds-none c.args.step [] (InSome c.self.inside.step []) (λ n h. h))
+    rw c.in_ok-parts.ensures.items (Adds-none c.args.step [] (InSome c.self.inside.step []) (λ n h. h))
 
 pub loop-run-preserved : goal.loop-run-preserved
 loop-run-preserved c =

@@ -1,7 +1,7 @@
 use Rattle.std.proofs.Common.{◌+◌, ◌*◌, refl, arith}
-use Rattle.bit_length.specs.Lengths.{Has, Sums}
+use Rattle.bit_length.specs.Lengths.{Has, Only, Sums}
 use Rattle.bit_length.specs.Runs.{InRun, InSome}
-use Rattle.bit_length.proofs.SetLemmas.{done, some_of, sums_alike, some_sum, same_join}
+use Rattle.bit_length.proofs.SetLemmas.{done, some_of, sums_alike, some_sum, same_join, sums_only, sums_only_right}
 use Rattle.bit_length.proofs.set.LengthSet.sum_within.Goals as goal
 
 pub sums-requires-clause-short : goal.sums-requires-clause-short
@@ -41,3 +41,21 @@ returns-in-Some-Some c =
     same_join (Has c.one.result) (InRun s c.plus.result) (Sums (Has c.args.self.now) (Has c.args.o.now)) c.one.ensures
     (same_join (InRun s c.plus.result) (Sums (InRun s a) (InRun s b)) (Sums (Has c.args.self.now) (Has c.args.o.now)) c.plus.ensures.sums
     (sums_alike (InRun s a) (Has c.args.self.now) (InRun s b) (Has c.args.o.now) c.in-Some-Some.ensures.members c.in-Some-Some.ensures'.members))
+
+pub moved-requires-clause-short : goal.moved-requires-clause-short
+moved-requires-clause-short c = λ m h. c.requires m ((sums_only_right c.in-Some.n (Has c.args.self.now) (Has c.args.o.now) c.in-Some.ensures.member m).0 h)
+
+pub returns-in-Some : goal.returns-in-Some
+returns-in-Some c =
+    let self = Has c.args.self.now in
+    let other = Has c.args.o.now in
+    done c.moved.result (Sums (Only c.in-Some.n) self) (Sums self other) (sums_only_right c.in-Some.n self other c.in-Some.ensures.member) c.moved.ensures
+
+pub moved-requires-in-Some-single-clause-short : goal.moved-requires-in-Some-single-clause-short
+moved-requires-in-Some-single-clause-short c = λ m h. c.requires m ((sums_only c.in-Some-single.n (Has c.args.o.now) (Has c.args.self.now) c.in-Some-single.ensures.member m).0 h)
+
+pub returns-in-Some-single : goal.returns-in-Some-single
+returns-in-Some-single c =
+    let self = Has c.args.self.now in
+    let other = Has c.args.o.now in
+    done c.moved-in-Some-single.result (Sums (Only c.in-Some-single.n) other) (Sums self other) (sums_only c.in-Some-single.n other self c.in-Some-single.ensures.member) c.moved-in-Some-single.ensures
