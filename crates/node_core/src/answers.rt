@@ -2,7 +2,7 @@
 ghost use Rattle.std.specs.Prelude.{◌≡◌, ◌≤◌, IfOk, OnErr, OnOk, length, take};
 ghost use Rattle.dsdl_types.specs.Laws.{encoding};
 ghost use Rattle.dsdl_types.specs.Schemas.{extent_of};
-ghost use Rattle.register_service.specs.RegisterMap.{list_reply};
+ghost use Rattle.register_service.specs.RegisterMap.{list_reply, listed};
 ghost use Rattle.std_types.specs.Registers.{FitsListReply};
 ghost use Rattle.std_types.specs.Types.{schema_of};
 ghost use Rattle.node_core.specs.Keeps.{keeps, questioned};
@@ -60,14 +60,23 @@ impl Node {
         ensures fits { IfOk result FitsListReply }
     {
         match self.registers.name(index) {
-            Some(name) => Ok(ListReply {
-                name: Bytes::from_slice(self.alloc, name)?,
-            }),
+            Some(name) => named(self.alloc, name),
             None => Ok(ListReply {
                 name: Bytes::new(Vec::new(self.alloc)),
             }),
         }
     }
+}
+
+/// The reply to a listing with this name.
+fn named(alloc: Global, name: &[u8]) -> Result<ListReply, NoMemory>
+    requires { length name.now ≤ 255 }
+    ensures reply { IfOk result (λ reply. reply ≡ listed (Some name.now)) }
+    ensures fits { IfOk result FitsListReply }
+{
+    Ok(ListReply {
+        name: Bytes::from_slice(alloc, name)?,
+    })
 }
 
 /// Writes a payload in front of a buffer. Answers the number of its bytes.
