@@ -130,9 +130,9 @@ impl<'a, K: LineSink> Running<'a, K> {
     {
         let came = self.node.step(rec)?;
         if came.heard.is_none() {
+            let seen = Seen::of(None, came.badcrc);
             self.follow(rec.moment, None, gathered)?;
-            self.tally
-                .count(Seen::of(None, came.badcrc), self.node.held());
+            self.tally.count(seen, self.node.held());
             return Ok(());
         }
         let told = self.node.told(rec, came);
