@@ -1,5 +1,5 @@
 -- One step of a node.
-use Rattle.std.proofs.Common.{◌≡◌, ◌∙◌, ℕ, List, ◌∷◌, Option, Some, Result, Ok, Err, OnErr, sym, ap, subst}
+use Rattle.std.proofs.Common.{◌≡◌, ◌∙◌, ℕ, List, ◌∷◌, Option, Some, Result, Ok, Err, OnErr, OnOk, sym, ap, subst}
 use Rattle.can_id.specs.Identifiers.{key_of}
 use Rattle.dsdl_types.specs.Schemas.{Sch}
 use Rattle.node_core.specs.Heard.{ports_of}
@@ -28,6 +28,11 @@ use Rattle.node_core.proofs.Types.{first_type, types_stay}
 pub on_err : {A E : Type 0} (P : Type 0) (r : Result A E) → P → OnErr r P
 on_err P (Ok a) h = tt
 on_err P (Err e) h = h
+
+-- and where it answers Ok
+pub on_ok : {A E : Type 0} (P : Type 0) (r : Result A E) → P → OnOk r P
+on_ok P (Ok a) h = h
+on_ok P (Err e) h = tt
 
 -- a table with the plan's timeout
 pub stands_again : (waits timeout : ℕ) (old new : List KeyedFrame) (ps qs : List PortState) → waits ≡ timeout → (StandsFor waits old ps → StandsFor waits new qs) → StandsFor timeout old ps → StandsFor timeout new qs

@@ -2,7 +2,7 @@
 ghost use Rattle.std.specs.Prelude.{◌≡◌, ◌≤◌, IfOk, OnErr, OnOk, length, take};
 ghost use Rattle.dsdl_types.specs.Laws.{encoding};
 ghost use Rattle.dsdl_types.specs.Schemas.{extent_of};
-ghost use Rattle.register_service.specs.RegisterMap.{list_reply};
+ghost use Rattle.register_service.specs.RegisterMap.{list_reply, listed};
 ghost use Rattle.std_types.specs.Registers.{FitsListReply};
 ghost use Rattle.std_types.specs.Types.{schema_of};
 ghost use Rattle.node_core.specs.Keeps.{keeps, questioned};
@@ -17,7 +17,7 @@ use dsdl_types::laws::readings_stored;
 use serdes::laws::{extent_has_room, fits_or_misfit};
 use serdes::{WriteError, write_as};
 use std::alloc::Global;
-use std_types::register::ListReply;
+use std_types::register::{AccessRequest, ListReply, ListRequest};
 use std_types::{Standard, StdName, std_type};
 
 /// The most bytes of a reply's payload.
@@ -43,14 +43,12 @@ impl Node {
     {
         match question {
             Question::Info => Ok(put(&self.info, out)),
-            Question::Access(request) => {
-                let reply = self
-                    .registers
-                    .access(request.name.as_slice(), request.value)?;
+            Question::Access(AccessRequest { name, value }) => {
+                let reply = self.registers.access(name.as_slice(), value)?;
                 encoded(self.alloc, StdName::AccessReply, &reply, out)
             }
-            Question::Listing(request) => {
-                let reply = self.listed(request.index)?;
+            Question::Listing(ListRequest { index }) => {
+                let reply = self.listed(index)?;
                 encoded(self.alloc, StdName::ListReply, &reply, out)
             }
         }
@@ -61,12 +59,24 @@ impl Node {
         ensures reply { IfOk result (λ reply. reply ≡ list_reply (keeps self.now).registers index) }
         ensures fits { IfOk result FitsListReply }
     {
-        let name = match self.registers.name(index) {
-            Some(name) => Bytes::from_slice(self.alloc, name)?,
-            None => Bytes::new(Vec::new(self.alloc)),
-        };
-        Ok(ListReply { name })
+        match self.registers.name(index) {
+            Some(name) => named(self.alloc, name),
+            None => Ok(ListReply {
+                name: Bytes::new(Vec::new(self.alloc)),
+            }),
+        }
     }
+}
+
+/// The reply to a listing with this name.
+fn named(alloc: Global, name: &[u8]) -> Result<ListReply, NoMemory>
+    requires { length name.now ≤ 255 }
+    ensures reply { IfOk result (λ reply. reply ≡ listed (Some name.now)) }
+    ensures fits { IfOk result FitsListReply }
+{
+    Ok(ListReply {
+        name: Bytes::from_slice(alloc, name)?,
+    })
 }
 
 /// Writes a payload in front of a buffer. Answers the number of its bytes.

@@ -34,7 +34,7 @@ returns-in-Ok-clause-keeps c = λ past s.
     ∙ (ap (λ (p : Plan). answered p request (keeps c.step.new.self)) c.in_ok-came.ensures.plan
     ∙ (ap (λ (k : Kept). answered node.plan request k) c.in_ok-came.ensures.keeps
     ∙ keeps_as node rec c.in_ok-came.came (told_lines c.told-told.result) request c.in_ok-request.ensures c.in_ok-came.ensures.request past s
-      (c.told-told.ensures ∙ c.in_ok-came.ensures.lines (records past) s) (keeps node)))
+    (c.told-told.ensures ∙ c.in_ok-came.ensures.lines (records past) s) (keeps node)))
 
 pub returns-in-Ok-clause-lines : goal.returns-in-Ok-clause-lines
 returns-in-Ok-clause-lines c = λ past s.
