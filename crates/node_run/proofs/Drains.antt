@@ -27,37 +27,37 @@ pub set_same : (q : List Queue) (bus : ℕ) → with_waiting q bus (queue_at q b
 set_same q bus = set-get_or q bus nothing
 
 -- what one call gave, where these waited
-pub record Gave (q : List Queue) (bus tid : ℕ) (w : List OutFrame) (new : Kept) (f : OutFrame) : Type 0 where
+pub record Gave (q : List Queue) (bus : ℕ) (base : Kept) (w : List OutFrame) (new : Kept) (f : OutFrame) : Type 0 where
   pub rest : List OutFrame
   pub leaves : (n : ℕ) → leave (suc n) w ≡ f ∷ leave n rest
   pub stays : (n : ℕ) → stay (suc n) w ≡ stay n rest
-  pub keeps : new ≡ record { queues = with_waiting q bus rest; tid = tid }
+  pub keeps : new ≡ record base { queues = with_waiting q bus rest }
 
-module _ (q : List Queue) (bus tid : ℕ) (w : List OutFrame) (old new : Kept) (result : Option OutFrame) (h : bus < length q) (e : old ≡ record { queues = with_waiting q bus w; tid = tid }) (p : Pops bus old new result) where
+module _ (q : List Queue) (bus : ℕ) (base : Kept) (w : List OutFrame) (old new : Kept) (result : Option OutFrame) (h : bus < length q) (e : old ≡ record base { queues = with_waiting q bus w }) (p : Pops bus old new result) where
   waits : (queue_at old.queues bus).waiting ≡ w
   waits = ap (λ (k : Kept). (queue_at k.queues bus).waiting) e ∙ ap (λ (x : Queue). x.waiting) (set_there q bus w h)
 
   leaves_of : result ≡ leaver w
   leaves_of = p.leaves ∙ ap leaver waits
 
-  keeps_of : new ≡ record { queues = with_waiting q bus (staying w); tid = tid }
+  keeps_of : new ≡ record base { queues = with_waiting q bus (staying w) }
   keeps_of =
       p.others
       ∙ (ap (λ (t : List OutFrame). record old { queues = with_waiting old.queues bus (staying t) }) waits
-      ∙ (ap (λ (k : Kept). record { queues = with_waiting k.queues bus (staying w); tid = k.tid }) e
-      ∙ ap (λ (qs : List Queue). record { queues = qs; tid = tid }) (set_twice q bus w (staying w) h)))
+      ∙ (ap (λ (k : Kept). record k { queues = with_waiting k.queues bus (staying w) }) e
+      ∙ ap (λ (qs : List Queue). record base { queues = qs }) (set_twice q bus w (staying w) h)))
 
-  pub gave_none : ((f : OutFrame) → result ≡ Some f → ⊥) → (w ≡ []) × (new ≡ record { queues = with_waiting q bus w; tid = tid })
+  pub gave_none : ((f : OutFrame) → result ≡ Some f → ⊥) → (w ≡ []) × (new ≡ record base { queues = with_waiting q bus w })
   gave_none n = go w leaves_of keeps_of
     where
-      go : (w : List OutFrame) → result ≡ leaver w → new ≡ record { queues = with_waiting q bus (staying w); tid = tid } → (w ≡ []) × (new ≡ record { queues = with_waiting q bus w; tid = tid })
+      go : (w : List OutFrame) → result ≡ leaver w → new ≡ record base { queues = with_waiting q bus (staying w) } → (w ≡ []) × (new ≡ record base { queues = with_waiting q bus w })
       go [] x y = (refl, y)
       go (f ∷ fs) x y = absurd (n (least f fs).0 x)
 
-  pub gave_some : (f : OutFrame) → result ≡ Some f → Gave q bus tid w new f
+  pub gave_some : (f : OutFrame) → result ≡ Some f → Gave q bus base w new f
   gave_some f is = go w leaves_of keeps_of
     where
-      go : (w : List OutFrame) → result ≡ leaver w → new ≡ record { queues = with_waiting q bus (staying w); tid = tid } → Gave q bus tid w new f
+      go : (w : List OutFrame) → result ≡ leaver w → new ≡ record base { queues = with_waiting q bus (staying w) } → Gave q bus base w new f
       go [] x y = let bad : None ≡ Some f = sym x ∙ is in absurd cc
       go (g ∷ gs) x y =
           let same : Some (least g gs).0 ≡ Some f = sym x ∙ is in
@@ -93,15 +93,15 @@ module _ (q : List Queue) (bus : ℕ) (h : bus < length q) where
   pub at_bus : queue_at (done bus q) bus ≡ queue_at q bus
   at_bus = ap (λ t. queue_at (front ++ t) bus) split ∙ (ap (queue_at (front ++ queue_at q bus ∷ drop (bus + 1) q)) (sym size) ∙ get_or-append_seam front (queue_at q bus) (drop (bus + 1) q) nothing)
 
-  pub next_done : (tid : ℕ) → bus_left (record { queues = done bus q; tid = tid }) bus ≡ record { queues = done (bus + 1) q; tid = tid }
-  next_done tid =
+  pub next_done : (base : Kept) → bus_left (record base { queues = done bus q }) bus ≡ record base { queues = done (bus + 1) q }
+  next_done base =
       let x = drained (queue_at q bus) in
       let behind = drop (bus + 1) q in
       let a : with_waiting (done bus q) bus (stay (queue_at (done bus q) bus).rate (queue_at (done bus q) bus).waiting) ≡ set (done bus q) bus x = ap (λ (y : Queue). set (done bus q) bus (drained y)) at_bus in
       let b : set (done bus q) bus x ≡ set (front ++ queue_at q bus ∷ behind) bus x = ap (λ t. set (front ++ t) bus x) split in
       let c : set (front ++ queue_at q bus ∷ behind) bus x ≡ front ++ x ∷ behind = ap (λ n. set (front ++ queue_at q bus ∷ behind) n x) (sym size) ∙ set-append_seam front (queue_at q bus) behind x in
       let d : map drained (take (bus + 1) q) ≡ front ++ x ∷ [] = ap (λ n. map drained (take n q)) (add-one bus) ∙ (ap (map drained) (take-suc q bus nothing h) ∙ map-append drained (take bus q) (queue_at q bus ∷ [])) in
-      ap (λ (qs : List Queue). record { queues = qs; tid = tid }) (a ∙ (b ∙ (c ∙ (sym (append_assoc front (x ∷ []) behind) ∙ ap (λ t. t ++ behind) (sym d)))))
+      ap (λ (qs : List Queue). record base { queues = qs }) (a ∙ (b ∙ (c ∙ (sym (append_assoc front (x ∷ []) behind) ∙ ap (λ t. t ++ behind) (sym d)))))
 
   pub next_lines : (moment : ℕ) → leaving_from moment bus (drop bus q) ≡ bus_lines moment bus (queue_at q bus) ++ leaving_from moment (bus + 1) (drop (bus + 1) q)
   next_lines moment = ap (leaving_from moment bus) split
@@ -111,12 +111,12 @@ pub line_more : (all front new more rest : List Line) → all ≡ front ++ new �
 line_more all front new more rest e f = e ∙ (ap (λ t. front ++ t) f ∙ sym (append_assoc front more rest))
 
 -- a list that is set stands among as many
-pub in_reach : (q : List Queue) (bus tid : ℕ) (w : List OutFrame) (k : Kept) → bus < length q → k ≡ record { queues = with_waiting q bus w; tid = tid } → bus < length k.queues
-in_reach q bus tid w k h e = subst (λ n. bus < n) (sym (ap (λ (x : Kept). length x.queues) e ∙ length-set q bus (record (queue_at q bus) { waiting = w }))) h
+pub in_reach : (q : List Queue) (bus : ℕ) (base : Kept) (w : List OutFrame) (k : Kept) → bus < length q → k ≡ record base { queues = with_waiting q bus w } → bus < length k.queues
+in_reach q bus base w k h e = subst (λ n. bus < n) (sym (ap (λ (x : Kept). length x.queues) e ∙ length-set q bus (record (queue_at q bus) { waiting = w }))) h
 
 -- among those of which some are done
-pub in_done : (q : List Queue) (bus tid : ℕ) (k : Kept) → bus < length q → k ≡ record { queues = done bus q; tid = tid } → bus < length k.queues
-in_done q bus tid k h e =
+pub in_done : (q : List Queue) (bus : ℕ) (base : Kept) (k : Kept) → bus < length q → k ≡ record base { queues = done bus q } → bus < length k.queues
+in_done q bus base k h e =
     let all = ap (λ (x : Kept). length x.queues) e in
     let parts = length-append (map drained (take bus q)) (drop bus q) in
     let front = length-map (take bus q) drained in

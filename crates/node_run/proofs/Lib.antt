@@ -4,6 +4,8 @@ pub mod Waits
 pub mod Steps
 pub mod Counts
 pub mod Goes
+pub mod SameNodes
+pub mod Takes
 pub mod Ticks
 pub mod Hearing
 pub mod Starts

@@ -9,10 +9,13 @@ use Rattle.log_gen.specs.Rules.{log_text, plan_text}
 use Rattle.log_gen.specs.Laws.{records_by, IsRead}
 use Rattle.dsdl_types.specs.declared.namespace.Namespace.{Namespace}
 use Rattle.node_plan.specs.Limit.{begins_two}
-use Rattle.node_plan.specs.Plan.{Good, plan_of}
+use Rattle.node_plan.specs.Laws.{OnePlan, PlainPlans}
+use Rattle.node_plan.specs.PlainPlan.{plan_of}
+use Rattle.node_plan.specs.Plan.{Bad, Good, IsPlanOf, PlanIs}
 use Rattle.node_plan.specs.declared.plan.Plan.{Plan}
+use Rattle.node_plan.specs.declared.plan.PlanWhy.{PlanWhy}
 use Rattle.node_core.specs.Steps.{end_numbers, numbers, steps}
-use Rattle.node_core.proofs.Silence.{silent_keep_nothing}
+use Rattle.node_core.proofs.Silence.{mute_keep_nothing}
 use Rattle.node_core.proofs.Waits.{nothing_emptied}
 use Rattle.node_run.specs.Generated.{generated_plan, generated_numbers}
 use Rattle.node_run.specs.Ran.{Reported, Ran, HasRun, names_of}
@@ -27,9 +30,16 @@ is_plan names = refl
 pub good_is : (p q : Plan) → Good p ≡ Good q → p ≡ q
 good_is p q e = cc
 
+-- so its text has no other meaning
+pub only_plan : OnePlan → PlainPlans → (names : Namespace) (is : PlanIs) → IsPlanOf names plan_text is → is ≡ Good generated_plan
+only_plan one plain names is h = one names plan_text is (Good generated_plan) h (plain names plan_text generated_plan (is_plan names))
+
+pub not_refused : (n : ℕ) (why : PlanWhy) → Bad n why ≡ Good generated_plan → ⊥
+not_refused n why e = cc
+
 -- its node sends nothing, so its numbers are those of the steps
 same_numbers : (past : List Record) → end_numbers generated_plan (steps generated_plan past) ≡ numbers generated_plan (steps generated_plan past)
-same_numbers past = (nothing_emptied generated_plan (steps generated_plan past) (silent_keep_nothing generated_plan past refl).1).1
+same_numbers past = (nothing_emptied generated_plan (steps generated_plan past) (mute_keep_nothing generated_plan past (record { silent = refl; no_service = refl })).1).1
 
 -- a count that is always 0 doesn't rise
 pub never : Rose 0 0 → ⊥

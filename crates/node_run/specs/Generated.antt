@@ -26,6 +26,7 @@ generated_plan = record {
   timeout = 2000000;
   silent = true;
   subs = record { port = 100; sources = 4; shape = Raw 64 } ∷ [];
+  registers = [];
   clients = 4;
   status = record { health = 0; mode = 0; code = 0 };
   info = blank_info;

@@ -15,7 +15,9 @@ use Rattle.node_core.specs.Queues.{Queue, waiting}
 use Rattle.node_core.specs.Stands.{Stands}
 use Rattle.node_core.specs.Steps.{Step, records, kept, lines, lines_behind}
 use Rattle.node_core.specs.Text.{text}
+use Rattle.node_core.specs.Writer.{writes_for}
 use Rattle.node_run.specs.declared.log.clock.Clock.{Clock}
+use Rattle.node_run.specs.declared.log.running.Running.{Running}
 use Rattle.node_run.specs.Ran.{Reported, reported, At, AtFirst, next_lines}
 
 -- what a run has come to: its node, the buses whose names its lines have, the lines that were put,
@@ -28,6 +30,10 @@ pub record State : Type 0 where
 
 abbrev pub state : Node → List BusPlan → Option (List Line) → Numbers → State
 state node buses told numbers = record { node = node; buses = buses; told = told; numbers = numbers }
+
+-- that of a run whose sink of lines has such lines
+abbrev pub state_in : {K : Type 0} → (K → Option (List Line)) → Running K → State
+state_in put run = state run.node.now (writes_for run.writer.now) (put run.lines.now) run.tally.numbers
 
 -- what it has reported, where these lines were put before
 abbrev pub report_of : Option (List Line) → State → Reported

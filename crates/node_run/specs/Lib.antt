@@ -1,4 +1,5 @@
 pub mod BoundText
+pub mod Follows
 pub mod Generated
 pub mod Goes
 pub mod Hears

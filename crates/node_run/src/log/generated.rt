@@ -15,6 +15,7 @@ use log_gen::laws::explained_and_read;
 use log_gen::transfers::transfers;
 use log_gen::{PLAN, log_bytes};
 use node_core::{NoLines, Numbers};
+use node_plan::laws::{one_plan, plain_plans};
 use node_plan::{Plan, PlanError, read_plan};
 use std::alloc::Global;
 
@@ -69,6 +70,8 @@ fn plan_of_all(alloc: Global) -> Result<Plan, NoMemory>
         definitions: List::empty(alloc),
         prints: List::empty(alloc),
     };
+    plain_plans();
+    one_plan();
     match read_plan(alloc, PLAN, &names) {
         Ok(plan) => Ok(plan),
         Err(PlanError::NoMemory) => Err(NoMemory),

@@ -1,21 +1,22 @@
 //! A node that runs: the listener that reports what it hears and what it sends.
-ghost use Rattle.std.specs.Prelude.{◌≡◌, ◌≤◌, ◌<◌, ◌+◌, ◌*◌, ◌^◌, ◌++◌, ◌∷◌, [], ℕ, List, OnOk, OnErr, length, map};
-ghost use Rattle.std.specs.Option.{ForSome, option_and_then};
+ghost use Rattle.std.specs.Prelude.{◌≡◌, ◌≤◌, ◌<◌, ◌+◌, ◌*◌, ◌^◌, ◌∷◌, [], ℕ, List, map};
+ghost use Rattle.std.specs.Prelude.{IfOk, OnErr, OnOk};
+ghost use Rattle.std.specs.Option.{ForSome};
 ghost use Rattle.tail_frame.specs.declared.logged.Record.{Record};
 ghost use Rattle.line_text.specs.Buffer.{text_of};
-ghost use Rattle.node_core.specs.Keeps.{keeps, sent};
-ghost use Rattle.node_core.specs.LineSinks.{BeginsList};
-ghost use Rattle.node_core.specs.Queues.{fulls, leaving, push_all};
-ghost use Rattle.node_core.specs.Sending.{IsRequestTo, reply_to};
-ghost use Rattle.node_core.specs.Stands.{StandsAsBefore};
-ghost use Rattle.node_core.specs.Steps.{Heard, Tick, left, steps, ticks_from};
+ghost use Rattle.node_core.specs.Keeps.{answered, keeps, reply_by};
+ghost use Rattle.node_core.specs.Queues.{fulls};
+ghost use Rattle.node_core.specs.Sending.{IsRequestTo};
+ghost use Rattle.node_core.specs.Steps.{Heard, Tick, steps, ticks_from};
 ghost use Rattle.node_core.specs.Writer.{writes_for};
 ghost use Rattle.node_core.specs.declared.line.Line.TheVariants.{Full};
 ghost use Rattle.node_run.specs.Goes.{BreaksOff, GoesOn, IsFrom, IsLast};
-ghost use Rattle.node_run.specs.Goes.{begun_next, last_tick, latest_of, next_behind, state, ticks_due, ticks_left, unbroken, with_sent};
+ghost use Rattle.node_run.specs.Goes.{begun_next, last_tick, latest_of, next_behind, state_in};
+ghost use Rattle.node_run.specs.Goes.{ticks_due, ticks_left, unbroken};
+ghost use Rattle.node_run.specs.Follows.{Follows, FollowsInPart};
 ghost use Rattle.node_run.specs.Hears.{BrokeOff, CutShort, HasEnded, Hears, last_text, step_text};
+ghost use Rattle.node_run.specs.Leaves.{IsSameNode};
 ghost use Rattle.node_run.specs.Ran.{reported};
-ghost use Rattle.node_run.specs.Tells.{HasTold};
 
 use crate::log::clock::Clock;
 use crate::log::sending::{empty, send};
@@ -46,8 +47,7 @@ pub struct Running<'a, K> {
 
 impl<'a, K: LineSink> Listener for Running<'a, K> {
     ghost heard = { λ first now past.
-        let s = state now.node.now (writes_for now.writer.now) (K.lines now.lines.now)
-        now.tally.numbers in
+        let s = state_in K.lines now in
         (now.lines.ghost_name ≡ first.lines.ghost_name)
         × Hears first.node.now.plan (K.lines first.lines.now) s now.clock past };
 
@@ -100,8 +100,7 @@ impl<'a, K: LineSink> Listener for Running<'a, K> {
     }
 
     ghost heard_broke = { λ first now past h.
-        let s = state now.node.now (writes_for now.writer.now) (K.lines now.lines.now)
-        now.tally.numbers in (
+        let s = state_in K.lines now in (
           h.0,
           unbroken first.node.now.plan (K.lines first.lines.now) s
               (steps first.node.now.plan past) h.1.runs,
@@ -121,22 +120,19 @@ impl<'a, K: LineSink> Running<'a, K> {
         ensures next { self.new.clock.next ≡ self.old.clock.next }
         ensures last { let qs = (keeps self.new.node.now).queues in
             OnOk result (IsLast rec.now.moment qs self.new.clock.last) }
-        ensures ok { let old = state self.old.node.now (writes_for self.old.writer.now)
-            (K.lines self.old.lines.now) self.old.tally.numbers in
-            let new = state self.new.node.now (writes_for self.new.writer.now)
-            (K.lines self.new.lines.now) self.new.tally.numbers in
+        ensures ok { let old = state_in K.lines self.old in
+            let new = state_in K.lines self.new in
             OnOk result (GoesOn (Heard rec.now ∷ []) old new
             (text_of gathered.old) (text_of gathered.new)) }
-        ensures err { let old = state self.old.node.now (writes_for self.old.writer.now)
-            (K.lines self.old.lines.now) self.old.tally.numbers in
-            let new = state self.new.node.now (writes_for self.new.writer.now)
-            (K.lines self.new.lines.now) self.new.tally.numbers in
+        ensures err { let old = state_in K.lines self.old in
+            let new = state_in K.lines self.new in
             OnErr result (BreaksOff (Heard rec.now ∷ []) old new) }
     {
         let came = self.node.step(rec)?;
         if came.heard.is_none() {
+            let seen = Seen::of(None, came.badcrc);
             self.follow(rec.moment, None, gathered)?;
-            self.tally.count(Seen::of(None, came.badcrc), self.node.held());
+            self.tally.count(seen, self.node.held());
             return Ok(());
         }
         let told = self.node.told(rec, came);
@@ -159,30 +155,19 @@ impl<'a, K: LineSink> Running<'a, K> {
     ) -> Result<(), NoMemory>
         requires { ForSome request (IsRequestTo self.old.node.now.plan.node) }
         ensures same_reference { self.new.lines.ghost_name ≡ self.old.lines.ghost_name }
-        ensures plan { self.new.node.now.plan ≡ self.old.node.now.plan }
-        ensures latest { self.new.node.now.latest ≡ self.old.node.now.latest }
-        ensures stands { StandsAsBefore self.old.node.now self.new.node.now }
+        ensures same { IsSameNode self.old.node.now self.new.node.now }
         ensures buses { writes_for self.new.writer.now ≡ writes_for self.old.writer.now }
         ensures number { self.new.clock.number ≡ self.old.clock.number }
         ensures next { self.new.clock.next ≡ self.old.clock.next }
-        ensures keeps { let reply = option_and_then (reply_to self.old.node.now.plan) request in
-            OnOk result (keeps self.new.node.now ≡ left (sent reply (keeps self.old.node.now))) }
-        ensures told { let reply = option_and_then (reply_to self.old.node.now.plan) request in
-            let qs = (keeps self.old.node.now).queues in
-            OnOk result (HasTold (writes_for self.old.writer.now)
-            (fulls moment reply qs ++ leaving moment (push_all reply qs))
-            (text_of gathered.old) (text_of gathered.new)
-            (K.lines self.old.lines.now) (K.lines self.new.lines.now)) }
-        ensures numbers { let reply = option_and_then (reply_to self.old.node.now.plan) request in
-            let more = length (leaving moment (push_all reply (keeps self.old.node.now).queues)) in
-            OnOk result (self.new.tally.numbers ≡ with_sent self.old.tally.numbers more) }
         ensures last { let qs = (keeps self.new.node.now).queues in
             OnOk result (IsLast moment qs self.new.clock.last) }
-        ensures err { let reply = option_and_then (reply_to self.old.node.now.plan) request in
-            let qs = (keeps self.old.node.now).queues in
-            OnErr result (BeginsList (fulls moment reply qs ++ leaving moment (push_all reply qs))
-            (K.lines self.old.lines.now) (K.lines self.new.lines.now)) }
-        ensures uncounted { OnErr result (self.new.tally.numbers ≡ self.old.tally.numbers) }
+        ensures ok { let old = state_in K.lines self.old in
+            let new = state_in K.lines self.new in
+            OnOk result (Follows request moment old new
+            (text_of gathered.old) (text_of gathered.new)) }
+        ensures err { let old = state_in K.lines self.old in
+            let new = state_in K.lines self.new in
+            OnErr result (FollowsInPart request moment old new) }
     {
         // The number of frames that were sent is one of 64 bits.
         let _sent = self.tally.numbers.sent;
@@ -202,29 +187,18 @@ impl<'a, K: LineSink> Running<'a, K> {
     ) -> Result<(), NoMemory>
         requires { ForSome request (IsRequestTo self.old.node.now.plan.node) }
         ensures same_reference { self.new.lines.ghost_name ≡ self.old.lines.ghost_name }
-        ensures plan { self.new.node.now.plan ≡ self.old.node.now.plan }
-        ensures latest { self.new.node.now.latest ≡ self.old.node.now.latest }
-        ensures stands { StandsAsBefore self.old.node.now self.new.node.now }
+        ensures same { IsSameNode self.old.node.now self.new.node.now }
         ensures buses { writes_for self.new.writer.now ≡ writes_for self.old.writer.now }
         ensures number { self.new.clock.number ≡ self.old.clock.number }
         ensures next { self.new.clock.next ≡ self.old.clock.next }
-        ensures keeps { let reply = option_and_then (reply_to self.old.node.now.plan) request in
-            OnOk result (keeps self.new.node.now ≡ left (sent reply (keeps self.old.node.now))) }
-        ensures told { let reply = option_and_then (reply_to self.old.node.now.plan) request in
-            let qs = (keeps self.old.node.now).queues in
-            OnOk result (HasTold (writes_for self.old.writer.now)
-            (fulls moment reply qs ++ leaving moment (push_all reply qs))
-            (text_of gathered.old) (text_of gathered.new)
-            (K.lines self.old.lines.now) (K.lines self.new.lines.now)) }
-        ensures numbers { let reply = option_and_then (reply_to self.old.node.now.plan) request in
-            let more = length (leaving moment (push_all reply (keeps self.old.node.now).queues)) in
-            OnOk result (self.new.tally.numbers ≡ with_sent self.old.tally.numbers more) }
         ensures last { OnOk result (self.new.clock.last ≡ moment) }
-        ensures err { let reply = option_and_then (reply_to self.old.node.now.plan) request in
-            let qs = (keeps self.old.node.now).queues in
-            OnErr result (BeginsList (fulls moment reply qs ++ leaving moment (push_all reply qs))
-            (K.lines self.old.lines.now) (K.lines self.new.lines.now)) }
-        ensures uncounted { OnErr result (self.new.tally.numbers ≡ self.old.tally.numbers) }
+        ensures ok { let old = state_in K.lines self.old in
+            let new = state_in K.lines self.new in
+            OnOk result (Follows request moment old new
+            (text_of gathered.old) (text_of gathered.new)) }
+        ensures err { let old = state_in K.lines self.old in
+            let new = state_in K.lines self.new in
+            OnErr result (FollowsInPart request moment old new) }
     {
         let full = put_reply(self.node, moment, request)?;
         let sent = send(self.node, moment, &full, self.writer, self.lines, gathered)?;
@@ -246,19 +220,15 @@ impl<'a, K: LineSink> Running<'a, K> {
             OnOk result (self.new.clock.number ≡ self.old.clock.number + due) }
         ensures next { let next = next_behind self.old.clock.number self.old.clock.next moment in
             OnOk result (self.new.clock.next ≡ next) }
-        ensures ok { let old = state self.old.node.now (writes_for self.old.writer.now)
-            (K.lines self.old.lines.now) self.old.tally.numbers in
-            let new = state self.new.node.now (writes_for self.new.writer.now)
-            (K.lines self.new.lines.now) self.new.tally.numbers in
+        ensures ok { let old = state_in K.lines self.old in
+            let new = state_in K.lines self.new in
             let number = self.old.clock.number in
             let next = self.old.clock.next in
             OnOk result ((first : ℕ) → IsFrom first number next moment
             → GoesOn (ticks_from first number (ticks_left number next moment)) old new
             (text_of gathered.old) (text_of gathered.new)) }
-        ensures err { let old = state self.old.node.now (writes_for self.old.writer.now)
-            (K.lines self.old.lines.now) self.old.tally.numbers in
-            let new = state self.new.node.now (writes_for self.new.writer.now)
-            (K.lines self.new.lines.now) self.new.tally.numbers in
+        ensures err { let old = state_in K.lines self.old in
+            let new = state_in K.lines self.new in
             let number = self.old.clock.number in
             let next = self.old.clock.next in
             OnErr result ((first : ℕ) → IsFrom first number next moment
@@ -283,18 +253,14 @@ impl<'a, K: LineSink> Running<'a, K> {
             OnOk result (self.new.clock.number ≡ self.old.clock.number + ticks_due next moment) }
         ensures next { let next = begun_next self.old.clock.number self.old.clock.next moment in
             OnOk result (self.new.clock.next ≡ next + ticks_due next moment * 1000000) }
-        ensures ok { let old = state self.old.node.now (writes_for self.old.writer.now)
-            (K.lines self.old.lines.now) self.old.tally.numbers in
-            let new = state self.new.node.now (writes_for self.new.writer.now)
-            (K.lines self.new.lines.now) self.new.tally.numbers in
+        ensures ok { let old = state_in K.lines self.old in
+            let new = state_in K.lines self.new in
             let next = begun_next self.old.clock.number self.old.clock.next moment in
             OnOk result ((first : ℕ) → next ≡ first + self.old.clock.number * 1000000
             → GoesOn (ticks_from first self.old.clock.number (ticks_due next moment)) old new
             (text_of gathered.old) (text_of gathered.new)) }
-        ensures err { let old = state self.old.node.now (writes_for self.old.writer.now)
-            (K.lines self.old.lines.now) self.old.tally.numbers in
-            let new = state self.new.node.now (writes_for self.new.writer.now)
-            (K.lines self.new.lines.now) self.new.tally.numbers in
+        ensures err { let old = state_in K.lines self.old in
+            let new = state_in K.lines self.new in
             let next = begun_next self.old.clock.number self.old.clock.next moment in
             OnErr result ((first : ℕ) → next ≡ first + self.old.clock.number * 1000000
             → BreaksOff (ticks_from first self.old.clock.number (ticks_due next moment))
@@ -316,16 +282,12 @@ impl<'a, K: LineSink> Running<'a, K> {
         ensures records { self.new.tally.numbers.records ≡ self.old.tally.numbers.records }
         ensures number { OnOk result (self.new.clock.number ≡ self.old.clock.number + 1) }
         ensures next { OnOk result (self.new.clock.next ≡ self.old.clock.next + 1000000) }
-        ensures ok { let old = state self.old.node.now (writes_for self.old.writer.now)
-            (K.lines self.old.lines.now) self.old.tally.numbers in
-            let new = state self.new.node.now (writes_for self.new.writer.now)
-            (K.lines self.new.lines.now) self.new.tally.numbers in
+        ensures ok { let old = state_in K.lines self.old in
+            let new = state_in K.lines self.new in
             OnOk result (GoesOn (Tick self.old.clock.number self.old.clock.next ∷ []) old new
             (text_of gathered.old) (text_of gathered.new)) }
-        ensures err { let old = state self.old.node.now (writes_for self.old.writer.now)
-            (K.lines self.old.lines.now) self.old.tally.numbers in
-            let new = state self.new.node.now (writes_for self.new.writer.now)
-            (K.lines self.new.lines.now) self.new.tally.numbers in
+        ensures err { let old = state_in K.lines self.old in
+            let new = state_in K.lines self.new in
             OnErr result (BreaksOff (Tick self.old.clock.number self.old.clock.next ∷ [])
             old new) }
         ensures stays { OnErr result ((self.new.clock.number ≡ self.old.clock.number)
@@ -348,9 +310,7 @@ fn put_reply(
     request: Option<Request>,
 ) -> Result<ShortList<FullLine, 3>, NoMemory>
     requires { ForSome request (IsRequestTo node.old.plan.node) }
-    ensures plan { node.new.plan ≡ node.old.plan }
-    ensures latest { node.new.latest ≡ node.old.latest }
-    ensures stands { StandsAsBefore node.old node.new }
+    ensures same { IsSameNode node.old node.new }
     ensures keeps { OnOk result (keeps node.new ≡ answered node.old.plan request (keeps node.old)) }
     ensures full { let old = keeps node.old in
         let reply = reply_by node.old.plan request old in

@@ -5,11 +5,10 @@ ghost use Rattle.node_core.specs.Keeps.{keeps};
 ghost use Rattle.node_core.specs.LineSinks.{BeginsList};
 ghost use Rattle.node_core.specs.Pops.{queue_at};
 ghost use Rattle.node_core.specs.Queues.{bus_lines, leaving, rounds, waiting};
-ghost use Rattle.node_core.specs.Stands.{StandsAsBefore};
 ghost use Rattle.node_core.specs.Steps.{left};
 ghost use Rattle.node_core.specs.Writer.{writes_for};
 ghost use Rattle.node_core.specs.declared.line.Line.TheVariants.{Full};
-ghost use Rattle.node_run.specs.Leaves.{bus_left};
+ghost use Rattle.node_run.specs.Leaves.{IsSameNode, bus_left};
 ghost use Rattle.node_run.specs.Tells.{HasTold};
 
 use crate::log::telling::{tell, tell_fulls};
@@ -27,9 +26,7 @@ pub(crate) fn send<K: LineSink>(
     lines: &mut K,
     gathered: &mut TextBuffer,
 ) -> Result<u64, NoMemory>
-    ensures plan { node.new.plan ≡ node.old.plan }
-    ensures latest { node.new.latest ≡ node.old.latest }
-    ensures stands { StandsAsBefore node.old node.new }
+    ensures same { IsSameNode node.old node.new }
     ensures buses { writes_for writer.new ≡ writes_for writer.old }
     ensures keeps { OnOk result (keeps node.new ≡ left (keeps node.old)) }
     ensures told { let told = map Full fulls.now ++ leaving moment (keeps node.old).queues in
@@ -53,9 +50,7 @@ fn drain<K: LineSink>(
     lines: &mut K,
     gathered: &mut TextBuffer,
 ) -> Result<u64, NoMemory>
-    ensures plan { node.new.plan ≡ node.old.plan }
-    ensures latest { node.new.latest ≡ node.old.latest }
-    ensures stands { StandsAsBefore node.old node.new }
+    ensures same { IsSameNode node.old node.new }
     ensures buses { writes_for writer.new ≡ writes_for writer.old }
     ensures keeps { OnOk result (keeps node.new ≡ left (keeps node.old)) }
     ensures told { let told = leaving moment (keeps node.old).queues in
@@ -78,9 +73,7 @@ fn drain_buses<K: LineSink>(
     lines: &mut K,
     gathered: &mut TextBuffer,
 ) -> Result<(), NoMemory>
-    ensures plan { node.new.plan ≡ node.old.plan }
-    ensures latest { node.new.latest ≡ node.old.latest }
-    ensures stands { StandsAsBefore node.old node.new }
+    ensures same { IsSameNode node.old node.new }
     ensures buses { writes_for writer.new ≡ writes_for writer.old }
     ensures keeps { OnOk result (keeps node.new ≡ left (keeps node.old)) }
     ensures told { let told = leaving moment (keeps node.old).queues in
@@ -106,9 +99,7 @@ fn drain_bus<K: LineSink>(
     gathered: &mut TextBuffer,
 ) -> Result<(), NoMemory>
     requires { bus < length (keeps node.old).queues }
-    ensures plan { node.new.plan ≡ node.old.plan }
-    ensures latest { node.new.latest ≡ node.old.latest }
-    ensures stands { StandsAsBefore node.old node.new }
+    ensures same { IsSameNode node.old node.new }
     ensures buses { writes_for writer.new ≡ writes_for writer.old }
     ensures keeps { OnOk result (keeps node.new ≡ bus_left (keeps node.old) bus) }
     ensures told { let q = queue_at (keeps node.old).queues bus in

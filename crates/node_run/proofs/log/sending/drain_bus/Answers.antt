@@ -8,10 +8,11 @@ use Rattle.node_core.specs.Writer.{writes_for}
 use Rattle.node_run.specs.Tells.{HasTold}
 use Rattle.node_run.proofs.Drains.{set_same, gave_none, gave_some, in_reach, leave_none, stay_none, line_more}
 use Rattle.node_run.proofs.Tells.{told_next, told_none}
+use Rattle.node_run.proofs.SameNodes.{same_by, same_then, still}
 use Rattle.node_run.proofs.log.sending.drain_bus.Goals as goal
 
 pub pop_out-requires : goal.pop_out-requires
-pop_out-requires g c = let old = keeps c.args.node.now in in_reach old.queues c.args.bus old.tid c.loop-turn.invariant.waits (keeps c.loop-turn.node) c.requires c.loop-turn.invariant.keeps_are
+pop_out-requires g c = let old = keeps c.args.node.now in in_reach old.queues c.args.bus old c.loop-turn.invariant.waits (keeps c.loop-turn.node) c.requires c.loop-turn.invariant.keeps_are
 
 pub loop-turn-init : goal.loop-turn-init
 loop-turn-init g c =
@@ -20,11 +21,9 @@ loop-turn-init g c =
     let n : c.rate-rate.result - 0 ≡ q.rate = let e = c.rate-rate.ensures in omega arith in record {
       waits = q.waiting;
       done = [];
-      plan = refl;
-      latest = refl;
-      stands = λ _ s. s;
+      same = still c.args.node.now;
       buses = refl;
-      keeps_are = ap (λ (qs : List Queue). record { queues = qs; tid = old.tid }) (sym (set_same old.queues c.args.bus));
+      keeps_are = ap (λ (qs : List Queue). record old { queues = qs }) (sym (set_same old.queues c.args.bus));
       rate = c.rate-rate.ensures;
       told = told_none (writes_for c.args.writer.now) (text_of c.args.gathered.now) (g.K.LineSink.lines c.args.lines.now);
       leaves = sym (ap (λ m. map (tx_line c.args.moment c.args.bus) (leave m q.waiting)) n);
@@ -36,16 +35,14 @@ loop-turn-preserved g c =
     let i = c.loop-turn.invariant in
     let lines = g.K.LineSink.lines in
     let old = keeps c.args.node.now in
-    let v = gave_some old.queues c.args.bus old.tid i.waits (keeps c.loop-turn.node) (keeps c.pop_out.new.self) _ c.requires i.keeps_are c.pop_out.ensures.pops c.in-Some.frame c.in-Some.is in
+    let v = gave_some old.queues c.args.bus old i.waits (keeps c.loop-turn.node) (keeps c.pop_out.new.self) _ c.requires i.keeps_are c.pop_out.ensures.pops c.in-Some.frame c.in-Some.is in
     let test = c.loop-turn-test.true in
     let m = c.rate-rate.result - (c.loop-turn.turn + 1) in
     let n : c.rate-rate.result - c.loop-turn.turn ≡ suc m = omega arith in
     let tx = tx_line c.args.moment c.args.bus in record {
       waits = v.rest;
       done = i.done ++ tx c.in-Some.frame ∷ [];
-      plan = c.pop_out.ensures.plan ∙ i.plan;
-      latest = c.pop_out.ensures.latest ∙ i.latest;
-      stands = λ past s. c.pop_out.ensures.stands past (i.stands past s);
+      same = same_then i.same (same_by c.pop_out.ensures.plan c.pop_out.ensures.latest c.pop_out.ensures.stands);
       buses = c.tell.ensures.buses ∙ i.buses;
       keeps_are = v.keeps;
       rate = i.rate;
@@ -54,17 +51,17 @@ loop-turn-preserved g c =
       stays = sym (v.stays m) ∙ (ap (λ k. stay k i.waits) (sym n) ∙ i.stays);
     }
 
-pub returns-in_default-clause-stands : goal.returns-in_default-clause-stands
-returns-in_default-clause-stands g c past s = c.pop_out.ensures.stands past (c.loop-turn.invariant.stands past s)
+pub returns-in_default-clause-same : goal.returns-in_default-clause-same
+returns-in_default-clause-same g c = same_then c.loop-turn.invariant.same (same_by c.pop_out.ensures.plan c.pop_out.ensures.latest c.pop_out.ensures.stands)
 
 pub returns-in_default-clause-keeps : goal.returns-in_default-clause-keeps
 returns-in_default-clause-keeps g c =
     let i = c.loop-turn.invariant in
     let old = keeps c.args.node.now in
     let m = c.rate-rate.result - c.loop-turn.turn in
-    let v = gave_none old.queues c.args.bus old.tid i.waits (keeps c.loop-turn.node) (keeps c.pop_out.new.self) _ c.requires i.keeps_are c.pop_out.ensures.pops c.in_default.not-Some in
+    let v = gave_none old.queues c.args.bus old i.waits (keeps c.loop-turn.node) (keeps c.pop_out.new.self) _ c.requires i.keeps_are c.pop_out.ensures.pops c.in_default.not-Some in
     let s : i.waits ≡ stay (queue_at old.queues c.args.bus).rate (queue_at old.queues c.args.bus).waiting = v.0 ∙ (sym (stay_none m) ∙ (ap (stay m) (sym v.0) ∙ i.stays)) in
-    v.1 ∙ ap (λ w. record { queues = with_waiting old.queues c.args.bus w; tid = old.tid }) s
+    v.1 ∙ ap (λ w. record old { queues = with_waiting old.queues c.args.bus w }) s
 
 pub returns-in_default-clause-told : goal.returns-in_default-clause-told
 returns-in_default-clause-told g c =
@@ -73,9 +70,9 @@ returns-in_default-clause-told g c =
     let old = keeps c.args.node.now in
     let m = c.rate-rate.result - c.loop-turn.turn in
     let tx = tx_line c.args.moment c.args.bus in
-    let v = gave_none old.queues c.args.bus old.tid i.waits (keeps c.loop-turn.node) (keeps c.pop_out.new.self) _ c.requires i.keeps_are c.pop_out.ensures.pops c.in_default.not-Some in
+    let v = gave_none old.queues c.args.bus old i.waits (keeps c.loop-turn.node) (keeps c.pop_out.new.self) _ c.requires i.keeps_are c.pop_out.ensures.pops c.in_default.not-Some in
     let none : i.done ++ map tx (leave m i.waits) ≡ i.done = ap (λ w. i.done ++ map tx (leave m w)) v.0 ∙ (ap (λ fs. i.done ++ map tx fs) (leave_none m) ∙ append-nil i.done) in
     subst (λ (ls : List Line). HasTold (writes_for c.args.writer.now) ls (text_of c.args.gathered.now) (text_of c.loop-turn.gathered) (lines c.args.lines.now) (lines c.loop-turn.lines)) (sym (i.leaves ∙ none)) i.told
 
-pub returns-in_err-tell-clause-stands : goal.returns-in_err-tell-clause-stands
-returns-in_err-tell-clause-stands g c past s = c.pop_out.ensures.stands past (c.loop-turn.invariant.stands past s)
+pub returns-in_err-tell-clause-same : goal.returns-in_err-tell-clause-same
+returns-in_err-tell-clause-same g c = same_then c.loop-turn.invariant.same (same_by c.pop_out.ensures.plan c.pop_out.ensures.latest c.pop_out.ensures.stands)

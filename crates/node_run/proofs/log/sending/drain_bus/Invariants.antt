@@ -5,8 +5,8 @@ use Rattle.node_core.specs.declared.line.Line.{Line}
 use Rattle.node_core.specs.Keeps.{keeps}
 use Rattle.node_core.specs.Pops.{queue_at, with_waiting}
 use Rattle.node_core.specs.Queues.{bus_lines, leave, stay, tx_line}
-use Rattle.node_core.specs.Stands.{StandsAsBefore}
 use Rattle.node_core.specs.Writer.{writes_for}
+use Rattle.node_run.specs.Leaves.{IsSameNode}
 use Rattle.node_run.specs.Tells.{HasTold}
 use Rattle.node_run.proofs.log.sending.drain_bus.Given as goal
 
@@ -14,11 +14,9 @@ abbrev pub invariant-loop-turn : goal.invariant-loop-turn
 invariant-loop-turn g l = let K = g.K.LineSink in let old = keeps l.fn.node in let q = queue_at old.queues l.bus in record {
   waits : List OutFrame;
   done : List Line;
-  plan : l.node.plan ≡ l.fn.node.plan;
-  latest : l.node.latest ≡ l.fn.node.latest;
-  stands : StandsAsBefore l.fn.node l.node;
+  same : IsSameNode l.fn.node l.node;
   buses : writes_for l.writer ≡ writes_for l.fn.writer;
-  keeps_are : keeps l.node ≡ record { queues = with_waiting old.queues l.bus waits; tid = old.tid };
+  keeps_are : keeps l.node ≡ record old { queues = with_waiting old.queues l.bus waits };
   rate : l.rate ≡ q.rate;
   told : HasTold (writes_for l.fn.writer) done (text_of l.fn.gathered) (text_of l.gathered) (K.lines l.fn.lines) (K.lines l.lines);
   leaves : bus_lines l.moment l.bus q ≡ done ++ map (tx_line l.moment l.bus) (leave (l.rate - l.turn) waits);

@@ -12,12 +12,13 @@ use Rattle.node_run.specs.Leaves.{bus_left}
 use Rattle.node_run.specs.Tells.{HasTold}
 use Rattle.node_run.proofs.Drains.{at_bus, in_done, line_more, next_done, next_lines}
 use Rattle.node_run.proofs.Tells.{begins_later, begins_more, told_more}
+use Rattle.node_run.proofs.SameNodes.{same_then}
 use Rattle.node_run.proofs.log.sending.drain_buses.Goals as goal
 
 pub drain_bus-requires : goal.drain_bus-requires
 drain_bus-requires g c =
     let old = keeps c.args.node.now in
-    in_done old.queues c.loop-bus.bus old.tid (keeps c.loop-bus.node) (subst (λ n. c.loop-bus.bus < n) c.buses-buses.ensures c.loop-bus-test.true) c.loop-bus.invariant.keeps_are
+    in_done old.queues c.loop-bus.bus old (keeps c.loop-bus.node) (subst (λ n. c.loop-bus.bus < n) c.buses-buses.ensures c.loop-bus-test.true) c.loop-bus.invariant.keeps_are
 
 pub loop-bus-preserved : goal.loop-bus-preserved
 loop-bus-preserved g c =
@@ -34,11 +35,9 @@ loop-bus-preserved g c =
     subst (λ (ls : List Line). HasTold buses ls (text_of c.loop-bus.gathered) (text_of c.drain_bus.new.gathered) (lines c.loop-bus.lines) (lines c.drain_bus.new.lines)) (ap (bus_lines moment bus) q)
     (subst (λ b. HasTold b (bus_lines moment bus (queue_at (keeps c.loop-bus.node).queues bus)) (text_of c.loop-bus.gathered) (text_of c.drain_bus.new.gathered) (lines c.loop-bus.lines) (lines c.drain_bus.new.lines)) i.buses c.in_ok-drain_bus.ensures.told) in record {
       done = i.done ++ more;
-      plan = c.drain_bus.ensures.plan ∙ i.plan;
-      latest = c.drain_bus.ensures.latest ∙ i.latest;
-      stands = λ past s. c.drain_bus.ensures.stands past (i.stands past s);
+      same = same_then i.same c.drain_bus.ensures.same;
       buses = c.drain_bus.ensures.buses ∙ i.buses;
-      keeps_are = c.in_ok-drain_bus.ensures.keeps ∙ (ap (λ (k : Kept). bus_left k bus) i.keeps_are ∙ next_done old.queues bus within old.tid);
+      keeps_are = c.in_ok-drain_bus.ensures.keeps ∙ (ap (λ (k : Kept). bus_left k bus) i.keeps_are ∙ next_done old.queues bus within old);
       told = told_more buses i.done more (text_of c.args.gathered.now) (text_of c.loop-bus.gathered) (text_of c.drain_bus.new.gathered) (lines c.args.lines.now) (lines c.loop-bus.lines) (lines c.drain_bus.new.lines) i.told told;
       leaves = line_more (leaving moment old.queues) i.done (leaving_from moment bus (drop bus old.queues)) more (leaving_from moment (bus + 1) (drop (bus + 1) old.queues)) i.leaves (next_lines old.queues bus within moment);
     }
@@ -59,5 +58,5 @@ returns-in_err-drain_bus-clause-err g c =
     (subst (λ (ls : List Line). BeginsList ls (lines c.args.lines.now) (lines c.drain_bus.new.lines)) (sym (i.leaves ∙ ap (λ t. i.done ++ t) (next_lines old.queues bus within moment)))
     (begins_later i.done (more ++ rest) (lines c.args.lines.now) (lines c.loop-bus.lines) (lines c.drain_bus.new.lines) i.told.put (begins_more more rest (lines c.loop-bus.lines) (lines c.drain_bus.new.lines) b)))
 
-pub returns-in_err-drain_bus-clause-stands : goal.returns-in_err-drain_bus-clause-stands
-returns-in_err-drain_bus-clause-stands g c past s = c.drain_bus.ensures.stands past (c.loop-bus.invariant.stands past s)
+pub returns-in_err-drain_bus-clause-same : goal.returns-in_err-drain_bus-clause-same
+returns-in_err-drain_bus-clause-same g c = same_then c.loop-bus.invariant.same c.drain_bus.ensures.same

@@ -1,0 +1,129 @@
+-- The step of a record: what it came to, and what follows.
+use Rattle.std.proofs.Common.{◌≡◌, ◌∙◌, ◌++◌, ◌≤◌, ℕ, Bool, List, [], ◌∷◌, Option, None, Some, count_by, length, refl, sym, ap, ap₂, subst}
+use Rattle.std.specs.Option.{ForSome}
+use Rattle.tail_frame.specs.declared.logged.Record.{Record}
+use Rattle.node_plan.specs.Bound.{bound_of}
+use Rattle.node_plan.specs.declared.plan.BusPlan.{BusPlan}
+use Rattle.node_plan.specs.declared.plan.Plan.{Plan}
+use Rattle.node_core.specs.Came.{TellsRequest, came_lines, came_request, heard_lines}
+use Rattle.node_core.specs.Keeps.{answered, keeps, reply_by}
+use Rattle.node_core.specs.LineSinks.{BeginsList, put_behind}
+use Rattle.node_core.specs.Queues.{fulls}
+use Rattle.node_core.specs.Stands.{Gives, Holds, IsWithinBound, Stands, Takes, TellsBadCrc}
+use Rattle.node_core.specs.Steps.{Step, Heard, Kept, got, held_at, is_bad_at, is_nosession, is_rx, kept, lines_at, one_if, pushed, records, request_on, sends}
+use Rattle.node_core.specs.Text.{text}
+use Rattle.node_core.specs.declared.came.Came.{Came}
+use Rattle.node_core.specs.declared.came.Heard.{Heard as HeardFrame}
+use Rattle.node_core.specs.declared.line.Line.{Line}
+use Rattle.node_core.specs.declared.node.Node.{Node}
+use Rattle.node_core.specs.declared.numbers.Numbers.{Numbers}
+use Rattle.node_core.specs.declared.request.Request.{Request}
+use Rattle.node_run.specs.Follows.{Follows, following}
+use Rattle.node_run.specs.Goes.{Broke, IsFew, Runs, State, report_of, state}
+use Rattle.node_run.specs.Hears.{counted}
+use Rattle.node_run.specs.Leaves.{IsSameNode}
+use Rattle.node_run.specs.Tells.{HasTold}
+use Rattle.node_run.specs.declared.log.tally.Seen.{Seen}
+use Rattle.node_run.proofs.Counts.{numbers_heard}
+use Rattle.node_run.proofs.Goes.{all_lines_are, broke_in, kept_next, runs_next, sent_is, step_told}
+use Rattle.node_run.proofs.Tells.{begins_later}
+
+-- a node has come to these lines and this request by a record
+pub record CameTo (rec : Record) (old new : Node) (told : List Line) (request : Option Request) (bad : Bool) : Type 0 where
+  pub same : new.plan ≡ old.plan
+  pub keep : keeps new ≡ keeps old
+  pub stands : Takes rec old new
+  pub gives : Gives old rec told
+  pub asks : (past : List Record) → Stands old past → request ≡ request_on old.plan rec (got old.plan rec past)
+  pub is_bad : TellsBadCrc old rec bad
+
+-- where it is no frame for the node it gives no line, and is no request
+pub none_heard : (node : Node) (rec : Record) (came : Came) → came.heard ≡ None → [] ≡ came_lines node rec came
+unfolding came_lines
+none_heard node rec came e = sym (ap (heard_lines node rec) e)
+
+pub came_to_none : (rec : Record) (old new : Node) (came : Came) → new.plan ≡ old.plan → keeps new ≡ keeps old → Takes rec old new → Gives old rec (came_lines new rec came) → TellsBadCrc old rec came.badcrc → came.heard ≡ None
+    → CameTo rec old new [] None came.badcrc
+came_to_none rec old new came same keep stands gives bad e =
+    let none : Gives old rec [] = λ past s. none_heard new rec came e ∙ gives past s in record {
+      same = same;
+      keep = keep;
+      stands = stands;
+      gives = none;
+      asks = λ past s. ap (request_on old.plan rec) (none past s);
+      is_bad = bad;
+    }
+
+-- and else what it is told of
+pub came_to : (rec : Record) (old new : Node) (came : Came) (told : List Line) (request : Option Request) → new.plan ≡ old.plan → keeps new ≡ keeps old → Takes rec old new → Gives old rec (came_lines new rec came) → TellsBadCrc old rec came.badcrc → TellsRequest old rec came
+    → told ≡ came_lines new rec came → request ≡ came_request came told → CameTo rec old new told request came.badcrc
+came_to rec old new came told request same keep stands gives bad asks lines r =
+    let all : Gives old rec told = λ past s. lines ∙ gives past s in record {
+      same = same;
+      keep = keep;
+      stands = stands;
+      gives = all;
+      asks = λ past s. r ∙ (ap (came_request came) (all past s) ∙ asks past s);
+      is_bad = bad;
+    }
+
+-- What follows.
+
+module _ (plan : Plan) (before : Option (List Line)) (rec : Record) (past : List Step) (old : State) (h : Runs plan before old past) (node : Node) (told : List Line) (request : Option Request) (bad : Bool) (c : CameTo rec old.node node told request bad) where
+  abbrev s : Step
+  s = Heard rec
+
+  abbrev k : Kept
+  k = keeps node
+
+  abbrev full : List Line
+  full = fulls rec.moment (reply_by node.plan request k) k.queues
+
+  plan_is : node.plan ≡ plan
+  plan_is = c.same ∙ h.same
+
+  ek : k ≡ kept plan past
+  ek = c.keep ∙ h.keeps_are
+
+  lines_are : told ≡ got plan rec (records past)
+  lines_are = c.gives (records past) h.stands ∙ ap (λ (p : Plan). got p rec (records past)) h.same
+
+  asked : request ≡ request_on plan rec (got plan rec (records past))
+  asked = c.asks (records past) h.stands ∙ ap (λ (p : Plan). request_on p rec (got p rec (records past))) h.same
+
+  em : answered node.plan request k ≡ pushed plan s past k
+  em = ap₂ (λ (p : Plan) (r : Option Request). answered p r k) plan_is asked
+
+  ef : full ≡ fulls rec.moment (sends plan s past k) k.queues
+  ef = ap₂ (λ (p : Plan) (r : Option Request). fulls rec.moment (reply_by p r k) k.queues) plan_is asked
+
+  -- it broke off when its own lines were told, and the first of those that follow
+  pub broke_behind : (new : State) (o : Option (List Line)) → o ≡ put_behind old.told told → BeginsList (following node.plan rec.moment request k) o new.told → new.numbers ≡ old.numbers → Broke plan (report_of before new) (s ∷ past)
+  broke_behind new o put b same =
+      broke_in plan before s past old new _ h (all_lines_are plan before s past old h k (answered node.plan request k) ek em told full lines_are ef) (begins_later told _ old.told o new.told put b) same
+
+  module _ (buses : List BusPlan) (o : Option (List Line)) (t now after : List ℕ) (names : buses ≡ old.buses) (first : HasTold old.buses told t now old.told o) (fin : State) (same : IsSameNode node fin.node) (behind : fin.buses ≡ buses) (f : Follows request rec.moment (state node buses o old.numbers) fin now after) where
+    stands : Stands fin.node (rec ∷ records past)
+    stands = same.stands (rec ∷ records past) (c.stands (records past) h.stands)
+
+    next : HasTold old.buses (following node.plan rec.moment request k) now after o fin.told
+    next = subst (λ b. HasTold b (following node.plan rec.moment request k) now after o fin.told) names f.told
+
+    all : HasTold plan.buses (lines_at plan s past) t after old.told fin.told
+    all = step_told plan before s past old h k (answered node.plan request k) ek em told full lines_are ef t now after o fin.told first next
+
+    pub text_behind : after ≡ t ++ text plan.buses (lines_at plan s past)
+    text_behind = all.gathered
+
+    -- it goes on, once the record is counted
+    pub runs_behind : IsFew (s ∷ past) → (seen : Seen) (held : ℕ) (numbers : Numbers) → seen.delivered ≡ count_by is_rx told → seen.badcrc ≡ one_if bad → seen.nosession ≡ count_by is_nosession told → Holds fin.node held → IsWithinBound fin.node held
+        → numbers ≡ counted fin.numbers seen held → Runs plan before (record fin { numbers = numbers }) (s ∷ past)
+    runs_behind few seen held numbers d b r holds within e =
+        let plan_fin = same.plan ∙ plan_is in
+        let more = sent_is plan before s past old h k (answered node.plan request k) ek em _ refl in
+        let bad_is = c.is_bad (records past) h.stands ∙ ap (λ (p : Plan). is_bad_at p rec (records past)) h.same in
+        let held_is = holds (rec ∷ records past) stands ∙ ap (λ (p : Plan). held_at p (rec ∷ records past)) plan_fin in
+        let counted_is =
+        e ∙ numbers_heard plan past h.is rec few old.numbers fin.numbers h.at.counted _ more f.counted seen held (d ∙ ap (count_by is_rx) lines_are) (b ∙ ap one_if bad_is) (r ∙ ap (count_by is_nosession) lines_are) held_is in
+        let low = subst (λ (n : Numbers). n.held ≤ bound_of plan) (sym e) (subst (λ (p : Plan). held ≤ bound_of p) plan_fin (within (rec ∷ records past) stands)) in
+        runs_next plan before s past old (record fin { numbers = numbers }) h (same.plan ∙ c.same) stands (kept_next plan s past k (answered node.plan request k) (keeps fin.node) ek em f.keeps) (behind ∙ names) all.put counted_is low

@@ -1,0 +1,9 @@
+use Rattle.node_run.proofs.Summaries.{good_is, not_refused, only_plan}
+use Rattle.node_run.specs.Generated.{generated_plan}
+use Rattle.node_run.proofs.log.generated.plan_of_all.Goals as goal
+
+pub returns-in-Ok-clause-plan : goal.returns-in-Ok-clause-plan
+returns-in-Ok-clause-plan c = good_is c.in-Ok.plan generated_plan (only_plan c.one_plan.ensures c.plain_plans.ensures c.names _ (c.read_plan.ensures.plan))
+
+pub unreachable-requires : goal.unreachable-requires
+unreachable-requires c = not_refused _ _ (only_plan c.one_plan.ensures c.plain_plans.ensures c.names _ (c.read_plan.ensures.refused _ _ c.in-Refused.is))

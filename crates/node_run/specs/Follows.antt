@@ -1,0 +1,35 @@
+-- What follows what a record came to: the reply to the request that it ended, and the frames that leave.
+use Rattle.std.specs.Prelude.{◌≡◌, ◌++◌, ℕ, List, Option, length}
+use Rattle.node_plan.specs.declared.plan.Plan.{Plan}
+use Rattle.node_core.specs.Keeps.{answered, keeps, reply_by}
+use Rattle.node_core.specs.LineSinks.{BeginsList}
+use Rattle.node_core.specs.Queues.{fulls, leaving}
+use Rattle.node_core.specs.Steps.{Kept, left}
+use Rattle.node_core.specs.declared.line.Line.{Line}
+use Rattle.node_core.specs.declared.request.Request.{Request}
+use Rattle.node_run.specs.Goes.{State, with_sent}
+use Rattle.node_run.specs.Tells.{HasTold}
+
+-- the lines on the frames that leave behind a request, if there is one, that was answered at a moment
+abbrev pub frames_behind : Plan → ℕ → Option Request → Kept → List Line
+frames_behind plan moment request k = leaving moment (answered plan request k).queues
+
+-- and before them those on the buses that have no room for its reply
+abbrev pub following : Plan → ℕ → Option Request → Kept → List Line
+following plan moment request k =
+    fulls moment (reply_by plan request k) k.queues ++ frames_behind plan moment request k
+
+-- a request, if there is one, was answered at a moment, and frames left behind it: what that gives is
+-- told and counted
+pub record Follows (request : Option Request) (moment : ℕ) (old new : State) (before after : List ℕ) : Type 0 where
+  pub keeps : keeps new.node ≡ left (answered old.node.plan request (keeps old.node))
+  pub told : let told = following old.node.plan moment request (keeps old.node) in
+      HasTold old.buses told before after old.told new.told
+  pub counted : let sent = frames_behind old.node.plan moment request (keeps old.node) in
+      new.numbers ≡ with_sent old.numbers (length sent)
+
+-- it broke off: the first of its lines were told, and nothing is counted
+pub record FollowsInPart (request : Option Request) (moment : ℕ) (old new : State) : Type 0 where
+  pub told : let due = following old.node.plan moment request (keeps old.node) in
+      BeginsList due old.told new.told
+  pub uncounted : new.numbers ≡ old.numbers
