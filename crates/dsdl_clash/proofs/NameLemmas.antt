@@ -1,5 +1,5 @@
 -- Full names and their numbers
-use Rattle.std.proofs.Common.{◌≡◌, ℕ, ◌<◌, ◌≤◌, ◌+◌, ◌==◌, Bool, true, false, List, [], ◌∷◌, length, get_or, drop, Some, cond, refl, sym, ap, ◌∙◌, subst, arith, eq-eqb, inl, inr, ◌⊎◌, ◌||◌}
+use Rattle.std.proofs.Common.{◌≡◌, ℕ, zero, suc, ◌<◌, ◌≤◌, ◌+◌, ◌==◌, Bool, true, false, List, [], ◌∷◌, length, get_or, take, drop, Some, cond, refl, sym, ap, ◌∙◌, subst, arith, eq-eqb, inl, inr, ◌⊎◌, ◌||◌, ◌&&◌, not, min}
 use Rattle.std.specs.Prelude.{unwrap_or}
 use Rattle.std.specs.BTreeMap.{BTreeMap, get, Updates}
 use Rattle.std.specs.List.{position_from, list_any}
@@ -14,7 +14,11 @@ use Rattle.std.proofs.lemmas.List.{get_or-map}
 use Rattle.std.proofs.lemmas.Slice.Eq.{bytes_eq-Decides}
 use Rattle.std.proofs.lemmas.List.{drop_more, drop_all}
 use Rattle.dsdl_types.specs.declared.definition.Definition.{Definition}
+use Rattle.dsdl_clash.specs.Clashes.{clashes_with, same_name, same_outlines, versions_clash}
 use Rattle.dsdl_clash.specs.Names.{has_name, first_of_name, name_numbers}
+use Rattle.dsdl_clash.specs.Kinds.{clash_of, first_rival}
+use Rattle.dsdl_clash.specs.declared.clash.By.{By}
+use Rattle.dsdl_clash.specs.declared.clash.By.TheVariants as by
 
 -- the map has the definitions from i on
 pub PlacedFrom : List Definition → ℕ → BTreeMap (List ℕ) ℕ → Type 0
@@ -119,3 +123,29 @@ same_number_at ds i j a b lt lu is at =
     ap (λ x. x == get_or (name_numbers ds) j 0) first ∙ ap (λ x. f a == x) second
     ∙ same_number 0 ds a.id.name b.id.name (list_any_at (has_name a.id.name) ds i a lt (ap (has_name a.id.name) (sym is) ∙ names_equal a.id.name a.id.name refl))
     (list_any_at (has_name b.id.name) ds j b lu (ap (has_name b.id.name) (sym at) ∙ names_equal b.id.name b.id.name refl))
+
+-- before the first definition of a name none clashes by versions with one of this name
+none_named : (i : ℕ) (ds : List Definition) (d : Definition) (k : ℕ) → i + k ≤ unwrap_or (position_from (has_name d.id.name) i ds) 0 → clashes_with versions_clash (take k ds) d ≡ false
+none_named i ds d zero le = refl
+none_named i [] d (suc k) le = refl
+none_named i (x ∷ ds) d (suc k) le = at (same_name x d) refl (none_named (i + 1) ds d k)
+  where
+    others : Bool
+    others = (x.id.major == d.id.major) && ((x.id.minor == d.id.minor) || (not (x.id.major == 0) && not (same_outlines x.parts d.parts)))
+
+    behind : (b : Bool) → same_name x d ≡ b → i + suc k ≤ unwrap_or (cond b (Some i) (position_from (has_name d.id.name) (i + 1) ds)) 0
+    behind b e = subst (λ c. i + suc k ≤ unwrap_or (cond c (Some i) (position_from (has_name d.id.name) (i + 1) ds)) 0) e le
+
+    at : (b : Bool) → same_name x d ≡ b → (i + 1 + k ≤ unwrap_or (position_from (has_name d.id.name) (i + 1) ds) 0 → clashes_with versions_clash (take k ds) d ≡ false) → clashes_with versions_clash (x ∷ take k ds) d ≡ false
+    at true e rest = absurd (let l : i + suc k ≤ i = behind true e in omega (arith, l))
+    at false e rest =
+        let l : i + suc k ≤ unwrap_or (position_from (has_name d.id.name) (i + 1) ds) 0 = behind false e in
+        ap (λ b. (b && others) || clashes_with versions_clash (take k ds) d) e ∙ rest (omega (arith, l))
+
+-- before the first rival of a definition none clashes with it
+pub no_rival : (b : By) (ds : List Definition) (at : ℕ) (d : Definition) → at < length ds → d ≡ get_or ds at d → clashes_with (clash_of b) (take (first_rival b (name_numbers ds) at) ds) d ≡ false
+no_rival by.Version ds at d lt is =
+    let f : Definition → ℕ = λ e. unwrap_or (first_of_name ds e.id.name) 0 in
+    let first : get_or (name_numbers ds) at 0 ≡ f d = get_or-map f ds at d 0 lt ∙ ap f (sym is) in
+    none_named 0 ds d (min (get_or (name_numbers ds) at 0) at) (omega (arith, first))
+no_rival by.Port ds at d lt is = refl

@@ -2,7 +2,7 @@
 ghost use Rattle.std.specs.Prelude.{◌≡◌, ◌<◌, ◌≤◌, ℕ, true, false, length, take, slice_index, IfOk};
 ghost use Rattle.std.specs.List.{HoldsAt};
 ghost use Rattle.dsdl_clash.specs.Clashes.{clashes_with, first_clash, same_name, versions_clash, ports_clash};
-ghost use Rattle.dsdl_clash.specs.Kinds.{clash_of};
+ghost use Rattle.dsdl_clash.specs.Kinds.{clash_of, first_rival};
 ghost use Rattle.dsdl_clash.specs.Names.{name_numbers};
 ghost use Rattle.dsdl_types.specs.declared.definition.Definition.{Definition as DefinitionOf};
 
@@ -75,13 +75,26 @@ fn clashes_with_earlier(by: By, definitions: &[Definition], names: &[usize], at:
     if is_alone(by, definition) {
         return false;
     }
-    for earlier in 0..at {
+    for earlier in first_rival(by, names, at)..at {
         let same = names[earlier] == names[at];
         if clash(by, &definitions[earlier], definition, same) {
             return true;
         }
     }
     false
+}
+
+/// A number before which no definition clashes with that of another number: by versions that of the
+/// first definition of its full name.
+fn first_rival(by: By, names: &[usize], at: usize) -> usize
+    requires { at < length names.now }
+    ensures rival { result ≡ first_rival by names.now at }
+    ensures bound { result ≤ at }
+{
+    match by {
+        By::Version => names[at].min(at),
+        By::Port => 0,
+    }
 }
 
 /// Whether a definition clashes with none, whatever stands before it: by ports where it has none.

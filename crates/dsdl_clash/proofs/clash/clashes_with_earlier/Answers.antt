@@ -2,9 +2,9 @@ use Rattle.std.proofs.Common.{◌≡◌, ◌==◌, ◌<◌, true, false, length,
 use Rattle.std.proofs.lemmas.List.{length-take-le, get_or-take, get_or_default}
 use Rattle.std.proofs.lemmas.List.Folds.{list_any_at}
 use Rattle.dsdl_clash.specs.Clashes.{clashes_with, same_name}
-use Rattle.dsdl_clash.specs.Kinds.{clash_of}
+use Rattle.dsdl_clash.specs.Kinds.{clash_of, first_rival}
 use Rattle.dsdl_clash.proofs.ClashLemmas.{clashes_never}
-use Rattle.dsdl_clash.proofs.NameLemmas.{same_number_at}
+use Rattle.dsdl_clash.proofs.NameLemmas.{same_number_at, no_rival}
 use Rattle.dsdl_clash.proofs.clash.clashes_with_earlier.Goals as goal
 
 pub clash-requires : goal.clash-requires
@@ -32,3 +32,11 @@ returns-then-is_alone c = λ d.
     let b = c.index-definitions-at.result in
     let none : clashes_with (clash_of c.args.by) before b ≡ false = clashes_never (clash_of c.args.by) before b (c.is_alone.ensures c.if-is_alone.true) in
     sym (ap (clashes_with (clash_of c.args.by) before) (get_or_default c.args.definitions.now c.args.at d b c.requires.at ∙ sym c.index-definitions-at.is) ∙ none)
+
+pub loop-earlier-init : goal.loop-earlier-init
+loop-earlier-init c = λ d.
+    let ds = c.args.definitions.now in
+    let at = c.args.at in
+    let this = get_or ds at d in
+    let rival = subst (λ ns. c.first_rival-earlier.result ≡ first_rival c.args.by ns at) c.requires.names c.first_rival-earlier.ensures.rival in
+    subst (λ k. clashes_with (clash_of c.args.by) (take k ds) this ≡ false) (sym rival) (no_rival c.args.by ds at this c.requires.at (get_or_default ds at d this c.requires.at))
