@@ -126,4 +126,4 @@ module _ (plan : Plan) (before : Option (List Line)) (rec : Record) (past : List
         let counted_is =
         e ∙ numbers_heard plan past h.is rec few old.numbers fin.numbers h.at.counted _ more f.counted seen held (d ∙ ap (count_by is_rx) lines_are) (b ∙ ap one_if bad_is) (r ∙ ap (count_by is_nosession) lines_are) held_is in
         let low = subst (λ (n : Numbers). n.held ≤ bound_of plan) (sym e) (subst (λ (p : Plan). held ≤ bound_of p) plan_fin (within (rec ∷ records past) stands)) in
-        runs_next plan before s past old (record fin { numbers = numbers }) h (same.plan ∙ c.same) stands (kept_next plan s past k (answered node.plan request k) (keeps fin.node) ek em f.keeps) (behind ∙ names) all.put counted_is low
+        runs_next plan before s past old (record fin { numbers = numbers }) h (same.plan ∙ c.same) stands (kept_next plan s past k (answered node.plan request k) (keeps fin.node) ek em f.keeps_are) (behind ∙ names) all.put counted_is low

@@ -22,9 +22,9 @@ following plan moment request k =
 -- a request, if there is one, was answered at a moment, and frames left behind it: what that gives is
 -- told and counted
 pub record Follows (request : Option Request) (moment : ℕ) (old new : State) (before after : List ℕ) : Type 0 where
-  pub keeps : keeps new.node ≡ left (answered old.node.plan request (keeps old.node))
-  pub told : let told = following old.node.plan moment request (keeps old.node) in
-      HasTold old.buses told before after old.told new.told
+  pub keeps_are : keeps new.node ≡ left (answered old.node.plan request (keeps old.node))
+  pub told : let due = following old.node.plan moment request (keeps old.node) in
+      HasTold old.buses due before after old.told new.told
   pub counted : let sent = frames_behind old.node.plan moment request (keeps old.node) in
       new.numbers ≡ with_sent old.numbers (length sent)
 

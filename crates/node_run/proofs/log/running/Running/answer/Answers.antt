@@ -48,7 +48,7 @@ returns-clause-ok g c =
     let sent = c.in_ok-sent.ensures in
     let reply = c.in_ok-full.ensures in
     let all = ap₂ (λ (ls : List Line) (k : Kept). ls ++ leaving m k.queues) reply.full reply.keeps in record {
-      keeps = sent.keeps ∙ ap left reply.keeps;
+      keeps_are = sent.keeps ∙ ap left reply.keeps;
       told = subst (λ (ls : List Line). HasTold (writes_for self.writer.now) ls (text_of c.args.gathered.now) (text_of c.send.new.gathered) (lines self.lines.now) (lines c.send.new.lines)) all sent.told;
       counted = c.send-2.ensures ∙ ap (with_sent self.tally.numbers) (sent.sent ∙ ap (λ (k : Kept). length (leaving m k.queues)) reply.keeps);
     }

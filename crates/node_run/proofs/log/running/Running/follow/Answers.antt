@@ -28,7 +28,7 @@ returns-then-waiting-eq0-clause-ok g c =
     let none = is_none_so c.args.request (c.if-is_none.ensures {u = tt}) in
     let low : self.tally.numbers.sent < 2 ^ 64 = omega arith in
     subst (λ r. Follows r m (state_in lines self) (state_in lines self) text text) (sym none) (record {
-      keeps = none_kept k quiet;
+      keeps_are = none_kept k quiet;
       told = none_told (writes_for self.writer.now) m k.queues text (lines self.lines.now) quiet;
       counted = none_sent m k.queues self.tally.numbers low quiet;
     })

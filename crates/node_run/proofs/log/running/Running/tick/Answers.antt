@@ -49,7 +49,7 @@ returns-clause-ok g c plan before past few h =
     let told = step_told plan before s past old h k mid h.keeps_are em [] (map Full c.tick-full.result) refl ef text text (text_of c.send.new.gathered) old.told new.told (told_none old.buses text old.told) sent.told in
     let more = sent_is plan before s past old h k mid h.keeps_are em c.in_ok-sent.sent sent.sent in
     let counted = c.send-2.ensures ∙ numbers_tick plan past h.is number moment few old.numbers h.at.counted c.in_ok-sent.sent more in (
-      runs_next plan before s past old new h (c.send.ensures.plan ∙ c.tick-full.ensures.plan) (c.send.ensures.stands (records past) (c.tick-full.ensures.stands (records past) h.stands))
+      runs_next plan before s past old new h (c.send.ensures.same.plan ∙ c.tick-full.ensures.plan) (c.send.ensures.same.stands (records past) (c.tick-full.ensures.stands (records past) h.stands))
           (kept_next plan s past k mid (keeps c.send.new.node) h.keeps_are em sent.keeps) c.send.ensures.buses told.put counted
           (subst (λ (n : Numbers). n.held ≤ bound_of plan) (sym c.send-2.ensures) h.within),
       told.gathered,
