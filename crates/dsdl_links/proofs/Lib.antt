@@ -3,6 +3,8 @@ pub mod Marking
 pub mod Reaching
 pub mod Readiness
 pub mod Stuck
+pub mod Using
+pub mod Openness
 pub mod Placing
 pub mod Naming
 pub mod OneMeaning

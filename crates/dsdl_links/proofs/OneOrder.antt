@@ -1,5 +1,5 @@
 -- Links give one order, or one first file that reaches itself
-use Rattle.std.proofs.Common.{◌≡◌, ℕ, zero, suc, ◌+◌, ◌<◌, ◌≤◌, ◌==◌, Bool, true, false, ◌&&◌, not, List, [], ◌∷◌, ◌++◌, length, replicate, ◌⊎◌, inl, inr, refl, sym, ap, ◌∙◌, subst, arith, eqb, eq-eqb, set, append_assoc, MatchBool, ◌||◌}
+use Rattle.std.proofs.Common.{◌≡◌, ℕ, zero, suc, ◌+◌, ◌<◌, ◌≤◌, ◌==◌, Bool, true, false, List, [], ◌∷◌, ◌++◌, length, replicate, ◌⊎◌, inl, inr, refl, sym, ap, ◌∙◌, subst, arith, eqb, eq-eqb, set, append_assoc, MatchBool, ◌||◌}
 use Rattle.std.specs.List.{list_all, IsDistinct, AllByRecursion}
 use Rattle.std.proofs.lemmas.Bool.{false≢true, eqb-true, cases_order, or_cases}
 use Rattle.std.proofs.lemmas.List.{length_push, length-set, length-replicate}
@@ -8,14 +8,11 @@ use Rattle.std.proofs.lemmas.Map.Keys.{IsDistinct-cons}
 use Rattle.dsdl_links.specs.Laws.{HaveOrder, HaveCycle, HaveOneOrder}
 use Rattle.dsdl_links.specs.Marks.{is_marked, unmarked, Marks}
 use Rattle.dsdl_links.specs.Order.{is_among, links_at, AreWithin, is_ready, IsNext, Valued, begin, next, IsOrder, Reaches, refers, through, IsCycle}
-use Rattle.dsdl_links.proofs.Among.{decide, among_front, among_push, each, or_left, or_right}
+use Rattle.dsdl_links.proofs.Among.{decide, among_push, each, or_left, or_right}
 use Rattle.dsdl_links.proofs.Marking.{mark_none, mark_marked, mark_new}
+use Rattle.dsdl_links.proofs.Readiness.{ready_parts, closed}
 use Rattle.dsdl_links.proofs.Reaching.{Follows, follow_none, follow_more, fewer_left, follow_end}
 use Rattle.dsdl_links.proofs.Stuck.{stuck, from_file, apart}
-
-ready_parts : (a b : Bool) → (not a && b) ≡ true → (a ≡ false) × (b ≡ true)
-ready_parts true b h = absurd (false≢true h)
-ready_parts false b h = (refl, h)
 
 -- ---- one order
 one_next : (links : List (List ℕ)) (v : List ℕ) (i j : ℕ) → IsNext links v i → IsNext links v j → i ≡ j
@@ -38,13 +35,6 @@ one_valued {links} (next {valued = v} {i = i} d n) (next {valued = w} {i = j} f 
     ap (λ l. l ++ i ∷ []) same ∙ ap (λ k. w ++ k ∷ []) is
 
 -- ---- no file of an order reaches itself
-closed : {links : List (List ℕ)} {order : List ℕ} → Valued links order → (k j : ℕ) → is_among order k ≡ true → is_among (links_at links k) j ≡ true → is_among order j ≡ true
-closed begin k j h a = absurd (false≢true h)
-closed {links} (next {valued} {i} d n) k j h a = elim (among_push valued i k h) [
-  | inl e ↦ among_front valued (i ∷ []) j (closed d k j e a)
-  | inr e ↦ among_front valued (i ∷ []) j (each (is_among valued) (links_at links i) j (ready_parts (is_among valued i) (list_all (is_among valued) (links_at links i)) n.ready).1 (subst (λ x. is_among (links_at links x) j ≡ true) e a))
-]
-
 stays : {links : List (List ℕ)} {order : List ℕ} → Valued links order → {k j : ℕ} → is_among order k ≡ true → Reaches links k j → is_among order j ≡ true
 stays d {k} {j} h (refers a) = closed d k j h a
 stays d {k} {j} h (through {k = m} a r) = stays d (closed d k m h a) r

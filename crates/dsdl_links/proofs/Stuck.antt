@@ -12,7 +12,7 @@ use Rattle.dsdl_links.proofs.Reaching.{further}
 past_none : (links : List (List ℕ)) (i k : ℕ) → length links ≤ i → is_among (links_at links i) k ≡ true → i < length links
 past_none links i k le h = absurd (false≢true (ap (λ l. is_among l k) (sym (get_or_past links i [] le)) ∙ h))
 
-a_file : (links : List (List ℕ)) (i k : ℕ) → is_among (links_at links i) k ≡ true → i < length links
+pub a_file : (links : List (List ℕ)) (i k : ℕ) → is_among (links_at links i) k ≡ true → i < length links
 a_file links i k h = elim (cases_order i (length links)) [ inl e ↦ past_none links i k (omega arith) h | inr (inl e) ↦ e | inr (inr e) ↦ past_none links i k (omega arith) h ]
 
 -- what reaches another is a file

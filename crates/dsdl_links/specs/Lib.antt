@@ -3,5 +3,7 @@ pub mod Links
 pub mod Order
 pub mod Answers
 pub mod Marks
+pub mod Users
+pub mod Ready
 pub mod Places
 pub mod Laws

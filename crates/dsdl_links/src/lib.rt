@@ -9,6 +9,7 @@ mod order;
 mod ready;
 mod reference;
 mod source;
+mod users;
 
 pub use error::{CycleError, LinkError};
 pub use laws::{one_meaning, one_order};
