@@ -1,4 +1,5 @@
 use Rattle.std.proofs.Common.{◌∙◌, ap, sym, subst}
+use Rattle.register_service.specs.Kept.{AreKept}
 use Rattle.rx_table.specs.Ports.{ports_of as ports_in}
 use Rattle.rx_table.specs.Table.{HeardBy}
 use Rattle.node_core.proofs.Registers.{kept_registers}
@@ -17,4 +18,4 @@ returns-clause-stands c = record {
 }
 
 pub open-requires : goal.open-requires
-open-requires c = kept_registers c.args.plan c.requires
+open-requires c = subst AreKept (sym c.as_slice.ensures) (kept_registers c.args.plan c.requires)

@@ -1,3 +1,5 @@
+use Rattle.std.proofs.Common.{false, None}
+use Rattle.tail_frame.specs.Frames.{seen}
 use Rattle.node_core.specs.Came.{came_lines}
 use Rattle.node_core.specs.Steps.{got}
 use Rattle.node_core.proofs.Elsewhere.{takes_by, gives_none, ends_none}
@@ -38,14 +40,16 @@ returns-in_ok-met-in-Some-clause-asks c = λ lines request.
 pub returns-then-passes_by-clause-request : goal.returns-then-passes_by-clause-request
 returns-then-passes_by-clause-request c = λ past s.
     let node = c.args.self.now in
-    nothing_asks node c.args.rec.now _ (got node.plan c.args.rec.now past) (gives_none node c.args.rec.now c.if-passes_by.ensures past s)
+    let rec = c.args.rec.now in
+    nothing_asks node rec (record { badcrc = false; heard = None }) (got node.plan rec past) (gives_none node rec c.if-passes_by.ensures past s)
 
 pub returns-in_ok-met-in-Some-clause-request : goal.returns-in_ok-met-in-Some-clause-request
 returns-in_ok-met-in-Some-clause-request c = λ past _.
     let node = c.args.self.now in
-    heard_asks node c.args.rec.now _ _ _ (got node.plan c.args.rec.now past) c.in-Some.ensures.value
+    let rec = c.args.rec.now in
+    heard_asks node rec (seen c.in-Some.frame) c.in_ok-met-in-Some.met c.ends_badly.result (got node.plan rec past) c.in-Some.ensures.value
 
 pub returns-in-None-clause-request : goal.returns-in-None-clause-request
 returns-in-None-clause-request c = λ past _.
     let node = c.args.self.now in
-    none_asks node c.args.rec.now _ (got node.plan c.args.rec.now past) c.in-None.ensures.value
+    none_asks node c.args.rec.now false (got node.plan c.args.rec.now past) c.in-None.ensures.value
