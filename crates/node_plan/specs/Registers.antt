@@ -26,7 +26,8 @@ abbrev pub Reads : List ℕ → Option RegisterValue → Type 0
 Reads text (Some r) = IsTextOf r text
 Reads text None = (r : RegisterValue) → IsTextOf r text → ⊥
 
--- whether limits can be set to a value: it is of an integer or natural variant, and each of its items lies within them
+-- whether limits can be set to a value: it is of an integer or natural variant, and each of its
+-- items lies within them
 abbrev pub can_limit : Limits → RegisterValue → Bool
 can_limit limits v = is_whole v && lie_within limits v
 

@@ -30,8 +30,8 @@ pub struct Plan {
     /// What the node is (Cyphal Specification, section 5.3.3). The protocol is 1.0, and there is
     /// neither a CRC of the software nor a certificate.
     pub info: NodeInfo,
-    /// The registers of the node, at most 256 with distinct names of 1 to 255 printable bytes without
-    /// a space (Cyphal Specification, section 5.3.10). Each value is within its limits.
+    /// The registers of the node, at most 256 with distinct names of 1 to 255 printable bytes
+    /// without a space (Cyphal Specification, section 5.3.10). Each value is within its limits.
     pub registers: List<Register>,
     /// The greatest number of frames that wait to be sent on a bus: 1 to 4,096.
     pub queue: u32,

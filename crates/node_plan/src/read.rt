@@ -87,9 +87,9 @@ fn read_lines(
 /// - `Line` where it is no line of a plan of its version, where it reaches past the bytes that a
 ///   text may have, or where it would stand behind the last line of a text that lacks `plan`,
 ///   `node` or `bus`;
-/// - `Range` where a number, a name, hex or the text of a register's value is outside its range, for
-///   limits that no register of an earlier line can have, or for a fourth bus, a 65th subscription
-///   and a 257th register;
+/// - `Range` where a number, a name, hex or the text of a register's value is outside its range,
+///   for limits that no register of an earlier line can have, or for a fourth bus, a 65th
+///   subscription and a 257th register;
 /// - `Repeated` where it says again what may be said once, or names a bus, a subject or a register
 ///   again;
 /// - `UnknownType` where it subscribes to a type that is no message of the namespace;
