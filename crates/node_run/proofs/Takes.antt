@@ -1,6 +1,5 @@
 -- The step of a record: what it came to, and what follows.
-use Rattle.std.proofs.Common.{◌≡◌, ◌∙◌, ◌++◌, ◌≤◌, ℕ, Bool, List, [], ◌∷◌, Option, None, Some, count_by, length, refl, sym, ap, ap₂, subst}
-use Rattle.std.specs.Option.{ForSome}
+use Rattle.std.proofs.Common.{◌≡◌, ◌∙◌, ◌++◌, ◌≤◌, ℕ, Bool, List, [], ◌∷◌, Option, None, count_by, refl, sym, ap, ap₂, subst}
 use Rattle.tail_frame.specs.declared.logged.Record.{Record}
 use Rattle.node_plan.specs.Bound.{bound_of}
 use Rattle.node_plan.specs.declared.plan.BusPlan.{BusPlan}
@@ -13,7 +12,6 @@ use Rattle.node_core.specs.Stands.{Gives, Holds, IsWithinBound, Stands, Takes, T
 use Rattle.node_core.specs.Steps.{Step, Heard, Kept, got, held_at, is_bad_at, is_nosession, is_rx, kept, lines_at, one_if, pushed, records, request_on, sends}
 use Rattle.node_core.specs.Text.{text}
 use Rattle.node_core.specs.declared.came.Came.{Came}
-use Rattle.node_core.specs.declared.came.Heard.{Heard as HeardFrame}
 use Rattle.node_core.specs.declared.line.Line.{Line}
 use Rattle.node_core.specs.declared.node.Node.{Node}
 use Rattle.node_core.specs.declared.numbers.Numbers.{Numbers}

@@ -1,4 +1,4 @@
--- What follows what a record came to: the reply to the request that it ended, and the frames that leave.
+-- What follows a record: the reply to the request that it ended, and the frames that leave.
 use Rattle.std.specs.Prelude.{◌≡◌, ◌++◌, ℕ, List, Option, length}
 use Rattle.node_plan.specs.declared.plan.Plan.{Plan}
 use Rattle.node_core.specs.Keeps.{answered, keeps, reply_by}
@@ -10,7 +10,7 @@ use Rattle.node_core.specs.declared.request.Request.{Request}
 use Rattle.node_run.specs.Goes.{State, with_sent}
 use Rattle.node_run.specs.Tells.{HasTold}
 
--- the lines on the frames that leave behind a request, if there is one, that was answered at a moment
+-- the lines on the frames that leave behind a request, if there is one, once it was answered
 abbrev pub frames_behind : Plan → ℕ → Option Request → Kept → List Line
 frames_behind plan moment request k = leaving moment (answered plan request k).queues
 
@@ -19,9 +19,10 @@ abbrev pub following : Plan → ℕ → Option Request → Kept → List Line
 following plan moment request k =
     fulls moment (reply_by plan request k) k.queues ++ frames_behind plan moment request k
 
--- a request, if there is one, was answered at a moment, and frames left behind it: what that gives is
--- told and counted
-pub record Follows (request : Option Request) (moment : ℕ) (old new : State) (before after : List ℕ) : Type 0 where
+-- a request, if there is one, was answered at a moment, and frames left behind it: the lines on that
+-- are told, and the frames are counted
+pub record Follows (request : Option Request) (moment : ℕ) (old new : State)
+    (before after : List ℕ) : Type 0 where
   pub keeps_are : keeps new.node ≡ left (answered old.node.plan request (keeps old.node))
   pub told : let due = following old.node.plan moment request (keeps old.node) in
       HasTold old.buses due before after old.told new.told

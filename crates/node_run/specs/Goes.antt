@@ -31,9 +31,10 @@ pub record State : Type 0 where
 abbrev pub state : Node → List BusPlan → Option (List Line) → Numbers → State
 state node buses told numbers = record { node = node; buses = buses; told = told; numbers = numbers }
 
--- that of a run whose sink of lines has such lines
+-- what a run that listens has come to, by what its sink tells of the lines that were put
 abbrev pub state_in : {K : Type 0} → (K → Option (List Line)) → Running K → State
-state_in put run = state run.node.now (writes_for run.writer.now) (put run.lines.now) run.tally.numbers
+state_in put run =
+    state run.node.now (writes_for run.writer.now) (put run.lines.now) run.tally.numbers
 
 -- what it has reported, where these lines were put before
 abbrev pub report_of : Option (List Line) → State → Reported

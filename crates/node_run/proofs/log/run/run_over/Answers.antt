@@ -4,7 +4,7 @@ use Rattle.node_plan.specs.Bound.{bound_of}
 use Rattle.node_core.specs.declared.numbers.Numbers.{Numbers}
 use Rattle.node_core.specs.Writer.{writes_for}
 use Rattle.node_run.specs.declared.status.Status.TheVariants as status
-use Rattle.node_run.specs.Goes.{state}
+use Rattle.node_run.specs.Goes.{state, state_in}
 use Rattle.node_run.specs.Ran.{reported, At, HasRun}
 use Rattle.node_run.proofs.Runs.{whichever, run_bound, run_gone, run_held, streamed_of, taken_of, of_read_fault}
 use Rattle.node_run.proofs.Starts.{at_none, has_none, hears_none}
@@ -43,7 +43,7 @@ returns-clause-ran g c =
     let written = g.O.Sink.written in
     let run = c.listen-ended.new.listener in
     let name = whichever _ _ _ _ _ _ _ _ _ _ (λ past h. sym h.0) (λ past e. sym e.0) (λ past b. sym b.0) (λ past x. sym x.0) gone in
-    run_gone c.args.plan c.in-Ok.node.plan c.in-Ok.ensures.plan c.names_of-names.result c.names_of-names.ensures (lines c.args.lines.now) (state run.node.now (writes_for run.writer.now) (lines run.lines.now) run.tally.numbers) run.sent _ _ _ _
+    run_gone c.args.plan c.in-Ok.node.plan c.in-Ok.ensures.plan c.names_of-names.result c.names_of-names.ensures (lines c.args.lines.now) (state_in lines run) run.sent _ _ _ _
     (λ past h. h.1.runs) (λ past e. e.1) (λ past b. b.1) (λ past x. x.1) _ (ap lines (c.lines-1.given.1 name)) c.numbers_of.result c.listen-ended.result c.numbers_of.ensures c.status_of.result c.status_of.ensures (left c.args.input.now) (written c.args.out.now) (written c.listen-ended.new.out) gone
 
 pub returns-clause-taken : goal.returns-clause-taken
@@ -55,7 +55,7 @@ returns-clause-taken g c e =
     let run = c.listen-ended.new.listener in
     let name = whichever _ _ _ _ _ _ _ _ _ _ (λ past h. sym h.0) (λ past e. sym e.0) (λ past b. sym b.0) (λ past x. sym x.0) gone in
     let fault = of_read_fault c.listen-ended.result (sym c.status_of.ensures ∙ e) in
-    taken_of c.args.plan c.in-Ok.node.plan c.in-Ok.ensures.plan c.names_of-names.result c.names_of-names.ensures (lines c.args.lines.now) (state run.node.now (writes_for run.writer.now) (lines run.lines.now) run.tally.numbers) run.sent _ (ap lines (c.lines-1.given.1 name))
+    taken_of c.args.plan c.in-Ok.node.plan c.in-Ok.ensures.plan c.names_of-names.result c.names_of-names.ensures (lines c.args.lines.now) (state_in lines run) run.sent _ (ap lines (c.lines-1.given.1 name))
     c.numbers_of.result c.listen-ended.result c.numbers_of.ensures (left c.args.input.now) (left c.listen-ended.new.input) (written c.args.out.now) (written c.listen-ended.new.out) gone (λ past h. h.1.runs) (λ past e. e.1) (λ past b. b.1) (λ past x. x.1) fault (c.listen-ended.ensures.taken fault)
 
 pub returns-clause-streamed : goal.returns-clause-streamed
@@ -66,7 +66,7 @@ returns-clause-streamed g c =
     let written = g.O.Sink.written in
     let run = c.listen-ended.new.listener in
     let name = whichever _ _ _ _ _ _ _ _ _ _ (λ past h. sym h.0) (λ past e. sym e.0) (λ past b. sym b.0) (λ past x. sym x.0) gone in
-    streamed_of c.args.plan c.in-Ok.node.plan c.in-Ok.ensures.plan c.names_of-names.result c.names_of-names.ensures (lines c.args.lines.now) (state run.node.now (writes_for run.writer.now) (lines run.lines.now) run.tally.numbers) run.sent _ (ap lines (c.lines-1.given.1 name))
+    streamed_of c.args.plan c.in-Ok.node.plan c.in-Ok.ensures.plan c.names_of-names.result c.names_of-names.ensures (lines c.args.lines.now) (state_in lines run) run.sent _ (ap lines (c.lines-1.given.1 name))
     c.numbers_of.result c.listen-ended.result c.numbers_of.ensures c.status_of.result c.status_of.ensures (left c.args.input.now) (left c.listen-ended.new.input) (written c.args.out.now) (written c.listen-ended.new.out) gone (λ past h. h.1.runs) (λ past e. e.1) (λ past b. b.1) (λ past x. x.1) c.listen-ended.ensures.streamed
 
 pub returns-clause-bound : goal.returns-clause-bound

@@ -1,4 +1,4 @@
-use Rattle.std.proofs.Common.{◌≡◌, ◌∙◌, ◌++◌, List, length, refl, ap, ap₂, subst}
+use Rattle.std.proofs.Common.{◌∙◌, ◌++◌, List, length, refl, ap, ap₂, subst}
 use Rattle.line_text.specs.Buffer.{text_of}
 use Rattle.node_core.specs.declared.line.Line.{Line}
 use Rattle.node_core.specs.Keeps.{keeps}

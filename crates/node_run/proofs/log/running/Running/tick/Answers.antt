@@ -10,7 +10,7 @@ use Rattle.node_core.specs.Sending.{beat}
 use Rattle.node_core.specs.Steps.{Step, Tick, pushed, records}
 use Rattle.node_core.specs.Writer.{writes_for}
 use Rattle.node_core.proofs.Steps.{on_err}
-use Rattle.node_run.specs.Goes.{state}
+use Rattle.node_run.specs.Goes.{state, state_in}
 use Rattle.node_run.proofs.Counts.{numbers_tick}
 use Rattle.node_run.proofs.Goes.{all_lines_are, broke_in, kept_next, runs_next, sent_is, step_told}
 use Rattle.node_run.proofs.Tells.{told_none}
@@ -20,7 +20,7 @@ pub returns-in_err-sent-clause-err : goal.returns-in_err-sent-clause-err
 returns-in_err-sent-clause-err g c =
     let lines = g.K.LineSink.lines in
     let self = c.args.self.now in
-    let old = state self.node.now (writes_for self.writer.now) (lines self.lines.now) self.tally.numbers in
+    let old = state_in lines self in
     let new = state c.send.new.node (writes_for c.send.new.writer) (lines c.send.new.lines) self.tally.numbers in
     let number = self.clock.number in
     let moment = self.clock.next in
@@ -35,7 +35,7 @@ pub returns-clause-ok : goal.returns-clause-ok
 returns-clause-ok g c plan before past few h =
     let lines = g.K.LineSink.lines in
     let self = c.args.self.now in
-    let old = state self.node.now (writes_for self.writer.now) (lines self.lines.now) self.tally.numbers in
+    let old = state_in lines self in
     let new = state c.send.new.node (writes_for c.send.new.writer) (lines c.send.new.lines) c.send-2.new.self.numbers in
     let number = self.clock.number in
     let moment = self.clock.next in

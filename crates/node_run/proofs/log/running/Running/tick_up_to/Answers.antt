@@ -1,8 +1,7 @@
 use Rattle.std.proofs.Common.{◌≤◌, sym, subst, arith}
 use Rattle.line_text.specs.Buffer.{text_of}
 use Rattle.node_core.specs.Steps.{ticks_from}
-use Rattle.node_core.specs.Writer.{writes_for}
-use Rattle.node_run.specs.Goes.{GoesOn, state}
+use Rattle.node_run.specs.Goes.{GoesOn, state_in}
 use Rattle.node_run.proofs.Tells.{on_ok_by}
 use Rattle.node_run.proofs.Ticks.{left_due}
 use Rattle.node_run.proofs.log.running.Running.tick_up_to.Goals as goal
@@ -18,5 +17,5 @@ returns-clause-ok g c =
     let test = c.if-moment-self.false in
     let due : next ≤ moment = omega arith in
     on_ok_by c.ticks.result (λ goes first from.
-    subst (λ n. GoesOn (ticks_from first number n) (state self.node.now (writes_for self.writer.now) (lines self.lines.now) self.tally.numbers) (state after.node.now (writes_for after.writer.now) (lines after.lines.now) after.tally.numbers) (text_of c.args.gathered.now) (text_of c.ticks.new.gathered))
+    subst (λ n. GoesOn (ticks_from first number n) (state_in lines self) (state_in lines after) (text_of c.args.gathered.now) (text_of c.ticks.new.gathered))
     (sym (left_due number next moment due)) (goes first (from due))) c.ticks.ensures.ok

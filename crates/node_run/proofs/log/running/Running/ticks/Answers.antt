@@ -1,9 +1,8 @@
 use Rattle.std.proofs.Common.{◌≡◌, ◌∙◌, ◌+◌, ◌*◌, ◌<◌, [], ◌∷◌, List, subst, arith}
 use Rattle.line_text.specs.Buffer.{text_of}
 use Rattle.node_core.specs.Steps.{Step, Tick, ticks_from}
-use Rattle.node_core.specs.Writer.{writes_for}
 use Rattle.node_core.proofs.Steps.{on_err}
-use Rattle.node_run.specs.Goes.{GoesOn, begun_next, state, ticks_due}
+use Rattle.node_run.specs.Goes.{GoesOn, begun_next, state_in, ticks_due}
 use Rattle.node_run.proofs.Goes.{goes_more, ticks_broke}
 use Rattle.node_run.proofs.Steps.{tick_more}
 use Rattle.node_run.proofs.log.running.Running.ticks.Goals as goal
@@ -18,9 +17,9 @@ loop-tick-preserved g c =
     let number = fn.clock.number in
     let n = c.loop-tick.tick in
     let next = begun_next number fn.clock.next c.args.moment in
-    let old = state fn.node.now (writes_for fn.writer.now) (lines fn.lines.now) fn.tally.numbers in
-    let mid = state now.node.now (writes_for now.writer.now) (lines now.lines.now) now.tally.numbers in
-    let new = state after.node.now (writes_for after.writer.now) (lines after.lines.now) after.tally.numbers in
+    let old = state_in lines fn in
+    let mid = state_in lines now in
+    let new = state_in lines after in
     let text = text_of c.args.gathered.now in
     let tick = c.in_ok-tick.ensures in record {
       same_reference = c.tick.ensures.same_reference ∙ i.same_reference;
@@ -46,9 +45,9 @@ returns-in_err-tick-clause-err g c =
     let n = c.loop-tick.tick in
     let next = begun_next number fn.clock.next c.args.moment in
     let due = ticks_due next c.args.moment in
-    let old = state fn.node.now (writes_for fn.writer.now) (lines fn.lines.now) fn.tally.numbers in
-    let mid = state now.node.now (writes_for now.writer.now) (lines now.lines.now) now.tally.numbers in
-    let new = state after.node.now (writes_for after.writer.now) (lines after.lines.now) after.tally.numbers in
+    let old = state_in lines fn in
+    let mid = state_in lines now in
+    let new = state_in lines after in
     on_err _ c.from_residual.result (λ first e.
     let at : now.clock.next ≡ first + (number + n) * 1000000 = omega (arith, i.next_is, e) in
     let below = subst (λ m. n < m) i.due c.loop-tick-test.true in
@@ -65,4 +64,4 @@ returns-clause-ok g c first e =
     let test = c.loop-tick-test.false in
     let end = c.loop-tick.auto.tick-end in
     let all : c.loop-tick.tick ≡ ticks_due next c.args.moment = let d = i.due in omega arith in
-    subst (λ m. GoesOn (ticks_from first number m) (state fn.node.now (writes_for fn.writer.now) (lines fn.lines.now) fn.tally.numbers) (state now.node.now (writes_for now.writer.now) (lines now.lines.now) now.tally.numbers) (text_of c.args.gathered.now) (text_of c.loop-tick.gathered)) all (i.ok first e)
+    subst (λ m. GoesOn (ticks_from first number m) (state_in lines fn) (state_in lines now) (text_of c.args.gathered.now) (text_of c.loop-tick.gathered)) all (i.ok first e)

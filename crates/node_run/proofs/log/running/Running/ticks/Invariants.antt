@@ -1,8 +1,7 @@
 use Rattle.std.proofs.Common.{◌≡◌, ◌+◌, ◌*◌, ℕ}
 use Rattle.line_text.specs.Buffer.{text_of}
 use Rattle.node_core.specs.Steps.{ticks_from}
-use Rattle.node_core.specs.Writer.{writes_for}
-use Rattle.node_run.specs.Goes.{GoesOn, begun_next, state, ticks_due}
+use Rattle.node_run.specs.Goes.{GoesOn, begun_next, state_in, ticks_due}
 use Rattle.node_run.proofs.log.running.Running.ticks.Given as goal
 
 abbrev pub invariant-loop-tick : goal.invariant-loop-tick
@@ -15,7 +14,7 @@ invariant-loop-tick g l = let K = g.K.LineSink in let fn = l.fn.self in let next
   next_is : l.self.clock.next ≡ next + l.tick * 1000000;
   ok : (first : ℕ) → next ≡ first + fn.clock.number * 1000000
       → GoesOn (ticks_from first fn.clock.number l.tick)
-      (state fn.node.now (writes_for fn.writer.now) (K.lines fn.lines.now) fn.tally.numbers)
-      (state l.self.node.now (writes_for l.self.writer.now) (K.lines l.self.lines.now) l.self.tally.numbers)
+      (state_in K.lines fn)
+      (state_in K.lines l.self)
       (text_of l.fn.gathered) (text_of l.gathered);
 }

@@ -1,8 +1,7 @@
 use Rattle.std.proofs.Common.{◌≤◌, ◌∙◌, arith}
 use Rattle.line_text.specs.Buffer.{text_of}
-use Rattle.node_core.specs.Writer.{writes_for}
 use Rattle.node_core.proofs.Steps.{on_err}
-use Rattle.node_run.specs.Goes.{last_tick, state}
+use Rattle.node_run.specs.Goes.{last_tick, state_in}
 use Rattle.node_run.proofs.Hearing.{broke_record, broke_ticks, heard_text, hears_next}
 use Rattle.node_run.proofs.Tells.{on_err_by, on_ok_both, on_ok_by}
 use Rattle.node_run.proofs.log.running.RunningListener.hear.Goals as goal
@@ -12,8 +11,8 @@ returns-in_err-tick_up_to-clause-broke g c =
     let lines = g.K.LineSink.lines in
     let self = c.args.self.now in
     let after = c.tick_up_to.new.self in
-    let old = state self.node.now (writes_for self.writer.now) (lines self.lines.now) self.tally.numbers in
-    let new = state after.node.now (writes_for after.writer.now) (lines after.lines.now) after.tally.numbers in
+    let old = state_in lines self in
+    let new = state_in lines after in
     let last : last_tick self.clock.number self.clock.next ≤ c.args.rec.now.moment = omega (arith, c.requires.moment) in
     on_err _ c.from_residual.result (λ first past h. (
       c.tick_up_to.ensures.same_reference ∙ h.0,
@@ -26,9 +25,9 @@ returns-clause-heard g c =
     let self = c.args.self.now in
     let between = c.tick_up_to.new.self in
     let after = c.take.new.self in
-    let old = state self.node.now (writes_for self.writer.now) (lines self.lines.now) self.tally.numbers in
-    let mid = state between.node.now (writes_for between.writer.now) (lines between.lines.now) between.tally.numbers in
-    let new = state after.node.now (writes_for after.writer.now) (lines after.lines.now) after.tally.numbers in
+    let old = state_in lines self in
+    let mid = state_in lines between in
+    let new = state_in lines after in
     let last : last_tick self.clock.number self.clock.next ≤ c.args.rec.now.moment = omega (arith, c.requires.moment) in
     on_ok_by c.take.result (λ both first past h. (
       c.take.ensures.same_reference ∙ (c.tick_up_to.ensures.same_reference ∙ h.0),
@@ -42,9 +41,9 @@ returns-clause-broke g c =
     let self = c.args.self.now in
     let between = c.tick_up_to.new.self in
     let after = c.take.new.self in
-    let old = state self.node.now (writes_for self.writer.now) (lines self.lines.now) self.tally.numbers in
-    let mid = state between.node.now (writes_for between.writer.now) (lines between.lines.now) between.tally.numbers in
-    let new = state after.node.now (writes_for after.writer.now) (lines after.lines.now) after.tally.numbers in
+    let old = state_in lines self in
+    let mid = state_in lines between in
+    let new = state_in lines after in
     let last : last_tick self.clock.number self.clock.next ≤ c.args.rec.now.moment = omega (arith, c.requires.moment) in
     on_err_by c.take.result (λ breaks first past h. (
       c.take.ensures.same_reference ∙ (c.tick_up_to.ensures.same_reference ∙ h.0),
@@ -57,9 +56,9 @@ returns-clause-text g c =
     let self = c.args.self.now in
     let between = c.tick_up_to.new.self in
     let after = c.take.new.self in
-    let old = state self.node.now (writes_for self.writer.now) (lines self.lines.now) self.tally.numbers in
-    let mid = state between.node.now (writes_for between.writer.now) (lines between.lines.now) between.tally.numbers in
-    let new = state after.node.now (writes_for after.writer.now) (lines after.lines.now) after.tally.numbers in
+    let old = state_in lines self in
+    let mid = state_in lines between in
+    let new = state_in lines after in
     let last : last_tick self.clock.number self.clock.next ≤ c.args.rec.now.moment = omega (arith, c.requires.moment) in
     on_ok_by c.take.result (λ goes first past h.
     heard_text first.node.now.plan (lines first.lines.now) c.args.rec.now past old self.clock h.1 c.requires.moment_low last c.requires.count mid (text_of c.args.gathered.now) (text_of c.tick_up_to.new.gathered) c.in_ok-tick_up_to.ensures.ok new (text_of c.take.new.gathered) goes) c.take.ensures.ok
