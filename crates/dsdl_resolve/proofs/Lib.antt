@@ -32,4 +32,3 @@ pub mod Resolving
 pub mod OneAnswer
 pub mod Used
 pub mod SameTexts
-pub mod PlaceLemmas

@@ -9,7 +9,6 @@ use Rattle.const_expr.specs.declared.scope.TypeConsts.{TypeConsts}
 use Rattle.dsdl_types.specs.Definitions.{IsDefinition}
 use Rattle.dsdl_types.specs.declared.definition.Definition.{Definition}
 use Rattle.dsdl_types.specs.declared.namespace.Print.{Print}
-use Rattle.dsdl_resolve.specs.Places.{ArePlacesIn}
 use Rattle.dsdl_resolve.specs.Progressing.{IsSound, WithDouble, WithType}
 use Rattle.dsdl_resolve.specs.declared.progress.Progress.{Progress}
 use Rattle.dsdl_resolve.proofs.Lists.{all_more}
@@ -20,7 +19,6 @@ sound_type old new number d constants w s keeps ascend = record {
   members = let entry : TypeConsts = record { id = d.id; constants = constants } in
       subst (All (λ (t : TypeConsts). AreConstants t.constants)) (sym w.members) (all_more (λ (t : TypeConsts). AreConstants t.constants) old.scope.members entry s.members ascend);
   doubles = subst (All IsDefinition) (sym w.doubles) s.doubles;
-  places = w.places s.places;
 }
 
 pub sound_double : (old new : Progress) (number : ℕ) (d : Definition) → WithDouble old new number d → IsSound old → IsDefinition d → IsSound new
@@ -28,12 +26,11 @@ sound_double old new number d w s keeps = record {
   definitions = subst (λ (sc : Scope). All IsDefinition sc.namespace.definitions) (sym w.scope) s.definitions;
   members = subst (λ (sc : Scope). All (λ (t : TypeConsts). AreConstants t.constants) sc.members) (sym w.scope) s.members;
   doubles = subst (All IsDefinition) (sym w.doubles) (all_more IsDefinition old.doubles.items d s.doubles keeps);
-  places = subst (ArePlacesIn new.scope) (sym w.places) (subst (λ (sc : Scope). ArePlacesIn sc old.places) (sym w.scope) s.places);
 }
 
 -- of what is printed nothing is asked
 pub sound_prints : (p : Progress) (prints : List Print) → IsSound p → IsSound (record p { prints = prints })
-sound_prints p prints s = record { definitions = s.definitions; members = s.members; doubles = s.doubles; places = s.places }
+sound_prints p prints s = record { definitions = s.definitions; members = s.members; doubles = s.doubles }
 
 pub on_ok : {T E P : Type 0} → (r : Result T E) → P → OnOk r P
 on_ok (Ok x) p = p

@@ -1,8 +1,5 @@
 //! The room that is left for the fields of a namespace.
-ghost use Rattle.dsdl_resolve.specs.Places.{ArePlacesIn};
-
 use crate::count::take_room;
-use crate::finding::Places;
 use crate::form::message;
 use const_expr::Scope;
 use cy_bits::NoMemory;
@@ -24,16 +21,13 @@ fn take_one(room: &mut u32) -> Result<(), NoMemory> {
 fn take_message(
     alloc: Global,
     scope: &Scope,
-    places: &Places,
     reference: &Reference,
     room: &mut u32,
-) -> Result<(), NoMemory>
-    requires { ArePlacesIn scope.now places.now }
-{
+) -> Result<(), NoMemory> {
     let Some(id) = type_of(alloc, &scope.own, reference)? else {
         return Ok(());
     };
-    let Some(schema) = message(scope, places, &id) else {
+    let Some(schema) = message(scope, &id) else {
         return Ok(());
     };
     if take_room(schema, room) {
@@ -49,18 +43,15 @@ fn take_message(
 pub fn reserve(
     alloc: Global,
     scope: &Scope,
-    places: &Places,
     statement: &Statement,
     room: &mut u32,
-) -> Result<(), NoMemory>
-    requires { ArePlacesIn scope.now places.now }
-{
+) -> Result<(), NoMemory> {
     match statement {
         Statement::Padding { .. } => take_one(room),
         Statement::Field { form, name: _ } => {
             take_one(room)?;
             match &form.scalar {
-                Scalar::Reference(reference) => take_message(alloc, scope, places, reference, room),
+                Scalar::Reference(reference) => take_message(alloc, scope, reference, room),
                 _ => Ok(()),
             }
         }
