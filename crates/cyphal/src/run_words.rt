@@ -18,8 +18,8 @@ use crate::work::work;
 use cy_outside::{Sink, Source, Tree};
 use dsdl_resolve::one_answer;
 use node_core::{LineSink, Numbers};
-use node_run::Status;
 use node_plan::laws::one_plan;
+use node_run::Status;
 use node_run::values::laws::one_status;
 use std::alloc::Global;
 
