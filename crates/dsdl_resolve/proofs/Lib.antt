@@ -32,3 +32,4 @@ pub mod Resolving
 pub mod OneAnswer
 pub mod Used
 pub mod SameTexts
+pub mod PlaceLemmas

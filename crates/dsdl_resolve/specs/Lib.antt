@@ -20,6 +20,7 @@ pub mod Kept
 pub mod Namespaces
 pub mod Ordering
 pub mod Placing
+pub mod Places
 pub mod Progressing
 pub mod Reads
 pub mod Reread

@@ -6,6 +6,7 @@ use Rattle.dsdl_links.specs.declared.source.Source.{Source}
 use Rattle.dsdl_types.specs.Definitions.{IsDefinition}
 use Rattle.dsdl_types.specs.declared.definition.Definition.{Definition}
 use Rattle.dsdl_resolve.specs.Valuing.{Done, is_meant, meant, definition_of, members_of, prints_of}
+use Rattle.dsdl_resolve.specs.Places.{ArePlacesIn}
 use Rattle.dsdl_resolve.specs.declared.progress.Progress.{Progress}
 
 -- those that no reference means, in the order of valuing
@@ -31,6 +32,7 @@ pub record WithType (old new : Progress) (number : ℕ) (d : Definition) (consta
   pub definitions : new.scope.namespace.definitions ≡ old.scope.namespace.definitions ++ d ∷ []
   pub members : new.scope.members ≡ old.scope.members ++ record { id = d.id; constants = constants } ∷ []
   pub no_prints : new.scope.namespace.prints ≡ old.scope.namespace.prints
+  pub places : ArePlacesIn old.scope old.places → ArePlacesIn new.scope new.places
   pub numbers : new.numbers.items ≡ old.numbers.items ++ number ∷ []
   pub doubles : new.doubles.items ≡ old.doubles.items
   pub double_numbers : new.double_numbers.items ≡ old.double_numbers.items
@@ -39,16 +41,18 @@ pub record WithType (old new : Progress) (number : ℕ) (d : Definition) (consta
 -- one type more that no reference means, and nothing else
 pub record WithDouble (old new : Progress) (number : ℕ) (d : Definition) : Type 0 where
   pub scope : new.scope ≡ old.scope
+  pub places : new.places ≡ old.places
   pub numbers : new.numbers.items ≡ old.numbers.items
   pub doubles : new.doubles.items ≡ old.doubles.items ++ d ∷ []
   pub double_numbers : new.double_numbers.items ≡ old.double_numbers.items ++ number ∷ []
   pub prints : new.prints ≡ old.prints
 
--- all types keep the rules of the language, and the members of sets among the constants ascend
+-- all types keep the rules of the language, the members of sets among the constants ascend, and each type has its place
 pub record IsSound (p : Progress) : Type 0 where
   pub definitions : All IsDefinition p.scope.namespace.definitions
   pub members : All (λ t. AreConstants t.constants) p.scope.members
   pub doubles : All IsDefinition p.doubles.items
+  pub places : ArePlacesIn p.scope p.places
 
 -- each type stands beside the number of its file
 pub record AreBeside (p : Progress) : Type 0 where

@@ -6,11 +6,13 @@ ghost use Rattle.dsdl_parse.specs.declared.expr.Expr.{Expr};
 ghost use Rattle.dsdl_resolve.specs.Additions.{IsStatementRefusal, Judges, Refuses};
 ghost use Rattle.dsdl_resolve.specs.Forms.{IsPrimitive};
 ghost use Rattle.dsdl_resolve.specs.Rules.{breaks_15, breaks_16, holds, least};
+ghost use Rattle.dsdl_resolve.specs.Places.{ArePlacesIn};
 ghost use Rattle.dsdl_resolve.specs.Totals.{AreWithin};
 ghost use Rattle.dsdl_resolve.specs.Values.{constant_value};
 
 use crate::addition::{Addition, Judged, StatementError};
 use crate::before::Before;
+use crate::finding::Places;
 use crate::fits::fits;
 use crate::naming::{breaks_14, named_rule};
 use crate::primitive::{Primitive, primitive_of};
@@ -79,12 +81,14 @@ fn constant_value(alloc: Global, value: &Const) -> Result<Const, NoMemory>
 pub fn judge_constant(
     alloc: Global,
     scope: &Scope,
+    places: &Places,
     before: &Before,
     form: &Form,
     name: &str,
     values: &Values,
 ) -> Result<Judged, StatementError>
-    requires { AreWithin before.now.totals }
+    requires places { ArePlacesIn scope.now places.now }
+    requires within { AreWithin before.now.totals }
     ensures judged { IfOk result (λ j. (x : Expr) →
         Judges scope.now before.now (statement.Constant form.now name.now x) values.now j) }
     ensures refused { IfErr result (IsStatementRefusal (λ why. (x : Expr) →
@@ -93,7 +97,7 @@ pub fn judge_constant(
     if let Some(number) = named_rule(before, form, name, &values.bound) {
         return Err(StatementError::Refused(DsdlWhy::Rule(number)));
     }
-    if breaks_14(alloc, scope, form.array.is_some(), &form.scalar)? {
+    if breaks_14(alloc, scope, places, form.array.is_some(), &form.scalar)? {
         return Err(StatementError::Refused(DsdlWhy::Rule(14)));
     }
     if let Some(number) = constant_rule(form, &values.value) {

@@ -4,11 +4,13 @@ ghost use Rattle.const_expr.specs.Member.{IsScope};
 ghost use Rattle.const_expr.specs.declared.scope.Scope.{Scope as ScopeOf};
 ghost use Rattle.dsdl_parse.specs.declared.statement.Statement.TheVariants as statement;
 ghost use Rattle.dsdl_resolve.specs.Additions.{IsStatementRefusal, Judges, Refuses};
+ghost use Rattle.dsdl_resolve.specs.Places.{ArePlacesIn};
 ghost use Rattle.dsdl_resolve.specs.Totals.{AreWithin};
 ghost use Rattle.dsdl_resolve.specs.declared.values.Values.{Values as ValuesOf};
 
 use crate::addition::{Addition, Judged, StatementError};
 use crate::before::Before;
+use crate::finding::Places;
 use crate::form::type_of;
 use crate::limits::{above_limit, size_refusal};
 use crate::measure::measure_of;
@@ -30,12 +32,14 @@ pub fn rule(number: u8) -> StatementError
 pub fn judge_field(
     alloc: Global,
     scope: &Scope,
+    places: &Places,
     before: &Before,
     form: &Form,
     name: &str,
     bound: &Option<Const>,
 ) -> Result<Judged, StatementError>
     requires scope { IsScope scope.now }
+    requires places { ArePlacesIn scope.now places.now }
     requires within { AreWithin before.now.totals }
     ensures judged { IfOk result (λ j. (vs : ValuesOf) → vs.bound ≡ bound.now →
         Judges scope.now before.now (statement.Field form.now name.now) vs j) }
@@ -46,10 +50,10 @@ pub fn judge_field(
     if let Some(number) = named_rule(before, form, name, bound) {
         return Err(StatementError::Refused(DsdlWhy::Rule(number)));
     }
-    if breaks_14(alloc, scope, true, &form.scalar)? {
+    if breaks_14(alloc, scope, places, true, &form.scalar)? {
         return Err(StatementError::Refused(DsdlWhy::Rule(14)));
     }
-    let Some(typed) = type_of(alloc, scope, form, bound)? else {
+    let Some(typed) = type_of(alloc, scope, places, form, bound)? else {
         unreachable!();
     };
     let totals = before.totals.with_field(measure_of(&typed.schema));

@@ -13,9 +13,11 @@ ghost use Rattle.dsdl_resolve.specs.Files.{IsFile, IsFileRefusal, IsStepped};
 ghost use Rattle.dsdl_resolve.specs.Judged.{finished, outcome, refusal_at};
 ghost use Rattle.dsdl_resolve.specs.Opens.{IsReady, between};
 ghost use Rattle.dsdl_resolve.specs.Place.{place};
+ghost use Rattle.dsdl_resolve.specs.Places.{ArePlacesIn};
 ghost use Rattle.dsdl_resolve.specs.Totals.{AreWithin};
 
 use crate::addition::StatementError;
+use crate::finding::Places;
 use crate::open_section::{Half, OpenSection};
 use crate::outcome::{FileError, Outcome, Refused};
 use crate::printing::print_of;
@@ -108,11 +110,13 @@ impl OpenFile {
         alloc: Global,
         path: &Text,
         scope: &mut Scope,
+        places: &Places,
         line: u32,
         statement: &Statement,
         behind: &[Statement],
     ) -> Result<(), FileError>
         requires scope { IsScope scope.old }
+        requires places { ArePlacesIn scope.old places.now }
         requires offset { scope.old.offset ≡ None }
         requires ready { IsReady self.old.section }
         requires few { length behind.now < 2 ^ 32 }
@@ -132,7 +136,7 @@ impl OpenFile {
                 Err(error) => Err(at(line, error)),
             };
         }
-        let values = match self.section.take(alloc, scope, statement) {
+        let values = match self.section.take(alloc, scope, places, statement) {
             Ok(values) => values,
             Err(error) => return Err(at(line, error)),
         };
@@ -224,9 +228,11 @@ pub fn value_file(
     name: &FileName,
     lines: &[Statement],
     scope: &mut Scope,
+    places: &Places,
     room: &mut u32,
 ) -> Result<Outcome, FileError>
     requires scope { IsScope scope.old }
+    requires places { ArePlacesIn scope.old places.now }
     requires spelled { All WellSpelled lines.now }
     requires few { length lines.now < 2 ^ 32 }
     ensures value { Answers (outcome scope.old path.now name.now lines.now) result }
@@ -242,9 +248,9 @@ pub fn value_file(
     let mut file = OpenFile::begin(alloc, lines);
     for i in 0..lines.len() {
         let statement = &lines[i];
-        reserve(alloc, scope, statement, room)?;
+        reserve(alloc, scope, places, statement, room)?;
         let rest = behind(lines, i);
-        match file.take(alloc, path, scope, i as u32 + 1, statement, rest) {
+        match file.take(alloc, path, scope, places, i as u32 + 1, statement, rest) {
             Ok(()) => {}
             Err(error) => return Err(error),
         }

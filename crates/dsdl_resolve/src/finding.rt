@@ -1,49 +1,43 @@
-//! The definition of a type among many, by names that are compared from their ends: those of one
-//! folder begin alike.
-ghost use Rattle.std.specs.Prelude.{◌≡◌, length};
+//! The definition of a type among many, by the places of their types.
+ghost use Rattle.std.specs.Prelude.{◌≡◌, ◌∷◌, ◌++◌, [], length, List as ListOf, OnOk};
 ghost use Rattle.std.specs.Option.{option_copied};
-ghost use Rattle.std.specs.Str.{bytes_eq};
-ghost use Rattle.dsdl_types.specs.Finding.{definition_of, same_id};
+ghost use Rattle.dsdl_types.specs.Finding.{definition_of};
+ghost use Rattle.dsdl_types.specs.declared.definition.Definition.{Definition as DefinitionOf};
+ghost use Rattle.dsdl_resolve.specs.Places.{ArePlaces};
 
-use dsdl_names::TypeId;
+use cy_bits::NoMemory;
+use dsdl_names::{TypeId, order_of_types};
 use dsdl_types::Definition;
+use std::collections::BTreeMap;
 
-/// Whether two texts are equal, by a look at their last bytes first.
-#[inline(always)]
-fn same_text(a: &[u8], b: &[u8]) -> bool
-    ensures { result ≡ bytes_eq a.now b.now }
-{
-    if a.len() != b.len() {
-        return false;
-    }
-    let mut i = a.len();
-    while i > 0 {
-        i -= 1;
-        if a[i] != b[i] {
-            return false;
-        }
-    }
-    true
-}
-
-/// Whether a definition is of a type.
-#[inline(always)]
-fn is_of(definition: &Definition, id: &TypeId) -> bool
-    ensures { result ≡ same_id definition.now.id id.now }
-{
-    same_text(definition.id.name.as_bytes(), id.name.as_bytes())
-        && definition.id.major == id.major
-        && definition.id.minor == id.minor
-}
+/// For each type the place of its first definition among some, counted from 0.
+pub type Places = BTreeMap<TypeId, usize>;
 
 /// The first definition of a type, or nothing where there is none.
-pub fn find<'a>(definitions: &'a [Definition], id: &TypeId) -> Option<&'a Definition>
+pub fn find<'a>(
+    definitions: &'a [Definition],
+    places: &Places,
+    id: &TypeId,
+) -> Option<&'a Definition>
+    requires { ArePlaces definitions.now places.now }
     ensures { option_copied result ≡ definition_of definitions.now id.now }
 {
-    for definition in definitions {
-        if is_of(definition, id) {
-            return Some(definition);
-        }
+    order_of_types();
+    match places.get(id) {
+        Some(place) => definitions.get(*place),
+        None => None,
     }
-    None
+}
+
+/// Adds the place of a definition of a type, which stands behind all others.
+pub fn add_place(places: &mut Places, id: TypeId, place: usize) -> Result<(), NoMemory>
+    ensures { OnOk result ((before : ListOf DefinitionOf) (d : DefinitionOf) → d.id ≡ id →
+        place ≡ length before → ArePlaces before places.old →
+        ArePlaces (before ++ d ∷ []) places.new) }
+{
+    order_of_types();
+    if !places.contains_key(&id) {
+        places.insert(id, place)?;
+    }
+    Ok(())
 }

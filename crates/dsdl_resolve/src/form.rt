@@ -2,9 +2,10 @@
 ghost use Rattle.std.specs.Prelude.{◌≡◌, ◌++◌, string_bytes, is_some, Some, IfOk, OnOk, MatchOption};
 ghost use Rattle.std.specs.Option.{option_copied};
 ghost use Rattle.const_expr.specs.Text.{id_text};
+ghost use Rattle.dsdl_resolve.specs.Places.{ArePlacesIn};
 ghost use Rattle.dsdl_resolve.specs.Forms.{array_of, array_schema, bound_text, bounded, capacity, in_bound, item_of, items_of, message, message_in, of_message, of_primitive, referred, type_of, within};
 
-use crate::finding::find;
+use crate::finding::{Places, find};
 use crate::primitive::{primitive_of, push_number};
 use crate::typed::Typed;
 use const_expr::{Const, Scope, print_text};
@@ -80,10 +81,11 @@ fn message_in(parts: &Parts) -> Option<&Schema>
 }
 
 /// The schema of a type that is a message.
-pub fn message<'a>(scope: &'a Scope, id: &TypeId) -> Option<&'a Schema>
+pub fn message<'a>(scope: &'a Scope, places: &Places, id: &TypeId) -> Option<&'a Schema>
+    requires { ArePlacesIn scope.now places.now }
     ensures { option_copied result ≡ message scope.now id.now }
 {
-    match find(scope.namespace.definitions.as_slice(), id) {
+    match find(scope.namespace.definitions.as_slice(), places, id) {
         Some(definition) => message_in(&definition.parts),
         None => None,
     }
@@ -100,10 +102,16 @@ fn id_text(alloc: Global, id: TypeId) -> Result<Text, NoMemory>
 }
 
 /// A type that is a message, with its text.
-fn of_message(alloc: Global, scope: &Scope, id: TypeId) -> Result<Option<Typed>, NoMemory>
+fn of_message(
+    alloc: Global,
+    scope: &Scope,
+    places: &Places,
+    id: TypeId,
+) -> Result<Option<Typed>, NoMemory>
+    requires { ArePlacesIn scope.now places.now }
     ensures { IfOk result (λ t. t ≡ of_message scope.now id) }
 {
-    let Some(schema) = message(scope, &id) else {
+    let Some(schema) = message(scope, places, &id) else {
         return Ok(None);
     };
     let schema = schema.copy(alloc)?;
@@ -112,27 +120,45 @@ fn of_message(alloc: Global, scope: &Scope, id: TypeId) -> Result<Option<Typed>,
 }
 
 /// The message that a reference means.
-fn referred(alloc: Global, scope: &Scope, reference: &Reference) -> Result<Option<Typed>, NoMemory>
+fn referred(
+    alloc: Global,
+    scope: &Scope,
+    places: &Places,
+    reference: &Reference,
+) -> Result<Option<Typed>, NoMemory>
+    requires { ArePlacesIn scope.now places.now }
     ensures { IfOk result (λ t. t ≡ referred scope.now reference.now) }
 {
     match named_type(alloc, &scope.own, reference)? {
-        Some(id) => of_message(alloc, scope, id),
+        Some(id) => of_message(alloc, scope, places, id),
         None => Ok(None),
     }
 }
 
 /// Whether a reference means a message.
-pub fn is_message(alloc: Global, scope: &Scope, reference: &Reference) -> Result<bool, NoMemory>
+pub fn is_message(
+    alloc: Global,
+    scope: &Scope,
+    places: &Places,
+    reference: &Reference,
+) -> Result<bool, NoMemory>
+    requires { ArePlacesIn scope.now places.now }
     ensures { IfOk result (λ found. found ≡ is_some (referred scope.now reference.now)) }
 {
     match named_type(alloc, &scope.own, reference)? {
-        Some(id) => Ok(message(scope, &id).is_some()),
+        Some(id) => Ok(message(scope, places, &id).is_some()),
         None => Ok(false),
     }
 }
 
 /// The type of an item, or of a value alone. `void` is none.
-fn item_of(alloc: Global, scope: &Scope, scalar: &Scalar) -> Result<Option<Typed>, NoMemory>
+fn item_of(
+    alloc: Global,
+    scope: &Scope,
+    places: &Places,
+    scalar: &Scalar,
+) -> Result<Option<Typed>, NoMemory>
+    requires { ArePlacesIn scope.now places.now }
     ensures { IfOk result (λ t. t ≡ item_of scope.now scalar.now) }
 {
     match scalar {
@@ -143,7 +169,7 @@ fn item_of(alloc: Global, scope: &Scope, scalar: &Scalar) -> Result<Option<Typed
             })),
             None => Ok(None),
         },
-        Scalar::Reference(reference) => referred(alloc, scope, reference),
+        Scalar::Reference(reference) => referred(alloc, scope, places, reference),
         Scalar::Void { .. } => Ok(None),
     }
 }
@@ -212,12 +238,14 @@ fn in_bound(
 pub fn type_of(
     alloc: Global,
     scope: &Scope,
+    places: &Places,
     form: &Form,
     bound: &Option<Const>,
 ) -> Result<Option<Typed>, NoMemory>
+    requires { ArePlacesIn scope.now places.now }
     ensures { IfOk result (λ t. t ≡ type_of scope.now form.now bound.now) }
 {
-    match item_of(alloc, scope, &form.scalar)? {
+    match item_of(alloc, scope, places, &form.scalar)? {
         Some(item) => in_bound(alloc, &form.array, bound, item),
         None => Ok(None),
     }

@@ -24,6 +24,7 @@ pub fn namespace_of(alloc: Global, count: usize, valued: Progress) -> Result<Nam
 {
     let Progress {
         scope,
+        places: _places,
         numbers,
         doubles,
         double_numbers,

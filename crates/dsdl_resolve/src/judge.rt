@@ -2,6 +2,7 @@
 ghost use Rattle.std.specs.Prelude.{IfOk, IfErr};
 ghost use Rattle.const_expr.specs.Member.{IsScope};
 ghost use Rattle.dsdl_resolve.specs.Additions.{AreValuesOf, IsStatementRefusal, Judges, Refuses};
+ghost use Rattle.dsdl_resolve.specs.Places.{ArePlacesIn};
 ghost use Rattle.dsdl_resolve.specs.Totals.{AreWithin};
 
 use crate::addition::{Addition, Judged, StatementError};
@@ -9,6 +10,7 @@ use crate::before::Before;
 use crate::constant::judge_constant;
 use crate::directive::judge_directive;
 use crate::entry::{judge_field, judge_padding};
+use crate::finding::Places;
 use crate::split::judge_split;
 use crate::values::Values;
 use const_expr::Scope;
@@ -20,11 +22,13 @@ use std::alloc::Global;
 pub fn judge(
     alloc: Global,
     scope: &Scope,
+    places: &Places,
     before: &Before,
     statement: &Statement,
     values: &Values,
 ) -> Result<Judged, StatementError>
     requires scope { IsScope scope.now }
+    requires places { ArePlacesIn scope.now places.now }
     requires within { AreWithin before.now.totals }
     requires values { AreValuesOf statement.now values.now }
     ensures judged { IfOk result (Judges scope.now before.now statement.now values.now) }
@@ -46,9 +50,17 @@ pub fn judge(
             form,
             name,
             expr: _,
-        } => judge_constant(alloc, scope, before, form, name.as_str(), values),
+        } => judge_constant(alloc, scope, places, before, form, name.as_str(), values),
         Statement::Field { form, name } => {
-            judge_field(alloc, scope, before, form, name.as_str(), &values.bound)
+            judge_field(
+                alloc,
+                scope,
+                places,
+                before,
+                form,
+                name.as_str(),
+                &values.bound,
+            )
         }
         Statement::Padding { digits } => judge_padding(before, digits.as_str()),
     }

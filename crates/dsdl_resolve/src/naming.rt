@@ -2,10 +2,12 @@
 ghost use Rattle.std.specs.Prelude.{◌≡◌, [], false, IfNone, IfOk};
 ghost use Rattle.dsdl_resolve.specs.Additions.{IsBefore};
 ghost use Rattle.dsdl_resolve.specs.Place.{Place};
+ghost use Rattle.dsdl_resolve.specs.Places.{ArePlacesIn};
 ghost use Rattle.dsdl_resolve.specs.Rules.{breaks_11, breaks_12, breaks_13, breaks_14, has_no_cast, least, named_rules};
 ghost use Rattle.dsdl_resolve.specs.Said.{Said};
 
 use crate::before::Before;
+use crate::finding::Places;
 use crate::form::{bounded, is_message};
 use crate::primitive::primitive_of;
 use crate::width::width_in;
@@ -60,14 +62,16 @@ fn breaks_13(array: &Option<Bound>, value: &Option<Const>) -> bool
 pub fn breaks_14(
     alloc: Global,
     scope: &Scope,
+    places: &Places,
     typed: bool,
     scalar: &Scalar,
 ) -> Result<bool, NoMemory>
+    requires { ArePlacesIn scope.now places.now }
     ensures { IfOk result (λ breaks. breaks ≡ breaks_14 scope.now typed scalar.now) }
 {
     match scalar {
         Scalar::Primitive { .. } => Ok(false),
-        Scalar::Reference(reference) => Ok(typed && !is_message(alloc, scope, reference)?),
+        Scalar::Reference(reference) => Ok(typed && !is_message(alloc, scope, places, reference)?),
         Scalar::Void { .. } => Ok(true),
     }
 }

@@ -13,6 +13,7 @@ ghost use Rattle.dsdl_resolve.specs.Said.{Said as SaidOf, greatest as greatest_o
 ghost use Rattle.dsdl_types.specs.declared.schema.Schema.TheVariants as schema;
 ghost use Rattle.dsdl_resolve.specs.Opens.{AreOffsets, IsOpen, IsReady, IsTaken, between, is_early, kept_offsets, of_values, on_name, said_of, value_refusal, with_offset};
 ghost use Rattle.dsdl_resolve.specs.Place.{last_section, place};
+ghost use Rattle.dsdl_resolve.specs.Places.{ArePlacesIn};
 ghost use Rattle.dsdl_resolve.specs.Rules.{is_used};
 ghost use Rattle.dsdl_resolve.specs.Says.{attribute_of, is_split, names_offset};
 ghost use Rattle.dsdl_resolve.specs.SoundSections.{KeepsRules};
@@ -24,6 +25,7 @@ ghost use Rattle.dsdl_resolve.specs.declared.typed.Typed.{Typed as TypedOf};
 use crate::addition::{Addition, Judged, StatementError};
 use crate::attributes::Attributes;
 use crate::before::Before;
+use crate::finding::Places;
 use crate::judge::judge;
 use crate::mention::names_offset;
 use crate::offsets::{Offsets, offsets_of};
@@ -280,9 +282,11 @@ impl OpenSection {
         &mut self,
         alloc: Global,
         scope: &mut Scope,
+        places: &Places,
         statement: &Statement,
     ) -> Result<Values, StatementError>
         requires scope { IsScope scope.old }
+        requires places { ArePlacesIn scope.old places.now }
         requires offset { scope.old.offset ≡ None }
         requires ready { IsReady self.old }
         requires whole { is_split statement.now ≡ false }
@@ -297,7 +301,7 @@ impl OpenSection {
             Ok(values) => values,
             Err(error) => return Err(error),
         };
-        let judged = match judge(alloc, scope, &self.before, statement, &values) {
+        let judged = match judge(alloc, scope, places, &self.before, statement, &values) {
             Ok(judged) => judged,
             Err(error) => return Err(error),
         };

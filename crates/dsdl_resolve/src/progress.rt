@@ -6,6 +6,7 @@ ghost use Rattle.dsdl_types.specs.Definitions.{IsDefinition};
 ghost use Rattle.dsdl_resolve.specs.Progressing.{Holds, IsSound, WithDouble, WithType};
 ghost use Rattle.dsdl_resolve.specs.Valuing.{Done, is_first, with_done};
 
+use crate::finding::{Places, add_place};
 use crate::outcome::Outcome;
 use const_expr::{NamedConst, Scope, TypeConsts};
 use cy_bits::{Bytes, List, NoMemory, TryCopy};
@@ -19,6 +20,8 @@ pub struct Progress {
     /// The types that references mean, in the order of valuing, and the constants of messages among
     /// them.
     pub scope: Scope,
+    /// Their places.
+    pub places: Places,
     /// The numbers of their files.
     pub numbers: Vec<usize>,
     /// The types that no reference means, since a file before theirs in path order defines the same
@@ -47,6 +50,7 @@ impl Progress {
                 own: FullName::new(Bytes::from_slice(alloc, b".")?),
                 members: List::empty(alloc),
             },
+            places: Places::new(alloc),
             numbers: Vec::new(alloc),
             doubles: Vec::new(alloc),
             double_numbers: Vec::new(alloc),
@@ -91,6 +95,8 @@ impl Progress {
     ) -> Result<(), NoMemory>
         ensures { OnOk result (WithType self.old self.new number definition constants) }
     {
+        let place = self.scope.namespace.definitions.len();
+        add_place(&mut self.places, definition.id.copy(alloc)?, place)?;
         self.scope.members.push(TypeConsts {
             id: definition.id.copy(alloc)?,
             constants,

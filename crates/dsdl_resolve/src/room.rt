@@ -1,5 +1,8 @@
 //! The room that is left for the fields of a namespace.
+ghost use Rattle.dsdl_resolve.specs.Places.{ArePlacesIn};
+
 use crate::count::take_room;
+use crate::finding::Places;
 use crate::form::message;
 use const_expr::Scope;
 use cy_bits::NoMemory;
@@ -21,13 +24,16 @@ fn take_one(room: &mut u32) -> Result<(), NoMemory> {
 fn take_message(
     alloc: Global,
     scope: &Scope,
+    places: &Places,
     reference: &Reference,
     room: &mut u32,
-) -> Result<(), NoMemory> {
+) -> Result<(), NoMemory>
+    requires { ArePlacesIn scope.now places.now }
+{
     let Some(id) = type_of(alloc, &scope.own, reference)? else {
         return Ok(());
     };
-    let Some(schema) = message(scope, &id) else {
+    let Some(schema) = message(scope, places, &id) else {
         return Ok(());
     };
     if take_room(schema, room) {
@@ -43,15 +49,18 @@ fn take_message(
 pub fn reserve(
     alloc: Global,
     scope: &Scope,
+    places: &Places,
     statement: &Statement,
     room: &mut u32,
-) -> Result<(), NoMemory> {
+) -> Result<(), NoMemory>
+    requires { ArePlacesIn scope.now places.now }
+{
     match statement {
         Statement::Padding { .. } => take_one(room),
         Statement::Field { form, name: _ } => {
             take_one(room)?;
             match &form.scalar {
-                Scalar::Reference(reference) => take_message(alloc, scope, reference, room),
+                Scalar::Reference(reference) => take_message(alloc, scope, places, reference, room),
                 _ => Ok(()),
             }
         }

@@ -9,6 +9,7 @@ ghost use Rattle.dsdl_resolve.specs.Answers.{Answers};
 ghost use Rattle.dsdl_resolve.specs.Judged.{outcome};
 ghost use Rattle.dsdl_resolve.specs.Kept.{AreKept, IsKept};
 ghost use Rattle.dsdl_resolve.specs.Passes.{StopsAt};
+ghost use Rattle.dsdl_resolve.specs.Places.{ArePlacesIn};
 ghost use Rattle.dsdl_resolve.specs.Progressing.{IsSound};
 ghost use Rattle.dsdl_resolve.specs.Reads.{Read, IsRead, AreRead, sources_of};
 ghost use Rattle.dsdl_resolve.specs.Refusals.{IsRefusal};
@@ -17,6 +18,7 @@ ghost use Rattle.dsdl_resolve.specs.Reread.{HasStatements, WereRead, scope_in, I
 use crate::DsdlError;
 use crate::at::at;
 use crate::file::value_file;
+use crate::finding::Places;
 use crate::outcome::{FileError, Outcome, Refused};
 use crate::progress::Progress;
 use const_expr::Scope;
@@ -59,7 +61,15 @@ pub fn value_files(
         let number = order[k];
         let file = &files[number];
         let (name, kept) = (&names[number], &kept[number]);
-        match value_one(alloc, file, name, kept, &mut progress.scope, &mut room) {
+        match value_one(
+            alloc,
+            file,
+            name,
+            kept,
+            &mut progress.scope,
+            &progress.places,
+            &mut room,
+        ) {
             Ok(done) => progress.add(alloc, number, firsts[number] == number, done)?,
             Err(error) => return Err(refused(alloc, file, error)),
         }
@@ -87,6 +97,7 @@ fn value_one(
     name: &FileName,
     kept: &Option<Ast>,
     scope: &mut Scope,
+    places: &Places,
     room: &mut u32,
 ) -> Result<Outcome, FileError>
     requires short { length file.now.text < 2 ^ 32 }
@@ -94,6 +105,7 @@ fn value_one(
     requires text { HasStatements file.now.text }
     requires kept { IsKept file.now kept.now }
     requires types { All IsDefinition scope.old.namespace.definitions }
+    requires places { ArePlacesIn scope.old places.now }
     requires members { All (λ t. AreConstants t.constants) scope.old.members }
     ensures value { (r : Read) → IsRead file.now r →
         Answers (outcome (scope_in scope.old r) r.path r.name r.lines) result }
@@ -103,10 +115,10 @@ fn value_one(
     ensures members { scope.new.members ≡ scope.old.members }
 {
     match kept {
-        Some(ast) => value_lines(alloc, file, name, ast.lines.as_slice(), scope, room),
+        Some(ast) => value_lines(alloc, file, name, ast.lines.as_slice(), scope, places, room),
         None => {
             let ast = statements_of(alloc, file)?;
-            value_lines(alloc, file, name, ast.lines.as_slice(), scope, room)
+            value_lines(alloc, file, name, ast.lines.as_slice(), scope, places, room)
         }
     }
 }
@@ -118,12 +130,14 @@ fn value_lines(
     name: &FileName,
     lines: &[Statement],
     scope: &mut Scope,
+    places: &Places,
     room: &mut u32,
 ) -> Result<Outcome, FileError>
     requires short { length file.now.text < 2 ^ 32 }
     requires named { file_name_of file.now.path ≡ Ok name.now }
     requires text { IsAst file.now.text lines.now }
     requires types { All IsDefinition scope.old.namespace.definitions }
+    requires places { ArePlacesIn scope.old places.now }
     requires members { All (λ t. AreConstants t.constants) scope.old.members }
     ensures value { (r : Read) → IsRead file.now r →
         Answers (outcome (scope_in scope.old r) r.path r.name r.lines) result }
@@ -137,7 +151,7 @@ fn value_lines(
     scope.own = name.id.name.copy(alloc)?;
     scope.constants = List::empty(alloc);
     scope.offset = None;
-    value_file(alloc, &file.path, name, lines, scope, room)
+    value_file(alloc, &file.path, name, lines, scope, places, room)
 }
 
 /// The statements of a file, which has only such.

@@ -6,6 +6,7 @@ use Rattle.dsdl_parse.specs.Spelling.{WellSpelled}
 use Rattle.dsdl_resolve.specs.Files.{IsFile, IsFileRefusal, IsStepped}
 use Rattle.dsdl_resolve.specs.Judged.{in_file, outcome, refusal_at}
 use Rattle.dsdl_resolve.specs.Place.{last_section, place}
+use Rattle.dsdl_resolve.specs.Places.{ArePlacesIn}
 use Rattle.dsdl_resolve.proofs.Filing as filing
 use Rattle.dsdl_resolve.proofs.Filing.{Filed}
 use Rattle.dsdl_resolve.proofs.file.value_file.Goals as goal
@@ -18,6 +19,12 @@ loop-i-init c =
           (filing.filed_none c.begin-file.result S c.args.name.now.port c.args.path.now c.args.lines.now (c.begin-file.ensures.file S) c.begin-file.ensures.prints);
       scope = ap (λ o. record c.args.scope.now { constants = c.empty.result; offset = None; own = o }) c.in_ok-scope.ensures;
     }
+
+pub reserve-requires : goal.reserve-requires
+reserve-requires c = subst (λ (t : Scope). ArePlacesIn t c.args.places.now) (sym c.loop-i.invariant.scope) c.requires.places
+
+pub take-requires-clause-places : goal.take-requires-clause-places
+take-requires-clause-places c = subst (λ (t : Scope). ArePlacesIn t c.args.places.now) (sym c.loop-i.invariant.scope) c.requires.places
 
 pub returns-in-Err-clause-value : goal.returns-in-Err-clause-value
 returns-in-Err-clause-value c =

@@ -1,4 +1,4 @@
-use Rattle.std.proofs.Common.{◌≡◌, Some, subst}
+use Rattle.std.proofs.Common.{◌≡◌, Some, sym, subst}
 use Rattle.const_expr.specs.declared.scope.Scope.{Scope}
 use Rattle.dsdl_types.specs.Definitions.{IsNamespace}
 use Rattle.dsdl_resolve.specs.Additions.{IsBefore, IsJudged, IsStatementRefusal, name_of, with_addition}
@@ -7,8 +7,12 @@ use Rattle.dsdl_resolve.specs.Opens.{said_of}
 use Rattle.dsdl_resolve.specs.Place.{Place}
 use Rattle.dsdl_resolve.specs.Said.{Said}
 use Rattle.std.specs.Option.{option_copied}
+use Rattle.dsdl_resolve.specs.Places.{ArePlacesIn}
 use Rattle.dsdl_resolve.proofs.Opening as opening
 use Rattle.dsdl_resolve.proofs.open_section.OpenSection.take.Goals as goal
+
+pub judge-requires-clause-places : goal.judge-requires-clause-places
+judge-requires-clause-places c = subst (λ (t : Scope). ArePlacesIn t c.args.places.now) (sym c.in-Ok.ensures.scope) c.requires.places
 
 pub returns-in-Err-clause-taken : goal.returns-in-Err-clause-taken
 returns-in-Err-clause-taken c = λ S front back h there spelled.
