@@ -1,66 +1,85 @@
 -- What a loop over a log has done, by how it ended.
-use Rattle.std.specs.Prelude.{◌≡◌, ◌⊎◌, ℕ, List, [], Option, Some, None, IfSome, ⊤}
-use mathlib.Core.List.{reverse_aux}
-use Rattle.tail_frame.specs.declared.logged.Record.{Record}
+use Rattle.std.specs.Prelude.{◌≡◌, ◌⊎◌, ◌++◌, ℕ, List, Option, Some, None, ⊤}
 use Rattle.cy_outside.specs.Written.{behind, Begins}
-use Rattle.frame_log.specs.Log.{Log, log_of}
 use Rattle.frame_log.specs.Refusals.{refusal_of}
 use Rattle.frame_log.specs.declared.error.LogError.{LogError}
 use Rattle.frame_log.specs.declared.error.LogError.TheVariants as error
 use Rattle.frame_log.specs.declared.error.LogWhy.TheVariants as why
-use Rattle.log_loop.specs.Voice.{Voice, said, newest_first, whole_text}
+use Rattle.log_loop.specs.Voice.{Voice, said, whole_text}
 use Rattle.log_loop.specs.declared.ended.Ended.{Ended}
 use Rattle.log_loop.specs.declared.ended.Ended.TheVariants as end
 use Rattle.log_loop.specs.declared.next.Stop.{Stop}
 use Rattle.log_loop.specs.declared.next.Stop.TheVariants as stop
 
--- a listener heard these records, or has said its last words behind them
-abbrev pub HeardOrEnded : (List Record → Type 0) → (List Record → Type 0) → List Record → Type 0
-HeardOrEnded heard ended past = heard past ⊎ ended past
+-- What holds of a listener that met these events: it heard them, has said its last words behind them, broke off on the
+-- newest of them, or in its last words behind them.
+pub record Stages (E : Type 0) : Type 1 where
+  pub heard : List E → Type 0
+  pub ended : List E → Type 0
+  pub broke : List E → Type 0
+  pub cut_short : List E → Type 0
 
--- this holds of the whole log, and all that is said of it was written
-pub record Settled (v : Voice) (done : List Record → Type 0) (log : Log) (before after : Option (List ℕ)) : Type 0 where
-  pub hears : done (newest_first log)
-  pub written : after ≡ behind before (whole_text v log)
+abbrev pub stages : {E : Type 0} → (List E → Type 0) → (List E → Type 0) → (List E → Type 0) → (List E → Type 0) → Stages E
+stages heard ended broke cut_short =
+    record { heard = heard; ended = ended; broke = broke; cut_short = cut_short }
 
--- the first records of a log were heard, and exactly what is said on them was written
-pub record Upto (v : Voice) (heard : List Record → Type 0) (log : Log) (before after : Option (List ℕ)) : Type 0 where
-  pub came : List Record
-  pub left : List Record
-  pub parts : log.records ≡ reverse_aux came left
+-- where only what is written counts, nothing is said of who heard the events
+abbrev pub any_stages : (E : Type 0) → Stages E
+any_stages E = record { heard = λ past. ⊤; ended = λ past. ⊤; broke = λ past. ⊤; cut_short = λ past. ⊤ }
+
+-- it heard these events, or has said its last words behind them
+abbrev pub HeardOrEnded : {E : Type 0} → Stages E → List E → Type 0
+HeardOrEnded s past = s.heard past ⊎ s.ended past
+
+-- the first of some events: those that came, before newer ones
+pub record FirstOf {E : Type 0} (events came : List E) : Type 0 where
+  pub newer : List E
+  pub parts : events ≡ newer ++ came
+
+-- this holds of all events of a log, and all that is said of them was written
+pub record Settled {E : Type 0} (v : Voice E) (done : List E → Type 0) (events : List E) (refusal : Option LogError)
+    (before after : Option (List ℕ)) : Type 0 where
+  pub hears : done events
+  pub written : after ≡ behind before (whole_text v events refusal)
+
+-- the first events were heard, and exactly what is said on them was written
+pub record Upto {E : Type 0} (v : Voice E) (heard : List E → Type 0) (events : List E)
+    (before after : Option (List ℕ)) : Type 0 where
+  pub came : List E
+  pub first : FirstOf events came
   pub hears : heard came
   pub written : after ≡ behind before (said v came)
 
--- this holds of the first records of a log, and a beginning of all that is said of it was written
-pub record Begun (v : Voice) (done : List Record → Type 0) (log : Log) (before after : Option (List ℕ)) : Type 0 where
-  pub came : List Record
-  pub left : List Record
-  pub parts : log.records ≡ reverse_aux came left
+-- this holds of the first events, and a beginning of all that is said of them all was written
+pub record Begun {E : Type 0} (v : Voice E) (done : List E → Type 0) (events : List E) (refusal : Option LogError)
+    (before after : Option (List ℕ)) : Type 0 where
+  pub came : List E
+  pub first : FirstOf events came
   pub is : done came
-  pub written : Begins (whole_text v log) before after
+  pub written : Begins (whole_text v events refusal) before after
 
--- this holds of all records of a log, which was read to its end, and a beginning of all that is said of it was written
-pub record BegunWhole (v : Voice) (done : List Record → Type 0) (log : Log) (before after : Option (List ℕ)) : Type 0 where
-  pub begun : Begun v done log before after
-  pub all : begun.left ≡ []
-  pub read : log.refusal ≡ None
+-- this holds of all events of a log that was read to its end, and a beginning of all that is said of it was written
+pub record BegunWhole {E : Type 0} (v : Voice E) (done : List E → Type 0) (events : List E) (refusal : Option LogError)
+    (before after : Option (List ℕ)) : Type 0 where
+  pub is : done events
+  pub read : refusal ≡ None
+  pub written : Begins (whole_text v events refusal) before after
 
--- What was done over a log: at its end the listener has said its last words behind all records. Where the output failed, it
--- heard the first records, or has said its last words behind all of them. Where memory was wanting, it broke off on the
--- newest of the first records, or in its last words behind all of them.
-abbrev pub Gone : Voice → (List Record → Type 0) → (List Record → Type 0) → (List Record → Type 0) → (List Record → Type 0) → Log → Ended → Option (List ℕ) → Option (List ℕ) → Type 0
-Gone v heard ended broke cut_short log end.Ok before after = (log.refusal ≡ None) × Settled v ended log before after
-Gone v heard ended broke cut_short log (end.Log line why) before after = (log.refusal ≡ Some (refusal_of line why)) × Settled v heard log before after
-Gone v heard ended broke cut_short log end.LogLong before after = (log.refusal ≡ Some error.LogLong) × Settled v heard log before after
-Gone v heard ended broke cut_short log end.ReadFault before after = Upto v heard log before after
-Gone v heard ended broke cut_short log end.WriteFault before after = Begun v heard log before after ⊎ BegunWhole v ended log before after
-Gone v heard ended broke cut_short log end.NoMemory before after = Begun v broke log before after ⊎ BegunWhole v cut_short log before after
-
--- the same over the log of an input, which is the told one where the input tells its bytes
-pub record HasGone (v : Voice) (heard ended broke cut_short : List Record → Type 0) (told : Option (List ℕ)) (how : Ended) (before after : Option (List ℕ)) : Type 0 where
-  pub bytes : List ℕ
-  pub is : IfSome told (λ (left : List ℕ). bytes ≡ left)
-  pub gone : Gone v heard ended broke cut_short (log_of v.names bytes) how before after
+-- What was done over a log with these events that ends so. At its end the listener has said its last words behind all of
+-- them. Where the output failed, it heard the first of them, or has said its last words behind all of them. Where memory
+-- was wanting, it broke off on the newest of the first of them, or in its last words behind all of them.
+abbrev pub Gone : {E : Type 0} → Voice E → Stages E → List E → Option LogError → Ended → Option (List ℕ) → Option (List ℕ) → Type 0
+Gone v s events refusal end.Ok before after =
+    (refusal ≡ None) × Settled v s.ended events refusal before after
+Gone v s events refusal (end.Log line why) before after =
+    (refusal ≡ Some (refusal_of line why)) × Settled v s.heard events refusal before after
+Gone v s events refusal end.LogLong before after =
+    (refusal ≡ Some error.LogLong) × Settled v s.heard events refusal before after
+Gone v s events refusal end.ReadFault before after = Upto v s.heard events before after
+Gone v s events refusal end.WriteFault before after =
+    Begun v s.heard events refusal before after ⊎ BegunWhole v s.ended events refusal before after
+Gone v s events refusal end.NoMemory before after =
+    Begun v s.broke events refusal before after ⊎ BegunWhole v s.cut_short events refusal before after
 
 -- how a loop ends that the log ended
 abbrev pub refused : LogError → Ended

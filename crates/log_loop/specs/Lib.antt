@@ -1,6 +1,8 @@
 pub mod Gathered
 pub mod Next
 pub mod Voice
-pub mod Taken
+pub mod Met
 pub mod Gone
+pub mod Taken
 pub mod Streamed
+pub mod Listened

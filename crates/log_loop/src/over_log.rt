@@ -32,15 +32,9 @@ pub fn listen<M: Listener, L: Source, O: Sink>(
 ) -> Ended
     requires heard { M.heard listener.old listener.old [] }
     requires fresh { (M.latest listener.old ≡ 0) × (M.count listener.old ≡ 0) }
-    ensures gone { let v = voice buses (M.step_text listener.old) (M.last_text listener.old) in
-        HasGone v (M.heard listener.old listener.new) (M.ended listener.old listener.new)
-        (M.broke listener.old listener.new) (M.cut_short listener.old listener.new)
-        (L.left input.old) result (O.written out.old) (O.written out.new) }
-    ensures taken { let v = voice buses (M.step_text listener.old) (M.last_text listener.old) in
-        result ≡ Ended.ReadFault → IsOfTaken v (M.heard listener.old listener.new)
-        (L.left input.old) (L.left input.new) (O.written out.old) (O.written out.new) }
-    ensures streamed { let v = voice buses (M.step_text listener.old) (M.last_text listener.old) in
-        IsStreamed v (M.heard listener.old listener.new) (M.ended listener.old listener.new)
+    ensures listened { let s = stages (M.heard listener.old listener.new) (M.ended listener.old listener.new)
+        (M.broke listener.old listener.new) (M.cut_short listener.old listener.new) in
+        HasListened buses (M.voice listener.old) s
         (L.left input.old) (L.left input.new) result (O.written out.old) (O.written out.new) }
     ensures read { result ≡ Ended.ReadFault → Rose (L.faults input.old) (L.faults input.new) }
     ensures write { result ≡ Ended.WriteFault → Rose (O.faults out.old) (O.faults out.new) }
@@ -68,15 +62,9 @@ fn hear_all<M: Listener, L: Source, O: Sink>(
     requires room { bytes_left reader.old ≤ 2 ^ 28 }
     requires heard { M.heard listener.old listener.old [] }
     requires fresh { (M.latest listener.old ≡ 0) × (M.count listener.old ≡ 0) }
-    ensures gone { let v = voice (buses_of reader.old) (M.step_text listener.old) (M.last_text listener.old) in
-        HasGone v (M.heard listener.old listener.new) (M.ended listener.old listener.new)
-        (M.broke listener.old listener.new) (M.cut_short listener.old listener.new)
-        (L.left input.old) result (O.written out.old) (O.written out.new) }
-    ensures taken { let v = voice (buses_of reader.old) (M.step_text listener.old) (M.last_text listener.old) in
-        result ≡ Ended.ReadFault → IsOfTaken v (M.heard listener.old listener.new)
-        (L.left input.old) (L.left input.new) (O.written out.old) (O.written out.new) }
-    ensures streamed { let v = voice (buses_of reader.old) (M.step_text listener.old) (M.last_text listener.old) in
-        IsStreamed v (M.heard listener.old listener.new) (M.ended listener.old listener.new)
+    ensures listened { let s = stages (M.heard listener.old listener.new) (M.ended listener.old listener.new)
+        (M.broke listener.old listener.new) (M.cut_short listener.old listener.new) in
+        HasListened (buses_of reader.old) (M.voice listener.old) s
         (L.left input.old) (L.left input.new) result (O.written out.old) (O.written out.new) }
     ensures read { result ≡ Ended.ReadFault → Rose (L.faults input.old) (L.faults input.new) }
     ensures write { result ≡ Ended.WriteFault → Rose (O.faults out.old) (O.faults out.new) }
