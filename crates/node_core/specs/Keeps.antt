@@ -1,4 +1,5 @@
 -- What a node keeps beside its sessions.
+use Rattle.cy_outside.specs.Files.{Files as TreeFiles}
 use Rattle.std.specs.Prelude.{◌≡◌, ◌+◌, ◌%◌, List, ◌++◌, map, Option, Some}
 use Rattle.node_plan.specs.declared.plan.Plan.{Plan}
 use Rattle.tail_frame.specs.declared.logged.Record.{Record}
@@ -6,7 +7,9 @@ use Rattle.node_core.specs.Buses.{queue_of}
 use Rattle.node_core.specs.Queues.{Sends, push_all}
 use Rattle.node_core.specs.Sending.{registers_after, registers_behind, reply_on}
 use Rattle.node_core.specs.Stands.{Stands}
-use Rattle.node_core.specs.Steps.{Step, Heard, Kept, node_lines, pushed, records}
+use Rattle.node_core.specs.Files.{is_failed}
+use Rattle.node_core.specs.Steps.{IsServedAt, Step, Heard, Kept, node_lines, pushed, records}
+use Rattle.node_core.specs.declared.file_reply.FileReply.{FileReply}
 use Rattle.node_core.specs.declared.line.Line.{Line}
 use Rattle.node_core.specs.declared.node.Node.{Node}
 use Rattle.node_core.specs.declared.question.Question.{Question}
@@ -24,13 +27,13 @@ keeps node = record {
 abbrev pub sent : Option Sends → Kept → Kept
 sent x k = record k { queues = push_all x k.queues }
 
--- the reply to a request, if there is one, by what is kept before it
-abbrev pub reply_by : Plan → Option Request → Kept → Option Sends
-reply_by plan request k = reply_on plan k.registers request
+-- the reply to a request, if there is one, by what is kept before it, and what the tree told of a file
+abbrev pub reply_by : Plan → Option Request → FileReply → Kept → Option Sends
+reply_by plan request file k = reply_on plan k.registers file request
 
 -- as if a request were answered: its reply is pushed, and the registers did what it asks
-abbrev pub answered : Plan → Option Request → Kept → Kept
-answered plan request k = record (sent (reply_by plan request k) k) {
+abbrev pub answered : Plan → Option Request → FileReply → Kept → Kept
+answered plan request file k = record (sent (reply_by plan request file k) k) {
   registers = registers_behind plan request k.registers;
 }
 
@@ -43,11 +46,26 @@ abbrev pub beaten : Sends → Kept → Kept
 beaten x k = record (sent (Some x) k) { tid = (k.tid + 1) % 32 }
 
 -- what a node keeps once it took a record
-abbrev pub KeepsOf : Record → Node → Node → Type 0
-KeepsOf rec old new = (past : List Step) → Stands old (records past)
-    → keeps new ≡ pushed old.plan (Heard rec) past (keeps old)
+abbrev pub KeepsOf : Step → Node → Node → Type 0
+KeepsOf step old new = (past : List Step) → Stands old (records past)
+    → keeps new ≡ pushed old.plan step past (keeps old)
 
--- the next record appends the lines that it gives, and those on the buses that have no room for its reply
-abbrev pub Appends : Node → Record → List Line → List Line → Type 0
-Appends node rec old new = (past : List Step) → Stands node (records past)
-    → new ≡ old ++ node_lines node.plan (Heard rec) past (keeps node)
+-- the next step appends the lines that it gives, and those on the buses that have no room for what it sends
+abbrev pub Appends : Node → Step → List Line → List Line → Type 0
+Appends node step old new = (past : List Step) → Stands node (records past)
+    → new ≡ old ++ node_lines node.plan step past (keeps node)
+
+-- what the tree did for it is what it may do
+abbrev pub IsServedBy : Option TreeFiles → Node → Step → Type 0
+IsServedBy told node step = (past : List Step) → Stands node (records past)
+    → IsServedAt told node.plan step past
+
+-- A record was taken, with what the tree told of a file: by that the node keeps what the step leaves, and the lines stand
+-- behind others.
+pub record DidStep (told : Option TreeFiles) (rec : Record) (old new : Node)
+    (lines lines_new : List Line) (failed : Bool) : Type 0 where
+  pub file : FileReply
+  pub served : IsServedBy told old (Heard rec file)
+  pub keeps_are : KeepsOf (Heard rec file) old new
+  pub appends : Appends old (Heard rec file) lines lines_new
+  pub failed_is : failed ≡ is_failed file

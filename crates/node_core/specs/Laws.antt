@@ -1,21 +1,24 @@
 -- What holds of the steps of a node, and of the frames that wait.
-use Rattle.std.specs.Prelude.{◌≡◌, ℕ, true, List, [], ◌∷◌, ◌++◌, map, Option, Some, None}
+use Rattle.std.specs.Prelude.{◌≡◌, ℕ, Bool, true, List, [], ◌∷◌, ◌++◌, map, Option, Some, None}
+use Rattle.cy_outside.specs.Files.{Files as TreeFiles}
 use Rattle.tail_frame.specs.declared.logged.Record.{Record}
 use Rattle.node_plan.specs.IsPlan.{IsPlan}
 use Rattle.node_plan.specs.Ports.{services}
 use Rattle.node_plan.specs.declared.plan.Plan.{Plan}
 use Rattle.register_service.specs.Kept.{AreKept}
 use Rattle.register_service.specs.RegisterMap.{Request as RegisterRequest, Access as RegisterAccess, Listing as RegisterListing, after}
+use Rattle.node_core.specs.Files.{is_failed}
 use Rattle.node_core.specs.Queues.{Queue, drained, leaving, waiting}
 use Rattle.node_core.specs.Sending.{may_hold}
-use Rattle.node_core.specs.Steps.{Step, all_lines, end_numbers, got, kept, lines, lines_behind, lines_on, numbers, records, request_at, steps}
+use Rattle.node_core.specs.Steps.{AreServed, Heard, IsServedAt, Met, Step, all_lines, end_numbers, got, kept, lines, lines_behind, lines_on, met_records, numbers, records, request_at, steps, without_files}
+use Rattle.node_core.specs.declared.file_reply.FileReply.{FileReply}
 use Rattle.node_core.specs.declared.question.Question.{Question}
-use Rattle.node_core.specs.declared.question.Question.TheVariants.{Info, Access, Listing}
+use Rattle.node_core.specs.declared.question.Question.TheVariants.{Access, Listing}
 use Rattle.node_core.specs.declared.request.Request.{Request}
 
 -- the records of the steps of a log are the log
 abbrev pub RecordsOfSteps : Type 0
-RecordsOfSteps = (plan : Plan) (past : List Record) → records (steps plan past) ≡ past
+RecordsOfSteps = (plan : Plan) (past : List Met) → records (steps plan past) ≡ met_records past
 
 -- the lines of steps are those of the older ones, and behind them those of the newer
 abbrev pub LinesJoin : Type 0
@@ -39,20 +42,40 @@ pub record IsMute (plan : Plan) : Type 0 where
 
 -- nothing ever waits at such a node
 abbrev pub MuteKeepNothing : Type 0
-MuteKeepNothing = (plan : Plan) (past : List Record) → IsMute plan
+MuteKeepNothing = (plan : Plan) (past : List Met) → IsMute plan
     → (kept plan (steps plan past) ≡ kept plan [])
     × (waiting (kept plan (steps plan past)).queues ≡ 0)
 
 -- and its lines are on what it receives
 abbrev pub MuteReceive : Type 0
-MuteReceive = (plan : Plan) (rec : Record) (past : List Record) → IsMute plan
-    → lines_on plan rec past ≡ got plan rec past
+MuteReceive = (plan : Plan) (m : Met) (past : List Met) → IsMute plan
+    → lines_on plan m past ≡ got plan m.rec (met_records past)
+
+-- a node that serves no files asks its tree nothing: its steps are those of the records alone
+abbrev pub NothingServed : Type 0
+NothingServed = (told : Option TreeFiles) (plan : Plan) (past : List Met) → plan.serve ≡ None
+    → AreServed told plan (steps plan past) → past ≡ without_files (met_records past)
+
+-- where the tree failed in these
+abbrev pub failures_of : List Met → List Bool
+failures_of mets = map (λ m. is_failed m.file) mets
+
+-- where a tree tells its files, what it told in a log is decided by them and by where it failed
+abbrev pub ServedOnce : Type 0
+ServedOnce = (files : TreeFiles) (plan : Plan) (a b : List Met)
+    → met_records a ≡ met_records b → failures_of a ≡ failures_of b
+    → AreServed (Some files) plan (steps plan a) → AreServed (Some files) plan (steps plan b) → a ≡ b
+
+-- whatever is asked behind a log, there is something that the tree may tell
+abbrev pub SomethingServed : Type 0
+SomethingServed = (told : Option TreeFiles) (plan : Plan) (rec : Record) (past : List Step)
+    → (file : FileReply) × IsServedAt told plan (Heard rec file) past
 
 -- what a request asks of the registers, if anything
 abbrev pub asks_of : Question → List RegisterRequest
-asks_of Info = []
 asks_of (Access request) = RegisterAccess request.name request.value ∷ []
 asks_of (Listing request) = RegisterListing request.index ∷ []
+asks_of other = []
 
 abbrev pub asked_by : Option Request → List RegisterRequest
 asked_by None = []

@@ -1,5 +1,6 @@
 pub mod Buses
 pub mod Came
+pub mod Files
 pub mod Heard
 pub mod Held
 pub mod InTime

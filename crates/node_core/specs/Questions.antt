@@ -2,10 +2,11 @@
 use Rattle.std.specs.Prelude.{ℕ, ◌==◌, if◌then◌else◌, List, Option, Some, None, option_map}
 use Rattle.dsdl_types.specs.Values.{Val}
 use Rattle.serdes.specs.Payloads.{payload_value}
+use Rattle.std_types.specs.Files.{FitsFileListRequest, FitsInfoRequest, FitsReadRequest, file_list_request_of, info_request_of, read_request_of}
 use Rattle.std_types.specs.Registers.{FitsAccessRequest, FitsListRequest, access_request_of, list_request_of}
-use Rattle.std_types.specs.Schemas.{access_request, list_request}
+use Rattle.std_types.specs.Schemas.{access_request, file_list_request, info_request, list_request, read_request}
 use Rattle.node_core.specs.declared.question.Question.{Question}
-use Rattle.node_core.specs.declared.question.Question.TheVariants.{Info, Access, Listing}
+use Rattle.node_core.specs.declared.question.Question.TheVariants.{Info, Access, Listing, FileInfo, FileName, FileBytes, Unsupported}
 
 -- an access to a register, and a listing, by the value of the request
 abbrev pub access_of : Val → Question
@@ -14,17 +15,41 @@ access_of v = Access (access_request_of v)
 abbrev pub listing_of : Val → Question
 listing_of v = Listing (list_request_of v)
 
--- what a request of a service asks, where the node answers it: information on the node, a register's value, or the
--- name of a register; a request that can't be read asks nothing
+-- what stands at a path, a name of a folder, and bytes of a file, by the value of the request
+abbrev pub file_info_of : Val → Question
+file_info_of v = FileInfo (info_request_of v)
+
+abbrev pub file_name_of : Val → Question
+file_name_of v = FileName (file_list_request_of v)
+
+abbrev pub file_bytes_of : Val → Question
+file_bytes_of v = FileBytes (read_request_of v)
+
+-- what a request of a file service asks; nothing that is served is changed
+abbrev pub file_question_in : ℕ → List ℕ → Option Question
+file_question_in service payload =
+    if service == 405 then option_map file_info_of (payload_value info_request payload)
+    else (if service == 406 then option_map file_name_of (payload_value file_list_request payload)
+    else (if service == 407 then Some Unsupported
+    else (if service == 408 then option_map file_bytes_of (payload_value read_request payload)
+    else (if service == 409 then Some Unsupported
+    else None))))
+
+-- what a request of a service asks, where the node answers it: information on the node, a register's value, the
+-- name of a register, or something of a file; a request that can't be read asks nothing
 abbrev pub question_in : ℕ → List ℕ → Option Question
 question_in service payload =
     if service == 430 then Some Info
     else (if service == 384 then option_map access_of (payload_value access_request payload)
     else (if service == 385 then option_map listing_of (payload_value list_request payload)
-    else None))
+    else file_question_in service payload))
 
 -- what is asked is a value of the request's type
 abbrev pub FitsQuestion : Question → Type 0
 FitsQuestion Info = Unit {0}
 FitsQuestion (Access request) = FitsAccessRequest request
 FitsQuestion (Listing request) = FitsListRequest request
+FitsQuestion (FileInfo request) = FitsInfoRequest request
+FitsQuestion (FileName request) = FitsFileListRequest request
+FitsQuestion (FileBytes request) = FitsReadRequest request
+FitsQuestion Unsupported = Unit {0}

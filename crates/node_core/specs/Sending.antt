@@ -1,5 +1,5 @@
 -- What a node sends: its heartbeat each second, and the replies to requests (Cyphal Specification, section 5.3).
-use Rattle.std.specs.Prelude.{◌≢◌, ◌<◌, ℕ, Bool, true, false, List, Option, Some, None, option_map}
+use Rattle.std.specs.Prelude.{◌≢◌, ◌<◌, ℕ, Bool, true, false, List, [], ◌∷◌, Option, Some, None, option_map}
 use Rattle.can_id.specs.Identifiers.{bits}
 use Rattle.can_id.specs.declared.ident.Ident.{Ident}
 use Rattle.can_id.specs.declared.ident.Ident.TheVariants.{Message, Anonymous, Service}
@@ -13,10 +13,12 @@ use Rattle.std_types.specs.Registers.{access_reply_value, list_reply_value}
 use Rattle.std_types.specs.Schemas.{access_reply, list_reply}
 use Rattle.std_types.specs.declared.register_value.RegisterValue.{RegisterValue}
 use Rattle.std_types.specs.declared.registers.Register.{Register}
+use Rattle.node_core.specs.Files.{file_payload}
 use Rattle.node_core.specs.Questions.{FitsQuestion, question_in}
 use Rattle.node_core.specs.Queues.{Sends}
+use Rattle.node_core.specs.declared.file_reply.FileReply.{FileReply}
 use Rattle.node_core.specs.declared.question.Question.{Question}
-use Rattle.node_core.specs.declared.question.Question.TheVariants.{Info, Access, Listing}
+use Rattle.node_core.specs.declared.question.Question.TheVariants.{Info, Access, Listing, FileInfo, FileName, FileBytes, Unsupported}
 use Rattle.node_core.specs.declared.request.Request.{Request}
 
 -- the heartbeat of a tick, with a transfer-ID
@@ -64,20 +66,27 @@ request_of payload f = request_with f.tail.tid f.ident payload
 abbrev pub may_hold : Plan → ℕ → RegisterValue → Bool
 may_hold plan = is_allowed (limits_of plan.registers)
 
--- the payload of the answer to a question, by what the registers hold before it
-abbrev pub answer_to : Plan → List Register → Question → List ℕ
-answer_to plan registers Info = info_payload plan.info
-answer_to plan registers (Access request) =
+-- the payload of a refusal: what is asked is not supported, the code 38 of `uavcan.file.Error`
+abbrev pub unsupported : List ℕ
+unsupported = 38 ∷ 0 ∷ []
+
+-- the payload of the answer to a question, by what the registers hold before it, and what the tree told of a file
+abbrev pub answer_to : Plan → List Register → FileReply → Question → List ℕ
+answer_to plan registers file Info = info_payload plan.info
+answer_to plan registers file (Access request) =
     encoding access_reply (access_reply_value (accessed (may_hold plan) registers request.name request.value))
-answer_to plan registers (Listing request) =
+answer_to plan registers file (Listing request) =
     encoding list_reply (list_reply_value (listed registers request.index))
+answer_to plan registers file (FileInfo request) = file_payload file
+answer_to plan registers file (FileName request) = file_payload file
+answer_to plan registers file (FileBytes request) = file_payload file
+answer_to plan registers file Unsupported = unsupported
 
 -- what the registers hold behind a question
 abbrev pub registers_after : Plan → List Register → Question → List Register
-registers_after plan registers Info = registers
 registers_after plan registers (Access request) =
     after_access (may_hold plan) registers request.name request.value
-registers_after plan registers (Listing request) = registers
+registers_after plan registers other = registers
 
 -- what they hold behind a request, if there is one
 abbrev pub registers_behind : Plan → Option Request → List Register → List Register
@@ -93,9 +102,9 @@ reply_with plan r payload = record {
   payload = payload;
 }
 
-abbrev pub reply_to : Plan → List Register → Request → Sends
-reply_to plan registers r = reply_with plan r (answer_to plan registers r.question)
+abbrev pub reply_to : Plan → List Register → FileReply → Request → Sends
+reply_to plan registers file r = reply_with plan r (answer_to plan registers file r.question)
 
 -- the reply to a request, if there is one
-abbrev pub reply_on : Plan → List Register → Option Request → Option Sends
-reply_on plan registers request = option_map (reply_to plan registers) request
+abbrev pub reply_on : Plan → List Register → FileReply → Option Request → Option Sends
+reply_on plan registers file request = option_map (reply_to plan registers file) request

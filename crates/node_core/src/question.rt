@@ -8,6 +8,7 @@ ghost use Rattle.std_types.specs.Types.{schema_of};
 use cy_bits::NoMemory;
 use serdes::payload_value;
 use std::alloc::Global;
+use std_types::file::{FileListRequest, InfoRequest, ReadRequest};
 use std_types::register::{AccessRequest, ListRequest};
 use std_types::{Standard, StdName, std_type};
 
@@ -30,6 +31,14 @@ pub enum Question {
     Access(AccessRequest),
     /// The name of the register with a number.
     Listing(ListRequest),
+    /// What stands at a path below the served folder.
+    FileInfo(InfoRequest),
+    /// A name of a folder below it.
+    FileName(FileListRequest),
+    /// Bytes of a file below it.
+    FileBytes(ReadRequest),
+    /// A change of a file: it is answered that this isn't supported.
+    Unsupported,
 }
 
 impl Question {
