@@ -5,32 +5,42 @@ use Rattle.node_core.specs.Keeps.{answered, keeps, reply_by}
 use Rattle.node_core.specs.LineSinks.{BeginsList}
 use Rattle.node_core.specs.Queues.{fulls, leaving}
 use Rattle.node_core.specs.Steps.{Kept, left}
+use Rattle.node_core.specs.declared.file_reply.FileReply.{FileReply}
 use Rattle.node_core.specs.declared.line.Line.{Line}
 use Rattle.node_core.specs.declared.request.Request.{Request}
 use Rattle.node_run.specs.Goes.{State, with_sent}
 use Rattle.node_run.specs.Tells.{HasTold}
 
+-- a request, if there is one, and what the tree told of a file for it
+pub record Asked : Type 0 where
+  pub request : Option Request
+  pub file : FileReply
+
+abbrev pub asked : Option Request → FileReply → Asked
+asked request file = record { request = request; file = file }
+
 -- the lines on the frames that leave behind a request, if there is one, once it was answered
-abbrev pub frames_behind : Plan → ℕ → Option Request → Kept → List Line
-frames_behind plan moment request k = leaving moment (answered plan request k).queues
+abbrev pub frames_behind : Plan → ℕ → Asked → Kept → List Line
+frames_behind plan moment asked k = leaving moment (answered plan asked.request asked.file k).queues
 
 -- and before them those on the buses that have no room for its reply
-abbrev pub following : Plan → ℕ → Option Request → Kept → List Line
-following plan moment request k =
-    fulls moment (reply_by plan request k) k.queues ++ frames_behind plan moment request k
+abbrev pub following : Plan → ℕ → Asked → Kept → List Line
+following plan moment asked k =
+    fulls moment (reply_by plan asked.request asked.file k) k.queues
+    ++ frames_behind plan moment asked k
 
 -- a request, if there is one, was answered at a moment, and frames left behind it: the lines on that
 -- are told, and the frames are counted
-pub record Follows (request : Option Request) (moment : ℕ) (old new : State)
+pub record Follows (asked : Asked) (moment : ℕ) (old new : State)
     (before after : List ℕ) : Type 0 where
-  pub keeps_are : keeps new.node ≡ left (answered old.node.plan request (keeps old.node))
-  pub told : let due = following old.node.plan moment request (keeps old.node) in
+  pub keeps_are : keeps new.node ≡ left (answered old.node.plan asked.request asked.file (keeps old.node))
+  pub told : let due = following old.node.plan moment asked (keeps old.node) in
       HasTold old.buses due before after old.told new.told
-  pub counted : let sent = frames_behind old.node.plan moment request (keeps old.node) in
+  pub counted : let sent = frames_behind old.node.plan moment asked (keeps old.node) in
       new.numbers ≡ with_sent old.numbers (length sent)
 
 -- it broke off: the first of its lines were told, and nothing is counted
-pub record FollowsInPart (request : Option Request) (moment : ℕ) (old new : State) : Type 0 where
-  pub told : let due = following old.node.plan moment request (keeps old.node) in
+pub record FollowsInPart (asked : Asked) (moment : ℕ) (old new : State) : Type 0 where
+  pub told : let due = following old.node.plan moment asked (keeps old.node) in
       BeginsList due old.told new.told
   pub uncounted : new.numbers ≡ old.numbers

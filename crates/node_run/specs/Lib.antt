@@ -8,8 +8,10 @@ pub mod Layouts
 pub mod Leaves
 pub mod Loaded
 pub mod NamedTypes
+pub mod Failures
 pub mod Ran
 pub mod Streamed
 pub mod Taken
 pub mod Tells
 pub mod ValueLines
+pub mod HasRun
