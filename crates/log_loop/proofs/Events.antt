@@ -56,4 +56,5 @@ followed v comes past may (rec ∷ records) =
 -- none follow, where there are no such records
 pub followed_none : {E : Type 0} (v : Voice E) (comes : (rec : Record) (past : List E) → Comes v rec past) (past : List E) (may : MayCome v past) (records : List Record) → records ≡ []
     → (followed v comes past may records).newer ++ past ≡ past
+unfolding followed
 followed_none v comes past may records e = ap (λ (r : List Record). (followed v comes past may r).newer ++ past) e

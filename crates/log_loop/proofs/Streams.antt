@@ -259,10 +259,10 @@ module _ {E : Type 0} (names : List (List ℕ)) (v : Voice E) (told left next_le
   }
     where
       used_next : saw_end old ≡ false → saw_end new ≡ false → Used names (s.taken ++ c.came) new (rec ∷ records)
-      used_next was open =
+      used_next was still_open =
           let u = s.used was in
           let p = used_of (Ok (Some rec)) s c was in
-          let gives = subst (λ (b : List (List ℕ)). Gives b p.at p.behind rec (place_of new) (held_of new)) (buses ∙ s.buses) (p.there open) in
+          let gives = subst (λ (b : List (List ℕ)). Gives b p.at p.behind rec (place_of new) (held_of new)) (buses ∙ s.buses) (p.there still_open) in
           let first = u.used ++ p.passes.skipped in
           let line = gives.line ++ 10 ∷ [] in record {
             used = first ++ line;
