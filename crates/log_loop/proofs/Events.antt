@@ -28,12 +28,15 @@ pub record Oldest {E : Type 0} (v : Voice E) (past : List E) (records : List Rec
   pub parts : past ≡ newer ++ came
   pub records_are : map v.record_of came ≡ records
 
+-- also before a newer one
+older : {E : Type 0} (v : Voice E) (past : List E) (records : List Record) (event : E) → Oldest v past records → Oldest v (event ∷ past) records
+older v past records event o = record { newer = event ∷ o.newer; came = o.came; parts = ap (λ t. event ∷ t) o.parts; records_are = o.records_are }
+
 pub oldest : {E : Type 0} (v : Voice E) (past : List E) (newer records : List Record) → map v.record_of past ≡ newer ++ records → Oldest v past records
 oldest v past [] records e = record { newer = []; came = past; parts = refl; records_are = e }
 oldest v [] (rec ∷ newer) records e = absurd cc
 oldest v (event ∷ past) (rec ∷ newer) records e =
-    let tails : map v.record_of past ≡ newer ++ records = cc in
-    let i = oldest v past newer records tails in record { newer = event ∷ i.newer; came = i.came; parts = ap (λ t. event ∷ t) i.parts; records_are = i.records_are }
+    let tails : map v.record_of past ≡ newer ++ records = cc in older v past records event (oldest v past newer records tails)
 
 -- events of records that follow may come behind those that came
 pub record Followed {E : Type 0} (v : Voice E) (past : List E) (records : List Record) : Type 0 where

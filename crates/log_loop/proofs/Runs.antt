@@ -5,7 +5,6 @@ use mathlib.Core.List.{reverse_aux}
 use Rattle.tail_frame.specs.declared.logged.Record.{Record}
 use Rattle.cy_outside.specs.Written.{behind, Begins}
 use Rattle.frame_log.specs.Log.{Log, ended as ended_by, log_of, start}
-use Rattle.frame_log.specs.Input.{IsAtEnd}
 use Rattle.frame_log.specs.Order.{IsAhead, IsFit}
 use Rattle.frame_log.specs.Line.{cut}
 use Rattle.frame_log.specs.Reader.{buses_of, bytes_left, held_of, place_of, saw_end, log_behind}
@@ -18,14 +17,14 @@ use Rattle.log_loop.specs.Taken.{whole_records, IsOfTaken}
 use Rattle.log_loop.specs.declared.next.Stop.{Stop}
 use Rattle.log_loop.specs.declared.next.Stop.TheVariants as stop
 use Rattle.log_loop.proofs.Events.{said_first}
-use Rattle.log_loop.proofs.Logs.{onto, newest_onto, latest_of, line_of, ahead_in, all_in}
-use Rattle.log_loop.proofs.Written.{begins_more, begins_front, begins_gathered, begins_end, gathered_end, gathered_less, gathered_more, all_written}
+use Rattle.log_loop.proofs.Logs.{newest_onto, latest_of, line_of, ahead_in, all_in}
+use Rattle.log_loop.proofs.Written.{begins_more, begins_front, begins_end, gathered_end, gathered_less, gathered_more, all_written}
 use Rattle.log_loop.proofs.Taken.{fill, plain_fill, length_fill, plain_cut, records_whole, none_behind}
-use Rattle.log_loop.proofs.Came.{took_more, log_after, Reads, Has, HasNext, has_log, has_next}
+use Rattle.log_loop.proofs.Came.{took_more, log_after, Reads, HasNext}
 use Rattle.log_loop.specs.declared.ended.Ended.{Ended}
 use Rattle.log_loop.specs.declared.ended.Ended.TheVariants as end
 use Rattle.log_loop.specs.Voice.{Voice, said, end_part, whole_text}
-use Rattle.log_loop.specs.Gone.{FirstOf, Stages, Settled, Upto, Begun, BegunWhole, Gone, IsFinish, refused, stopped}
+use Rattle.log_loop.specs.Gone.{FirstOf, Stages, Settled, Begun, BegunWhole, Gone, IsFinish, refused, stopped}
 
 module _ {E : Type 0} (v : Voice E) (past : List E) (before after : Option (List ℕ)) where
   -- a beginning of what was said is one of all that will be
@@ -64,9 +63,11 @@ module _ {E : Type 0} (names : List (List ℕ)) (v : Voice E) (s : Stages E) (to
       → (events : List E) → (h.behind.records ≡ [] → events ≡ past) → (h.behind.refusal ≡ Some e) × Settled v s.heard events h.behind.refusal before after
   gone_refused e h differs k w events all =
       let is : h.behind ≡ ended_by (Some e) = elim h.next [ inl x ↦ x | inr x ↦ absurd (differs x.0) ] in
-      let refusal : h.behind.refusal ≡ Some e = ap (λ (l : Log). l.refusal) is in
-      (refusal, subst (λ (r : Option LogError). Settled v s.heard events r before after) (sym refusal)
-      (settled v past before after s.heard events (Some e) (all (ap (λ (l : Log). l.records) is)) k (w ∙ ap (behind before) (sym (append-nil (said v past))))))
+      let refusal : h.behind.refusal ≡ Some e = ap (λ (l : Log). l.refusal) is in (
+        refusal,
+        subst (λ (r : Option LogError). Settled v s.heard events r before after) (sym refusal)
+            (settled v past before after s.heard events (Some e) (all (ap (λ (l : Log). l.records) is)) k (w ∙ ap (behind before) (sym (append-nil (said v past))))),
+      )
 
   pub has_refused : (e : LogError) → (h : HasNext names told (map v.record_of past) (Err e)) → s.heard past → after ≡ behind before (said v past) → HasGone v s past h.behind (refused e) before after
   has_refused (error.BadLine n) h k w events first all = gone_refused (error.BadLine n) h (λ e. cc) k w events all

@@ -15,10 +15,9 @@ use Rattle.frame_log.proofs.LogLemmas.{Took-none}
 use Rattle.frame_log.proofs.UsedLemmas.{lines_of-whole, lines_of-one, cut-parts}
 use Rattle.log_loop.specs.Gathered.{Gathered}
 use Rattle.log_loop.specs.Next.{Goes, Comes, ComesBehind, Writes}
-use Rattle.log_loop.specs.Taken.{whole_records, AreOfBytes}
+use Rattle.log_loop.specs.Taken.{whole_records}
 use Rattle.log_loop.specs.declared.next.Stop.{Stop}
 use Rattle.log_loop.specs.declared.next.Stop.TheVariants as stop
-use Rattle.frame_log.specs.declared.error.LogError.TheVariants as error
 use Rattle.log_loop.proofs.Came.{took_more}
 use Rattle.log_loop.proofs.Events.{first_of, oldest, said_first}
 use Rattle.log_loop.proofs.Logs.{onto, newest_onto}

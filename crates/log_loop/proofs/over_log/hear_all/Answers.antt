@@ -1,4 +1,4 @@
-use Rattle.std.proofs.Common.{◌≡◌, ◌≤◌, ◌∷◌, ℕ, List, [], map, refl, sym, ap, Err, subst, ◌∙◌, arith}
+use Rattle.std.proofs.Common.{◌≤◌, ◌∷◌, ℕ, List, [], map, refl, sym, ap, Err, subst, ◌∙◌, arith}
 use Rattle.tail_frame.specs.declared.logged.Record.{Record}
 use Rattle.frame_log.specs.Reader.{buses_of}
 use Rattle.line_text.specs.Buffer.{text_of}
