@@ -82,7 +82,8 @@ impl Served<'_> {
         ensures fits { IfOk result (λ done. HoldsBytes 255 done.name) }
         ensures cause { IfOk result (λ done.
             TellsFault done.failed (T.faults tree.old) (T.faults tree.new)) }
-        ensures unasked { place_of self.now.root.now path.now ≡ Place.Invalid → tree.new ≡ tree.old }
+        ensures unasked { place_of self.now.root.now path.now ≡ Place.Invalid
+            → tree.new ≡ tree.old }
         ensures memory { OnErr result (T.faults tree.new ≡ T.faults tree.old) }
         ensures count { T.faults tree.old ≤ T.faults tree.new }
     {
