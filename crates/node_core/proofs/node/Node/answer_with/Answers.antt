@@ -21,7 +21,7 @@ returns-in-Access-clause-keeps c =
     let request = c.in-Access.field-0 in
     let allowed = is_allowed (limits_of node.registers) in
     on_ok _ c.encoded.result (access_left node.plan request c.args.question c.in-Access.is (keeps node) c.access.new.self node.limits
-    (c.in_ok-reply-in-Access.ensures.left ∙ ap (λ (name : List ℕ). after_access allowed node.registers name request.value) c.as_slice.ensures))
+    (c.in_ok-reply-in-Access.ensures.left ∙ ap (λ (name : List ℕ). after_access allowed node.registers name request.value) c.as_slice-in-Access.ensures))
 
 pub returns-in-Access-clause-payload : goal.returns-in-Access-clause-payload
 returns-in-Access-clause-payload c =
@@ -30,5 +30,5 @@ returns-in-Access-clause-payload c =
     let allowed = is_allowed (limits_of node.registers) in
     subst (λ (b : List ℕ). IfOk c.encoded.result (λ n. take n c.encoded.new.out ≡ b))
     (access_answer node.plan request c.args.question c.in-Access.is node.registers c.args.file.now c.in_ok-reply-in-Access.reply node.limits
-    (c.in_ok-reply-in-Access.ensures.reply ∙ ap (λ (name : List ℕ). access_reply allowed node.registers name request.value) c.as_slice.ensures))
+    (c.in_ok-reply-in-Access.ensures.reply ∙ ap (λ (name : List ℕ). access_reply allowed node.registers name request.value) c.as_slice-in-Access.ensures))
     c.encoded.ensures.payload
