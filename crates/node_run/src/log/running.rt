@@ -124,7 +124,7 @@ impl<'a, K: LineSink, T: Tree> Running<'a, K, T> {
         let came = self.node.step(rec)?;
         if came.heard.is_none() {
             let seen = Seen::of(None, came.badcrc);
-            self.follow(rec, None, gathered)?;
+            self.leave(rec, gathered)?;
             self.tally.count(seen, self.node.held());
             return Ok(());
         }
@@ -137,8 +137,7 @@ impl<'a, K: LineSink, T: Tree> Running<'a, K, T> {
         Ok(())
     }
 
-    /// Answers the request of a record, if there is one, and lets frames leave behind it. A node that
-    /// has nothing to send does nothing.
+    /// Answers the request of a record, if there is one, and lets frames leave behind it.
     #[inline(always)]
     fn follow(
         &mut self,
@@ -158,18 +157,37 @@ impl<'a, K: LineSink, T: Tree> Running<'a, K, T> {
             OnErr result (BrokeFollowing (T.files self.old.tree.now) rec.now request
             (state_in K.lines self.old) (state_in K.lines self.new) f) }
     {
-        // The number of frames that were sent is one of 64 bits.
-        let _sent = self.tally.numbers.sent;
-        match request {
-            Some(request) => self.answer(rec, request, gathered),
-            None if self.node.waiting() == 0 => Ok(()),
-            None => self.leave(rec, gathered),
-        }
+        let Some(request) = request else {
+            return self.leave(rec, gathered);
+        };
+        self.answer(rec, request, gathered)
     }
 
-    /// The same, where nothing was asked and frames wait.
-    #[inline(never)]
+    /// Lets frames leave behind a record that asked nothing. Where none wait, nothing is done.
+    #[inline(always)]
     fn leave(&mut self, rec: &Record, gathered: &mut TextBuffer) -> Result<(), NoMemory>
+        ensures same { IsSameRun T.files self.old self.new }
+        ensures last { let qs = (keeps self.new.node.now).queues in
+            OnOk result (IsLast rec.now.moment qs self.new.clock.last) }
+        ensures ok { let f = failures_in K.failed T.faults self.old self.new in
+            OnOk result (HasFollowed (T.files self.old.tree.now) rec.now None
+            (state_in K.lines self.old) (state_in K.lines self.new)
+            (text_of gathered.old) (text_of gathered.new) f) }
+        ensures err { let f = failures_in K.failed T.faults self.old self.new in
+            OnErr result (BrokeFollowing (T.files self.old.tree.now) rec.now None
+            (state_in K.lines self.old) (state_in K.lines self.new) f) }
+    {
+        // The number of frames that were sent is one of 64 bits.
+        let _sent = self.tally.numbers.sent;
+        if self.node.waiting() == 0 {
+            return Ok(());
+        }
+        self.leave_some(rec, gathered)
+    }
+
+    /// The same, where some wait.
+    #[inline(never)]
+    fn leave_some(&mut self, rec: &Record, gathered: &mut TextBuffer) -> Result<(), NoMemory>
         ensures same { IsSameRun T.files self.old self.new }
         ensures last { OnOk result (self.new.clock.last ≡ rec.now.moment) }
         ensures ok { let f = failures_in K.failed T.faults self.old self.new in
@@ -187,8 +205,8 @@ impl<'a, K: LineSink, T: Tree> Running<'a, K, T> {
         Ok(())
     }
 
-    /// The same, where something was asked. What the tree told of a file goes no further than the
-    /// reply; where it failed, the record's line is told.
+    /// Answers the request of a record, and lets frames leave behind it. Where the tree failed, the
+    /// record's line is told.
     #[inline(never)]
     fn answer(
         &mut self,
