@@ -14,6 +14,7 @@ use dsdl_types::Namespace;
 use log_gen::laws::explained_and_read;
 use log_gen::transfers::transfers;
 use log_gen::{PLAN, log_bytes};
+use node_core::laws::nothing_served;
 use node_core::{NoLines, Numbers};
 use node_plan::laws::{one_plan, plain_plans};
 use node_plan::{Plan, PlanError, read_plan};
@@ -43,6 +44,7 @@ fn numbers_of(alloc: Global, number: u32) -> Result<Numbers, NoMemory>
     ensures { IfOk result (λ numbers. numbers ≡ generated_numbers number) }
 {
     explained_and_read(number);
+    nothing_served();
     let plan = plan_of_all(alloc)?;
     let log = log_bytes(alloc, number)?;
     let mut input = NeverSource::new(log.as_slice());
