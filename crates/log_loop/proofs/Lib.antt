@@ -5,5 +5,6 @@ pub mod Events
 pub mod Taken
 pub mod Comes
 pub mod Streams
+pub mod Plain
 pub mod Runs
 pub mod Listened
