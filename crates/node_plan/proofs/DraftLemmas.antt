@@ -46,6 +46,7 @@ IsDraft-bus d bus h fits few new = record {
   few_registers = h.few_registers;
   registers = h.registers;
   register_names = h.register_names;
+  serve = h.serve;
   queue = h.queue;
 }
 
@@ -74,6 +75,7 @@ IsDraft-register d r h fits few new = record {
   registers = All-push IsRegister d.registers r h.registers fits;
   register_names = all_pairs_push Apart d.registers r h.register_names
       (λ k x l. other_name (get_or d.registers k x).name r.name (fails_at (λ x. bytes_eq x.name r.name) d.registers new k x l));
+  serve = h.serve;
   queue = h.queue;
 }
 
@@ -131,6 +133,7 @@ IsDraft-limits d place limits r h e can =
       few_registers = subst (λ n. n ≤ 256) (sym (set_length d.registers place new)) h.few_registers;
       registers = All-set IsRegister d.registers place new fits h.registers;
       register_names = set_apart d.registers place r new e refl h.register_names;
+      serve = h.serve;
       queue = h.queue;
     }
 
@@ -200,6 +203,7 @@ IsPlan-with d node h low some =
       few_registers = h.few_registers;
       registers = h.registers;
       register_names = h.register_names;
+      serve = h.serve;
       some_place = queue.0;
       few_places = queue.1;
     }

@@ -11,7 +11,7 @@ use Rattle.node_plan.specs.declared.line.Said.TheVariants as said
 use Rattle.node_plan.specs.declared.plan.BusPlan.{BusPlan}
 use Rattle.node_plan.specs.declared.words.Number.TheVariants as number
 use Rattle.node_plan.specs.Draft.{step}
-use Rattle.node_plan.specs.Line.{RegisterText, Says, SaysEither, register_in, said_of, said_of_bus, said_of_clients, said_of_four, said_of_limits, said_of_node, said_of_queue, said_of_status, said_of_timeout, said_of_two, said_of_type, said_of_words}
+use Rattle.node_plan.specs.Line.{RegisterText, Says, SaysEither, register_in, said_of, said_of_bus, said_of_clients, said_of_four, said_of_limits, said_of_node, said_of_queue, said_of_serve, said_of_status, said_of_timeout, said_of_two, said_of_type, said_of_words}
 use Rattle.node_plan.specs.Migrate.{migrated_line, migrated_two, migrated_words, numbers_text}
 use Rattle.node_plan.specs.Words.{joined, mtu_in, number_in, parts_of, whole_in, words_of}
 use Rattle.node_plan.proofs.DecimalLemmas.{AreNumbers}
@@ -107,6 +107,9 @@ module _ (names : Namespace) (m r : ℕ) (numbers : AreNumbers m r) (d new : Dra
     of_queue : Goes (codes "queue")
     of_queue e h = stays (b ∷ s) (said_of_queue (number_in 1 4096 value)) (says (codes "queue") e) (tables.of_queue (Plain false) AnyShape (plain false) (number_in 1 4096 value)) h
 
+    of_serve : Goes (codes "serve")
+    of_serve e h = stays (b ∷ s) (said_of_serve value) (says (codes "serve") e) (tables.of_serve (Plain false) AnyShape (plain false) value) h
+
     of_mtu : Goes (codes "mtu")
     of_mtu e h =
         let g = mtu_step m r d new first (mtu_in value) h in
@@ -167,16 +170,19 @@ module _ (names : Namespace) (m r : ℕ) (numbers : AreNumbers m r) (d new : Dra
                               | inr not_queue ↦
                                   elim (word_case word (codes "bus")) [
                                     | inl e ↦ at word (codes "bus") e of_bus
-                                    | inr not_bus ↦
-                                        elim (word_case word (codes "mtu")) [
-                                          | inl e ↦ at word (codes "mtu") e of_mtu
-                                          | inr not_mtu ↦
-                                              elim (word_case word (codes "rate")) [
-                                                | inl e ↦ at word (codes "rate") e of_rate
-                                                | inr not_rate ↦
-                                                    λ e h. absurd (none word not_plan not_node not_timeout not_clients not_queue not_bus not_mtu not_rate h)
-                                              ]
-                                        ]
+                                    | inr not_bus ↦ elim (word_case word (codes "serve")) [
+                                      | inl e ↦ at word (codes "serve") e of_serve
+                                      | inr not_serve ↦
+                                          elim (word_case word (codes "mtu")) [
+                                            | inl e ↦ at word (codes "mtu") e of_mtu
+                                            | inr not_mtu ↦
+                                                elim (word_case word (codes "rate")) [
+                                                  | inl e ↦ at word (codes "rate") e of_rate
+                                                  | inr not_rate ↦
+                                                      λ e h. absurd (none word not_plan not_node not_timeout not_clients not_queue not_bus not_mtu not_rate not_serve h)
+                                                ]
+                                          ]
+                                    ]
                                   ]
                             ]
                       ]
@@ -185,10 +191,10 @@ module _ (names : Namespace) (m r : ℕ) (numbers : AreNumbers m r) (d new : Dra
     ]
       where
         none : (word : List ℕ) → bytes_eq word (codes "plan") ≡ false → bytes_eq word (codes "node") ≡ false → bytes_eq word (codes "timeout") ≡ false → bytes_eq word (codes "clients") ≡ false
-            → bytes_eq word (codes "queue") ≡ false → bytes_eq word (codes "bus") ≡ false → bytes_eq word (codes "mtu") ≡ false → bytes_eq word (codes "rate") ≡ false
+            → bytes_eq word (codes "queue") ≡ false → bytes_eq word (codes "bus") ≡ false → bytes_eq word (codes "mtu") ≡ false → bytes_eq word (codes "rate") ≡ false → bytes_eq word (codes "serve") ≡ false
             → step d (said_of_two false word value) ≡ Ok new → ⊥
-        none word p n t c q b m r h =
-            let e : said_of_two false word value ≡ said.NoForm = rw (p, n, t, c, q, b, m, r) in
+        none word p n t c q b m r v h =
+            let e : said_of_two false word value ≡ said.NoForm = rw (v, p, n, t, c, q, b, m, r) in
             let g : Err _ ≡ Ok new = sym (ap (step d) e) ∙ h in cc
 
   -- ---- all lines

@@ -32,6 +32,7 @@ two_of m r d = record {
   status = d.status;
   info = d.info;
   registers = d.registers;
+  serve = d.serve;
   queue = d.queue;
 }
 
@@ -108,6 +109,8 @@ plain_step m r d new v (said.Register s) p h =
     within_two m r (nat_le 256 (length d.registers)) (has_register s.name d.registers) d (record d { registers = d.registers ++ s ∷ [] }) new (record { version = refl; buses = refl })
     (behind (is_some d.version) (with_line d (said.Register s)) new (ap is_some v) h)
 plain_step m r d new v (said.Limits name limits) p h = absurd cc
+plain_step m r d new v (said.Serve path) p h =
+    once_two m r (is_some d.serve) d (record d { serve = Some path }) new (record { version = refl; buses = refl }) (behind (is_some d.version) (with_line d (said.Serve path)) new (ap is_some v) h)
 
 -- ---- `plan N` behind the line of the version
 

@@ -6,10 +6,10 @@ use Rattle.dsdl_types.specs.declared.namespace.Namespace.{Namespace}
 use Rattle.node_plan.specs.declared.line.Said.{Said}
 use Rattle.node_plan.specs.declared.line.Said.TheVariants as said
 use Rattle.node_plan.specs.declared.plan.SubShape.{SubShape}
-use Rattle.node_plan.specs.Line.{said_of_all, said_of_clients, said_of_four, said_of_node, said_of_queue, said_of_timeout, said_of_two, said_of_version, RegisterText, SaysEither}
+use Rattle.node_plan.specs.Line.{said_of_all, said_of_clients, said_of_four, said_of_node, said_of_queue, said_of_serve, said_of_timeout, said_of_two, said_of_value, said_of_version, RegisterText, SaysEither}
 use Rattle.node_plan.specs.Types.{shape_named}
 use Rattle.node_plan.specs.Words.{number_in}
-use Rattle.node_plan.proofs.SaidTables.{Holds, HoldsOfBuses, of_all, of_four, of_register, of_value}
+use Rattle.node_plan.proofs.SaidTables.{Holds, HoldsOfBuses, both, of_all, of_four, of_register, of_serve, of_value}
 
 -- what is said is neither a version nor nothing, and says something of buses or limits only where `buses` is true
 abbrev pub Plain : Bool → Said → Type 0
@@ -45,6 +45,7 @@ plain buses = record {
   info = λ i. tt;
   queue = λ n. tt;
   register = λ r. tt;
+  serve = λ p. tt;
 }
 
 plain_buses : HoldsOfBuses (Plain true)
@@ -57,13 +58,14 @@ plain_four buses names word a b c = of_four (Plain buses) AnyShape (plain buses)
 -- a line of two words of version 1 whose first isn't `plan`
 pub plain_two : (word value : List ℕ) → bytes_eq word (codes "plan") ≡ false → Plain true (said_of_two false word value)
 plain_two word value h =
-    subst (Plain true)
+    both (Plain true) AnyShape (plain true) (bytes_eq word (codes "serve")) (said_of_serve value) (said_of_value false word value) (of_serve (Plain true) AnyShape (plain true) value)
+    (subst (Plain true)
     (sym (ap (λ test. if test then said_of_version value
     else (if bytes_eq word (codes "node") then said_of_node (number_in 0 127 value)
     else (if bytes_eq word (codes "timeout") then said_of_timeout (number_in 1 60_000_000 value)
     else (if bytes_eq word (codes "clients") then said_of_clients (number_in 1 128 value)
     else (if bytes_eq word (codes "queue") then said_of_queue (number_in 1 4096 value) else said_of_all word value))))) h))
-    (of_value (Plain true) AnyShape (plain true) word value (said_of_all word value) (of_all (Plain true) AnyShape (plain true) plain_buses word value))
+    (of_value (Plain true) AnyShape (plain true) word value (said_of_all word value) (of_all (Plain true) AnyShape (plain true) plain_buses word value)))
 
 -- what a line says, where what it says otherwise is plain
 pub plain_either : (buses : Bool) (o : Option RegisterText) (p s : Said) → Plain buses p → SaysEither o p s → Plain buses s

@@ -1,7 +1,7 @@
 -- What holds of all that a line may say, by what it says.
 use Rattle.std.proofs.Common.{◌==◌, ◌&&◌, ℕ, Bool, true, false, List, Option, Some, None, length}
-use Rattle.std.specs.Prelude.{◌||◌, IfSome, codes, if◌then◌else◌, int_le, nat_lt}
-use Rattle.std.specs.Str.{bytes_eq}
+use Rattle.std.specs.Prelude.{◌||◌, IfSome, codes, if◌then◌else◌, int_le, nat_lt, not}
+use Rattle.std.specs.Str.{bytes_eq, is_utf8}
 use Rattle.std.proofs.lemmas.Bool.{cond_both}
 use Rattle.dsdl_types.specs.declared.namespace.Namespace.{Namespace}
 use Rattle.std_types.specs.declared.node.NodeInfo.{NodeInfo}
@@ -24,7 +24,7 @@ use Rattle.std_types.specs.declared.registers.Limits.{Limits}
 use Rattle.std_types.specs.declared.registers.Register.{Register}
 use Rattle.node_plan.specs.Registers.{is_register_name}
 use Rattle.node_plan.specs.Info.{info_with, is_node_name, revision_in, said_of_info, said_of_parts, said_of_version_words, unique_id_in, version_in}
-use Rattle.node_plan.specs.Line.{said_of_node, said_of_name, said_of_numbers, said_of_bus, said_of_mtu, said_of_rate, said_of_timeout, said_of_clients, said_of_queue, said_of_status, said_of_shape, said_of_sub, said_of_type, said_of_raw, said_of_one, said_of_all, said_of_four, said_of_five, said_of_many, access_in, said_of_access, said_of_between, said_of_limits, said_of_named, said_of_register, said_of_wholes}
+use Rattle.node_plan.specs.Line.{said_of_node, said_of_name, said_of_numbers, said_of_bus, said_of_mtu, said_of_rate, said_of_timeout, said_of_clients, said_of_queue, said_of_status, said_of_shape, said_of_sub, said_of_type, said_of_raw, said_of_one, said_of_all, said_of_four, said_of_five, said_of_many, access_in, said_of_access, said_of_between, said_of_limits, said_of_named, said_of_register, said_of_serve, said_of_wholes}
 use Rattle.node_plan.specs.Names.{is_bus_name}
 use Rattle.node_plan.specs.Ports.{extent_of}
 use Rattle.node_plan.specs.Types.{shape_named}
@@ -46,6 +46,7 @@ pub record Holds (P : Said → Type 0) (S : SubShape → Type 0) : Type 0 where
   pub info : (i : NodeInfo) → P (said.Info i)
   pub queue : (n : ℕ) → P (said.Queue n)
   pub register : (r : Register) → P (said.Register r)
+  pub serve : (path : List ℕ) → P (said.Serve path)
 
 -- and of buses
 pub record HoldsOfBuses (P : Said → Type 0) : Type 0 where
@@ -111,6 +112,9 @@ module _ (P : Said → Type 0) (S : SubShape → Type 0) (h : Holds P S) where
 
   pub of_one : (a : List ℕ) → P (said_of_one a)
   of_one a = both (bytes_eq a (codes "silent")) said.Silent said.NoForm h.silent h.no_form
+
+  pub of_serve : (path : List ℕ) → P (said_of_serve path)
+  of_serve path = both (length path == 0 || not (is_utf8 path)) said.NoForm (said.Serve path) h.no_form (h.serve path)
 
   of_named : (is_name : Bool) (name : List ℕ) (mutable : Bool) (value : Option RegisterValue) → P (said_of_named is_name name mutable value)
   of_named is_name name mutable None = h.outside

@@ -27,14 +27,14 @@ use Rattle.node_plan.specs.Draft.{start, has_all, has_bus, has_register, has_sub
 use Rattle.node_plan.specs.IsPlan.{IsShape}
 use Rattle.node_plan.specs.Laws.{PlansKeepTypeRules}
 use Rattle.node_plan.specs.Limit.{limit_of}
-use Rattle.node_plan.specs.Line.{RegisterText, Says, SaysEither, register_in, said_of, said_of_limits, said_of_version, said_of_bus, said_of_all, said_of_two, said_of_four, said_of_words}
+use Rattle.node_plan.specs.Line.{RegisterText, Says, SaysEither, register_in, said_of, said_of_limits, said_of_serve, said_of_value, said_of_version, said_of_bus, said_of_all, said_of_two, said_of_four, said_of_words}
 use Rattle.node_plan.specs.Plan.{PlanIs, Good, Bad, Ends, Follows, Goes, Line, finished}
 use Rattle.node_plan.specs.Registers.{can_limit}
 use Rattle.std_types.specs.declared.registers.Register.{Register}
 use Rattle.node_plan.specs.Types.{message_with, message_in, message_at}
 use Rattle.node_plan.specs.Words.{joined, mtu_in, number_in, parts_of, whole_in, words_of}
 use Rattle.node_plan.proofs.SaidTables as tables
-use Rattle.node_plan.proofs.SaidTables.{Holds, HoldsOfBuses, both, of_all, of_bus, of_five, of_limits, of_many, of_one, of_register, of_value}
+use Rattle.node_plan.proofs.SaidTables.{Holds, HoldsOfBuses, both, of_all, of_bus, of_five, of_limits, of_many, of_one, of_register, of_serve, of_value}
 use Rattle.node_plan.proofs.TypeLemmas.{definition_rules}
 
 -- subscriptions whose types keep the rules
@@ -75,6 +75,7 @@ keeps = record {
   info = λ i. tt;
   queue = λ n. tt;
   register = λ r. tt;
+  serve = λ p. tt;
 }
 
 keeps_buses : HoldsOfBuses KeepsRules
@@ -87,9 +88,10 @@ of_version word = both KeepsRules IsShape keeps (bytes_eq word (codes "1")) (sai
 of_two : (two : Bool) (word value : List ℕ) → KeepsRules (said_of_two two word value)
 of_two two word value =
     let last = if two then said.NoForm else said_of_all word value in
-    both KeepsRules IsShape keeps (bytes_eq word (codes "plan")) (said_of_version value) _ (of_version value)
+    both KeepsRules IsShape keeps (bytes_eq word (codes "serve")) (said_of_serve value) (said_of_value two word value) (of_serve KeepsRules IsShape keeps value)
+    (both KeepsRules IsShape keeps (bytes_eq word (codes "plan")) (said_of_version value) _ (of_version value)
     (of_value KeepsRules IsShape keeps word value last
-    (both KeepsRules IsShape keeps two said.NoForm (said_of_all word value) tt (of_all KeepsRules IsShape keeps keeps_buses word value)))
+    (both KeepsRules IsShape keeps two said.NoForm (said_of_all word value) tt (of_all KeepsRules IsShape keeps keeps_buses word value))))
 
 of_four : (names : Namespace) → IsNamespace names → (two : Bool) (word a b c : List ℕ) → KeepsRules (said_of_four names two word a b c)
 of_four names h two word a b c =
@@ -180,6 +182,7 @@ of_with_line d (said.Limits name limits) h k = of_place (place_of name d.registe
     of_place : (o : Option ℕ) → Stays (limits_at d limits o)
     of_place None = tt
     of_place (Some place) = of_limited place (slice_get d.registers place)
+of_with_line d (said.Serve path) h k = of_once (is_some d.serve) (record d { serve = Some path }) h
 
 of_behind : (d : Draft) (s : Said) → HaveRules d.subs → KeepsRules s → Stays (if is_some d.version then with_line d s else Err why.Line)
 of_behind d s h k = either (is_some d.version) (with_line d s) (Err why.Line) (of_with_line d s h k) tt
@@ -204,6 +207,7 @@ of_step d (said.Info i) h k = of_behind d (said.Info i) h k
 of_step d (said.Queue n) h k = of_behind d (said.Queue n) h k
 of_step d (said.Register r) h k = of_behind d (said.Register r) h k
 of_step d (said.Limits name limits) h k = of_behind d (said.Limits name limits) h k
+of_step d (said.Serve path) h k = of_behind d (said.Serve path) h k
 
 -- ---- the plan of a text
 

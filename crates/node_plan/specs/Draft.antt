@@ -33,6 +33,7 @@ start = record {
   status = None;
   info = None;
   registers = [];
+  serve = None;
   queue = None;
 }
 
@@ -127,6 +128,7 @@ with_line d (said.Info info) = once (is_some d.info) (record d { info = Some inf
 with_line d (said.Queue n) = once (is_some d.queue) (record d { queue = Some n })
 with_line d (said.Register r) = with_register d r
 with_line d (said.Limits name limits) = with_limits d name limits
+with_line d (said.Serve path) = once (is_some d.serve) (record d { serve = Some path })
 with_line d other = Err why.Range
 
 -- a line: that of the version is the first that says something
@@ -160,6 +162,7 @@ plan_with d node = record {
   status = unwrap_or d.status no_status;
   info = unwrap_or d.info blank_info;
   registers = d.registers;
+  serve = d.serve;
   queue = unwrap_or d.queue 64;
 }
 

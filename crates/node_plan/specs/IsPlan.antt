@@ -1,6 +1,7 @@
 -- What holds of each plan that a text gives.
-use Rattle.std.specs.Prelude.{◌≡◌, ◌≢◌, ◌≤◌, ◌<◌, ◌⊎◌, ℕ, [], length, All, AllPairs, IsTrue}
+use Rattle.std.specs.Prelude.{◌≡◌, ◌≢◌, ◌≤◌, ◌<◌, ◌⊎◌, ℕ, List, [], ◌∷◌, length, All, AllPairs, IsTrue}
 use Rattle.std.specs.Option.{ForSome}
+use Rattle.std.specs.Str.{is_utf8}
 use Rattle.dsdl_types.specs.Definitions.{IsType}
 use Rattle.node_plan.specs.declared.draft.Draft.{Draft}
 use Rattle.node_plan.specs.declared.plan.BusPlan.{BusPlan}
@@ -14,6 +15,7 @@ use Rattle.node_plan.specs.declared.plan.NodeStatus.{NodeStatus}
 use Rattle.node_plan.specs.Ports.{extent_of}
 use Rattle.node_plan.specs.Names.{is_bus_name}
 use Rattle.node_plan.specs.Registers.{IsRegister}
+use Rattle.node_plan.specs.Words.{words_of}
 
 -- frames carry at most 8 bytes, or 64
 abbrev pub IsMtu : ℕ → Type 0
@@ -58,6 +60,12 @@ pub record IsSub (sub : Sub) : Type 0 where
   pub shape : IsShape sub.shape
   pub extent : extent_of sub.shape ≤ 65536
 
+-- the path of a folder to serve: a word of UTF-8 that isn't empty
+pub record IsFolderPath (path : List ℕ) : Type 0 where
+  pub some_byte : 1 ≤ length path
+  pub text : IsTrue (is_utf8 path)
+  pub word : words_of path ≡ path ∷ []
+
 -- a plan in its ranges, which names no bus, no subject and no register twice
 pub record IsPlan (plan : Plan) : Type 0 where
   pub node : plan.node < 128
@@ -77,6 +85,7 @@ pub record IsPlan (plan : Plan) : Type 0 where
   pub few_registers : length plan.registers ≤ 256
   pub registers : All IsRegister plan.registers
   pub register_names : AllPairs (λ a b. a.name ≢ b.name) plan.registers
+  pub serve : ForSome plan.serve IsFolderPath
   pub some_place : 1 ≤ plan.queue
   pub few_places : plan.queue ≤ 4096
 
@@ -98,6 +107,7 @@ pub record IsDraft (draft : Draft) : Type 0 where
   pub few_registers : length draft.registers ≤ 256
   pub registers : All IsRegister draft.registers
   pub register_names : AllPairs (λ a b. a.name ≢ b.name) draft.registers
+  pub serve : ForSome draft.serve IsFolderPath
   pub queue : ForSome draft.queue (λ n. (1 ≤ n) × (n ≤ 4096))
 
 -- the types of a plan's subscriptions keep the rules

@@ -1,6 +1,6 @@
 -- What a line of a plan says.
-use Rattle.std.specs.Prelude.{◌≡◌, ℕ, Bool, true, false, List, [], ◌∷◌, ◌==◌, ◌&&◌, ◌||◌, ◌≤◌, ◌<◌, Option, Some, None, if◌then◌else◌, int_le, length, codes, nat_lt}
-use Rattle.std.specs.Str.{bytes_eq}
+use Rattle.std.specs.Prelude.{◌≡◌, ℕ, Bool, true, false, List, [], ◌∷◌, ◌==◌, ◌&&◌, ◌||◌, ◌≤◌, ◌<◌, Option, Some, None, if◌then◌else◌, int_le, length, codes, nat_lt, not}
+use Rattle.std.specs.Str.{bytes_eq, is_utf8}
 use Rattle.dsdl_types.specs.declared.namespace.Namespace.{Namespace}
 use Rattle.node_plan.specs.declared.line.PlanVersion.TheVariants as version
 use Rattle.node_plan.specs.declared.line.Said.{Said}
@@ -12,7 +12,7 @@ use Rattle.node_plan.specs.declared.words.Number.TheVariants as number
 use Rattle.node_plan.specs.declared.words.Whole.{Whole}
 use Rattle.node_plan.specs.declared.words.Whole.TheVariants as whole
 use Rattle.node_plan.specs.Info.{said_of_info, version_in}
-use Rattle.node_plan.specs.IsPlan.{IsBus, IsInfo, IsMtu, IsRate, IsStatus, IsSub}
+use Rattle.node_plan.specs.IsPlan.{IsBus, IsFolderPath, IsInfo, IsMtu, IsRate, IsStatus, IsSub}
 use Rattle.node_plan.specs.Names.{is_bus_name}
 use Rattle.node_plan.specs.Ports.{extent_of}
 use Rattle.node_plan.specs.Registers.{IsRegister, Reads, is_register_name}
@@ -145,15 +145,25 @@ abbrev pub said_of_limits : List ℕ → Whole → Whole → Said
 said_of_limits name low high =
     if length name == 0 then said.NoForm else said_of_wholes name low high
 
--- a word and what it sets
-abbrev pub said_of_two : Bool → List ℕ → List ℕ → Said
-said_of_two two word value =
+-- `serve PATH`; an empty word is no path, and none that isn't UTF-8
+abbrev pub said_of_serve : List ℕ → Said
+said_of_serve path =
+    if length path == 0 || not (is_utf8 path) then said.NoForm else said.Serve path
+
+-- a word and the number or the name that it sets
+abbrev pub said_of_value : Bool → List ℕ → List ℕ → Said
+said_of_value two word value =
     if bytes_eq word (codes "plan") then said_of_version value
     else (if bytes_eq word (codes "node") then said_of_node (number_in 0 127 value)
     else (if bytes_eq word (codes "timeout") then said_of_timeout (number_in 1 60_000_000 value)
     else (if bytes_eq word (codes "clients") then said_of_clients (number_in 1 128 value)
     else (if bytes_eq word (codes "queue") then said_of_queue (number_in 1 4096 value)
     else (if two then said.NoForm else said_of_all word value)))))
+
+-- a word and what it sets
+abbrev pub said_of_two : Bool → List ℕ → List ℕ → Said
+said_of_two two word value = if bytes_eq word (codes "serve") then said_of_serve value
+    else said_of_value two word value
 
 -- a subscription to a type, a status, and a bus and limits of version 2
 abbrev pub said_of_four : Namespace → Bool → List ℕ → List ℕ → List ℕ → List ℕ → Said
@@ -261,4 +271,5 @@ IsSaid (said.Status status) = IsStatus status
 IsSaid (said.Info info) = IsInfo info
 IsSaid (said.Queue n) = (1 ≤ n) × (n ≤ 4096)
 IsSaid (said.Register r) = IsRegister r
+IsSaid (said.Serve path) = IsFolderPath path
 IsSaid other = Unit {0}

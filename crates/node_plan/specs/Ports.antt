@@ -1,5 +1,5 @@
 -- The ports of a plan: what a node receives, from how many nodes, and what it is read as.
-use Rattle.std.specs.Prelude.{◌≡◌, ◌≢◌, ℕ, ◌/◌, ◌<◌, ◌≤◌, true, List, [], ◌∷◌, ◌++◌, Option, Some, None, IfSome, map, if◌then◌else◌}
+use Rattle.std.specs.Prelude.{◌≡◌, ◌≢◌, ℕ, ◌/◌, ◌<◌, ◌≤◌, true, List, [], ◌∷◌, ◌++◌, Option, Some, None, IfSome, is_some, map, option_map, if◌then◌else◌}
 use Rattle.can_id.specs.declared.key.Kind.{Kind}
 use Rattle.can_id.specs.declared.key.Kind.TheVariants as kind
 use Rattle.dsdl_types.specs.Rules.{IsSchema}
@@ -44,13 +44,14 @@ port_of_sub s = record {
   type = type_in s.shape;
 }
 
--- a service of this number for the clients of a plan
-abbrev pub service : Plan → ℕ → StdName → Service
+-- a service of this number for the clients of a plan, by the type of its requests, if any
+abbrev pub service : Plan → ℕ → Option StdName → Service
 service plan port request = record { port = port; sources = plan.clients; request = request }
 
 -- `uavcan.node.GetInfo`, unless the node is silent
 abbrev pub status_services : Plan → List Service
-status_services plan = if plan.silent then [] else service plan 430 N.NodeInfoRequest ∷ []
+status_services plan =
+    if plan.silent then [] else service plan 430 (Some N.NodeInfoRequest) ∷ []
 
 -- `uavcan.register.Access` and `List`, where there is a register
 abbrev pub register_services : Plan → List Service
@@ -58,19 +59,33 @@ register_services plan = of_registers plan.registers
   where
     of_registers : List Register → List Service
     of_registers [] = []
-    of_registers (r ∷ rs) = service plan 384 N.AccessRequest ∷ service plan 385 N.ListRequest ∷ []
+    of_registers (r ∷ rs) =
+        service plan 384 (Some N.AccessRequest) ∷ service plan 385 (Some N.ListRequest) ∷ []
+
+-- `uavcan.file.GetInfo`, `List` and `Read`, where there is a folder to serve; 407 and 409, which
+-- change files, have no type
+abbrev pub file_services : Plan → List Service
+file_services plan = if is_some plan.serve
+    then service plan 405 (Some N.InfoRequest) ∷ service plan 406 (Some N.FileListRequest)
+    ∷ service plan 407 None ∷ service plan 408 (Some N.ReadRequest) ∷ service plan 409 None ∷ []
+    else []
 
 -- the services that a node answers
 abbrev pub services : Plan → List Service
-services plan = status_services plan ++ register_services plan
+services plan = status_services plan ++ register_services plan ++ file_services plan
 
 -- the extent of a standard type in bytes
 abbrev pub bytes_of : StdName → ℕ
 bytes_of name = S.extent_of (schema_of name) / 8
 
+-- the extent of requests in bytes, by their type; of those without a type no byte is kept
+abbrev pub request_extent : Option StdName → ℕ
+request_extent None = 0
+request_extent (Some name) = bytes_of name
+
 -- the extent of a service's requests in bytes
 abbrev pub service_extent : Service → ℕ
-service_extent s = bytes_of s.request
+service_extent s = request_extent s.request
 
 -- the port of a service's requests
 abbrev pub port_of_service : Service → PlanPort
@@ -79,18 +94,22 @@ port_of_service s = record {
   port = s.port;
   sources = s.sources;
   extent = service_extent s;
-  type = Some (schema_of s.request);
+  type = option_map schema_of s.request;
 }
 
 -- the ports of a plan: its subscriptions, and then its services
 abbrev pub ports : Plan → List PlanPort
 ports plan = map port_of_sub plan.subs ++ map port_of_service (services plan)
 
--- the types of the requests of the services that a node answers
-abbrev pub IsRequest : StdName → Type 0
-IsRequest N.NodeInfoRequest = Unit {0}
-IsRequest N.AccessRequest = Unit {0}
-IsRequest N.ListRequest = Unit {0}
+-- the types of the requests of the services that a node answers; two have none
+abbrev pub IsRequest : Option StdName → Type 0
+IsRequest None = Unit {0}
+IsRequest (Some N.NodeInfoRequest) = Unit {0}
+IsRequest (Some N.AccessRequest) = Unit {0}
+IsRequest (Some N.ListRequest) = Unit {0}
+IsRequest (Some N.InfoRequest) = Unit {0}
+IsRequest (Some N.FileListRequest) = Unit {0}
+IsRequest (Some N.ReadRequest) = Unit {0}
 IsRequest other = ⊥
 
 -- a service in its ranges

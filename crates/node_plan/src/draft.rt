@@ -45,6 +45,8 @@ pub struct Draft {
     pub status: Option<NodeStatus>,
     pub info: Option<NodeInfo>,
     pub registers: List<Register>,
+    /// The path of the folder whose files the node serves.
+    pub serve: Option<Text>,
     pub queue: Option<u32>,
 }
 
@@ -52,7 +54,7 @@ impl Draft {
     ghost use Rattle.std.specs.Prelude.{◌≡◌, ◌<◌, ◌≤◌, Err, IfSome, Some, length};
     ghost use Rattle.node_plan.specs.Answers.{IsStep};
     ghost use Rattle.node_plan.specs.Draft.{start, complete, is_two, limits_at, plan_with, without_type, with_limits, with_line, step};
-    ghost use Rattle.node_plan.specs.IsPlan.{IsBus, IsDraft, IsInfo, IsMtu, IsPlan, IsRate, IsStatus, IsSub};
+    ghost use Rattle.node_plan.specs.IsPlan.{IsBus, IsDraft, IsFolderPath, IsInfo, IsMtu, IsPlan, IsRate, IsStatus, IsSub};
     ghost use Rattle.node_plan.specs.Line.{IsSaid};
     ghost use Rattle.node_plan.specs.Registers.{IsRegister};
 
@@ -74,6 +76,7 @@ impl Draft {
             status: None,
             info: None,
             registers: List::empty(alloc),
+            serve: None,
             queue: None,
         }
     }
@@ -323,6 +326,19 @@ impl Draft {
         Ok(())
     }
 
+    fn set_serve(&mut self, n: u32, path: Text) -> Result<(), PlanError>
+        requires sound { IsDraft self.old }
+        requires fits { IsFolderPath path }
+        ensures value { IsStep (with_line self.old (Said.Serve path)) n self.new result }
+        ensures sound { IsDraft self.new }
+    {
+        if self.serve.is_some() {
+            return Err(repeated(n));
+        }
+        self.serve = Some(path);
+        Ok(())
+    }
+
     /// Why a subscription is refused whose type can't be subscribed to for this cause.
     fn why_no_type(&self, port: u16, cause: PlanWhy) -> PlanWhy
         ensures { Err result ≡ without_type self.now port cause }
@@ -357,6 +373,7 @@ impl Draft {
             Said::Queue(queue) => self.set_queue(n, queue),
             Said::Register(register) => self.add_register(n, register),
             Said::Limits { name, limits } => self.set_limits(alloc, n, &name, limits),
+            Said::Serve(path) => self.set_serve(n, path),
             Said::UnknownType { port } => Err(PlanError::Refused {
                 n,
                 why: self.why_no_type(port, PlanWhy::UnknownType),
@@ -415,6 +432,7 @@ impl Draft {
             status,
             info,
             registers,
+            serve,
             queue,
         } = self;
         Plan {
@@ -427,6 +445,7 @@ impl Draft {
             status: status.unwrap_or(NO_STATUS),
             info: info_or_blank(alloc, info),
             registers,
+            serve,
             queue: queue.unwrap_or(64),
         }
     }

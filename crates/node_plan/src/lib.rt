@@ -14,6 +14,7 @@ mod numbers;
 pub mod plan;
 mod read;
 mod registers;
+mod serve;
 pub mod services;
 mod sub;
 mod types;

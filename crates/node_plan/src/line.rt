@@ -1,7 +1,7 @@
 //! What a line of a plan says.
-ghost use Rattle.std.specs.Prelude.{◌≡◌, IfOk};
+ghost use Rattle.std.specs.Prelude.{◌≡◌, ◌∷◌, [], IfOk};
 ghost use Rattle.dsdl_types.specs.Definitions.{IsNamespace};
-ghost use Rattle.node_plan.specs.Line.{Says, said_of, said_of_one, said_of_two, said_of_all, said_of_type, said_of_four, said_of_five, said_of_many, said_of_words, IsSaid};
+ghost use Rattle.node_plan.specs.Line.{Says, said_of, said_of_one, said_of_value, said_of_two, said_of_all, said_of_type, said_of_four, said_of_five, said_of_many, said_of_words, IsSaid};
 ghost use Rattle.node_plan.specs.Words.{words_of};
 
 use crate::bus::{bus, mtu_in};
@@ -9,6 +9,7 @@ use crate::info::{InfoWords, info};
 use crate::numbers::{clients, mtu, node, queue, rate, status, timeout, version};
 use crate::plan::{BusPlan, NodeStatus, Sub};
 use crate::registers::{limits, register, register_words};
+use crate::serve::serve;
 use crate::sub::{MAX_EXTENT, raw_sub, sub_of_type};
 use crate::types::shape_named;
 use crate::words::{Number, cut, number_in, whole_in};
@@ -69,6 +70,8 @@ pub enum Said {
     Register(Register),
     /// `limits NAME LOW HIGH`.
     Limits { name: Text, limits: Limits },
+    /// `serve PATH`.
+    Serve(Text),
 }
 
 fn one_word(word: &[u8]) -> Said
@@ -98,8 +101,9 @@ fn all_buses(word: &[u8], value: &[u8]) -> Said
     }
 }
 
-fn two_words(is_two: bool, word: &[u8], value: &[u8]) -> Said
-    ensures value { result ≡ said_of_two is_two word.now value.now }
+/// Two words that say a number or a name.
+fn value_words(is_two: bool, word: &[u8], value: &[u8]) -> Said
+    ensures value { result ≡ said_of_value is_two word.now value.now }
     ensures sound { IsSaid result }
 {
     if word == b"plan".as_slice() {
@@ -116,6 +120,18 @@ fn two_words(is_two: bool, word: &[u8], value: &[u8]) -> Said
         Said::NoForm
     } else {
         all_buses(word, value)
+    }
+}
+
+fn two_words(alloc: Global, is_two: bool, word: &[u8], value: &[u8]) -> Result<Said, NoMemory>
+    requires { words_of value.now ≡ value.now ∷ [] }
+    ensures value { IfOk result (λ said. said ≡ said_of_two is_two word.now value.now) }
+    ensures sound { IfOk result IsSaid }
+{
+    if word == b"serve".as_slice() {
+        serve(alloc, value)
+    } else {
+        Ok(value_words(is_two, word, value))
     }
 }
 
@@ -209,7 +225,7 @@ fn words(alloc: Global, names: &Namespace, is_two: bool, line: &[u8]) -> Result<
         return Ok(one_word(line));
     };
     let Some((second, behind)) = cut(b' ', behind) else {
-        return Ok(two_words(is_two, word, behind));
+        return two_words(alloc, is_two, word, behind);
     };
     let Some((third, behind)) = cut(b' ', behind) else {
         return Ok(Said::NoForm);

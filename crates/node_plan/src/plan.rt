@@ -3,7 +3,7 @@ ghost use Rattle.std.specs.Prelude.{◌≡◌};
 ghost use Rattle.node_plan.specs.Bound.{extent_of};
 ghost use Rattle.node_plan.specs.IsPlan.{IsShape};
 
-use cy_bits::{BusName, List, NoMemory, ShortList};
+use cy_bits::{BusName, List, NoMemory, ShortList, Text};
 use dsdl_names::TypeId;
 use dsdl_types::Schema;
 use std_types::node::NodeInfo;
@@ -33,6 +33,9 @@ pub struct Plan {
     /// The registers of the node, at most 256 with distinct names of 1 to 255 printable bytes
     /// without a space (Cyphal Specification, section 5.3.10). Each value is within its limits.
     pub registers: List<Register>,
+    /// The path in the tree of the folder whose files the node serves, if any: a word of UTF-8 that
+    /// isn't empty (Cyphal Specification, section 5.3.7). The folder needn't exist.
+    pub serve: Option<Text>,
     /// The greatest number of frames that wait to be sent on a bus: 1 to 4,096.
     pub queue: u32,
 }

@@ -1,7 +1,7 @@
 //! The services that a node answers.
 ghost use Rattle.std.specs.Prelude.{◌≡◌, ◌++◌, ◌≤◌, All, length};
 ghost use Rattle.node_plan.specs.IsPlan.{IsPlan};
-ghost use Rattle.node_plan.specs.Ports.{IsRequest, IsService, bytes_of, register_services, service, service_extent, services, status_services};
+ghost use Rattle.node_plan.specs.Ports.{IsRequest, IsService, file_services, register_services, request_extent, service, service_extent, services, status_services};
 
 use crate::plan::Plan;
 use cy_bits::ShortList;
@@ -16,6 +16,21 @@ const ACCESS: u16 = 384;
 /// The service-ID of `uavcan.register.List`.
 const LIST: u16 = 385;
 
+/// The service-ID of `uavcan.file.GetInfo`.
+const FILE_INFO: u16 = 405;
+
+/// The service-ID of `uavcan.file.List`.
+const FILE_LIST: u16 = 406;
+
+/// The service-ID of `uavcan.file.Modify`.
+const FILE_MODIFY: u16 = 407;
+
+/// The service-ID of `uavcan.file.Read`.
+const FILE_READ: u16 = 408;
+
+/// The service-ID of `uavcan.file.Write`.
+const FILE_WRITE: u16 = 409;
+
 /// A service that a node answers.
 #[derive(Clone, Copy)]
 pub struct Service {
@@ -23,8 +38,8 @@ pub struct Service {
     pub port: u16,
     /// From how many nodes at a time a request is received: 1 to 128.
     pub sources: u16,
-    /// The standard type of its requests.
-    pub request: StdName,
+    /// The standard type of its requests; no byte is kept of those that have none.
+    pub request: Option<StdName>,
 }
 
 impl Default for Service {
@@ -33,7 +48,7 @@ impl Default for Service {
         Service {
             port: GET_INFO,
             sources: 1,
-            request: StdName::NodeInfoRequest,
+            request: Some(StdName::NodeInfoRequest),
         }
     }
 }
@@ -48,22 +63,23 @@ impl Service {
     }
 }
 
-/// The extent of the requests of a service in bytes, by their type.
-#[tactic(auto, using(crate::proofs::PortLemmas::info_extent, crate::proofs::PortLemmas::access_extent, crate::proofs::PortLemmas::list_extent))]
-fn request_extent(request: StdName) -> u32
+/// The extent of the requests of a service in bytes, by their type, if any.
+#[tactic(auto, using(crate::proofs::PortLemmas::info_extent, crate::proofs::PortLemmas::access_extent, crate::proofs::PortLemmas::list_extent, crate::proofs::PortLemmas::file_info_extent, crate::proofs::PortLemmas::file_list_extent, crate::proofs::PortLemmas::file_read_extent))]
+fn request_extent(request: Option<StdName>) -> u32
     requires { IsRequest request }
-    ensures { result ≡ bytes_of request }
+    ensures { result ≡ request_extent request }
 {
     match request {
-        StdName::AccessRequest => 515,
-        StdName::ListRequest => 2,
+        Some(StdName::AccessRequest) => 515,
+        Some(StdName::ListRequest) => 2,
+        Some(StdName::InfoRequest | StdName::FileListRequest | StdName::ReadRequest) => 300,
         _ => 0,
     }
 }
 
 impl Plan {
     /// A service of this number, for the clients of the plan.
-    fn service(&self, port: u16, request: StdName) -> Service
+    fn service(&self, port: u16, request: Option<StdName>) -> Service
         ensures { result ≡ service self.now port request }
     {
         Service {
@@ -79,7 +95,7 @@ impl Plan {
         ensures { services.new ≡ services.old ++ status_services self.now }
     {
         if !self.silent {
-            services.push(self.service(GET_INFO, StdName::NodeInfoRequest));
+            services.push(self.service(GET_INFO, Some(StdName::NodeInfoRequest)));
         }
     }
 
@@ -89,8 +105,22 @@ impl Plan {
         ensures { services.new ≡ services.old ++ register_services self.now }
     {
         if !self.registers.is_empty() {
-            services.push(self.service(ACCESS, StdName::AccessRequest));
-            services.push(self.service(LIST, StdName::ListRequest));
+            services.push(self.service(ACCESS, Some(StdName::AccessRequest)));
+            services.push(self.service(LIST, Some(StdName::ListRequest)));
+        }
+    }
+
+    /// The services of files, where the node serves a folder.
+    fn push_files(&self, services: &mut ShortList<Service, 8>)
+        requires { length services.old ≤ 3 }
+        ensures { services.new ≡ services.old ++ file_services self.now }
+    {
+        if self.serve.is_some() {
+            services.push(self.service(FILE_INFO, Some(StdName::InfoRequest)));
+            services.push(self.service(FILE_LIST, Some(StdName::FileListRequest)));
+            services.push(self.service(FILE_MODIFY, None));
+            services.push(self.service(FILE_READ, Some(StdName::ReadRequest)));
+            services.push(self.service(FILE_WRITE, None));
         }
     }
 
@@ -102,6 +132,7 @@ impl Plan {
         let mut services = ShortList::new();
         self.push_status(&mut services);
         self.push_registers(&mut services);
+        self.push_files(&mut services);
         services
     }
 }
