@@ -29,7 +29,7 @@ returns-clause-due_values g c =
 pub returns-clause-failed : goal.returns-clause-failed
 returns-clause-failed g c ok =
     let done = c.run_words-done in
-    elim (stays_or_told _ _ _ _ _ done.ensures.ran (λ h. done.ensures.cause.unserved h ok) (ap Some c.new-kept.ensures.failed) ok)
+    elim (stays_or_told (map string_bytes c.args.words.now) _ _ _ _ done.ensures.ran (λ h. done.ensures.cause.unserved h ok) (ap Some c.new-kept.ensures.failed) ok)
     [ inl stays ↦ inl stays | inr told ↦ inr (λ none. told (ap Some (sym c.report_of-report.ensures.failed ∙ none))) ]
 
 pub returns-clause-unserved : goal.returns-clause-unserved
