@@ -20,13 +20,13 @@ use std_types::file::{FileError, InfoReply};
 /// the root, a folder. A path is invalid where it holds a byte outside 20 to 7E hex, or a name that
 /// is empty, `.` or `..`. Nothing is asked of the tree for an invalid path, nor by `read` and
 /// `info` for the root. No memory is kept between calls.
-#[derive(Drop)]
-pub struct Served {
+#[derive(Clone, Copy)]
+pub struct Served<'a> {
     /// The path of the folder in the tree. There need not be such a folder.
-    pub root: Text,
+    pub root: &'a str,
 }
 
-impl Served {
+impl Served<'_> {
     /// Puts the bytes of a file from an offset on at the buffer's front, at most 256, and none past
     /// its end. The code is the first that holds: 22 for an invalid path, 5 where the tree failed,
     /// 2 where there is nothing, 21 where there is a folder, else 0.
@@ -43,16 +43,16 @@ impl Served {
     ) -> Result<ReadDone, NoMemory>
         ensures files { T.files tree.new ≡ T.files tree.old }
         ensures answer { IfOk result (λ done. IsRead (T.files tree.old)
-            (place_of self.now.root path.now) offset (read_of done buf.new)) }
+            (place_of self.now.root.now path.now) offset (read_of done buf.new)) }
         ensures within { IfOk result (λ done. done.count ≤ 256) }
         ensures cause { IfOk result (λ done.
             TellsFault (done.code == io_error) (T.faults tree.old) (T.faults tree.new)) }
-        ensures unasked { IsKnown (place_of self.now.root path.now)
+        ensures unasked { IsKnown (place_of self.now.root.now path.now)
             → (tree.new ≡ tree.old) × (buf.new ≡ buf.old) }
         ensures memory { OnErr result ((tree.new ≡ tree.old) × (buf.new ≡ buf.old)) }
         ensures count { T.faults tree.old ≤ T.faults tree.new }
     {
-        let path = match place_of(alloc, self.root.as_str(), path)? {
+        let path = match place_of(alloc, self.root, path)? {
             Place::Invalid => return Ok(no_bytes(INVALID)),
             Place::Root => return Ok(no_bytes(IS_DIRECTORY)),
             Place::At(path) => path,
@@ -77,18 +77,19 @@ impl Served {
         index: u32,
     ) -> Result<ListDone, NoMemory>
         ensures files { T.files tree.new ≡ T.files tree.old }
-        ensures answer { IfOk result (λ done. IsListing (T.files tree.old) self.now.root
-            (place_of self.now.root path.now) index done) }
+        ensures answer { IfOk result (λ done. IsListing (T.files tree.old) self.now.root.now
+            (place_of self.now.root.now path.now) index done) }
         ensures fits { IfOk result (λ done. HoldsBytes 255 done.name) }
         ensures cause { IfOk result (λ done.
             TellsFault done.failed (T.faults tree.old) (T.faults tree.new)) }
-        ensures unasked { place_of self.now.root path.now ≡ Place.Invalid → tree.new ≡ tree.old }
+        ensures unasked { place_of self.now.root.now path.now ≡ Place.Invalid
+            → tree.new ≡ tree.old }
         ensures memory { OnErr result (T.faults tree.new ≡ T.faults tree.old) }
         ensures count { T.faults tree.old ≤ T.faults tree.new }
     {
-        match place_of(alloc, self.root.as_str(), path)? {
+        match place_of(alloc, self.root, path)? {
             Place::Invalid => Ok(no_name(alloc, false)),
-            Place::Root => list_folder(alloc, tree, self.root.as_str(), index),
+            Place::Root => list_folder(alloc, tree, self.root, index),
             Place::At(folder) => list_folder(alloc, tree, folder.as_str(), index),
         }
     }
@@ -106,15 +107,15 @@ impl Served {
     ) -> Result<InfoReply, NoMemory>
         ensures files { T.files tree.new ≡ T.files tree.old }
         ensures answer { IfOk result (λ reply. IsInfo (T.files tree.old)
-            (place_of self.now.root path.now) reply) }
+            (place_of self.now.root.now path.now) reply) }
         ensures fits { IfOk result (λ reply. FitsInfoReply reply) }
         ensures cause { IfOk result (λ reply.
             TellsFault (reply.error.value == io_error) (T.faults tree.old) (T.faults tree.new)) }
-        ensures unasked { IsKnown (place_of self.now.root path.now) → tree.new ≡ tree.old }
+        ensures unasked { IsKnown (place_of self.now.root.now path.now) → tree.new ≡ tree.old }
         ensures memory { OnErr result (tree.new ≡ tree.old) }
         ensures count { T.faults tree.old ≤ T.faults tree.new }
     {
-        let path = match place_of(alloc, self.root.as_str(), path)? {
+        let path = match place_of(alloc, self.root, path)? {
             Place::Invalid => return Ok(info(INVALID, 0, false, false)),
             Place::Root => return Ok(info(OK, 0, false, true)),
             Place::At(path) => path,

@@ -42,11 +42,7 @@ fn long(alloc: Global, len: usize) -> Result<File, NoMemory> {
 }
 
 /// What is served.
-fn served(alloc: Global) -> Result<Served, NoMemory> {
-    Ok(Served {
-        root: Text::from_str(alloc, "srv")?,
-    })
-}
+const SERVED: Served<'static> = Served { root: "srv" };
 
 /// The greatest offset that can be asked for.
 const LAST: u64 = (1 << 40) - 1;
@@ -94,11 +90,10 @@ fn reads(rt: HostRuntime) -> Result<(), Fail> {
         (b"", 0, 21, b""),
         (b"/", 0, 21, b""),
     ];
-    let served = served(alloc)?;
     let mut tree = tree(alloc, &[])?;
     for (path, offset, code, bytes) in rows {
         let mut buf = [0; 256];
-        let done = served.read(alloc, &mut tree, path, offset, &mut buf)?;
+        let done = SERVED.read(alloc, &mut tree, path, offset, &mut buf)?;
         assert_eq!(rt; done.code, code);
         assert_eq!(rt; &buf[..done.count], bytes);
     }
@@ -108,14 +103,13 @@ fn reads(rt: HostRuntime) -> Result<(), Fail> {
 #[test]
 fn invalid_paths(rt: HostRuntime) -> Result<(), Fail> {
     let alloc = rt.alloc();
-    let served = served(alloc)?;
     let mut tree = tree(alloc, &[0])?;
     for path in INVALID {
         let mut buf = [7; 256];
-        let done = served.read(alloc, &mut tree, path, 0, &mut buf)?;
+        let done = SERVED.read(alloc, &mut tree, path, 0, &mut buf)?;
         assert_eq!(rt; done, ReadDone { code: 22, count: 0 });
-        assert_eq!(rt; served.info(alloc, &mut tree, path)?.error.value, 22);
-        let list = served.list(alloc, &mut tree, path, 0)?;
+        assert_eq!(rt; SERVED.info(alloc, &mut tree, path)?.error.value, 22);
+        let list = SERVED.list(alloc, &mut tree, path, 0)?;
         assert_eq!(rt; list.name.as_str(), "");
         assert!(rt; !list.failed);
     }
@@ -137,10 +131,9 @@ fn infos(rt: HostRuntime) -> Result<(), Fail> {
         (b"../secret", 22, 0, false, false),
         (b"d/", 22, 0, false, false),
     ];
-    let served = served(alloc)?;
     let mut tree = tree(alloc, &[])?;
     for (path, code, size, file, readable) in rows {
-        let reply = served.info(alloc, &mut tree, path)?;
+        let reply = SERVED.info(alloc, &mut tree, path)?;
         assert_eq!(rt; reply.error.value, code);
         assert_eq!(rt; reply.size, size);
         assert_eq!(rt; reply.is_file_not_directory, file);
@@ -173,14 +166,13 @@ fn lists(rt: HostRuntime) -> Result<(), Fail> {
         (b"..", 0, ""),
         (b"d/", 0, ""),
     ];
-    let served = served(alloc)?;
     let mut tree = tree(alloc, &[])?;
     for (path, index, name) in rows {
-        let done = served.list(alloc, &mut tree, path, index)?;
+        let done = SERVED.list(alloc, &mut tree, path, index)?;
         assert_eq!(rt; done.name.as_str(), name);
         assert!(rt; !done.failed);
     }
-    let longest = served.list(alloc, &mut tree, b"long", 0)?;
+    let longest = SERVED.list(alloc, &mut tree, b"long", 0)?;
     assert_eq!(rt; longest.name.as_str().len(), 255);
     Ok(())
 }
@@ -188,20 +180,19 @@ fn lists(rt: HostRuntime) -> Result<(), Fail> {
 #[test]
 fn a_tree_that_fails(rt: HostRuntime) -> Result<(), Fail> {
     let alloc = rt.alloc();
-    let served = served(alloc)?;
     for call in 0..5 {
         let failing = [call];
         let mut tree = tree(alloc, &failing)?;
         let mut buf = [0; 256];
-        let a = served.read(alloc, &mut tree, b"a", 0, &mut buf)?;
+        let a = SERVED.read(alloc, &mut tree, b"a", 0, &mut buf)?;
         assert_eq!(rt; a.code, if call == 0 { 5 } else { 0 });
         assert_eq!(rt; a.count, if call == 0 { 0 } else { 3 });
-        let none = served.read(alloc, &mut tree, b"none", 0, &mut buf)?;
+        let none = SERVED.read(alloc, &mut tree, b"none", 0, &mut buf)?;
         assert_eq!(rt; none.code, if call == 1 { 5 } else { 2 });
-        let info = served.info(alloc, &mut tree, b"d")?;
+        let info = SERVED.info(alloc, &mut tree, b"d")?;
         assert_eq!(rt; info.error.value, if call == 2 { 5 } else { 0 });
         assert_eq!(rt; info.is_readable, call != 2);
-        let list = served.list(alloc, &mut tree, b"", 3)?;
+        let list = SERVED.list(alloc, &mut tree, b"", 3)?;
         assert_eq!(rt; list.name.as_str(), if call == 3 { "" } else { "a" });
         assert_eq!(rt; list.failed, call == 3);
         assert_eq!(rt; tree.calls.faults, u64::from(call < 4));
@@ -256,13 +247,12 @@ impl Tree for Changing {
 #[test]
 fn a_folder_that_changes(rt: HostRuntime) -> Result<(), Fail> {
     let alloc = rt.alloc();
-    let served = served(alloc)?;
     let mut tree = Changing { listings: 0 };
     for (index, name) in [(0, "a"), (1, "b"), (2, "")] {
-        let done = served.list(alloc, &mut tree, b"", index)?;
+        let done = SERVED.list(alloc, &mut tree, b"", index)?;
         assert_eq!(rt; done.name.as_str(), name);
     }
-    assert_eq!(rt; served.info(alloc, &mut tree, b"a")?.size, LAST);
+    assert_eq!(rt; SERVED.info(alloc, &mut tree, b"a")?.size, LAST);
     Ok(())
 }
 
@@ -270,7 +260,6 @@ fn a_folder_that_changes(rt: HostRuntime) -> Result<(), Fail> {
 fn a_root_that_is_not_there(rt: HostRuntime) -> Result<(), Fail> {
     let alloc = rt.alloc();
     for root in ["nowhere", "srv/", ""] {
-        let root = Text::from_str(alloc, root)?;
         let served = Served { root };
         let mut tree = tree(alloc, &[])?;
         let mut buf = [0; 256];

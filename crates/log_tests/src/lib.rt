@@ -17,4 +17,6 @@ mod plan_types;
 #[cfg(test)]
 mod register_tests;
 #[cfg(test)]
+mod serve_tests;
+#[cfg(test)]
 mod text_tests;

@@ -4,7 +4,7 @@ use node_plan::{PlanError, PlanWhy, migrate};
 use std::test::Fail;
 
 /// Texts of plans, and what they become.
-const MIGRATED: [(&[u8], &[u8]); 6] = [
+const MIGRATED: [(&[u8], &[u8]); 8] = [
     (
         b"plan 1\nnode 42\nbus can0\nmtu 64\nsilent",
         b"plan 2\nnode 42\nbus can0 64 4096\n\nsilent",
@@ -26,8 +26,16 @@ const MIGRATED: [(&[u8], &[u8]); 6] = [
         b"plan 2\nnode 1\nbus a 8 4096\ninfo 1.0 1.0 0123456789ABCDEF 0123456789ABCDEF0123456789ABCDEF bus a ",
     ),
     (
+        b"plan 1\nserve bus\nnode 1\nbus a\nmtu 64\nrate 2",
+        b"plan 2\nserve bus\nnode 1\nbus a 64 2\n\n",
+    ),
+    (
         b"plan 2\nnode 1\nbus a 64 1\n#mtu 8\n",
         b"plan 2\nnode 1\nbus a 64 1\n#mtu 8\n",
+    ),
+    (
+        b"plan 2\nnode 1\nserve \xc3\xa9\nbus a 64 1",
+        b"plan 2\nnode 1\nserve \xc3\xa9\nbus a 64 1",
     ),
 ];
 

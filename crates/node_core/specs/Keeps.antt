@@ -1,13 +1,13 @@
 -- What a node keeps beside its sessions.
+use Rattle.std.specs.Prelude.{◌≡◌, ◌+◌, ◌%◌, ℕ, Bool, List, ◌++◌, map, Option, Some}
 use Rattle.cy_outside.specs.Files.{Files as TreeFiles}
-use Rattle.std.specs.Prelude.{◌≡◌, ◌+◌, ◌%◌, List, ◌++◌, map, Option, Some}
 use Rattle.node_plan.specs.declared.plan.Plan.{Plan}
 use Rattle.tail_frame.specs.declared.logged.Record.{Record}
 use Rattle.node_core.specs.Buses.{queue_of}
-use Rattle.node_core.specs.Queues.{Sends, push_all}
+use Rattle.node_core.specs.Queues.{Sends, fulls, push_all}
 use Rattle.node_core.specs.Sending.{registers_after, registers_behind, reply_on}
 use Rattle.node_core.specs.Stands.{Stands}
-use Rattle.node_core.specs.Files.{is_failed}
+use Rattle.node_core.specs.Files.{IsServed, is_failed}
 use Rattle.node_core.specs.Steps.{IsServedAt, Step, Heard, Kept, node_lines, pushed, records}
 use Rattle.node_core.specs.declared.file_reply.FileReply.{FileReply}
 use Rattle.node_core.specs.declared.line.Line.{Line}
@@ -59,6 +59,16 @@ Appends node step old new = (past : List Step) → Stands node (records past)
 abbrev pub IsServedBy : Option TreeFiles → Node → Step → Type 0
 IsServedBy told node step = (past : List Step) → Stands node (records past)
     → IsServedAt told node.plan step past
+
+-- A request was answered, if there is one, with what the tree told of a file: by that the node keeps what the answer
+-- leaves, and the lines on full buses stand behind others.
+pub record DidAnswer (told : Option TreeFiles) (moment : ℕ) (request : Option Request) (old new : Node)
+    (lines lines_new : List Line) (failed : Bool) : Type 0 where
+  pub file : FileReply
+  pub served : IsServed told old.plan request file
+  pub keeps_are : keeps new ≡ answered old.plan request file (keeps old)
+  pub lines_are : lines_new ≡ lines ++ fulls moment (reply_by old.plan request file (keeps old)) (keeps old).queues
+  pub failed_is : failed ≡ is_failed file
 
 -- A record was taken, with what the tree told of a file: by that the node keeps what the step leaves, and the lines stand
 -- behind others.

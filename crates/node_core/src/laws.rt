@@ -3,9 +3,11 @@
 ghost use Rattle.node_core.specs.Held.{HeldRises};
 ghost use Rattle.node_core.specs.Laws.{LinesJoin, NothingEmptied, NothingLeaves, RecordsOfSteps};
 ghost use Rattle.node_core.specs.Laws.{MuteKeepNothing, MuteReceive};
+ghost use Rattle.node_core.specs.Laws.{NothingServed, ServedOnce, SomethingServed};
 ghost use Rattle.node_core.specs.Laws.{RegistersAre, RegistersStay};
 
 use dsdl_types::laws::{readings_stored, rules_suffice};
+use file_service::file_laws;
 use register_service::laws::register_laws;
 use std_types::laws::schemas_keep_rules;
 
@@ -33,8 +35,8 @@ pub fn mute_sends_nothing()
     ensures lines { MuteReceive }
 {}
 
-/// The registers of a node are those of its plan after all that was asked, and each stays within its
-/// limits.
+/// The registers of a node are those of its plan after all that was asked, and each stays within
+/// its limits.
 pub fn registers_stay()
     ensures registers { RegistersAre }
     ensures within { RegistersStay }
@@ -44,3 +46,20 @@ pub fn registers_stay()
     rules_suffice();
     readings_stored();
 }
+
+/// A node that serves no files asks its tree nothing: its steps are those of the records alone.
+pub fn nothing_served()
+    ensures { NothingServed }
+{}
+
+/// Where a tree tells its files, what it told in a log is decided by them and by where it failed.
+pub fn served_once()
+    ensures { ServedOnce }
+{
+    file_laws();
+}
+
+/// Whatever is asked behind a log, there is something that the tree may tell.
+pub fn something_served()
+    ensures { SomethingServed }
+{}

@@ -27,6 +27,7 @@ mod raw_shape;
 mod request;
 mod second;
 mod sending;
+mod serving;
 mod transfer;
 mod word;
 mod words;

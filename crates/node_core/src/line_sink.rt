@@ -21,12 +21,13 @@ pub trait LineSink {
 
     /// Puts a line behind the others. Want of memory leaves the lines as they were.
     fn put(&mut self, line: &LineRef<'_>) -> Result<(), NoMemory>
-        ensures adds { OnOk result (lines self.new ≡ put_behind (lines self.old) (owned line.now ∷ [])) }
+        ensures adds { OnOk result
+            (lines self.new ≡ put_behind (lines self.old) (owned line.now ∷ [])) }
         ensures err { OnErr result (lines self.new ≡ lines self.old) }
         ensures failed { failed self.new ≡ failed self.old };
 
-    /// Puts the line of the log of a request in which the tree failed behind the others. Want of memory
-    /// leaves them as they were.
+    /// Puts the line of the log of a request in which the tree failed behind the others. Want of
+    /// memory leaves them as they were.
     fn fail(&mut self, line: u64) -> Result<(), NoMemory>
         ensures adds { OnOk result (failed self.new ≡ put_behind (failed self.old) (line ∷ [])) }
         ensures err { OnErr result (failed self.new ≡ failed self.old) }

@@ -17,6 +17,7 @@ use crate::pushes::push_told;
 use crate::request::Request;
 use can_id::Kind;
 use cy_bits::{List, NoMemory, ShortList};
+use cy_outside::Tree;
 use node_plan::Plan;
 use node_status::info_payload;
 use register_service::Limited;
@@ -56,6 +57,8 @@ pub struct Node {
 pub struct Stepped {
     /// Whether the record ends a transfer whose bytes don't fit their CRC.
     pub badcrc: bool,
+    /// Whether the tree failed in the request that the record ends.
+    pub failed: bool,
 }
 
 impl Node {
@@ -69,13 +72,16 @@ impl Node {
     ghost use Rattle.rx_table.specs.Views.{subscriptions};
     ghost use Rattle.node_core.specs.Heard.{IsElsewhere};
     ghost use Rattle.node_core.specs.Shapes.{port_schema};
-    ghost use Rattle.node_core.specs.Came.{answer_in, heard_is_bad, came_lines, came_request, met_lines, TellsRequest};
-    ghost use Rattle.node_core.specs.Keeps.{Appends, KeepsOf, keeps};
+    ghost use Rattle.node_core.specs.Came.{answer_in, heard_is_bad, came_lines, came_request};
+    ghost use Rattle.node_core.specs.Came.{met_lines, TellsRequest};
+    ghost use Rattle.file_service.specs.Causes.{TellsFault};
+    ghost use Rattle.node_core.specs.Keeps.{DidStep, keeps};
     ghost use Rattle.node_core.specs.Sending.{IsRequestTo};
     ghost use Rattle.node_core.specs.Steps.{kept};
     ghost use Rattle.node_core.specs.declared.line.Line.{Line as LineOf};
     ghost use Rattle.node_core.specs.Stands.{Stands, Takes, StandsAsBefore, Gives, TellsBadCrc};
-    ghost use Rattle.node_core.specs.Stands.{TakesFrame, KeepsSessions, FrameGives, FrameTellsBadCrc};
+    ghost use Rattle.node_core.specs.Stands.{TakesFrame, KeepsSessions, FrameGives};
+    ghost use Rattle.node_core.specs.Stands.{FrameTellsBadCrc};
     ghost use Rattle.node_core.specs.Stands.{Holds, IsWithinBound};
     ghost use Rattle.node_core.specs.Told.{answer_is_bad, told_lines};
 
@@ -103,29 +109,40 @@ impl Node {
         })
     }
 
-    /// Takes the next record of the log, at a moment not before the last one, and appends the lines on
-    /// what it gives, and those on the buses that have no room for its reply. Memory is taken for these
-    /// lines, for a new source's session, and for what is asked of registers; where it is wanting, the
-    /// lines are left as they were, and the node is not to be used further.
-    pub fn frame(&mut self, rec: &Record, lines: &mut List<Line>) -> Result<Stepped, NoMemory>
+    /// Takes the next record of the log, at a moment not before the last one, and appends the lines
+    /// on what it gives, and those on the buses that have no room for its reply. A request of a
+    /// file is asked of the tree. Memory is taken for these lines, for a new source's session, and
+    /// for what is asked of registers and files; where it is wanting, the lines are left as they
+    /// were, and the node is not to be used further.
+    pub fn frame<T: Tree>(
+        &mut self,
+        rec: &Record,
+        tree: &mut T,
+        lines: &mut List<Line>,
+    ) -> Result<Stepped, NoMemory>
         requires { self.old.latest ≤ rec.now.moment }
         ensures plan { self.new.plan ≡ self.old.plan }
         ensures latest { self.new.latest ≤ rec.now.moment }
         ensures stands { OnOk result (Takes rec.now self.old self.new) }
-        ensures keeps { OnOk result (KeepsOf rec.now self.old self.new) }
-        ensures lines { OnOk result (Appends self.old rec.now lines.old lines.new) }
+        ensures did { IfOk result (λ step. DidStep (T.files tree.old) rec.now
+            self.old self.new lines.old lines.new step.failed) }
         ensures badcrc { IfOk result (λ step. TellsBadCrc self.old rec.now step.badcrc) }
         ensures behind { take (length lines.old) lines.new ≡ lines.old }
         ensures err { OnErr result (lines.new ≡ lines.old) }
+        ensures files { T.files tree.new ≡ T.files tree.old }
+        ensures cause { IfOk result (λ step.
+            TellsFault step.failed (T.faults tree.old) (T.faults tree.new)) }
+        ensures count { T.faults tree.old ≤ T.faults tree.new }
     {
         let came = self.step(rec)?;
         let told = self.told(rec, came);
         let request = self.request(came, told)?;
         let before = lines.len();
         push_told(self.alloc, lines, told)?;
-        match self.answer(rec.moment, request, lines) {
-            Ok(()) => Ok(Stepped {
+        match self.answer(rec.moment, request, tree, lines) {
+            Ok(failed) => Ok(Stepped {
                 badcrc: came.badcrc,
+                failed,
             }),
             Err(refused) => {
                 lines.cut_back(before);
@@ -134,15 +151,16 @@ impl Node {
         }
     }
 
-    /// Takes the next record of the log, at a moment not before the last one. Memory is taken for a new
-    /// source's session alone; where it is wanting, the sessions are left as they were.
+    /// Takes the next record of the log, at a moment not before the last one. Memory is taken for a
+    /// new source's session alone; where it is wanting, the sessions are left as they were.
     #[inline(always)]
     pub fn step(&mut self, rec: &Record) -> Result<Came, NoMemory>
         requires { self.old.latest ≤ rec.now.moment }
         ensures plan { self.new.plan ≡ self.old.plan }
         ensures latest { self.new.latest ≤ rec.now.moment }
         ensures stands { OnOk result (Takes rec.now self.old self.new) }
-        ensures lines { IfOk result (λ came. Gives self.old rec.now (came_lines self.new rec.now came)) }
+        ensures lines { IfOk result (λ came.
+            Gives self.old rec.now (came_lines self.new rec.now came)) }
         ensures badcrc { IfOk result (λ came. TellsBadCrc self.old rec.now came.badcrc) }
         ensures keeps { keeps self.new ≡ keeps self.old }
         ensures request { IfOk result (λ came. TellsRequest self.old rec.now came) }
@@ -206,8 +224,8 @@ impl Node {
         Request::with(self.alloc, heard.tail.tid, heard.ident, rx.payload)
     }
 
-    /// Whether a record is of a message on no port of the plan. Its identifier says so, before it is read
-    /// as a frame.
+    /// Whether a record is of a message on no port of the plan. Its identifier says so, before it
+    /// is read as a frame.
     #[inline(always)]
     fn passes_by(&self, rec: &Record) -> bool
         ensures { OnTrue result (IsElsewhere (subscriptions port_schema self.now.table) rec.now) }
@@ -228,8 +246,8 @@ impl Node {
         ensures stands { OnOk result (TakesFrame (seen frame.now) self.old self.new) }
         ensures lines { let f = seen frame.now in
             IfOk result (λ met. FrameGives self.old f (met_lines self.new f met)) }
-        ensures badcrc { let f = seen frame.now in
-            IfOk result (λ met. FrameTellsBadCrc self.old f (answer_is_bad (answer_in self.new f.body met))) }
+        ensures badcrc { let f = seen frame.now in IfOk result (λ met.
+            FrameTellsBadCrc self.old f (answer_is_bad (answer_in self.new f.body met))) }
         ensures err { OnErr result (KeepsSessions self.old self.new) }
     {
         rx_table::laws::outcome_tells();

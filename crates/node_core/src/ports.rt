@@ -1,5 +1,6 @@
 //! The table of a plan's ports.
-ghost use Rattle.std.specs.Prelude.{◌≡◌, ◌<◌, ◌≤◌, ◌^◌, ◌++◌, ◌∷◌, [], ℕ, List, None, Some, IfOk, OnOk, length, take};
+ghost use Rattle.std.specs.Prelude.{◌≡◌, ◌<◌, ◌≤◌, ◌^◌, ◌++◌, ◌∷◌, [], ℕ, List, None, IfOk, OnOk};
+ghost use Rattle.std.specs.Prelude.{length, option_map, take};
 ghost use Rattle.std_types.specs.Types.{schema_of};
 ghost use Rattle.node_plan.specs.IsPlan.{IsPlan, IsShape};
 ghost use Rattle.node_plan.specs.Ports.{PlanPort, extent_of, ports, service_extent, type_in};
@@ -103,12 +104,17 @@ fn sub_shape(alloc: Global, shape: &SubShape) -> Result<PortShape, NoMemory>
     }
 }
 
-/// The shape of the requests of a service.
+/// The shape of the requests of a service: no byte is kept of those that have no type.
 fn service_shape(alloc: Global, service: &Service) -> Result<PortShape, NoMemory>
     ensures extent { IfOk result (λ made. shape_extent made ≡ service_extent service.now) }
     ensures port_type { IfOk result (λ made.
-        port_type made ≡ Some (schema_of service.now.request)) }
+        port_type made ≡ option_map schema_of service.now.request) }
 {
-    let schema = std_type(alloc, service.request)?.schema;
-    Ok(PortShape::Compiled(CompiledShape { schema }))
+    match service.request {
+        Some(name) => {
+            let schema = std_type(alloc, name)?.schema;
+            Ok(PortShape::Compiled(CompiledShape { schema }))
+        }
+        None => Ok(PortShape::Raw(RawShape::new(alloc, 0)?)),
+    }
 }

@@ -21,6 +21,21 @@ const ACCESS: u16 = 384;
 /// The service-ID of listings of registers.
 const LIST: u16 = 385;
 
+/// The service-ID of requests of what stands at a path.
+const FILE_INFO: u16 = 405;
+
+/// The service-ID of listings of folders.
+const FILE_LIST: u16 = 406;
+
+/// The service-ID of changes of files.
+const FILE_MODIFY: u16 = 407;
+
+/// The service-ID of reads of files.
+const FILE_READ: u16 = 408;
+
+/// The service-ID of writes of files.
+const FILE_WRITE: u16 = 409;
+
 /// What a request asks that a node answers.
 #[derive(Drop)]
 pub enum Question {
@@ -62,6 +77,19 @@ impl Question {
                 let request = request_as(alloc, StdName::ListRequest, payload)?;
                 Ok(request.map(Question::Listing))
             }
+            FILE_INFO => {
+                let request = request_as(alloc, StdName::InfoRequest, payload)?;
+                Ok(request.map(Question::FileInfo))
+            }
+            FILE_LIST => {
+                let request = request_as(alloc, StdName::FileListRequest, payload)?;
+                Ok(request.map(Question::FileName))
+            }
+            FILE_READ => {
+                let request = request_as(alloc, StdName::ReadRequest, payload)?;
+                Ok(request.map(Question::FileBytes))
+            }
+            FILE_MODIFY | FILE_WRITE => Ok(Some(Question::Unsupported)),
             _ => Ok(None),
         }
     }

@@ -1,7 +1,9 @@
 //! What a node sends.
-ghost use Rattle.std.specs.Prelude.{◌≡◌, ◌<◌, ◌++◌, IfOk, OnOk, Some, length, map, take};
+ghost use Rattle.std.specs.Prelude.{◌≡◌, ◌<◌, ◌≤◌, IfOk, OnOk, Some, length, map, take};
 ghost use Rattle.std.specs.Option.{ForSome};
-ghost use Rattle.node_core.specs.Keeps.{answered, beaten, keeps, reply_by};
+ghost use Rattle.file_service.specs.Causes.{TellsFault};
+ghost use Rattle.node_core.specs.Files.{FitsFileReply};
+ghost use Rattle.node_core.specs.Keeps.{DidAnswer, answered, beaten, keeps, reply_by};
 ghost use Rattle.node_core.specs.Pops.{Pops, queue_at};
 ghost use Rattle.node_core.specs.Queues.{fulls, waiting};
 ghost use Rattle.node_core.specs.Sending.{IsRequestTo, beat};
@@ -9,40 +11,44 @@ ghost use Rattle.node_core.specs.Stands.{StandsAsBefore};
 ghost use Rattle.node_core.specs.declared.line.Line.TheVariants.{Full};
 
 use crate::answers::MAX_REPLY;
+use crate::file_reply::FileReply;
 use crate::line::{FullLine, Line};
 use crate::node::Node;
 use crate::pushes::push_fulls;
 use crate::request::Request;
 use crate::transfer::{HEARTBEAT, Transfer, beat_ident};
 use cy_bits::{List, NoMemory, ShortList};
+use cy_outside::Tree;
 use node_status::heartbeat_payload;
 use tx_queue::OutFrame;
 
 impl Node {
     /// Does what a request asks, and puts the reply behind the frames that wait on each bus: to the
     /// one who asks, with the request's priority and transfer-ID (Cyphal Specification, section
-    /// 5.3.3). Tells on which buses there is no room for it, at a moment in microseconds. Memory is
-    /// taken for what is asked of registers alone; where it is wanting, no frame was put, and the
-    /// node is not to be used further.
+    /// 5.3.3). The reply to a request of a file is what the tree told for it. Tells on which buses
+    /// there is no room for the reply, at a moment in microseconds. Memory is taken for what is
+    /// asked of registers and files alone; where it is wanting, the node is not to be used further.
     #[inline(never)]
     pub fn reply(
         &mut self,
         moment: u64,
         request: Request,
+        file: &FileReply,
     ) -> Result<ShortList<FullLine, 3>, NoMemory>
-        requires { IsRequestTo self.old.plan.node request }
+        requires asks { IsRequestTo self.old.plan.node request }
+        requires file { FitsFileReply file.now }
         ensures plan { self.new.plan ≡ self.old.plan }
         ensures latest { self.new.latest ≡ self.old.latest }
         ensures stands { StandsAsBefore self.old self.new }
         ensures keeps { let old = keeps self.old in
-            OnOk result (keeps self.new ≡ answered self.old.plan (Some request) old) }
+            OnOk result (keeps self.new ≡ answered self.old.plan (Some request) file.now old) }
         ensures fulls { let old = keeps self.old in
-            let reply = reply_by self.old.plan (Some request) old in
+            let reply = reply_by self.old.plan (Some request) file.now old in
             IfOk result (λ full. map Full full ≡ fulls moment reply old.queues) }
     {
         let mut out = [0; MAX_REPLY];
         let ident = request.reply_ident(self.plan.node);
-        let size = self.answer_with(request.question, &mut out)?;
+        let size = self.answer_with(request.question, file, &mut out)?;
         let reply = Transfer {
             ident,
             tid: request.tid,
@@ -52,37 +58,41 @@ impl Node {
         Ok(self.queues.push_all(moment, &reply))
     }
 
-    /// The same of a request, if there is one, with the lines on full buses put behind others. Where
-    /// memory is wanting, some of them are.
-    pub(crate) fn answer(
+    /// Serves a request and replies to it, if there is one, and puts the lines on full buses behind
+    /// others. Answers whether the tree failed. Where memory is wanting, some of these lines are
+    /// put.
+    pub(crate) fn answer<T: Tree>(
         &mut self,
         moment: u64,
         request: Option<Request>,
+        tree: &mut T,
         lines: &mut List<Line>,
-    ) -> Result<(), NoMemory>
+    ) -> Result<bool, NoMemory>
         requires { ForSome request (IsRequestTo self.old.plan.node) }
         ensures plan { self.new.plan ≡ self.old.plan }
         ensures latest { self.new.latest ≡ self.old.latest }
         ensures stands { StandsAsBefore self.old self.new }
-        ensures keeps { let old = keeps self.old in
-            OnOk result (keeps self.new ≡ answered self.old.plan request old) }
-        ensures lines { let old = keeps self.old in
-            let reply = reply_by self.old.plan request old in
-            OnOk result (lines.new ≡ lines.old ++ fulls moment reply old.queues) }
+        ensures did { IfOk result (DidAnswer (T.files tree.old) moment request
+            self.old self.new lines.old lines.new) }
         ensures behind { take (length lines.old) lines.new ≡ lines.old }
+        ensures files { T.files tree.new ≡ T.files tree.old }
+        ensures cause { IfOk result (λ failed.
+            TellsFault failed (T.faults tree.old) (T.faults tree.new)) }
+        ensures count { T.faults tree.old ≤ T.faults tree.new }
     {
-        match request {
-            Some(request) => {
-                let fulls = self.reply(moment, request)?;
-                push_fulls(lines, &fulls)
-            }
-            None => Ok(()),
-        }
+        let Some(request) = request else {
+            return Ok(false);
+        };
+        let file = self.serve(&request, tree)?;
+        let fulls = self.reply(moment, request, &file)?;
+        push_fulls(lines, &fulls)?;
+        Ok(file.is_failed())
     }
 
     /// Puts the heartbeat of a tick behind the frames that wait on each bus (Cyphal Specification,
-    /// section 5.3.2). The tick's number is the uptime in seconds, its moment is in microseconds. Tells
-    /// on which buses there is no room for it; its transfer-ID is used all the same. Takes no memory.
+    /// section 5.3.2). The tick's number is the uptime in seconds, its moment is in microseconds.
+    /// Tells on which buses there is no room for it; its transfer-ID is used all the same. Takes no
+    /// memory.
     #[inline(never)]
     pub fn tick(&mut self, moment: u64, number: u64) -> ShortList<FullLine, 3>
         ensures plan { self.new.plan ≡ self.old.plan }
@@ -106,8 +116,8 @@ impl Node {
         fulls
     }
 
-    /// Takes the first of the frames with the least identifier that wait on a bus; `None` where nothing
-    /// waits there.
+    /// Takes the first of the frames with the least identifier that wait on a bus; `None` where
+    /// nothing waits there.
     pub fn pop_out(&mut self, bus: u8) -> Option<OutFrame>
         requires { bus < length (keeps self.old).queues }
         ensures plan { self.new.plan ≡ self.old.plan }

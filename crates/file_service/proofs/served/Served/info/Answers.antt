@@ -10,9 +10,9 @@ use Rattle.file_service.proofs.served.Served.info.Goals.{in-Ok-File, in-Ok-Folde
 pub returns-clause-answer : goal.returns-clause-answer
 returns-clause-answer g c =
     let told = g.T.Tree.files c.args.tree.now in
-    let path = c.as_str-2.result.now in
-    let is : At path ≡ place_of c.args.self.now.root c.args.path.now =
-    ap At c.as_str-2.ensures ∙ sym c.in-At.is ∙ c.in_ok-place_of.ensures ∙ ap (λ r. place_of r c.args.path.now) c.as_str.ensures in
+    let path = c.as_str.result.now in
+    let is : At path ≡ place_of c.args.self.now.root.now c.args.path.now =
+    ap At c.as_str.ensures ∙ sym c.in-At.is ∙ c.in_ok-place_of.ensures in
     subst (λ p. IsInfo told p c.match-size.result) is
     (elim c.match-size.branch as (λ _. IsInfo told (At path) c.match-size.result) [
       | in-Ok-File w ↦

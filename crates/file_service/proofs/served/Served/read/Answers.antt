@@ -12,9 +12,9 @@ pub returns-clause-answer : goal.returns-clause-answer
 returns-clause-answer g c =
     let told = g.T.Tree.files c.args.tree.now in
     let buf = c.read_at.new.buf in
-    let path = c.as_str-2.result.now in
-    let is : At path ≡ place_of c.args.self.now.root c.args.path.now =
-    ap At c.as_str-2.ensures ∙ sym c.in-At.is ∙ c.in_ok-place_of.ensures ∙ ap (λ r. place_of r c.args.path.now) c.as_str.ensures in
+    let path = c.as_str.result.now in
+    let is : At path ≡ place_of c.args.self.now.root.now c.args.path.now =
+    ap At c.as_str.ensures ∙ sym c.in-At.is ∙ c.in_ok-place_of.ensures in
     subst (λ p. IsRead told p c.args.offset (read_of c.match-read_at.result buf)) is
     (elim c.match-read_at.branch as (λ _. IsRead told (At path) c.args.offset (read_of c.match-read_at.result buf)) [
       | in-Ok-Bytes w ↦
