@@ -6,6 +6,7 @@ pub mod Hears
 pub mod Compared
 pub mod Layouts
 pub mod Leaves
+pub mod Listens
 pub mod Loaded
 pub mod NamedTypes
 pub mod Failures

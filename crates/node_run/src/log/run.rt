@@ -13,17 +13,17 @@ use crate::log::running::Running;
 use crate::log::tally::Tally;
 use crate::report::Report;
 use crate::status::Status;
-use cy_bits::{BusName, List, ShortList};
+use cy_bits::{BusName, ShortList};
 use cy_outside::{Sink, Source, Tree};
 use log_loop::{Ended, listen};
 use node_core::{KeptLines, LineSink, LineWriter, Node, Numbers};
 use node_plan::{BusPlan, Plan, bound};
 use std::alloc::Global;
-use std::mem;
 
 /// Runs the node of a plan over a log: a step for each record, and at the log's end the last line.
-/// A sink takes the lines of the steps, their text is written before the input is read again, and
-/// the numbers become those of the run.
+/// The files that it serves are those of a tree. A sink takes the lines of the steps, and the lines
+/// of the log on which requests ended in which the tree failed; the text of the steps is written
+/// before the input is read again, and the numbers become those of the run.
 pub fn run_over<T: Tree, L: Source, O: Sink, K: LineSink>(
     alloc: Global,
     plan: Plan,
@@ -62,13 +62,14 @@ pub fn run_over<T: Tree, L: Source, O: Sink, K: LineSink>(
         node: &mut node,
         writer: &mut writer,
         lines,
+        tree,
     };
     let ended = listen(alloc, &mut run, names, input, out);
     *numbers = numbers_of(ended, &run.tally.numbers, run.sent);
     status_of(ended)
 }
 
-/// The same, whose lines and numbers a report takes.
+/// The same, whose lines, failed requests and numbers a report takes.
 pub fn run_log<T: Tree, L: Source, O: Sink>(
     alloc: Global,
     plan: Plan,
@@ -91,10 +92,11 @@ pub fn run_log<T: Tree, L: Source, O: Sink>(
     ensures bound { report.new.bound ≡ bound_of plan }
     ensures held { report.new.held ≤ report.new.bound }
 {
-    let mut kept = KeptLines::new(alloc, mem::replace(&mut report.lines, List::empty(alloc)));
+    let mut kept = KeptLines::new(alloc);
     let mut numbers = Tally::new(0, 0).numbers;
-    let status = run_over(alloc, plan, input, out, &mut kept, &mut numbers);
-    report.lines = kept.into_list();
+    let status = run_over(alloc, plan, tree, input, out, &mut kept, &mut numbers);
+    report.lines = kept.lines;
+    report.failed = kept.failed;
     report.count(&numbers);
     status
 }

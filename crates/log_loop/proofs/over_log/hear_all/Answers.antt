@@ -90,12 +90,11 @@ returns-in_default-clause-listened g c =
     let left = g.L.Source.left in
     let written = g.O.Sink.written in
     let s = stages (m.heard c.args.listener.now c.hear.new.self) (m.ended c.args.listener.now c.hear.new.self) (m.broke c.args.listener.now c.hear.new.self) (m.cut_short c.args.listener.now c.hear.new.self) in
-    let step = c.in_default.ensures.broke in
-    let goes = step.goes c.args.listener.now i.past i.heard in
+    let goes = c.in_default.ensures.broke c.args.listener.now i.past i.heard in
     let more = reads_more names (left c.args.input.now) (left c.records.input) (left c.next.new.input) c.records.reader c.next.new.reader (map v.record_of i.past) c.next.new.written i.reads (rw c.in-Ok-true.field-0-test at c.in-Ok-true.ensures.log) c.in-Ok-true.ensures.end in
     listened_wanting names v s (g.met.M.Listener.comes c.args.listener.now) (left c.args.input.now) (left c.records.input) (left c.next.new.input) c.records.reader c.next.new.reader i.past (text_of c.records.gathered) (text_of c.next.new.gathered)
     (written c.args.out.now) (written c.records.out) (written c.next.new.out) i.may i.reads i.streams i.gathered
-    c.next.new.written step.event (step.of c.args.listener.now) goes.may more (rw c.in-Ok-true.field-0-test at c.in-Ok-true.ensures.came) (rw c.in-Ok-true.field-0-test at c.in-Ok-true.ensures.text) goes.breaks
+    c.next.new.written goes.event goes.of goes.may more (rw c.in-Ok-true.field-0-test at c.in-Ok-true.ensures.came) (rw c.in-Ok-true.field-0-test at c.in-Ok-true.ensures.text) goes.breaks
 
 pub returns-clause-listened : goal.returns-clause-listened
 returns-clause-listened g c =

@@ -37,6 +37,7 @@ loop-bus-preserved g c =
       done = i.done ++ more;
       same = same_then i.same c.drain_bus.ensures.same;
       buses = c.drain_bus.ensures.buses ∙ i.buses;
+      untold = c.drain_bus.ensures.untold ∙ i.untold;
       keeps_are = c.in_ok-drain_bus.ensures.keeps ∙ (ap (λ (k : Kept). bus_left k bus) i.keeps_are ∙ next_done old.queues bus within old);
       told = told_more buses i.done more (text_of c.args.gathered.now) (text_of c.loop-bus.gathered) (text_of c.drain_bus.new.gathered) (lines c.args.lines.now) (lines c.loop-bus.lines) (lines c.drain_bus.new.lines) i.told told;
       leaves = line_more (leaving moment old.queues) i.done (leaving_from moment bus (drop bus old.queues)) more (leaving_from moment (bus + 1) (drop (bus + 1) old.queues)) i.leaves (next_lines old.queues bus within moment);
