@@ -4,10 +4,10 @@ use Rattle.frame_log.specs.declared.error.LogError.{LogError}
 use Rattle.log_loop.specs.Gone.{FirstOf}
 use Rattle.node_plan.specs.declared.plan.Plan.{Plan}
 use Rattle.node_core.specs.LineSinks.{put_behind}
-use Rattle.node_core.specs.Steps.{Met, Step, lines, lines_at, emptying, all_lines, steps}
+use Rattle.node_core.specs.Steps.{Met, Step, lines, lines_at, lines_behind, emptying, all_lines, steps}
 use Rattle.node_core.specs.declared.line.Line.{Line}
 use Rattle.node_run.specs.Ran.{Reported, Tells, AtFirst, due_lines, due_numbers, first_lines, next_lines}
-use Rattle.node_run.proofs.Steps.{lines_front}
+use Rattle.node_run.proofs.Steps.{first_steps, lines_newer}
 
 -- the lines of the steps are the first of those that are due
 pub steps_due : (plan : Plan) (all : List Step) (refusal : Option LogError) → (more : List Line) × (due_lines plan all refusal ≡ lines plan all ++ more)
@@ -77,10 +77,11 @@ module _ (plan : Plan) (all : List Step) (refusal : Option LogError) (r : Report
 pub came_lines : (plan : Plan) (mets came : List Met) (refusal : Option LogError) → FirstOf mets came
     → (rest : List Line) × (due_lines plan (steps plan mets) refusal ≡ lines plan (steps plan came) ++ rest)
 came_lines plan mets came refusal first =
-    let f = lines_front plan first.newer came in
+    let f = first_steps plan mets came first in
+    let more = lines_behind plan f.newer (steps plan came) in
     let d = steps_due plan (steps plan mets) refusal in (
-      f.0 ++ d.0,
+      more ++ d.0,
       d.1
-          ∙ (ap (λ t. lines plan (steps plan t) ++ d.0) first.parts
-          ∙ (ap (λ t. t ++ d.0) f.1 ∙ append_assoc (lines plan (steps plan came)) f.0 d.0)),
+          ∙ (ap (λ t. t ++ d.0) (ap (lines plan) f.parts ∙ lines_newer plan f.newer (steps plan came))
+          ∙ append_assoc (lines plan (steps plan came)) more d.0),
     )

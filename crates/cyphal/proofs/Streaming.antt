@@ -31,7 +31,8 @@ module _ {L : Type 0} (one : HaveOneAnswer × OnePlan) (words : List (List ℕ))
         are = record { of_log = m.records_are; served = m.served };
         is =
             subst (λ (o : Option (List ℕ)). IsStreamed plan m.mets (flow told.input o told.written came.written) came.status came.reported) (sym n.left)
-            (streamed_none plan m.mets told.input came.status came.reported told.written came.written);
+            (subst (λ (o : Option (List ℕ)). IsStreamed plan m.mets (flow told.input told.input told.written o) came.status came.reported) (sym n.written)
+            (streamed_none plan m.mets told.input told.written came.status came.reported));
       }
 
   pub streamed_of : HeadlineLaws → WasDone words told came old new → StreamedOf words told came
