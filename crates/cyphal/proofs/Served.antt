@@ -3,13 +3,12 @@ use Rattle.std.proofs.Common.{◌≡◌, ◌∙◌, ◌⊎◌, inl, inr, ℕ, fa
 use Rattle.node_core.specs.LineSinks.{put_behind}
 use Rattle.node_core.specs.Steps.{failed_lines, steps}
 use Rattle.node_run.specs.Failures.{AreFailures, Failures}
-use Rattle.node_run.specs.HasRun.{HasRun}
 use Rattle.node_run.specs.Ran.{Failed}
 use Rattle.node_run.specs.declared.status.Status.{Status}
 use Rattle.node_run.specs.declared.status.Status.TheVariants as status
 use Rattle.cyphal.specs.Words.{Command, Compile, Compat, Encode, Decode, Run, Bound, Migrate, Gen, Monitor, Allocate, Fetch, command_of}
 use Rattle.cyphal.specs.Cause.{Outside}
-use Rattle.cyphal.specs.Job.{Told, Outcome, is_settled, NotDone, ReportsNothing}
+use Rattle.cyphal.specs.Job.{Told, Outcome, is_settled, ReportsNothing}
 use Rattle.cyphal.specs.jobs.Run.{HasRunAt}
 use Rattle.cyphal.specs.Expected.{job_asked, job_for, WasDone}
 
