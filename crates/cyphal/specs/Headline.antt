@@ -167,7 +167,8 @@ DuePut words told came =
     (mine : List Line) → HasPut came.reported mine → DueOf words told came.status mine
 
 abbrev pub ValuesPut : List (List ℕ) → Told → Outcome → Type 0
-ValuesPut words told came = (mine : List Line) → HasPut came.reported mine → ValuesOf words told mine
+ValuesPut words told came =
+    (mine : List Line) → HasPut came.reported mine → ValuesOf words told mine
 
 abbrev pub DueValuesPut : List (List ℕ) → Told → Outcome → Type 0
 DueValuesPut words told came =

@@ -9,7 +9,8 @@ use Rattle.cyphal.specs.Job.{Told, Outcome, flow_of}
 use Rattle.cyphal.specs.Headline.{AreMet, Asked}
 
 -- the records of the input that count are met, each with what the tree told of a file there, and this holds of them
-pub record OverMet (plan : Plan) (tree : Files) (bytes : List ℕ) (holds : List Met → Type 0) : Type 0 where
+pub record OverMet (plan : Plan) (tree : Files) (bytes : List ℕ)
+    (holds : List Met → Type 0) : Type 0 where
   pub mets : List Met
   pub are : AreMet plan tree bytes mets
   pub is : holds mets
@@ -25,4 +26,5 @@ TakenOf words told came =
 abbrev pub StreamedOf : List (List ℕ) → Told → Outcome → Type 0
 StreamedOf words told came =
     (plan : Plan) (bytes : List ℕ) (a : Asked words told plan bytes)
-    → OverMet plan a.tree bytes (λ mets. IsStreamed plan mets (flow_of told came) came.status came.reported)
+    → OverMet plan a.tree bytes
+    (λ mets. IsStreamed plan mets (flow_of told came) came.status came.reported)

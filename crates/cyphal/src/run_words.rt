@@ -79,12 +79,13 @@ pub fn run_words<T: Tree, L: Source, O: Sink, E: Sink, K: LineSink>(
         → EndsAsDue due result.status old new }
     // The headline, where the words, the files and the input are told: of what is written, and of the lines where the
     // sink tells them.
-    ensures headline { let told = told_by (T.files tree.old) (L.left input.old) (O.written out.old) in
+    ensures headline { let words = map string_bytes words.now in
+        let told = told_by (T.files tree.old) (L.left input.old) (O.written out.old) in
         let put = reported (K.lines lines.old) (K.lines lines.new) result.numbers in
         let failed = failures (K.failed lines.old) (K.failed lines.new)
         (T.faults tree.old) (T.faults tree.new) in
         let came = outcome result.status put failed (L.left input.new) (O.written out.new) in
-        HeadlineOf (map string_bytes words.now) told came }
+        HeadlineOf words told came }
     ensures once { let told = told_by (T.files tree.old) (L.left input.old) (O.written out.old) in
         let put = reported (K.lines lines.old) (K.lines lines.new) result.numbers in
         let failed = failures (K.failed lines.old) (K.failed lines.new)
@@ -103,12 +104,13 @@ pub fn run_words<T: Tree, L: Source, O: Sink, E: Sink, K: LineSink>(
         (T.faults tree.old) (T.faults tree.new) in
         let came = outcome result.status put failed (L.left input.new) (O.written out.new) in
         ValuesPut (map string_bytes words.now) told came }
-    ensures due_values { let told = told_by (T.files tree.old) (L.left input.old) (O.written out.old) in
+    ensures due_values { let words = map string_bytes words.now in
+        let told = told_by (T.files tree.old) (L.left input.old) (O.written out.old) in
         let put = reported (K.lines lines.old) (K.lines lines.new) result.numbers in
         let failed = failures (K.failed lines.old) (K.failed lines.new)
         (T.faults tree.old) (T.faults tree.new) in
         let came = outcome result.status put failed (L.left input.new) (O.written out.new) in
-        DueValuesPut (map string_bytes words.now) told came }
+        DueValuesPut words told came }
     // How far the input is taken where a read fails: not at all, where the tree failed, or up to the last whole line.
     ensures taken { let words = map string_bytes words.now in
         let told = told_by (T.files tree.old) (L.left input.old) (O.written out.old) in

@@ -75,19 +75,21 @@ pub fn top<T: Tree, L: Source, O: Sink, E: Sink>(
     ensures unserved { (job_for (map string_bytes words.now)).serves ≡ false
         → result.report.failed ≡ [] }
     // The headline, where the words, the files and the input are told: of what is written, and of the report.
-    ensures headline { let told = told_by (T.files tree.old) (L.left input.old) (O.written out.old) in
+    ensures headline { let words = map string_bytes words.now in
+        let told = told_by (T.files tree.old) (L.left input.old) (O.written out.old) in
         let put = of_report result.report in
         let failed = of_failed result.report (T.faults tree.old) (T.faults tree.new) in
         let came = outcome result.status put failed (L.left input.new) (O.written out.new) in
-        HeadlineOf (map string_bytes words.now) told came }
+        HeadlineOf words told came }
     ensures once { let told = told_by (T.files tree.old) (L.left input.old) (O.written out.old) in
         OnceOf (map string_bytes words.now) told result.report.lines }
     ensures due { let told = told_by (T.files tree.old) (L.left input.old) (O.written out.old) in
         DueOf (map string_bytes words.now) told result.status result.report.lines }
     ensures values { let told = told_by (T.files tree.old) (L.left input.old) (O.written out.old) in
         ValuesOf (map string_bytes words.now) told result.report.lines }
-    ensures due_values { let told = told_by (T.files tree.old) (L.left input.old) (O.written out.old) in
-        DueValuesOf (map string_bytes words.now) told result.status result.report.lines }
+    ensures due_values { let words = map string_bytes words.now in
+        let told = told_by (T.files tree.old) (L.left input.old) (O.written out.old) in
+        DueValuesOf words told result.status result.report.lines }
     // How far the input is taken where a read fails: not at all, where the tree failed, or up to the last whole line.
     ensures taken { let words = map string_bytes words.now in
         let told = told_by (T.files tree.old) (L.left input.old) (O.written out.old) in

@@ -29,7 +29,8 @@ voice_of hearing.Allocate own = allocate_voice own
 pub record HasListened (said : Voice Record) (stat : Status) (told : Flow) : Type 0 where
   pub ended : Ended
   pub is : stat ≡ status_of ended
-  pub listened : Listened bus_names said (any_stages Record) told.left told.new ended told.before told.after
+  pub listened : Listened bus_names said (any_stages Record)
+      told.left told.new ended told.before told.after
 
 -- it ends as the log does
 abbrev pub reach_job : Voice Record → Job
