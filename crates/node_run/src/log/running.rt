@@ -200,7 +200,14 @@ impl<'a, K: LineSink, T: Tree> Running<'a, K, T> {
             (state_in K.lines self.old) (state_in K.lines self.new) f) }
     {
         let full = ShortList::new();
-        let sent = send(self.node, rec.moment, &full, self.writer, self.lines, gathered)?;
+        let sent = send(
+            self.node,
+            rec.moment,
+            &full,
+            self.writer,
+            self.lines,
+            gathered,
+        )?;
         self.tally.send(sent);
         self.clock.last = rec.moment;
         Ok(())
@@ -228,7 +235,14 @@ impl<'a, K: LineSink, T: Tree> Running<'a, K, T> {
     {
         let file = self.node.serve(&request, self.tree)?;
         let full = self.node.reply(rec.moment, request, &file)?;
-        let sent = send(self.node, rec.moment, &full, self.writer, self.lines, gathered)?;
+        let sent = send(
+            self.node,
+            rec.moment,
+            &full,
+            self.writer,
+            self.lines,
+            gathered,
+        )?;
         tell_failed(self.lines, file.is_failed(), rec.line)?;
         self.tally.send(sent);
         self.clock.last = rec.moment;
