@@ -1,7 +1,10 @@
 pub mod Written
 pub mod Logs
 pub mod Came
+pub mod Events
 pub mod Taken
 pub mod Comes
 pub mod Streams
+pub mod Plain
 pub mod Runs
+pub mod Listened

@@ -1,5 +1,5 @@
 -- How far the input was taken before what is said on it was written.
-use Rattle.std.proofs.Common.{◌≡◌, ◌∙◌, ◌⊎◌, inl, inr, ◌+◌, ◌<◌, ◌≤◌, ◌^◌, ℕ, Bool, true, false, List, [], ◌∷◌, ◌++◌, length, take, drop, Option, Some, None, Result, Ok, Err, refl, sym, ap, subst, append_assoc, append-nil, length-append, arith}
+use Rattle.std.proofs.Common.{◌≡◌, ◌∙◌, ◌⊎◌, inl, inr, ◌+◌, ◌<◌, ◌≤◌, ◌^◌, ℕ, Bool, true, false, List, [], ◌∷◌, ◌++◌, length, take, drop, map, Option, Some, None, Result, Ok, Err, refl, sym, ap, subst, append_assoc, append-nil, length-append, arith}
 use Rattle.std.specs.Prelude.{◌==◌, ◌≢◌, if◌then◌else◌}
 use Rattle.std.proofs.lemmas.List.{take-append-drop}
 use mathlib.Core.List.{reverse_aux}
@@ -18,25 +18,27 @@ use Rattle.log_loop.specs.Next.{Goes, Comes, ComesBehind, Writes}
 use Rattle.log_loop.specs.Taken.{whole_records}
 use Rattle.log_loop.specs.declared.next.Stop.{Stop}
 use Rattle.log_loop.specs.declared.next.Stop.TheVariants as stop
-use Rattle.frame_log.specs.declared.error.LogError.TheVariants as error
 use Rattle.log_loop.proofs.Came.{took_more}
+use Rattle.log_loop.proofs.Events.{first_of, oldest, said_first}
 use Rattle.log_loop.proofs.Logs.{onto, newest_onto}
 use Rattle.log_loop.proofs.Written.{behind_none, behind_more, all_written, gathered_less}
 use Rattle.log_loop.specs.declared.ended.Ended.{Ended}
 use Rattle.log_loop.specs.declared.ended.Ended.TheVariants as end
 use Rattle.log_loop.specs.Voice.{Voice, said}
-use Rattle.log_loop.specs.Streamed.{HasWritten, HasHeard, IsStreamed}
-use Rattle.log_loop.specs.Gone.{HeardOrEnded, IsFinish, stopped}
-
-pub said_front : (v : Voice) (past rest : List Record) → (more : List ℕ) × (said v (reverse_aux rest past) ≡ said v past ++ more)
-said_front v past [] = ([], sym (append-nil (said v past)))
-said_front v past (r ∷ rest) = let f = said_front v (r ∷ past) rest in (v.step r past ++ f.0, f.1 ∙ append_assoc (said v past) (v.step r past) f.0)
+use Rattle.log_loop.specs.Streamed.{HasWritten, HasSaid, HearsBytes, IsStreamed}
+use Rattle.log_loop.specs.Gone.{FirstOf, HeardOrEnded, Stages, IsFinish, stopped}
 
 -- Lists.
 
 reverse_append : {A : Type 0} (a b c : List A) → reverse_aux (a ++ b) c ≡ reverse_aux b (reverse_aux a c)
 reverse_append [] b c = refl
 reverse_append (x ∷ a) b c = reverse_append a b (x ∷ c)
+
+-- what is turned round stands before the rest
+reverse_before : {A : Type 0} (a b : List A) → reverse_aux a b ≡ reverse_aux a [] ++ b
+reverse_before [] b = refl
+reverse_before (x ∷ a) b =
+    reverse_before a (x ∷ b) ∙ (sym (append_assoc (reverse_aux a []) (x ∷ []) b) ∙ ap (λ t. t ++ b) (sym (reverse_before a (x ∷ []))))
 
 -- a front with more behind it than a whole has behind its own front is a front of that one
 front_within : (front more whole rest : List ℕ) → front ++ more ≡ whole ++ rest → length rest ≤ length more → (k : List ℕ) × (whole ≡ front ++ k)
@@ -84,7 +86,7 @@ pub record Whole (names : List (List ℕ)) (bytes : List ℕ) (past : List Recor
   pub leads : (refusal : Option LogError) (ls : List (List ℕ)) → log_of_lines names refusal ((lines_of bytes).0 ++ ls) start ≡ onto past (log_of_lines names refusal ls at)
 
 -- the records of a front came before the others
-front_records : (names : List (List ℕ)) (bytes front k : List ℕ) (past : List Record) (at : Place) → Whole names bytes past at → bytes ≡ front ++ k → (newer : List Record) × (past ≡ reverse_aux newer (whole_records names front))
+front_records : (names : List (List ℕ)) (bytes front k : List ℕ) (past : List Record) (at : Place) → Whole names bytes past at → bytes ≡ front ++ k → (newer : List Record) × (past ≡ newer ++ whole_records names front)
 front_records names bytes front k past at w e =
     let f = take (2 ^ 28) front in
     let rest = drop (2 ^ 28) front in
@@ -97,7 +99,7 @@ front_records names bytes front k past at w e =
     ap (λ (t : List (List ℕ)). (log_of_lines names None (t ++ []) start).records) split
     ∙ (ap (λ (t : List (List ℕ)). (log_of_lines names None t start).records) (append_assoc (lines_of f).0 ls.0 []) ∙ rs.1) in
     let whole : first ++ rs.0 ≡ reverse_aux past [] = sym all ∙ ap (λ (l : Log). l.records) (w.leads None []) in
-    (rs.0, sym (newest_onto past []) ∙ (ap (λ (t : List Record). reverse_aux t []) (sym whole) ∙ reverse_append first rs.0 []))
+    (reverse_aux rs.0 [], sym (newest_onto past []) ∙ (ap (λ (t : List Record). reverse_aux t []) (sym whole) ∙ (reverse_append first rs.0 [] ∙ reverse_before rs.0 (reverse_aux first []))))
 
 -- What was written.
 
@@ -119,26 +121,33 @@ written_later : (t : List ℕ) (before mid after : Option (List ℕ)) → HasWri
 written_later t before mid after w g =
     (w.0 ++ g.more, g.is ∙ (ap (λ o. behind o g.more) w.1 ∙ (behind_more before (t ++ w.0) g.more ∙ ap (behind before) (append_assoc t w.0 g.more))))
 
--- records that came, the newest first, are followed by newer ones, and the text of their steps is written
-pub record Far (v : Voice) (old past : List Record) (before after : Option (List ℕ)) : Type 0 where
-  pub newer : List Record
-  pub parts : past ≡ reverse_aux newer old
-  pub written : HasWritten (said v old) before after
+-- the events of the lines that end among these bytes came before the others, and what is said on them is written
+pub record Far {E : Type 0} (names : List (List ℕ)) (v : Voice E) (front : List ℕ) (past : List E) (before after : Option (List ℕ)) : Type 0 where
+  pub newer : List E
+  pub came : List E
+  pub parts : past ≡ newer ++ came
+  pub records_are : map v.record_of came ≡ whole_records names front
+  pub written : HasWritten (said v came) before after
 
-far_later : (v : Voice) (old past : List Record) (before mid after : Option (List ℕ)) → Far v old past before mid → Grew mid after → Far v old past before after
-far_later v old past before mid after f g = record { newer = f.newer; parts = f.parts; written = written_later _ before mid after f.written g }
+far_later : {E : Type 0} (names : List (List ℕ)) (v : Voice E) (front : List ℕ) (past : List E) (before mid after : Option (List ℕ)) → Far names v front past before mid → Grew mid after → Far names v front past before after
+far_later names v front past before mid after f g =
+    record { newer = f.newer; came = f.came; parts = f.parts; records_are = f.records_are; written = written_later _ before mid after f.written g }
 
-far_next : (v : Voice) (old past : List Record) (rec : Record) (before after : Option (List ℕ)) → Far v old past before after → Far v old (rec ∷ past) before after
-far_next v old past rec before after f = record { newer = f.newer ++ rec ∷ []; parts = ap (λ t. rec ∷ t) f.parts ∙ sym (reverse_append f.newer (rec ∷ []) old); written = f.written }
+far_next : {E : Type 0} (names : List (List ℕ)) (v : Voice E) (front : List ℕ) (past : List E) (event : E) (before after : Option (List ℕ)) → Far names v front past before after → Far names v front (event ∷ past) before after
+far_next names v front past event before after f =
+    record { newer = event ∷ f.newer; came = f.came; parts = ap (λ t. event ∷ t) f.parts; records_are = f.records_are; written = f.written }
 
--- where all is written, that of the first records is
-far_all : (v : Voice) (old past newer : List Record) (before after : Option (List ℕ)) → past ≡ reverse_aux newer old → after ≡ behind before (said v past) → Far v old past before after
-far_all v old past newer before after e w =
-    let f = said_front v old newer in record { newer = newer; parts = e; written = (f.0, w ∙ ap (behind before) (ap (said v) e ∙ f.1)) }
+-- where all is written, that of the first events is
+far_all : {E : Type 0} (names : List (List ℕ)) (v : Voice E) (front : List ℕ) (past : List E) (newer : List Record) (before after : Option (List ℕ)) → map v.record_of past ≡ newer ++ whole_records names front → after ≡ behind before (said v past)
+    → Far names v front past before after
+far_all names v front past newer before after e w =
+    let o = oldest v past newer (whole_records names front) e in
+    let first = said_first v o.newer o.came in
+    record { newer = o.newer; came = o.came; parts = o.parts; records_are = o.records_are; written = (first.0, w ∙ ap (behind before) (ap (said v) o.parts ∙ first.1)) }
 
 -- each front, behind which more than 8,192 bytes came
-abbrev pub AllFar : Voice → List ℕ → List Record → Option (List ℕ) → Option (List ℕ) → Type 0
-AllFar v taken past before after = (front more : List ℕ) → taken ≡ front ++ more → 8192 < length more → Far v (whole_records v.names front) past before after
+abbrev pub AllFar : {E : Type 0} → List (List ℕ) → Voice E → List ℕ → List E → Option (List ℕ) → Option (List ℕ) → Type 0
+AllFar names v taken past before after = (front more : List ℕ) → taken ≡ front ++ more → 8192 < length more → Far names v front past before after
 
 -- The reader.
 
@@ -148,12 +157,12 @@ pub record Used (names : List (List ℕ)) (taken : List ℕ) (reader : LogReader
   pub parts : taken ≡ used ++ held_of reader
   pub whole : Whole names used past (place_of reader)
 
-pub record Streams (v : Voice) (told left : Option (List ℕ)) (reader : LogReader) (past : List Record) (before after : Option (List ℕ)) : Type 0 where
+pub record Streams {E : Type 0} (names : List (List ℕ)) (v : Voice E) (told left : Option (List ℕ)) (reader : LogReader) (past : List E) (before after : Option (List ℕ)) : Type 0 where
   pub taken : List ℕ
   pub took : Took told left taken
-  pub buses : buses_of reader ≡ v.names
-  pub used : saw_end reader ≡ false → Used v.names taken reader past
-  pub far : AllFar v taken past before after
+  pub buses : buses_of reader ≡ names
+  pub used : saw_end reader ≡ false → Used names taken reader (map v.record_of past)
+  pub far : AllFar names v taken past before after
 
 -- no bytes have such a front
 pub no_front : (front more : List ℕ) → [] ≡ front ++ more → 8192 < length more → ⊥
@@ -162,12 +171,12 @@ no_front front more e long =
     let sum : length (front ++ more) ≡ length front + length more = length-append front more in omega arith
 
 -- at the start nothing was taken
-pub streams_none : (v : Voice) (left : Option (List ℕ)) (reader : LogReader) (before : Option (List ℕ)) → (buses_of reader ≡ v.names) × (place_of reader ≡ start) × (held_of reader ≡ []) → Streams v left left reader [] before before
-streams_none v left reader before h = record {
+pub streams_none : {E : Type 0} (names : List (List ℕ)) (v : Voice E) (left : Option (List ℕ)) (reader : LogReader) (before : Option (List ℕ)) → (buses_of reader ≡ names) × (place_of reader ≡ start) × (held_of reader ≡ []) → Streams names v left left reader [] before before
+streams_none names v left reader before h = record {
   taken = [];
   took = Took-none left;
   buses = h.0;
-  used = λ e. record { used = []; parts = sym h.2; whole = record { whole = refl; leads = λ refusal ls. ap (log_of_lines v.names refusal ls) (sym h.1) } };
+  used = λ e. record { used = []; parts = sym h.2; whole = record { whole = refl; leads = λ refusal ls. ap (log_of_lines names refusal ls) (sym h.1) } };
   far = λ front more e long. absurd (no_front front more e long);
 }
 
@@ -195,70 +204,70 @@ gave names used bytes behind past rec at new w g =
     }
 
 -- One more call.
-module _ (v : Voice) (told left next_left : Option (List ℕ)) (old new : LogReader) (past : List Record) (rest : List ℕ) (before mid after : Option (List ℕ)) where
-  abbrev names : List (List ℕ)
-  names = v.names
+module _ {E : Type 0} (names : List (List ℕ)) (v : Voice E) (told left next_left : Option (List ℕ)) (old new : LogReader) (past : List E) (rest : List ℕ) (before mid after : Option (List ℕ)) where
+  abbrev records : List Record
+  records = map v.record_of past
 
-  used_of : (answer : Result (Option Record) LogError) → Streams v told left old past before mid → (c : Comes old new left next_left rest answer) → saw_end old ≡ false → Uses names (place_of old) (held_of old ++ c.came) (IsBefore answer new)
+  used_of : (answer : Result (Option Record) LogError) → Streams names v told left old past before mid → (c : Comes old new left next_left rest answer) → saw_end old ≡ false → Uses names (place_of old) (held_of old ++ c.came) (IsBefore answer new)
   used_of answer s c e = subst (λ (b : List (List ℕ)). Uses b (place_of old) (held_of old ++ c.came) (IsBefore answer new)) s.buses (c.used e)
 
   -- all that was taken, up to the last 8,192 bytes at most
-  parts_of : (answer : Result (Option Record) LogError) → (s : Streams v told left old past before mid) → (c : Comes old new left next_left rest answer) → (e : saw_end old ≡ false) → (u : Used names s.taken old past)
+  parts_of : (answer : Result (Option Record) LogError) → (s : Streams names v told left old past before mid) → (c : Comes old new left next_left rest answer) → (e : saw_end old ≡ false) → (u : Used names s.taken old records)
       → (p : Uses names (place_of old) (held_of old ++ c.came) (IsBefore answer new)) → s.taken ++ c.came ≡ (u.used ++ p.passes.skipped) ++ p.behind
   parts_of answer s c e u p =
       ap (λ t. t ++ c.came) u.parts ∙ (append_assoc u.used (held_of old) c.came ∙ (ap (λ t. u.used ++ t) p.passes.parts ∙ sym (append_assoc u.used p.passes.skipped p.behind)))
 
   -- the same front, where nothing came
-  far_same : (answer : Result (Option Record) LogError) → (s : Streams v told left old past before mid) → (c : Comes old new left next_left rest answer) → c.came ≡ [] → Grew mid after → AllFar v (s.taken ++ c.came) past before after
+  far_same : (answer : Result (Option Record) LogError) → (s : Streams names v told left old past before mid) → (c : Comes old new left next_left rest answer) → c.came ≡ [] → Grew mid after → AllFar names v (s.taken ++ c.came) past before after
   far_same answer s c none g front more e long =
-      far_later v _ past before mid after (s.far front more (sym (append-nil s.taken) ∙ (ap (λ t. s.taken ++ t) (sym none) ∙ e)) long) g
+      far_later names v front past before mid after (s.far front more (sym (append-nil s.taken) ∙ (ap (λ t. s.taken ++ t) (sym none) ∙ e)) long) g
 
   -- where bytes came all was written
-  far_read : (answer : Result (Option Record) LogError) → (s : Streams v told left old past before mid) → (c : Comes old new left next_left rest answer) → saw_end old ≡ false
-      → Gathered (said v past) rest before after → rest ≡ [] → AllFar v (s.taken ++ c.came) past before after
+  far_read : (answer : Result (Option Record) LogError) → (s : Streams names v told left old past before mid) → (c : Comes old new left next_left rest answer) → saw_end old ≡ false
+      → Gathered (said v past) rest before after → rest ≡ [] → AllFar names v (s.taken ++ c.came) past before after
   far_read answer s c was g none front more e long =
       let u = s.used was in
       let p = used_of answer s c was in
       let whole = said v past in
       let k = front_within front more (u.used ++ p.passes.skipped) p.behind (sym e ∙ parts_of answer s c was u p) (let near : length p.behind ≤ 8192 = p.near in omega (arith, near, long)) in
-      let w = passed names u.used (held_of old ++ c.came) p.behind past (place_of old) p.at u.whole p.passes in
-      let n = front_records names (u.used ++ p.passes.skipped) front k.0 past p.at w k.1 in
-      far_all v (whole_records names front) past n.0 before after n.1 (all_written whole before after (subst (λ (t : List ℕ). Gathered whole t before after) none g))
+      let w = passed names u.used (held_of old ++ c.came) p.behind records (place_of old) p.at u.whole p.passes in
+      let n = front_records names (u.used ++ p.passes.skipped) front k.0 records p.at w k.1 in
+      far_all names v front past n.0 before after n.1 (all_written whole before after (subst (λ (t : List ℕ). Gathered whole t before after) none g))
 
-  pub far_comes : (answer : Result (Option Record) LogError) → (s : Streams v told left old past before mid) → (c : Comes old new left next_left rest answer) → Grew mid after
-      → Gathered (said v past) rest before after → AllFar v (s.taken ++ c.came) past before after
+  pub far_comes : (answer : Result (Option Record) LogError) → (s : Streams names v told left old past before mid) → (c : Comes old new left next_left rest answer) → Grew mid after
+      → Gathered (said v past) rest before after → AllFar names v (s.taken ++ c.came) past before after
   far_comes answer s c g w = by_flush c.flushed
     where
-      by_end : (t : Bool) → saw_end old ≡ t → rest ≡ [] → AllFar v (s.taken ++ c.came) past before after
+      by_end : (t : Bool) → saw_end old ≡ t → rest ≡ [] → AllFar names v (s.taken ++ c.came) past before after
       by_end true e none = far_same answer s c (c.ended e) g
       by_end false e none = far_read answer s c e w none
 
-      by_flush : (c.came ≡ []) ⊎ (rest ≡ []) → AllFar v (s.taken ++ c.came) past before after
+      by_flush : (c.came ≡ []) ⊎ (rest ≡ []) → AllFar names v (s.taken ++ c.came) past before after
       by_flush (inl none) = far_same answer s c none g
       by_flush (inr none) = by_end (saw_end old) refl none
 
-  -- a record came
-  pub streams_next : (rec : Record) → (s : Streams v told left old past before mid) → (c : Comes old new left next_left rest (Ok (Some rec))) → (saw_end new ≡ false → saw_end old ≡ false) → buses_of new ≡ buses_of old → Grew mid after
-      → Gathered (said v past) rest before after → Streams v told next_left new (rec ∷ past) before after
-  streams_next rec s c still buses g w = record {
+  -- an event came of a record
+  pub streams_next : (rec : Record) (event : E) → v.record_of event ≡ rec → (s : Streams names v told left old past before mid) → (c : Comes old new left next_left rest (Ok (Some rec))) → (saw_end new ≡ false → saw_end old ≡ false) → buses_of new ≡ buses_of old → Grew mid after
+      → Gathered (said v past) rest before after → Streams names v told next_left new (event ∷ past) before after
+  streams_next rec event is s c still buses g w = record {
     taken = s.taken ++ c.came;
     took = took_more told left next_left s.taken c.came s.took c.took;
     buses = buses ∙ s.buses;
-    used = λ e. used_next (still e) e;
-    far = λ front more e long. far_next v _ past rec before after (far_comes (Ok (Some rec)) s c g w front more e long);
+    used = λ e. subst (λ (r : Record). Used names (s.taken ++ c.came) new (r ∷ records)) (sym is) (used_next (still e) e);
+    far = λ front more e long. far_next names v front past event before after (far_comes (Ok (Some rec)) s c g w front more e long);
   }
     where
-      used_next : saw_end old ≡ false → saw_end new ≡ false → Used names (s.taken ++ c.came) new (rec ∷ past)
-      used_next was is =
+      used_next : saw_end old ≡ false → saw_end new ≡ false → Used names (s.taken ++ c.came) new (rec ∷ records)
+      used_next was still_open =
           let u = s.used was in
           let p = used_of (Ok (Some rec)) s c was in
-          let gives = subst (λ (b : List (List ℕ)). Gives b p.at p.behind rec (place_of new) (held_of new)) (buses ∙ s.buses) (p.there is) in
+          let gives = subst (λ (b : List (List ℕ)). Gives b p.at p.behind rec (place_of new) (held_of new)) (buses ∙ s.buses) (p.there still_open) in
           let first = u.used ++ p.passes.skipped in
           let line = gives.line ++ 10 ∷ [] in record {
             used = first ++ line;
             parts = parts_of (Ok (Some rec)) s c was u p
                 ∙ (ap (λ t. first ++ t) (cut-parts p.behind gives.line (held_of new) gives.first ∙ sym (append_assoc gives.line (10 ∷ []) (held_of new))) ∙ sym (append_assoc first line (held_of new)));
-            whole = gave names first p.behind (held_of new) past rec p.at (place_of new) (passed names u.used (held_of old ++ c.came) p.behind past (place_of old) p.at u.whole p.passes) gives;
+            whole = gave names first p.behind (held_of new) records rec p.at (place_of new) (passed names u.used (held_of old ++ c.came) p.behind records (place_of old) p.at u.whole p.passes) gives;
           }
 
 -- the end was seen before, or it wasn't
@@ -271,69 +280,69 @@ open_before old new before after answer g e = by_end (saw_end old) refl
 
 -- A whole run.
 
--- of each front the records were heard
-abbrev AllHeard : Voice → (List Record → Type 0) → (List Record → Type 0) → List ℕ → Type 0
-AllHeard v heard ended taken = (front more : List ℕ) → taken ≡ front ++ more → 8192 < length more → HasHeard heard ended (whole_records v.names front)
+module _ {E : Type 0} (names : List (List ℕ)) (v : Voice E) (s : Stages E) (events past : List E) (told left : Option (List ℕ)) (taken : List ℕ) (before after : Option (List ℕ)) where
+  has_said : FirstOf events past → (front : List ℕ) → Far names v front past before after → HasSaid names v events front before after
+  has_said first front f = record {
+    came = f.came;
+    are = record { first = first_of events past f.newer f.came first f.parts; records_are = f.records_are };
+    written = f.written;
+  }
 
-all_heard : (v : Voice) (heard ended : List Record → Type 0) (past : List Record) (taken : List ℕ) (before after : Option (List ℕ)) → HeardOrEnded heard ended past → AllFar v taken past before after → AllHeard v heard ended taken
-all_heard v heard ended past taken before after k far front more e long = let f = far front more e long in (f.newer, subst (HeardOrEnded heard ended) f.parts k)
+  hears_bytes : FirstOf events past → HeardOrEnded s past → (front : List ℕ) → Far names v front past before after → HearsBytes names v s events front
+  hears_bytes first k front f = record {
+    came = f.came;
+    are = record { first = first_of events past f.newer f.came first f.parts; records_are = f.records_are };
+    hears = record { newer = f.newer; first = subst (FirstOf events) f.parts first; hears = subst (HeardOrEnded s) f.parts k };
+  }
 
-streamed : (v : Voice) (heard ended : List Record → Type 0) (told left : Option (List ℕ)) (stat : Ended) (past : List Record) (taken : List ℕ) (before after : Option (List ℕ)) → Took told left taken → ((stat ≡ end.NoMemory → ⊥) → HeardOrEnded heard ended past) → (stat ≡ end.Ok → ended past) → AllFar v taken past before after
-    → IsStreamed v heard ended told left stat before after
-streamed v heard ended told left stat past taken before after t k last far = record {
-  taken = taken;
-  took = t;
-  written = λ front more e long. (far front more e long).written;
-  hears = λ n. all_heard v heard ended past taken before after (k n) far;
-  ends = λ o front more e long. let f = far front more e long in (f.newer, subst ended f.parts (last o));
-}
+  streamed : (stat : Ended) → FirstOf events past → Took told left taken → ((stat ≡ end.NoMemory → ⊥) → HeardOrEnded s past) → AllFar names v taken past before after → IsStreamed names v s events told left stat before after
+  streamed stat first t k far = record {
+    taken = taken;
+    took = t;
+    written = λ front more e long. has_said first front (far front more e long);
+    hears = λ n front more e long. hears_bytes first (k n) front (far front more e long);
+  }
 
 -- a run that took nothing
-pub streamed_none : (v : Voice) (heard ended : List Record → Type 0) (left : Option (List ℕ)) (stat : Ended) (before after : Option (List ℕ)) → IsStreamed v heard ended left left stat before after
-streamed_none v heard ended left stat before after = record {
+pub streamed_none : {E : Type 0} (names : List (List ℕ)) (v : Voice E) (s : Stages E) (events : List E) (left : Option (List ℕ)) (stat : Ended) (before after : Option (List ℕ)) → IsStreamed names v s events left left stat before after
+streamed_none names v s events left stat before after = record {
   taken = [];
   took = Took-none left;
   written = λ front more e long. absurd (no_front front more e long);
   hears = λ n front more e long. absurd (no_front front more e long);
-  ends = λ o front more e long. absurd (no_front front more e long);
 }
 
-stopped_there : (halt : Stop) → stopped halt ≡ end.Ok → ⊥
-stopped_there (stop.Log (error.BadLine n)) o = absurd cc
-stopped_there (stop.Log (error.TimeBack n)) o = absurd cc
-stopped_there (stop.Log (error.UnknownBus n)) o = absurd cc
-stopped_there (stop.Log (error.TooFar n)) o = absurd cc
-stopped_there (stop.Log error.LogLong) o = absurd cc
-stopped_there (stop.Log error.Failed) o = absurd cc
-stopped_there stop.Write o = absurd cc
-
-module _ (v : Voice) (heard ended : List Record → Type 0) (told left next_left : Option (List ℕ)) (old new : LogReader) (past : List Record) (gathered rest : List ℕ) (before mid after : Option (List ℕ)) where
+module _ {E : Type 0} (names : List (List ℕ)) (v : Voice E) (stages : Stages E) (told left next_left : Option (List ℕ)) (old new : LogReader) (past : List E) (gathered rest : List ℕ) (before mid after : Option (List ℕ)) where
   abbrev all_text : List ℕ
   all_text = said v past
 
-  pub streamed_stopped : (halt : Stop) → Streams v told left old past before mid → ComesBehind old new left next_left rest (Err halt) → heard past → Gathered all_text gathered before mid → Writes gathered rest mid after (Err halt)
-      → IsStreamed v heard ended told next_left (stopped halt) before after
-  streamed_stopped (stop.Log error) s c k g w =
-      streamed v heard ended told next_left (stopped (stop.Log error)) past (s.taken ++ c.came) before after (took_more told left next_left s.taken c.came s.took c.took) (λ n. inl k) (λ o. absurd (stopped_there (stop.Log error) o))
-      (far_comes v told left next_left old new past rest before mid after (Err error) s c (grew_gathered gathered rest mid after w.0) (gathered_less all_text gathered rest before mid after g w.0))
-  streamed_stopped stop.Write s c k g w =
-      streamed v heard ended told next_left end.WriteFault past s.taken before after (subst (λ (o : Option (List ℕ)). Took told o s.taken) (sym c) s.took) (λ n. inl k) (λ o. absurd (stopped_there stop.Write o))
-      (λ front more e long. far_later v _ past before mid after (s.far front more e long) (grew_begins gathered mid after w))
+  far_given : (answer : Result (Option Record) LogError) → (s : Streams names v told left old past before mid) → (c : Comes old new left next_left rest answer) → Gathered all_text gathered before mid → Gathered gathered rest mid after → AllFar names v (s.taken ++ c.came) past before after
+  far_given answer s c g w =
+      far_comes names v told left next_left old new past rest before mid after answer s c (grew_gathered gathered rest mid after w) (gathered_less all_text gathered rest before mid after g w)
 
-  pub streamed_wanting : (rec : Record) → Streams v told left old past before mid → Comes old new left next_left rest (Ok (Some rec)) → Gathered all_text gathered before mid → Gathered gathered rest mid after
-      → IsStreamed v heard ended told next_left end.NoMemory before after
-  streamed_wanting rec s c g w =
-      streamed v heard ended told next_left end.NoMemory past (s.taken ++ c.came) before after (took_more told left next_left s.taken c.came s.took c.took) (λ n. absurd (n refl)) (λ o. absurd cc)
-      (far_comes v told left next_left old new past rest before mid after (Ok (Some rec)) s c (grew_gathered gathered rest mid after w) (gathered_less all_text gathered rest before mid after g w))
+  took_given : (answer : Result (Option Record) LogError) → (s : Streams names v told left old past before mid) → (c : Comes old new left next_left rest answer) → Took told next_left (s.taken ++ c.came)
+  took_given answer s c = took_more told left next_left s.taken c.came s.took c.took
 
-  pub streamed_finished : (stat : Ended) (last : Option (List ℕ)) (tail : List ℕ) → Streams v told left old past before mid → Comes old new left next_left rest (Ok None) → (stat ≢ end.NoMemory → ended past) → Gathered all_text gathered before mid → Gathered gathered rest mid after
-      → IsFinish stat → (stat ≡ end.Ok → last ≡ behind after tail) → (stat ≡ end.WriteFault → Begins tail after last) → (stat ≡ end.NoMemory → last ≡ after)
-      → IsStreamed v heard ended told next_left stat before last
-  streamed_finished stat last tail s c k g w f ok write memory =
-      streamed v heard ended told next_left stat past (s.taken ++ c.came) before last (took_more told left next_left s.taken c.came s.took c.took) (λ n. inr (k n)) (λ o. k (λ n. let bad : end.Ok ≡ end.NoMemory = sym o ∙ n in absurd cc))
-      (λ front more e long. far_later v _ past before after last
-      (far_comes v told left next_left old new past rest before mid after (Ok None) s c (grew_gathered gathered rest mid after w) (gathered_less all_text gathered rest before mid after g w) front more e long)
-      (grew_last stat f ok write memory))
+  pub streamed_stopped : (halt : Stop) → Streams names v told left old past before mid → ComesBehind old new left next_left rest (Err halt) → stages.heard past → Gathered all_text gathered before mid → Writes gathered rest mid after (Err halt)
+      → (events : List E) → FirstOf events past → IsStreamed names v stages events told next_left (stopped halt) before after
+  streamed_stopped (stop.Log error) s c k g w events first =
+      streamed names v stages events past told next_left (s.taken ++ c.came) before after (stopped (stop.Log error)) first (took_given (Err error) s c) (λ n. inl k) (far_given (Err error) s c g w.0)
+  streamed_stopped stop.Write s c k g w events first =
+      streamed names v stages events past told next_left s.taken before after end.WriteFault first (subst (λ (o : Option (List ℕ)). Took told o s.taken) (sym c) s.took) (λ n. inl k)
+      (λ front more e long. far_later names v front past before mid after (s.far front more e long) (grew_begins gathered mid after w))
+
+  pub streamed_wanting : (rec : Record) (event : E) → Streams names v told left old past before mid → Comes old new left next_left rest (Ok (Some rec)) → Gathered all_text gathered before mid → Gathered gathered rest mid after
+      → (events : List E) → FirstOf events (event ∷ past) → IsStreamed names v stages events told next_left end.NoMemory before after
+  streamed_wanting rec event s c g w events first =
+      streamed names v stages events past told next_left (s.taken ++ c.came) before after end.NoMemory (first_of events (event ∷ past) (event ∷ []) past first refl) (took_given (Ok (Some rec)) s c) (λ n. absurd (n refl))
+      (far_given (Ok (Some rec)) s c g w)
+
+  pub streamed_finished : (stat : Ended) (last : Option (List ℕ)) (tail : List ℕ) → Streams names v told left old past before mid → Comes old new left next_left rest (Ok None) → (stat ≢ end.NoMemory → stages.ended past) → Gathered all_text gathered before mid
+      → Gathered gathered rest mid after → IsFinish stat → (stat ≡ end.Ok → last ≡ behind after tail) → (stat ≡ end.WriteFault → Begins tail after last) → (stat ≡ end.NoMemory → last ≡ after)
+      → (events : List E) → FirstOf events past → IsStreamed names v stages events told next_left stat before last
+  streamed_finished stat last tail s c k g w f ok write memory events first =
+      streamed names v stages events past told next_left (s.taken ++ c.came) before last stat first (took_given (Ok None) s c) (λ n. inr (k n))
+      (λ front more e long. far_later names v front past before after last (far_given (Ok None) s c g w front more e long) (grew_last stat f ok write memory))
     where
       grew_last : (stat : Ended) → IsFinish stat → (stat ≡ end.Ok → last ≡ behind after tail) → (stat ≡ end.WriteFault → Begins tail after last) → (stat ≡ end.NoMemory → last ≡ after) → Grew after last
       grew_last end.Ok f ok write memory = record { more = tail; is = ok refl }

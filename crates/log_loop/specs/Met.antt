@@ -22,17 +22,18 @@ pub record HasHeard {S E : Type 0} (voice : S → Voice E) (heard : Met S E) (ol
   pub goes : (first : S) (past : List E) → heard first old past
       → Hears voice heard old new event first past before after
 
--- a listener that met some events broke off on one more, which may come behind them
-pub record Breaks {S E : Type 0} (voice : S → Voice E) (broke : Met S E) (new : S) (event : E)
+-- a listener that met some events broke off on one more, of a record, which may come behind them
+pub record Breaks {S E : Type 0} (voice : S → Voice E) (broke : Met S E) (new : S) (rec : Record)
     (first : S) (past : List E) : Type 0 where
+  pub event : E
+  pub of : (voice first).record_of event ≡ rec
   pub may : (voice first).may_come event past
   pub breaks : broke first new (event ∷ past)
 
--- there is an event of a record on which a listener broke off, whatever it met before
-pub record HasBroken {S E : Type 0} (voice : S → Voice E) (heard broke : Met S E) (old new : S) (rec : Record) : Type 0 where
-  pub event : E
-  pub of : (first : S) → (voice first).record_of event ≡ rec
-  pub goes : (first : S) (past : List E) → heard first old past → Breaks voice broke new event first past
+-- a listener broke off on a record, whatever it met before
+abbrev pub HasBroken : {S E : Type 0} → (S → Voice E) → Met S E → Met S E → S → S → Record → Type 0
+HasBroken {S} {E} voice heard broke old new rec =
+    (first : S) (past : List E) → heard first old past → Breaks voice broke new rec first past
 
 -- each record may come behind some events, as one of these at least
 pub record Comes {E : Type 0} (v : Voice E) (rec : Record) (past : List E) : Type 0 where

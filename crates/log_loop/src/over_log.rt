@@ -1,14 +1,11 @@
-ghost use Rattle.std.specs.Prelude.{◌≡◌, ◌≤◌, ◌^◌, ◌≢◌, ◌++◌, ℕ, List, [], None, false, OnOk, OnErr};
+ghost use Rattle.std.specs.Prelude.{◌≡◌, ◌≤◌, ◌^◌, ◌≢◌, ◌++◌, ℕ, List, [], None, false};
 ghost use Rattle.cy_outside.specs.Outside.{Rose};
-ghost use Rattle.tail_frame.specs.declared.logged.Record.{Record};
 ghost use Rattle.cy_outside.specs.Written.{behind, Begins};
 ghost use Rattle.frame_log.specs.Log.{log_of, start};
 ghost use Rattle.frame_log.specs.Reader.{buses_of, place_of, held_of, bytes_left, saw_end, answer_of, log_behind};
 ghost use Rattle.line_text.specs.Buffer.{text_of};
-ghost use Rattle.log_loop.specs.Voice.{voice};
-ghost use Rattle.log_loop.specs.Taken.{IsOfTaken};
-ghost use Rattle.log_loop.specs.Streamed.{IsStreamed};
-ghost use Rattle.log_loop.specs.Gone.{HasGone, stopped, refused, IsFinish};
+ghost use Rattle.log_loop.specs.Gone.{stages, stopped, refused, IsFinish};
+ghost use Rattle.log_loop.specs.Listened.{HasListened};
 
 use crate::ended::Ended;
 use crate::flush::flush;
@@ -96,18 +93,18 @@ fn hear_all<M: Listener, L: Source, O: Sink>(
 /// Writes what a listener says at the end behind what is gathered.
 fn end<M: Listener, O: Sink>(listener: &mut M, out: &mut O, gathered: &mut TextBuffer) -> Ended
     ensures ok { result ≡ Ended.Ok
-        → (first : M) (past : List Record) → M.heard first listener.old past
-        → O.written out.new ≡ behind (O.written out.old) (text_of gathered.old ++ M.last_text first past) }
+        → (first : M) (past : List M.event) → M.heard first listener.old past
+        → O.written out.new ≡ behind (O.written out.old) (text_of gathered.old ++ (M.voice first).last past) }
     ensures kept { result ≡ Ended.Ok → O.faults out.new ≡ O.faults out.old }
     ensures begins { result ≡ Ended.WriteFault
-        → (first : M) (past : List Record) → M.heard first listener.old past
-        → Begins (text_of gathered.old ++ M.last_text first past) (O.written out.old) (O.written out.new) }
+        → (first : M) (past : List M.event) → M.heard first listener.old past
+        → Begins (text_of gathered.old ++ (M.voice first).last past) (O.written out.old) (O.written out.new) }
     ensures write { result ≡ Ended.WriteFault → Rose (O.faults out.old) (O.faults out.new) }
     ensures memory { result ≡ Ended.NoMemory → O.written out.new ≡ O.written out.old }
     ensures ended { result ≢ Ended.NoMemory
-        → (first : M) (past : List Record) → M.heard first listener.old past → M.ended first listener.new past }
+        → (first : M) (past : List M.event) → M.heard first listener.old past → M.ended first listener.new past }
     ensures cut_short { result ≡ Ended.NoMemory
-        → (first : M) (past : List Record) → M.heard first listener.old past → M.cut_short first listener.new past }
+        → (first : M) (past : List M.event) → M.heard first listener.old past → M.cut_short first listener.new past }
     ensures only { IsFinish result }
 {
     let Ok(()) = listener.finish(gathered) else {

@@ -5,6 +5,10 @@ pub on_ok : {T E : Type 0} (P Q : Type 0) (r : Result T E) → (P → Q) → OnO
 on_ok P Q (Ok x) f h = f h
 on_ok P Q (Err e) f h = tt
 
+pub on_both : {T E : Type 0} (P Q R : Type 0) (r : Result T E) → (P → Q → R) → OnOk r P → OnOk r Q → OnOk r R
+on_both P Q R (Ok x) f h k = f h k
+on_both P Q R (Err e) f h k = tt
+
 pub if_ok : {T E : Type 0} (P Q : T → Type 0) (r : Result T E) → ((x : T) → P x → Q x) → IfOk r P → IfOk r Q
 if_ok P Q (Ok x) f h = f x h
 if_ok P Q (Err e) f h = tt

@@ -1,44 +1,56 @@
 -- What a loop over a log has written, whoever heard it.
-use Rattle.std.proofs.Common.{inl, inr, ℕ, List, [], Option}
-use Rattle.tail_frame.specs.declared.logged.Record.{Record}
-use Rattle.frame_log.specs.Log.{Log, log_of}
-use Rattle.log_loop.specs.Gone.{Settled, Upto, Begun, BegunWhole, Gone, HasGone}
-use Rattle.log_loop.specs.Streamed.{IsStreamed}
+use Rattle.std.proofs.Common.{inl, inr, ℕ, List, Option}
+use Rattle.std.specs.Prelude.{⊤}
+use Rattle.frame_log.specs.Log.{log_of}
+use Rattle.frame_log.specs.declared.error.LogError.{LogError}
+use Rattle.log_loop.specs.Gone.{Stages, any_stages, Settled, Upto, Begun, BegunWhole, Gone}
+use Rattle.log_loop.specs.Listened.{HasListened}
+use Rattle.log_loop.specs.Streamed.{HearsBytes, IsStreamed}
 use Rattle.log_loop.specs.Taken.{IsOfTaken}
 use Rattle.log_loop.specs.Voice.{Voice}
 use Rattle.log_loop.specs.declared.ended.Ended.{Ended}
 use Rattle.log_loop.specs.declared.ended.Ended.TheVariants as end
-use Rattle.node_reach.specs.Anything.{Anything}
 
-module _ (v : Voice) (heard ended broke cut_short : List Record → Type 0) (before after : Option (List ℕ)) where
-  settled : (done : List Record → Type 0) (log : Log) → Settled v done log before after → Settled v Anything log before after
-  settled done log s = record { hears = tt; written = s.written }
+module _ {E : Type 0} (names : List (List ℕ)) (v : Voice E) (s : Stages E) (events : List E) (before after : Option (List ℕ)) where
+  settled : (done : List E → Type 0) (refusal : Option LogError) → Settled v done events refusal before after → Settled v (λ past. ⊤) events refusal before after
+  settled done refusal h = record { hears = tt; written = h.written }
 
-  upto : (log : Log) → Upto v heard log before after → Upto v Anything log before after
-  upto log u = record { came = u.came; left = u.left; parts = u.parts; hears = tt; written = u.written }
+  upto : Upto v s.heard events before after → Upto v (λ past. ⊤) events before after
+  upto u = record { came = u.came; first = u.first; hears = tt; written = u.written }
 
-  abbrev begun : (done : List Record → Type 0) (log : Log) → Begun v done log before after → Begun v Anything log before after
-  begun done log b = record { came = b.came; left = b.left; parts = b.parts; is = tt; written = b.written }
+  begun : (done : List E → Type 0) (refusal : Option LogError) → Begun v done events refusal before after → Begun v (λ past. ⊤) events refusal before after
+  begun done refusal b = record { came = b.came; first = b.first; is = tt; written = b.written }
 
-  begun_whole : (done : List Record → Type 0) (log : Log) → BegunWhole v done log before after → BegunWhole v Anything log before after
-  begun_whole done log b = record { begun = begun done log b.begun; all = b.all; read = b.read }
+  begun_whole : (done : List E → Type 0) (refusal : Option LogError) → BegunWhole v done events refusal before after → BegunWhole v (λ past. ⊤) events refusal before after
+  begun_whole done refusal b = record { is = tt; read = b.read; written = b.written }
 
-  gone : (log : Log) (how : Ended) → Gone v heard ended broke cut_short log how before after → Gone v Anything Anything Anything Anything log how before after
-  gone log end.Ok g = (g.0, settled ended log g.1)
-  gone log (end.Log line why) g = (g.0, settled heard log g.1)
-  gone log end.LogLong g = (g.0, settled heard log g.1)
-  gone log end.ReadFault g = upto log g
-  gone log end.WriteFault (inl g) = inl (begun heard log g)
-  gone log end.WriteFault (inr g) = inr (begun_whole ended log g)
-  gone log end.NoMemory (inl g) = inl (begun broke log g)
-  gone log end.NoMemory (inr g) = inr (begun_whole cut_short log g)
+  gone : (refusal : Option LogError) (how : Ended) → Gone v s events refusal how before after → Gone v (any_stages E) events refusal how before after
+  gone refusal end.Ok g = (g.0, settled s.ended refusal g.1)
+  gone refusal (end.Log line why) g = (g.0, settled s.heard refusal g.1)
+  gone refusal end.LogLong g = (g.0, settled s.heard refusal g.1)
+  gone refusal end.ReadFault g = upto g
+  gone refusal end.WriteFault (inl g) = inl (begun s.heard refusal g)
+  gone refusal end.WriteFault (inr g) = inr (begun_whole s.ended refusal g)
+  gone refusal end.NoMemory (inl g) = inl (begun s.broke refusal g)
+  gone refusal end.NoMemory (inr g) = inr (begun_whole s.cut_short refusal g)
 
-  pub has_gone : (told : Option (List ℕ)) (how : Ended) → HasGone v heard ended broke cut_short told how before after → HasGone v Anything Anything Anything Anything told how before after
-  has_gone told how g = record { bytes = g.bytes; is = g.is; gone = gone (log_of v.names g.bytes) how g.gone }
+  of_taken : (told new : Option (List ℕ)) → IsOfTaken names v s.heard events told new before after → IsOfTaken names v (λ past. ⊤) events told new before after
+  of_taken told new t = record { taken = t.taken; took = t.took; came = t.came; are = t.are; hears = tt; written = t.written }
 
-module _ (v : Voice) (heard : List Record → Type 0) (left new before after : Option (List ℕ)) where
-  pub has_taken : IsOfTaken v heard left new before after → IsOfTaken v Anything left new before after
-  has_taken t = record { taken = t.taken; took = t.took; hears = tt; written = t.written }
+  hears_bytes : (bytes : List ℕ) → HearsBytes names v s events bytes → HearsBytes names v (any_stages E) events bytes
+  hears_bytes bytes h = record { came = h.came; are = h.are; hears = record { newer = h.hears.newer; first = h.hears.first; hears = inl tt } }
 
-  pub has_streamed : (ended : List Record → Type 0) (how : Ended) → IsStreamed v heard ended left new how before after → IsStreamed v Anything Anything left new how before after
-  has_streamed ended how s = record { taken = s.taken; took = s.took; written = s.written; hears = λ n front more e long. ([], inl tt); ends = λ ok front more e long. ([], tt) }
+  streamed : (told new : Option (List ℕ)) (how : Ended) → IsStreamed names v s events told new how before after → IsStreamed names v (any_stages E) events told new how before after
+  streamed told new how t = record { taken = t.taken; took = t.took; written = t.written; hears = λ n front more e long. hears_bytes front (t.hears n front more e long) }
+
+pub has_listened : {E : Type 0} (names : List (List ℕ)) (v : Voice E) (s : Stages E) (told new : Option (List ℕ)) (how : Ended) (before after : Option (List ℕ)) → HasListened names v s told new how before after
+    → HasListened names v (any_stages E) told new how before after
+has_listened names v s told new how before after h = record {
+  bytes = h.bytes;
+  is = h.is;
+  events = h.events;
+  of_log = h.of_log;
+  gone = gone names v s h.events before after (log_of names h.bytes).refusal how h.gone;
+  taken = λ fault. of_taken names v s h.events before after told new (h.taken fault);
+  streamed = streamed names v s h.events before after told new how h.streamed;
+}

@@ -7,7 +7,7 @@ use Rattle.can_id.specs.declared.ident.Ident.TheVariants.{Message}
 use Rattle.dsdl_types.specs.Laws.{encoding}
 use Rattle.dsdl_types.specs.Values.{Val}
 use Rattle.frag.specs.Wire.{frames}
-use Rattle.log_loop.specs.Voice.{Voice, voice}
+use Rattle.log_loop.specs.Voice.{Voice, plain_voice}
 use Rattle.pnp_alloc.specs.Allocation.{owners, answer}
 use Rattle.pnp_alloc.specs.declared.event.AllocEvent.{AllocEvent}
 use Rattle.pnp_alloc.specs.declared.event.AllocEvent.TheVariants.{Seen, Wanted}
@@ -99,5 +99,5 @@ abbrev pub last_text : ℕ → List Record → List ℕ
 last_text own past = end_line (length past) (codes "owners") (length (owners own (events own past)))
 
 -- what an allocator with this node-ID of its own says over a log
-abbrev pub allocate_voice : ℕ → Voice
-allocate_voice own = voice bus_names (step_text own) (last_text own)
+abbrev pub allocate_voice : ℕ → Voice Record
+allocate_voice own = plain_voice (step_text own) (last_text own)

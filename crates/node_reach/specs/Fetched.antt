@@ -12,7 +12,7 @@ use Rattle.file_client.specs.declared.event.FetchOut.{FetchOut}
 use Rattle.file_client.specs.declared.event.FetchOut.TheVariants.{Ask, Wait, Done, Refused, GaveUp, TooLong}
 use Rattle.frag.specs.Wire.{frames}
 use Rattle.line_text.specs.Text.{moment_text, line_of}
-use Rattle.log_loop.specs.Voice.{Voice, voice}
+use Rattle.log_loop.specs.Voice.{Voice, plain_voice}
 use Rattle.serdes.specs.Payloads.{payload_value}
 use Rattle.std_types.specs.Files.{read_request_value, read_reply_of}
 use Rattle.std_types.specs.Types.{schema_of}
@@ -153,5 +153,5 @@ abbrev pub last_text : Client → List Record → List ℕ
 last_text client past = outcome_text (events client past)
 
 -- what a client says over a log
-abbrev pub fetch_voice : Client → Voice
-fetch_voice client = voice bus_names (step_text client) (last_text client)
+abbrev pub fetch_voice : Client → Voice Record
+fetch_voice client = plain_voice (step_text client) (last_text client)

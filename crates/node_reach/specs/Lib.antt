@@ -1,5 +1,4 @@
 pub mod Buses
-pub mod Anything
 pub mod Lines
 pub mod Allocated
 pub mod Allocates

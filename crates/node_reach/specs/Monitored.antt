@@ -2,7 +2,7 @@
 -- with the newest first; `past` is what came before.
 use Rattle.std.specs.Prelude.{ℕ, max, ◌==◌, if◌then◌else◌, List, [], ◌∷◌, ◌++◌, length, codes, Option, Some, None}
 use Rattle.dsdl_types.specs.Values.{Val}
-use Rattle.log_loop.specs.Voice.{Voice, voice}
+use Rattle.log_loop.specs.Voice.{Voice, plain_voice}
 use Rattle.net_monitor.specs.Beats.{Beat}
 use Rattle.net_monitor.specs.Online.{heard, online}
 use Rattle.net_monitor.specs.declared.node_state.NodeState.{NodeState}
@@ -15,7 +15,6 @@ use Rattle.tail_frame.specs.declared.logged.Record.{Record}
 use Rattle.time_sync.specs.Pairs.{Message}
 use Rattle.time_sync.specs.Times.{estimate}
 use Rattle.time_sync.specs.declared.sync.Estimate.{Estimate}
-use Rattle.node_reach.specs.Buses.{bus_names}
 use Rattle.node_reach.specs.Lines.{node_line, offline_line, time_line, no_time_line, end_line}
 use Rattle.node_reach.specs.Transfers.{Transfer, Ears, subject, transfer_at}
 
@@ -113,5 +112,5 @@ abbrev pub step_text : Record → List Record → List ℕ
 step_text rec past = []
 
 -- what a monitor with this node-ID says over a log
-abbrev pub monitor_voice : ℕ → Voice
-monitor_voice own = voice bus_names step_text (last_text own)
+abbrev pub monitor_voice : ℕ → Voice Record
+monitor_voice own = plain_voice step_text (last_text own)

@@ -182,8 +182,14 @@ impl Allocating {
 }
 
 impl Listener for Allocating {
-    ghost use Rattle.node_reach.specs.Allocated.{step_text, last_text};
+    ghost use Rattle.std.specs.Prelude.{refl};
+    ghost use Rattle.tail_frame.specs.declared.logged.Record.{Record};
+    ghost use Rattle.node_reach.specs.Allocated.{allocate_voice};
     ghost use Rattle.node_reach.specs.Allocates.{Allocates};
+
+    ghost event = { Record };
+
+    ghost voice = { λ first. allocate_voice first.own };
 
     ghost heard = { λ first now past. Allocates first.own now past };
 
@@ -192,10 +198,6 @@ impl Listener for Allocating {
     ghost broke = { λ first now past. Unit {0} };
 
     ghost cut_short = { λ first now past. Unit {0} };
-
-    ghost step_text = { λ first rec past. step_text first.own rec past };
-
-    ghost last_text = { λ first past. last_text first.own past };
 
     ghost latest = { λ now. 0 };
 
@@ -216,4 +218,6 @@ impl Listener for Allocating {
     }
 
     ghost heard_broke = { λ first now past h. tt };
+
+    ghost comes = { λ first rec past. record { event = rec; of = refl; may = tt } };
 }

@@ -1,11 +1,11 @@
 //! Node-IDs for the nodes of a log that have none.
 ghost use Rattle.std.specs.Prelude.{◌≡◌, ◌≤◌};
 ghost use Rattle.cy_outside.specs.Outside.{Rose};
-ghost use Rattle.log_loop.specs.Gone.{HasGone};
-ghost use Rattle.log_loop.specs.Taken.{IsOfTaken};
-ghost use Rattle.log_loop.specs.Streamed.{IsStreamed};
+ghost use Rattle.tail_frame.specs.declared.logged.Record.{Record};
+ghost use Rattle.log_loop.specs.Gone.{any_stages};
+ghost use Rattle.log_loop.specs.Listened.{HasListened};
 ghost use Rattle.node_reach.specs.Allocated.{allocate_voice};
-ghost use Rattle.node_reach.specs.Anything.{Anything};
+ghost use Rattle.node_reach.specs.Buses.{bus_names};
 
 use crate::allocating::Allocating;
 use crate::buses::bus_names;
@@ -18,11 +18,7 @@ use std::alloc::Global;
 /// it writes how many records it heard, and how many nodes have a node-ID of it.
 pub fn allocate<L: Source, O: Sink>(alloc: Global, own: u8, input: &mut L, out: &mut O) -> Ended
     requires own { own ≤ 127 }
-    ensures gone { HasGone (allocate_voice own) Anything Anything Anything Anything
-        (L.left input.old) result (O.written out.old) (O.written out.new) }
-    ensures taken { result ≡ Ended.ReadFault → IsOfTaken (allocate_voice own) Anything
-        (L.left input.old) (L.left input.new) (O.written out.old) (O.written out.new) }
-    ensures streamed { IsStreamed (allocate_voice own) Anything Anything
+    ensures listened { HasListened bus_names (allocate_voice own) (any_stages Record)
         (L.left input.old) (L.left input.new) result (O.written out.old) (O.written out.new) }
     ensures read { result ≡ Ended.ReadFault → Rose (L.faults input.old) (L.faults input.new) }
     ensures write { result ≡ Ended.WriteFault → Rose (O.faults out.old) (O.faults out.new) }

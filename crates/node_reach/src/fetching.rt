@@ -73,8 +73,14 @@ impl Fetching {
 }
 
 impl Listener for Fetching {
+    ghost use Rattle.std.specs.Prelude.{refl};
+    ghost use Rattle.tail_frame.specs.declared.logged.Record.{Record as RecordOf};
     ghost use Rattle.node_reach.specs.Fetches.{Fetches};
-    ghost use Rattle.node_reach.specs.Fetched.{step_text, last_text};
+    ghost use Rattle.node_reach.specs.Fetched.{fetch_voice};
+
+    ghost event = { RecordOf };
+
+    ghost voice = { λ first. fetch_voice first.asking.client };
 
     ghost heard = { λ first now past. Fetches first.asking.client now past };
 
@@ -83,10 +89,6 @@ impl Listener for Fetching {
     ghost broke = { λ first now past. Unit {0} };
 
     ghost cut_short = { λ first now past. Unit {0} };
-
-    ghost step_text = { λ first rec past. step_text first.asking.client rec past };
-
-    ghost last_text = { λ first past. last_text first.asking.client past };
 
     ghost latest = { λ now. now.responses.ear.latest };
 
@@ -109,4 +111,6 @@ impl Listener for Fetching {
     }
 
     ghost heard_broke = { λ first now past h. tt };
+
+    ghost comes = { λ first rec past. record { event = rec; of = refl; may = tt } };
 }

@@ -1,10 +1,10 @@
 //! A file of another node, over a log.
 ghost use Rattle.std.specs.Prelude.{◌≡◌, ◌≢◌, ◌≤◌, length};
 ghost use Rattle.cy_outside.specs.Outside.{Rose};
-ghost use Rattle.log_loop.specs.Gone.{HasGone};
-ghost use Rattle.log_loop.specs.Taken.{IsOfTaken};
-ghost use Rattle.log_loop.specs.Streamed.{IsStreamed};
-ghost use Rattle.node_reach.specs.Anything.{Anything};
+ghost use Rattle.tail_frame.specs.declared.logged.Record.{Record};
+ghost use Rattle.log_loop.specs.Gone.{any_stages};
+ghost use Rattle.log_loop.specs.Listened.{HasListened};
+ghost use Rattle.node_reach.specs.Buses.{bus_names};
 ghost use Rattle.node_reach.specs.Fetched.{client_of, fetch_voice};
 ghost use Rattle.node_reach.specs.FetchedFile.{WritesFile};
 
@@ -39,14 +39,8 @@ pub fn fetch<L: Source, O: Sink>(
     requires server { server ≤ 127 }
     requires other { server ≢ own }
     requires path { length path.now ≤ 255 }
-    ensures gone { let voice = fetch_voice (client_of own server path.now) in
-        HasGone voice Anything Anything Anything Anything
-        (L.left input.old) result (O.written out.old) (O.written out.new) }
-    ensures taken { let voice = fetch_voice (client_of own server path.now) in
-        result ≡ Ended.ReadFault → IsOfTaken voice Anything
-        (L.left input.old) (L.left input.new) (O.written out.old) (O.written out.new) }
-    ensures streamed { let voice = fetch_voice (client_of own server path.now) in
-        IsStreamed voice Anything Anything
+    ensures listened { let voice = fetch_voice (client_of own server path.now) in
+        HasListened bus_names voice (any_stages Record)
         (L.left input.old) (L.left input.new) result (O.written out.old) (O.written out.new) }
     ensures fetched { WritesFile (client_of own server path.now)
         (L.left input.old) result (O.written out.old) (O.written out.new) }

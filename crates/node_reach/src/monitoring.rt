@@ -1,8 +1,9 @@
 //! A monitor that hears a log.
-ghost use Rattle.std.specs.Prelude.{◌≡◌, ◌++◌, [], IfOk, OnOk};
+ghost use Rattle.std.specs.Prelude.{◌≡◌, ◌++◌, [], IfOk, OnOk, refl};
 ghost use Rattle.line_text.specs.Buffer.{text_of};
+ghost use Rattle.tail_frame.specs.declared.logged.Record.{Record};
 ghost use Rattle.node_reach.specs.Ears.{Hears};
-ghost use Rattle.node_reach.specs.Monitored.{monitor_ears, node_lines, state_in, state_line, step_text, last_text};
+ghost use Rattle.node_reach.specs.Monitored.{monitor_ears, monitor_voice, node_lines, state_in, state_line};
 ghost use Rattle.node_reach.specs.Monitors.{Monitors};
 
 use crate::ear::{Ear, TIMEOUT};
@@ -61,6 +62,10 @@ fn listening(alloc: Global, own: u8) -> Result<Ear, NoMemory>
 }
 
 impl Listener for Monitoring {
+    ghost event = { Record };
+
+    ghost voice = { λ first. monitor_voice first.ear.own };
+
     ghost heard = { λ first now past. Monitors first.ear.own now past };
 
     ghost ended = { λ first now past. Monitors first.ear.own now past };
@@ -68,10 +73,6 @@ impl Listener for Monitoring {
     ghost broke = { λ first now past. Unit {0} };
 
     ghost cut_short = { λ first now past. Unit {0} };
-
-    ghost step_text = { λ first rec past. step_text rec past };
-
-    ghost last_text = { λ first past. last_text first.ear.own past };
 
     ghost latest = { λ now. now.ear.latest };
 
@@ -95,6 +96,8 @@ impl Listener for Monitoring {
     }
 
     ghost heard_broke = { λ first now past h. tt };
+
+    ghost comes = { λ first rec past. record { event = rec; of = refl; may = tt } };
 }
 
 /// Gathers the lines of nodes, of which these are online.
