@@ -13,6 +13,7 @@ use Rattle.std_types.specs.declared.registers.Register.{Register}
 use Rattle.node_core.specs.Keeps.{questioned}
 use Rattle.node_core.specs.Sending.{answer_to}
 use Rattle.node_core.specs.Steps.{Kept}
+use Rattle.node_core.specs.declared.file_reply.FileReply.{FileReply}
 use Rattle.node_core.specs.declared.question.Question.{Question}
 use Rattle.node_core.specs.declared.question.Question.TheVariants.{Access}
 
@@ -24,9 +25,9 @@ module _ (plan : Plan) (request : AccessRequest) (question : Question) (is : que
       ap (λ (rs : List Register). record k { registers = rs }) (e ∙ ap (λ (l : List (Option Limits)). after_access (is_allowed l) k.registers request.name request.value) limits)
       ∙ ap (λ (q : Question). questioned plan q k) (sym is)
 
-  pub access_answer : (registers : List Register) (reply : AccessReply) → limits_of registers ≡ limits_of plan.registers
+  pub access_answer : (registers : List Register) (file : FileReply) (reply : AccessReply) → limits_of registers ≡ limits_of plan.registers
       → reply ≡ accessed (is_allowed (limits_of registers)) registers request.name request.value
-      → encoding access_reply (access_reply_value reply) ≡ answer_to plan registers question
-  access_answer registers reply limits e =
+      → encoding access_reply (access_reply_value reply) ≡ answer_to plan registers file question
+  access_answer registers file reply limits e =
       ap (λ (r : AccessReply). encoding access_reply (access_reply_value r)) (e ∙ ap (λ (l : List (Option Limits)). accessed (is_allowed l) registers request.name request.value) limits)
-      ∙ ap (λ (q : Question). answer_to plan registers q) (sym is)
+      ∙ ap (λ (q : Question). answer_to plan registers file q) (sym is)

@@ -20,7 +20,7 @@ use Rattle.node_core.specs.Questions.{FitsQuestion}
 use Rattle.node_core.specs.Sending.{may_hold, registers_after, registers_behind}
 use Rattle.node_core.specs.Steps.{Step, request_at}
 use Rattle.node_core.specs.declared.question.Question.{Question}
-use Rattle.node_core.specs.declared.question.Question.TheVariants.{Info, Access, Listing}
+use Rattle.node_core.specs.declared.question.Question.TheVariants.{Info, Access, Listing, FileInfo, FileName, FileBytes, Unsupported}
 use Rattle.node_core.specs.declared.request.Request.{Request}
 use Rattle.node_core.proofs.Questions.{ReadingLaws, request_at_fits}
 
@@ -49,6 +49,10 @@ after_question : (plan : Plan) (opened : List Register) (past : List RegisterReq
 after_question plan opened past Info = refl
 after_question plan opened past (Access request) = refl
 after_question plan opened past (Listing request) = refl
+after_question plan opened past (FileInfo request) = refl
+after_question plan opened past (FileName request) = refl
+after_question plan opened past (FileBytes request) = refl
+after_question plan opened past Unsupported = refl
 
 after_behind : (plan : Plan) (opened : List Register) (past : List RegisterRequest) (request : Option Request)
     → registers_behind plan request (after (may_hold plan) opened past) ≡ after (may_hold plan) opened (asked_by request ++ past)
@@ -71,6 +75,10 @@ question_asks : (q : Question) → FitsQuestion q → AllFit (asks_of q)
 question_asks Info fits = tt
 question_asks (Access request) fits = (fits.1, tt)
 question_asks (Listing request) fits = tt
+question_asks (FileInfo request) fits = tt
+question_asks (FileName request) fits = tt
+question_asks (FileBytes request) fits = tt
+question_asks Unsupported fits = tt
 
 request_asks : (request : Option Request) → ((r : Request) → request ≡ Some r → FitsQuestion r.question) → AllFit (asked_by request)
 request_asks None fits = tt

@@ -20,7 +20,8 @@ use Rattle.node_core.specs.Heard.{ports_of, table_port}
 use Rattle.node_core.specs.Laws.{IsMute, MuteKeepNothing, MuteReceive}
 use Rattle.node_core.specs.Queues.{Queue, fulls, leaving, push_all, waiting}
 use Rattle.node_core.specs.Sending.{registers_behind, reply_on, request_of, request_with}
-use Rattle.node_core.specs.Steps.{Step, Heard, Kept, got, kept, left, lines_at, lines_behind, of_frame, on_port, payload_in, pushed, records, request_at, steps, ticks_before}
+use Rattle.node_core.specs.Steps.{Step, Heard, Kept, got, kept, left, lines_at, lines_behind, met_records, of_frame, on_port, payload_in, pushed, records, request_at, steps, ticks_before}
+use Rattle.node_core.specs.declared.file_reply.FileReply.{FileReply}
 use Rattle.node_core.specs.declared.line.Line.{Line}
 use Rattle.node_core.specs.declared.request.Request.{Request}
 use Rattle.node_core.proofs.Queues.{nothing_waits}
@@ -61,44 +62,44 @@ module _ (plan : Plan) (none : services plan ≡ []) (log : List KeyedFrame) whe
   asks_nobody (Some f) = asks_none f f.ident refl
 
 -- a record ends no request
-ends_none : (plan : Plan) (rec : Record) (past : List Step) → services plan ≡ [] → request_at plan (Heard rec) past ≡ None
-ends_none plan rec past none = asks_nobody plan none (frames plan.node (records past)) (frame_for plan.node rec)
+ends_none : (plan : Plan) (rec : Record) (file : FileReply) (past : List Step) → services plan ≡ [] → request_at plan (Heard rec file) past ≡ None
+ends_none plan rec file past none = asks_nobody plan none (frames plan.node (records past)) (frame_for plan.node rec)
 
 no_ticks : (plan : Plan) (rec : Record) (past : List Record) → plan.silent ≡ true → ticks_before plan rec past ≡ []
 no_ticks plan rec past quiet = cond-true plan.silent [] _ quiet
 
 -- a record leaves what is kept as it is, where nothing waits
-module _ (plan : Plan) (rec : Record) (past : List Step) (mute : IsMute plan) (idle : waiting (kept plan past).queues ≡ 0) where
-  pushes_none : pushed plan (Heard rec) past (kept plan past) ≡ kept plan past
+module _ (plan : Plan) (rec : Record) (file : FileReply) (past : List Step) (mute : IsMute plan) (idle : waiting (kept plan past).queues ≡ 0) where
+  pushes_none : pushed plan (Heard rec file) past (kept plan past) ≡ kept plan past
   pushes_none =
       let k = kept plan past in
-      ap (λ (r : Option Request). record k { queues = push_all (reply_on plan k.registers r) k.queues; registers = registers_behind plan r k.registers }) (ends_none plan rec past mute.no_service)
+      ap (λ (r : Option Request). record k { queues = push_all (reply_on plan k.registers file r) k.queues; registers = registers_behind plan r k.registers }) (ends_none plan rec file past mute.no_service)
 
-  keeps_all : kept plan (Heard rec ∷ past) ≡ kept plan past
+  keeps_all : kept plan (Heard rec file ∷ past) ≡ kept plan past
   keeps_all =
       ap left pushes_none
       ∙ ap (λ (qs : List Queue). record (kept plan past) { queues = qs }) (all_stay (kept plan past).queues idle)
 
-  lines_are : lines_at plan (Heard rec) past ≡ got plan rec (records past)
+  lines_are : lines_at plan (Heard rec file) past ≡ got plan rec (records past)
   lines_are =
       let k = kept plan past in
-      ap (λ (r : Option Request). (got plan rec (records past) ++ fulls rec.moment (reply_on plan k.registers r) k.queues) ++ leaving rec.moment (pushed plan (Heard rec) past k).queues)
-      (ends_none plan rec past mute.no_service)
+      ap (λ (r : Option Request). (got plan rec (records past) ++ fulls rec.moment (reply_on plan k.registers file r) k.queues) ++ leaving rec.moment (pushed plan (Heard rec file) past k).queues)
+      (ends_none plan rec file past mute.no_service)
       ∙ (ap (λ (kept_then : Kept). (got plan rec (records past) ++ []) ++ leaving rec.moment kept_then.queues) pushes_none
       ∙ (ap (λ (t : List Line). (got plan rec (records past) ++ []) ++ t) (none_leaves rec.moment 0 k.queues idle)
       ∙ (append-nil (got plan rec (records past) ++ []) ∙ append-nil (got plan rec (records past)))))
 
 pub mute_keep_nothing : MuteKeepNothing
 mute_keep_nothing plan [] mute = (refl, nothing_waits plan.queue plan.buses)
-mute_keep_nothing plan (rec ∷ past) mute =
+mute_keep_nothing plan (m ∷ past) mute =
     let older = mute_keep_nothing plan past mute in
-    let same : kept plan (steps plan (rec ∷ past)) ≡ kept plan (steps plan past) =
-    ap (λ (t : List Step). kept plan (Heard rec ∷ t ++ steps plan past)) (no_ticks plan rec past mute.silent)
-    ∙ keeps_all plan rec (steps plan past) mute older.1 in
+    let same : kept plan (steps plan (m ∷ past)) ≡ kept plan (steps plan past) =
+    ap (λ (t : List Step). kept plan (Heard m.rec m.file ∷ t ++ steps plan past)) (no_ticks plan m.rec (met_records past) mute.silent)
+    ∙ keeps_all plan m.rec m.file (steps plan past) mute older.1 in
     (same ∙ older.0, ap (λ (k : Kept). waiting k.queues) same ∙ older.1)
 
 pub mute_receive : MuteReceive
-mute_receive plan rec past mute =
-    ap (λ (t : List Step). lines_behind plan (Heard rec ∷ t) (steps plan past)) (no_ticks plan rec past mute.silent)
-    ∙ (lines_are plan rec (steps plan past) mute (mute_keep_nothing plan past mute).1
-    ∙ ap (got plan rec) (records_of_steps plan past))
+mute_receive plan m past mute =
+    ap (λ (t : List Step). lines_behind plan (Heard m.rec m.file ∷ t) (steps plan past)) (no_ticks plan m.rec (met_records past) mute.silent)
+    ∙ (lines_are plan m.rec m.file (steps plan past) mute (mute_keep_nothing plan past mute).1
+    ∙ ap (got plan m.rec) (records_of_steps plan past))

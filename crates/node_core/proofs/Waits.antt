@@ -6,12 +6,12 @@ use Rattle.tx_queue.specs.declared.frame.OutFrame.{OutFrame}
 use Rattle.node_plan.specs.declared.plan.Plan.{Plan}
 use Rattle.node_core.specs.Laws.{LinesJoin, NothingEmptied, NothingLeaves, RecordsOfSteps}
 use Rattle.node_core.specs.Queues.{Queue, bus_lines, drained, leave, leaving_from, rounds, stay, tx_line, waiting}
-use Rattle.node_core.specs.Steps.{Step, Heard, Tick, all_lines, is_tx, emptying, kept, lines, lines_at, lines_behind, moment_of, numbers, records, steps, ticks_before, ticks_from, ticks_done, ticks_until, first_of, ticks_upto}
+use Rattle.node_core.specs.Steps.{Met, Step, Heard, Tick, all_lines, is_tx, emptying, kept, lines, lines_at, lines_behind, met_records, moment_of, numbers, records, steps, ticks_before, ticks_from, ticks_done, ticks_until, first_of, ticks_upto}
 use Rattle.node_core.specs.declared.line.Line.{Line}
 
 records-append : (newer older : List Step) → records (newer ++ older) ≡ records newer ++ records older
 records-append [] older = refl
-records-append (Heard rec ∷ newer) older = ap (λ (t : List Record). rec ∷ t) (records-append newer older)
+records-append (Heard rec file ∷ newer) older = ap (λ (t : List Record). rec ∷ t) (records-append newer older)
 records-append (Tick number moment ∷ newer) older = records-append newer older
 
 no_records : (first number n : ℕ) → records (ticks_from first number n) ≡ []
@@ -22,12 +22,17 @@ ticks_have_none : (plan : Plan) (rec : Record) (past : List Record) → records 
 ticks_have_none plan rec past =
     cond_both plan.silent [] (ticks_upto (first_of rec past) (ticks_done past) rec.moment) (λ (t : List Step). records t ≡ []) (λ _. refl) (λ _. no_records (first_of rec past) (ticks_done past) (ticks_until (first_of rec past) rec.moment - ticks_done past))
 
+-- ticks don't change the records behind which they are
+pub records_behind : (plan : Plan) (rec : Record) (past : List Met) (before : List Record)
+    → records (ticks_before plan rec before ++ steps plan past) ≡ records (steps plan past)
+records_behind plan rec past before =
+    records-append (ticks_before plan rec before) (steps plan past)
+    ∙ ap (λ (t : List Record). t ++ records (steps plan past)) (ticks_have_none plan rec before)
+
 pub records_of_steps : RecordsOfSteps
 records_of_steps plan [] = refl
-records_of_steps plan (rec ∷ past) =
-    ap (λ (t : List Record). rec ∷ t)
-    (records-append (ticks_before plan rec past) (steps plan past)
-    ∙ (ap (λ (t : List Record). t ++ records (steps plan past)) (ticks_have_none plan rec past) ∙ records_of_steps plan past))
+records_of_steps plan (m ∷ past) =
+    ap (λ (t : List Record). m.rec ∷ t) (records_behind plan m.rec past (met_records past) ∙ records_of_steps plan past)
 
 pub lines_join : LinesJoin
 lines_join plan [] older = sym (append-nil (lines plan older))

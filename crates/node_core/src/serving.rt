@@ -72,11 +72,11 @@ fn bytes_of<T: Tree>(
 ) -> Result<FileReply, NoMemory>
     ensures files { T.files tree.new ≡ T.files tree.old }
     ensures told { IfOk result (TellsBytes (T.files tree.old)
-        (place_of served.root.now asked.now.path) asked.now.offset) }
+        (place_of served.entry.root.now asked.now.path) asked.now.offset) }
     ensures fits { IfOk result FitsFileReply }
     ensures cause { IfOk result (λ file.
         TellsFault (is_failed file) (T.faults tree.old) (T.faults tree.new)) }
-    ensures unasked { IsKnown (place_of served.root.now asked.now.path) → tree.new ≡ tree.old }
+    ensures unasked { IsKnown (place_of served.entry.root.now asked.now.path) → tree.new ≡ tree.old }
     ensures memory { OnErr result (T.faults tree.new ≡ T.faults tree.old) }
     ensures count { T.faults tree.old ≤ T.faults tree.new }
 {

@@ -2,6 +2,7 @@ pub mod Extents
 pub mod Results
 pub mod Weaker
 pub mod Answered
+pub mod Allocates
 pub mod Begun
 pub mod Ears
 pub mod Stamps

@@ -183,11 +183,11 @@ impl Allocating {
 
 impl Listener for Allocating {
     ghost use Rattle.std.specs.Prelude.{refl};
-    ghost use Rattle.tail_frame.specs.declared.logged.Record.{Record as RecordOf};
+    ghost use Rattle.tail_frame.specs.declared.logged.Record.{Record};
     ghost use Rattle.node_reach.specs.Allocated.{allocate_voice};
     ghost use Rattle.node_reach.specs.Allocates.{Allocates};
 
-    ghost event = { RecordOf };
+    ghost event = { Record };
 
     ghost voice = { λ first. allocate_voice first.own };
 

@@ -1,7 +1,7 @@
 //! A monitor that hears a log.
 ghost use Rattle.std.specs.Prelude.{◌≡◌, ◌++◌, [], IfOk, OnOk, refl};
 ghost use Rattle.line_text.specs.Buffer.{text_of};
-ghost use Rattle.tail_frame.specs.declared.logged.Record.{Record as RecordOf};
+ghost use Rattle.tail_frame.specs.declared.logged.Record.{Record};
 ghost use Rattle.node_reach.specs.Ears.{Hears};
 ghost use Rattle.node_reach.specs.Monitored.{monitor_ears, monitor_voice, node_lines, state_in, state_line};
 ghost use Rattle.node_reach.specs.Monitors.{Monitors};
@@ -62,7 +62,7 @@ fn listening(alloc: Global, own: u8) -> Result<Ear, NoMemory>
 }
 
 impl Listener for Monitoring {
-    ghost event = { RecordOf };
+    ghost event = { Record };
 
     ghost voice = { λ first. monitor_voice first.ear.own };
 

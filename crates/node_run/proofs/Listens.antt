@@ -1,5 +1,5 @@
 -- A run as the listener of a log.
-use Rattle.std.proofs.Common.{◌≡◌, ◌∙◌, ◌^◌, ◌+◌, ◌<◌, ◌≤◌, ◌++◌, ℕ, List, ◌∷◌, Option, refl, ap, subst, arith}
+use Rattle.std.proofs.Common.{◌≡◌, ◌∙◌, ◌^◌, ◌+◌, ◌<◌, ◌≤◌, ◌++◌, ℕ, List, ◌∷◌, Option, MutBor, refl, ap, subst, arith}
 use Rattle.cy_outside.specs.Files.{Files}
 use Rattle.tail_frame.specs.declared.logged.Record.{Record}
 use Rattle.log_loop.specs.Met.{Breaks, Comes, Hears as HearsOne}
@@ -17,38 +17,21 @@ use Rattle.node_run.specs.Failures.{AreFailures, FailsAs, FailsUntold, TellsFail
 use Rattle.node_run.specs.Goes.{BreaksOff, GoesOn, IsFrom, IsLast, last_tick, next_behind, state_in, ticks_left, unbroken}
 use Rattle.node_run.specs.Hears.{IsServedMet, run_voice}
 use Rattle.node_run.specs.Ran.{FailedBefore}
-use Rattle.node_run.specs.Listens.{AsksNone, BreaksOn, HasBrokenOff, HasHeardAll, HasTaken, IsOver, Views, failed_since, failures_in, reported_since}
+use Rattle.node_run.specs.Listens.{AsksNone, BreaksOn, HasBrokenOff, HasHeardAll, HasTaken, IsOver, Views, failed_since, failures_in, reported_since, some_met}
 use Rattle.node_run.specs.declared.log.running.Running.{Running}
 use Rattle.node_run.proofs.Fails.{before_all, before_some, failed_broke, failed_next}
 use Rattle.node_run.proofs.Hearing.{breaks_at, broke_record, broke_ticks, failed_same, heard_text, hears_next, served_broken, served_record}
 
 -- By two calls, one after the other.
 pub over_then : {K T : Type 0} {files : T → Option Files} {a b c : Running K T} → IsOver files a b → IsOver files b c → IsOver files a c
-over_then x y = record { lines = y.lines ∙ x.lines; tree = y.tree ∙ x.tree; files = y.files ∙ x.files }
+over_then x y = record { lines = y.lines ∙ x.lines; tree = y.tree ∙ x.tree; told = y.told ∙ x.told }
 
 pub asks_then : {K T : Type 0} {failed : K → Option (List ℕ)} {a b c : Running K T} → AsksNone failed a b → AsksNone failed b c → AsksNone failed a c
 asks_then x y = record { lines = y.lines ∙ x.lines; tree = y.tree ∙ x.tree; untold = y.untold ∙ x.untold }
 
 -- where nothing is asked of the tree
 pub over_none : {K T : Type 0} {failed : K → Option (List ℕ)} {a b : Running K T} (files : T → Option Files) → AsksNone failed a b → IsOver files a b
-over_none files x = record { lines = x.lines; tree = ap (λ t. t.ghost_name) x.tree; files = ap (λ t. files t.now) x.tree }
-
--- what was heard is not broken off
-pub unbroken_off : {K T : Type 0} (v : Views K T) (first now : Running K T) (past : List Met) → HasHeardAll v first now past → HasBrokenOff v first now past
-unbroken_off v first now past h = record {
-  over = h.over;
-  broke = unbroken first.node.now.plan (v.lines first.lines.now) (state_in v.lines now) (steps first.node.now.plan past) h.hears.runs;
-  failed = before_all (steps first.node.now.plan past) (failed_since v first now) h.failed;
-}
-
--- there is something that the tree may tell for a record
-pub some_met : (told : Option Files) (plan : Plan) (rec : Record) (past : List Met) → Comes (run_voice told plan) rec past
-some_met told plan rec past =
-    let some = something_served told plan rec (ticks_before plan rec (met_records past) ++ steps plan past) in record {
-      event = met rec some.0;
-      of = refl;
-      may = some.1;
-    }
+over_none {K} {T} files x = record { lines = x.lines; tree = ap (λ (t : MutBor T). t.ghost_name) x.tree; told = ap (λ (t : MutBor T). files t.now) x.tree }
 
 -- One more record, behind the ticks before it, in which the run asks nothing.
 module _ (K T : Type 0) (v : Views K T) (rec : Record) (old mid : Running K T) (asks : AsksNone v.failed old mid) (low : rec.moment < 10 ^ 18) (last : last_tick old.clock.number old.clock.next ≤ rec.moment) (few : old.tally.numbers.records < 2 ^ 28) where
@@ -59,7 +42,7 @@ module _ (K T : Type 0) (v : Views K T) (rec : Record) (old mid : Running K T) (
   left = ticks_left old.clock.number old.clock.next rec.moment
 
   same_faults : v.faults mid.tree.now ≡ v.faults old.tree.now
-  same_faults = ap (λ t. v.faults t.now) asks.tree
+  same_faults = ap (λ (t : MutBor T). v.faults t.now) asks.tree
 
   module _ (first : Running K T) (past : List Met) (h : HasHeardAll v first old past) where
     abbrev plan : Plan
@@ -72,7 +55,7 @@ module _ (K T : Type 0) (v : Views K T) (rec : Record) (old mid : Running K T) (
     before = v.lines first.lines.now
 
     same_files : v.files mid.tree.now ≡ v.files first.tree.now
-    same_files = (over_none v.files asks).files ∙ h.over.files
+    same_files = (over_none v.files asks).told ∙ h.over.told
 
     -- the requests in which the tree had failed are told, where a step broke off
     tells_broken : (now : Running K T) → FailsUntold (failures (v.failed old.lines.now) (v.failed now.lines.now) (v.faults old.tree.now) (v.faults now.tree.now)) → TellsFailures (failed_lines all) (failed_since v first now)
@@ -84,7 +67,7 @@ module _ (K T : Type 0) (v : Views K T) (rec : Record) (old mid : Running K T) (
     -- it broke off in a tick
     pub breaks_ticks : ((x : ℕ) → IsFrom x old.clock.number old.clock.next rec.moment → BreaksOff (ticks_from x old.clock.number left) (state_in v.lines old) (state_in v.lines mid)) → Breaks voice_of (HasBrokenOff v) mid rec first past
     breaks_ticks b =
-        let some = some_met (v.files first.tree.now) plan rec past in record {
+        let some = some_met something_served (v.files first.tree.now) plan rec past in record {
           event = some.event;
           of = some.of;
           may = some.may;

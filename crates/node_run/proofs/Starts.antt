@@ -18,6 +18,8 @@ use Rattle.node_core.specs.Queues.{waiting}
 use Rattle.node_core.specs.Stands.{Stands}
 use Rattle.node_core.specs.Steps.{Met, Step, held_at, kept, met_records, steps}
 use Rattle.node_core.proofs.Queues.{nothing_waits}
+use Rattle.node_core.proofs.Served.{something_served}
+use Rattle.node_run.specs.Listens.{some_met}
 use Rattle.node_plan.specs.IsPlan.{IsPlan}
 use Rattle.node_run.specs.declared.log.clock.Clock.{Clock}
 use Rattle.node_run.specs.Goes.{State, report_of}
@@ -30,7 +32,6 @@ use Rattle.node_run.specs.Ran.{names_of, newest_first, reported, no_numbers, At,
 use Rattle.node_run.specs.ValueLines.{flow}
 use Rattle.node_run.proofs.Fails.{before_some, failed_none}
 use Rattle.node_run.proofs.Goes.{first_none}
-use Rattle.node_run.proofs.Listens.{some_met}
 use Rattle.node_run.proofs.Runs.{are_served}
 use Rattle.node_run.proofs.Streams.{streamed_none}
 use Rattle.node_run.proofs.Tells.{put_none}
@@ -63,7 +64,7 @@ pub some_mets : (told : Option Files) (plan : Plan) (log : List Record) → Some
 some_mets told plan [] = record { mets = []; are = refl; may = tt }
 some_mets told plan (rec ∷ log) =
     let past = some_mets told plan log in
-    let next = some_met told plan rec past.mets in record {
+    let next = some_met something_served told plan rec past.mets in record {
       mets = next.event ∷ past.mets;
       are = ap₂ (λ (r : Record) (rs : List Record). r ∷ rs) next.of past.are;
       may = (next.may, past.may);

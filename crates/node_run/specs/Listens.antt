@@ -1,15 +1,17 @@
 -- A run as the listener of a log: what it is over, and what holds of it once it has met records.
-use Rattle.std.specs.Prelude.{◌≡◌, ◌×◌, ℕ, List, Option, [], ◌∷◌}
+use Rattle.std.specs.Prelude.{◌≡◌, ◌++◌, ℕ, refl, List, Option, [], ◌∷◌}
 use Rattle.cy_outside.specs.Files.{Files}
 use Rattle.tail_frame.specs.declared.logged.Record.{Record}
+use Rattle.log_loop.specs.Met.{Comes}
 use Rattle.node_plan.specs.declared.plan.Plan.{Plan}
 use Rattle.node_core.specs.Keeps.{IsServedBy}
-use Rattle.node_core.specs.Steps.{Heard, IsServedAt, Met, Step, failed_lines, steps}
+use Rattle.node_core.specs.Laws.{SomethingServed}
+use Rattle.node_core.specs.Steps.{Heard, IsServedAt, Met, Step, failed_lines, met, met_records, steps, ticks_before}
 use Rattle.node_core.specs.declared.file_reply.FileReply.{FileReply}
 use Rattle.node_core.specs.declared.line.Line.{Line}
 use Rattle.node_run.specs.Failures.{AreFailures, Failures, FailsAs, FailsUntold, failures}
-use Rattle.node_run.specs.Goes.{Broke, GoesOn, Runs, State, report_of, state_in}
-use Rattle.node_run.specs.Hears.{BrokeOff, CutShort, HasEnded, Hears}
+use Rattle.node_run.specs.Goes.{Broke, GoesOn, Runs, State, report_of, state_in, unbroken}
+use Rattle.node_run.specs.Hears.{BrokeOff, CutShort, HasEnded, Hears, run_voice}
 use Rattle.node_run.specs.Ran.{FailedBefore, Reported}
 use Rattle.node_run.specs.declared.log.running.Running.{Running}
 
@@ -17,7 +19,7 @@ use Rattle.node_run.specs.declared.log.running.Running.{Running}
 pub record IsOver {K T : Type 0} (files : T → Option Files) (old new : Running K T) : Type 0 where
   pub lines : new.lines.ghost_name ≡ old.lines.ghost_name
   pub tree : new.tree.ghost_name ≡ old.tree.ghost_name
-  pub files : files new.tree.now ≡ files old.tree.now
+  pub told : files new.tree.now ≡ files old.tree.now
 
 -- the requests in which the tree of a run failed, by what its sink and its tree tell of that
 abbrev pub failures_in : {K T : Type 0} → (K → Option (List ℕ)) → (T → ℕ) → Running K T → Running K T → Failures
@@ -72,6 +74,23 @@ pub record IsCutShort {K T : Type 0} (v : Views K T) (first now : Running K T) (
   pub over : IsOver v.files first now
   pub cut : CutShort first.node.now.plan (reported_since v first now) past
   pub failed : AreFailures (failed_lines (steps first.node.now.plan past)) (failed_since v first now)
+
+-- what was heard is not broken off
+abbrev pub unbroken_off : {K T : Type 0} (v : Views K T) (first now : Running K T) (past : List Met)
+    → HasHeardAll v first now past → HasBrokenOff v first now past
+unbroken_off v first now past h =
+    let all = steps first.node.now.plan past in record {
+      over = h.over;
+      broke = unbroken first.node.now.plan (v.lines first.lines.now) (state_in v.lines now) all h.hears.runs;
+      failed = record { past = all; first = record { newer = []; parts = refl }; tells = h.failed.tells };
+    }
+
+-- there is something that the tree may tell for a record
+abbrev pub some_met : SomethingServed → (told : Option Files) (plan : Plan) (rec : Record) (past : List Met)
+    → Comes (run_voice told plan) rec past
+some_met some told plan rec past =
+    let s = some told plan rec (ticks_before plan rec (met_records past) ++ steps plan past) in
+    record { event = met rec s.0; of = refl; may = s.1 }
 
 -- a record was heard: there is what the tree told of a file, by which the run goes on
 pub record HasTaken (told : Option Files) (rec : Record) (old new : State) (before after : List ℕ)

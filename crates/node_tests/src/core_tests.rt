@@ -1,4 +1,4 @@
-use crate::node_log::{Logged, no_types, record, text_of};
+use crate::node_log::{Logged, no_files, no_types, record, text_of};
 use can_id::{Key, Kind};
 use cy_bits::{BusName, List, NoMemory, ShortList};
 use dsdl_types::{Schema, Shape};
@@ -186,8 +186,8 @@ fn a_frame_gives_its_line(rt: HostRuntime) -> Result<(), NoMemory> {
     let mut lines = List::empty(alloc);
     let rec = record(&rt, 1, (5, 0, 0x107D_552A, &[1, 0, 0, 0, 0, 0, 0, 0xE0]));
     assert!(&rt; node.latest <= rec.moment);
-    let stepped = node.frame(&rec, &mut lines)?;
-    assert!(rt; !stepped.badcrc && lines.len() == 1);
+    let stepped = node.frame(&rec, &mut no_files(&rt, alloc), &mut lines)?;
+    assert!(rt; !stepped.badcrc && !stepped.failed && lines.len() == 1);
     Ok(())
 }
 

@@ -5,6 +5,8 @@
 #[cfg(test)]
 mod core_tests;
 #[cfg(test)]
+mod file_tests;
+#[cfg(test)]
 mod generator_tests;
 #[cfg(test)]
 mod loop_tests;

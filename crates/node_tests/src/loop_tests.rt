@@ -1,6 +1,8 @@
 //! Two small listeners, and what they say over logs.
-ghost use Rattle.std.specs.Prelude.{◌≡◌, ◌≤◌, ◌+◌, ◌∷◌, ◌%◌, [], length};
+ghost use Rattle.std.specs.Prelude.{◌≡◌, ◌≤◌, ◌+◌, ◌∷◌, ◌%◌, [], length, refl};
 ghost use Rattle.std.proofs.Common.{rules};
+ghost use Rattle.tail_frame.specs.declared.logged.Record.{Record};
+ghost use Rattle.log_loop.specs.Voice.{plain_voice};
 
 use cy_bits::{BusName, NoMemory, ShortList};
 use cy_outside::{MemSink, MemSource};
@@ -19,6 +21,11 @@ struct Count {
 }
 
 impl Listener for Count {
+    ghost event = { Record };
+
+    ghost voice = { λ first.
+        plain_voice (λ rec past. ((first.n + length past) % 256) ∷ []) (λ past. 10 ∷ []) };
+
     ghost heard = { λ first now past. now.n ≡ first.n + length past };
 
     ghost ended = { λ first now past. now.n ≡ 0 };
@@ -26,10 +33,6 @@ impl Listener for Count {
     ghost broke = { λ first now past. now.n ≤ first.n + length past };
 
     ghost cut_short = { λ first now past. now.n ≤ first.n + length past };
-
-    ghost step_text = { λ first rec past. ((first.n + length past) % 256) ∷ [] };
-
-    ghost last_text = { λ first past. 10 ∷ [] };
 
     ghost latest = { λ c. 0 };
 
@@ -48,6 +51,8 @@ impl Listener for Count {
     }
 
     ghost heard_broke = { λ first now past e. Prim.search rules };
+
+    ghost comes = { λ first rec past. record { event = rec; of = refl; may = tt } };
 }
 
 /// Says the bus of each record as a digit, and has memory for so many alone.
@@ -57,6 +62,10 @@ struct Buses {
 }
 
 impl Listener for Buses {
+    ghost event = { Record };
+
+    ghost voice = { λ first. plain_voice (λ rec past. (48 + rec.bus % 10) ∷ []) (λ past. []) };
+
     ghost heard = { λ first now past. now.left + length past ≡ first.left };
 
     ghost ended = { λ first now past. now.left + length past ≡ first.left };
@@ -64,10 +73,6 @@ impl Listener for Buses {
     ghost broke = { λ first now past. now.left + length past ≤ first.left + 1 };
 
     ghost cut_short = { λ first now past. now.left + length past ≤ first.left };
-
-    ghost step_text = { λ first rec past. (48 + rec.bus % 10) ∷ [] };
-
-    ghost last_text = { λ first past. [] };
 
     ghost latest = { λ b. 0 };
 
@@ -87,6 +92,8 @@ impl Listener for Buses {
     }
 
     ghost heard_broke = { λ first now past e. Prim.search rules };
+
+    ghost comes = { λ first rec past. record { event = rec; of = refl; may = tt } };
 }
 
 /// The buses `can0` and `can1`.

@@ -2,6 +2,7 @@
 ghost use Rattle.dsdl_types.specs.Definitions.{IsNamespace};
 
 use cy_bits::{List, NoMemory};
+use cy_outside::MemTree;
 use dsdl_types::Namespace;
 use line_text::TextBuffer;
 use node_core::{KeptLines, LineSink, LineWriter, NoLines, Node};
@@ -24,6 +25,14 @@ pub fn no_types(alloc: Global) -> Namespace
     }
 }
 
+/// A tree without files.
+pub fn no_files(rt: &impl Abort, alloc: Global) -> MemTree<'static> {
+    let Some(tree) = MemTree::new(List::empty(alloc), &[]) else {
+        panic!(rt; "no tree");
+    };
+    tree
+}
+
 /// The text of the lines that a node with these subscriptions gives on a log, then their number, whether a CRC was
 /// bad, and the bytes held.
 pub fn text_of(
@@ -41,7 +50,7 @@ pub fn text_of(
     };
     let mut writer = LineWriter::new(alloc, &plan.buses);
     let mut node = Node::open(alloc, plan)?;
-    let mut kept = KeptLines::new(alloc, List::empty(alloc));
+    let mut kept = KeptLines::new(alloc);
     let mut text = TextBuffer::new(alloc);
     let mut line = 0;
     let mut badcrc = false;
@@ -61,7 +70,7 @@ pub fn text_of(
     let Ok(lines) = String::from_str(alloc, from_utf8(text.as_slice()).unwrap_or("no text")) else {
         return Err(NoMemory);
     };
-    let count = kept.into_list().len();
+    let count = kept.lines.len();
     Ok(format!(in alloc; "{lines}lines {count} badcrc {badcrc} held {}", node.held())?)
 }
 

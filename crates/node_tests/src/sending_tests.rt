@@ -2,10 +2,10 @@
 ghost use Rattle.std.specs.Prelude.{IfOk};
 ghost use Rattle.node_plan.specs.IsPlan.{IsPlan};
 
-use crate::node_log::{no_types, record};
+use crate::node_log::{no_files, no_types, record};
 use cy_bits::{List, NoMemory, ShortList};
 use line_text::TextBuffer;
-use node_core::{FullLine, LineRef, LineWriter, Node, TxRef};
+use node_core::{FileReply, FullLine, LineRef, LineWriter, Node, TxRef};
 use node_plan::{Plan, read_plan};
 use std::alloc::Global;
 use std::process::Abort;
@@ -16,7 +16,7 @@ const REGISTERS: &str =
     "plan 2\nnode 42\nbus can0 8 4096\nsilent\nregister x rw {natural16: {value: [5]}}\nlimits x 0 100\n";
 
 /// The plan of a text.
-fn plan_in(rt: &impl Abort, alloc: Global, text: &str) -> Result<Plan, NoMemory>
+pub fn plan_in(rt: &impl Abort, alloc: Global, text: &str) -> Result<Plan, NoMemory>
     ensures { IfOk result IsPlan }
 {
     let Ok(plan) = read_plan(alloc, text.as_bytes(), &no_types(alloc)) else {
@@ -34,7 +34,7 @@ fn plan_of(rt: &impl Abort, alloc: Global, lines: &str) -> Result<Plan, NoMemory
 }
 
 /// Puts the text of a step's frames that leave the first bus behind others.
-fn leave(
+pub fn leave(
     node: &mut Node,
     writer: &mut LineWriter,
     text: &mut TextBuffer,
@@ -97,7 +97,8 @@ fn asked_text(rt: &impl Abort, alloc: Global, lines: &str) -> Result<String, NoM
     let request = node.request(came, told)?;
     push_told(&mut writer, &mut text, told)?;
     if let Some(request) = request {
-        push_fulls(&mut writer, &mut text, &node.reply(rec.moment, request)?)?;
+        let fulls = node.reply(rec.moment, request, &FileReply::NoFile)?;
+        push_fulls(&mut writer, &mut text, &fulls)?;
     }
     leave(&mut node, &mut writer, &mut text, rec.moment)?;
     String::from_str(alloc, from_utf8(text.as_slice()).unwrap_or("no text")).map_err(|_| NoMemory)
@@ -130,8 +131,8 @@ fn a_frame_gives_the_lines_on_its_reply(rt: HostRuntime) -> Result<(), NoMemory>
     let mut lines = List::empty(alloc);
     let rec = record(&rt, 1, (5_000_000, 0, 0x136B_957B, &[0xE1]));
     assert!(&rt; node.latest <= rec.moment);
-    let stepped = node.frame(&rec, &mut lines)?;
-    assert!(rt; !stepped.badcrc && lines.len() == 2 && node.waiting() == 0);
+    let stepped = node.frame(&rec, &mut no_files(&rt, alloc), &mut lines)?;
+    assert!(rt; !stepped.badcrc && !stepped.failed && lines.len() == 2 && node.waiting() == 0);
     Ok(())
 }
 
@@ -149,7 +150,8 @@ fn answer_text(
     assert!(rt; node.latest <= rec.moment);
     let came = node.step(&rec)?;
     if let Some(request) = node.request(came, node.told(&rec, came))? {
-        push_fulls(&mut writer, &mut text, &node.reply(rec.moment, request)?)?;
+        let fulls = node.reply(rec.moment, request, &FileReply::NoFile)?;
+        push_fulls(&mut writer, &mut text, &fulls)?;
     }
     leave(node, &mut writer, &mut text, rec.moment)?;
     String::from_str(alloc, from_utf8(text.as_slice()).unwrap_or("no text")).map_err(|_| NoMemory)

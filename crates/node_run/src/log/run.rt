@@ -36,9 +36,9 @@ pub fn run_over<T: Tree, L: Source, O: Sink, K: LineSink>(
     requires plan { IsPlan plan }
     ensures ran { let r = reported (K.lines lines.old) (K.lines lines.new) numbers.new in
         let f = failures (K.failed lines.old) (K.failed lines.new)
-            (T.faults tree.old) (T.faults tree.new) in
+        (T.faults tree.old) (T.faults tree.new) in
         let flow = flow (L.left input.old) (L.left input.new)
-            (O.written out.old) (O.written out.new) in
+        (O.written out.old) (O.written out.new) in
         HasRun plan (T.files tree.old) flow result r f }
     ensures files { T.files tree.new ≡ T.files tree.old }
     ensures read { result ≡ Status.ReadFault → Rose (L.faults input.old) (L.faults input.new) }
@@ -82,7 +82,7 @@ pub fn run_log<T: Tree, L: Source, O: Sink>(
     requires empty { IsEmpty report.old }
     ensures ran { let f = of_failed report.new (T.faults tree.old) (T.faults tree.new) in
         let flow = flow (L.left input.old) (L.left input.new)
-            (O.written out.old) (O.written out.new) in
+        (O.written out.old) (O.written out.new) in
         HasRun plan (T.files tree.old) flow result (of_report report.new) f }
     ensures files { T.files tree.new ≡ T.files tree.old }
     ensures read { result ≡ Status.ReadFault → Rose (L.faults input.old) (L.faults input.new) }

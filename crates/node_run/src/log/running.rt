@@ -2,11 +2,10 @@
 ghost use Rattle.std.specs.Prelude.{◌≡◌, ◌≤◌, ◌<◌, ◌+◌, ◌*◌, ◌^◌, ◌∷◌, [], ℕ};
 ghost use Rattle.std.specs.Prelude.{OnErr, OnOk, None, Some};
 ghost use Rattle.std.specs.Option.{ForSome};
-ghost use Rattle.tail_frame.specs.declared.logged.Record.{Record};
 ghost use Rattle.line_text.specs.Buffer.{text_of};
 ghost use Rattle.node_core.specs.Keeps.{keeps};
 ghost use Rattle.node_core.specs.Sending.{IsRequestTo};
-ghost use Rattle.node_core.specs.Steps.{Met, Tick, steps, ticks_from};
+ghost use Rattle.node_core.specs.Steps.{Met, Tick, ticks_from};
 ghost use Rattle.node_run.specs.Goes.{BreaksOff, GoesOn, IsFrom, IsLast};
 ghost use Rattle.node_run.specs.Goes.{begun_next, last_tick, latest_of, next_behind, state_in};
 ghost use Rattle.node_run.specs.Goes.{ticks_due, ticks_left};
@@ -14,6 +13,8 @@ ghost use Rattle.node_run.specs.Follows.{BrokeFollowing, HasFollowed, IsSameRun}
 ghost use Rattle.node_run.specs.Hears.{run_voice};
 ghost use Rattle.node_run.specs.Listens.{AsksNone, BreaksOn, HasTaken, IsOver, failures_in, views};
 ghost use Rattle.node_run.specs.Listens.{HasBrokenOff, HasEndedBehind, HasHeardAll, IsCutShort};
+ghost use Rattle.node_run.specs.Listens.{some_met, unbroken_off};
+ghost use Rattle.node_core.proofs.Served.{something_served};
 
 use crate::log::clock::Clock;
 use crate::log::sending::{empty, send};
@@ -97,7 +98,7 @@ impl<'a, K: LineSink, T: Tree> Listener for Running<'a, K, T> {
         unbroken_off (views K.lines K.failed T.files T.faults) first now past h };
 
     ghost comes = { λ first rec past.
-        some_met (T.files first.tree.now) first.node.now.plan rec past };
+        some_met something_served (T.files first.tree.now) first.node.now.plan rec past };
 }
 
 impl<'a, K: LineSink, T: Tree> Running<'a, K, T> {
@@ -199,7 +200,14 @@ impl<'a, K: LineSink, T: Tree> Running<'a, K, T> {
             (state_in K.lines self.old) (state_in K.lines self.new) f) }
     {
         let full = ShortList::new();
-        let sent = send(self.node, rec.moment, &full, self.writer, self.lines, gathered)?;
+        let sent = send(
+            self.node,
+            rec.moment,
+            &full,
+            self.writer,
+            self.lines,
+            gathered,
+        )?;
         self.tally.send(sent);
         self.clock.last = rec.moment;
         Ok(())
@@ -227,7 +235,14 @@ impl<'a, K: LineSink, T: Tree> Running<'a, K, T> {
     {
         let file = self.node.serve(&request, self.tree)?;
         let full = self.node.reply(rec.moment, request, &file)?;
-        let sent = send(self.node, rec.moment, &full, self.writer, self.lines, gathered)?;
+        let sent = send(
+            self.node,
+            rec.moment,
+            &full,
+            self.writer,
+            self.lines,
+            gathered,
+        )?;
         tell_failed(self.lines, file.is_failed(), rec.line)?;
         self.tally.send(sent);
         self.clock.last = rec.moment;

@@ -9,3 +9,15 @@ request_as-requires c = refl
 pub request_as-requires-in-385 : goal.request_as-requires-in-385
 unfolding schema_of
 request_as-requires-in-385 c = refl
+
+pub request_as-requires-in-405 : goal.request_as-requires-in-405
+unfolding schema_of
+request_as-requires-in-405 c = refl
+
+pub request_as-requires-in-406 : goal.request_as-requires-in-406
+unfolding schema_of
+request_as-requires-in-406 c = refl
+
+pub request_as-requires-in-408 : goal.request_as-requires-in-408
+unfolding schema_of
+request_as-requires-in-408 c = refl

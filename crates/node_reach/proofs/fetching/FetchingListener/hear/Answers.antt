@@ -20,12 +20,14 @@ returns-then-has_ended-clause-heard c = plain_heard (λ first. step_text first.a
     let client = first.asking.client in
     let old = text_of c.args.gathered.now in
     let end = ended_with (end_after file_limit (events client past)) (c.if-has_ended.ensures.ended (events client past) h.asked) in
-    let stays = record_stays client c.args.rec.now past end.0 end.1 in
-    (record {
-      same = h.same;
-      asked = subst (λ (s : State). Keeps file_limit s c.args.self.now.asking.fetch) (sym stays) h.asked;
-      waits = λ none. let both : None ≡ Some end.0 = sym none ∙ (ap (λ (s : State). s.end) stays ∙ end.1) in absurd cc;
-    }, sym (append-nil old) ∙ ap (λ (t : List ℕ). old ++ t) (sym (record_quiet c.fetch_laws.ensures client c.args.rec.now past end.0 end.1))))
+    let stays = record_stays client c.args.rec.now past end.0 end.1 in (
+      record {
+        same = h.same;
+        asked = subst (λ (s : State). Keeps file_limit s c.args.self.now.asking.fetch) (sym stays) h.asked;
+        waits = λ none. let both : None ≡ Some end.0 = sym none ∙ (ap (λ (s : State). s.end) stays ∙ end.1) in absurd cc;
+      },
+      sym (append-nil old) ∙ ap (λ (t : List ℕ). old ++ t) (sym (record_quiet c.fetch_laws.ensures client c.args.rec.now past end.0 end.1)),
+    ))
 
 pub returns-in-None-clause-heard : goal.returns-in-None-clause-heard
 returns-in-None-clause-heard c = plain_heard (λ first. step_text first.asking.client) (λ first. last_text first.asking.client) _ _ _ _ _ _ (λ first past h.
@@ -44,9 +46,10 @@ returns-in-None-clause-heard c = plain_heard (λ first. step_text first.asking.c
     let waits = k.waits (not_ended (end_after file_limit (events a past)) (c.if-has_ended.ensures.ended (events a past) k.asked)) in
     let ear = subst (λ (r : Responses). Hears (file_ears a.own) r.ear past) (sym c.wait.ensures.responses) waits.hears in
     let ticked = (c.in_ok-wait.ensures {u = tt}).ticks past waits.ticked in
-    let is = reply_is a c.wait.new.self.asking.client rec past _ None c.wait.ensures.client ((c.in_ok-response.ensures {u = tt}).reply a.own past ear) (ap (option_map event_in) c.in-None.is) in
-    (fetches_next a rec past None is new c.wait.ensures.client ((c.in_ok-wait.ensures {u = tt}).asked past waits.ticked k.asked) (record { first = ticked.first; tick = ticked.tick }) ((c.in_ok-response.ensures {u = tt}).hears (file_ears a.own) past ear),
-    said_none a rec past old said is ((c.in_ok-wait.ensures {u = tt}).text past waits.ticked k.asked)) in
+    let is = reply_is a c.wait.new.self.asking.client rec past _ None c.wait.ensures.client ((c.in_ok-response.ensures {u = tt}).reply a.own past ear) (ap (option_map event_in) c.in-None.is) in (
+      fetches_next a rec past None is new c.wait.ensures.client ((c.in_ok-wait.ensures {u = tt}).asked past waits.ticked k.asked) (record { first = ticked.first; tick = ticked.tick }) ((c.in_ok-response.ensures {u = tt}).hears (file_ears a.own) past ear),
+      said_none a rec past old said is ((c.in_ok-wait.ensures {u = tt}).text past waits.ticked k.asked),
+    ) in
     subst (λ (b : Client). Fetches b now past → Fetches b new (rec ∷ past) × (said ≡ old ++ step_text b rec past)) h.same next h)
 
 pub returns-in-Some-clause-heard : goal.returns-in-Some-clause-heard
@@ -69,12 +72,13 @@ returns-in-Some-clause-heard c = on_both _ _ _ c.take.result (λ taken told. pla
     let ticked = (c.in_ok-wait.ensures {u = tt}).ticks past waits.ticked in
     let e = event_in c.in-Some.response in
     let is = reply_is a c.wait.new.self.asking.client rec past _ (Some e) c.wait.ensures.client ((c.in_ok-response.ensures {u = tt}).reply a.own past ear) (ap (option_map event_in) c.in-Some.is) in
-    let asked = (c.in_ok-wait.ensures {u = tt}).asked past waits.ticked k.asked in
-    (fetches_next a rec past (Some e) is new (c.take.ensures.client ∙ c.wait.ensures.client)
-    (subst (λ (f : Event). HasAsked (f ∷ before) c.take.new.self) c.event.ensures.event (taken before asked))
-    (record { first = ticked.first; tick = ticked.tick })
-    ((c.in_ok-response.ensures {u = tt}).hears (file_ears a.own) past ear),
-    said_some a c.wait.new.self.asking.client rec past old (text_of c.wait.new.gathered) said e (event_of c.event.result) c.wait.ensures.client c.event.ensures.event is
-    ((c.in_ok-wait.ensures {u = tt}).text past waits.ticked k.asked)
-    (told before asked)) in
+    let asked = (c.in_ok-wait.ensures {u = tt}).asked past waits.ticked k.asked in (
+      fetches_next a rec past (Some e) is new (c.take.ensures.client ∙ c.wait.ensures.client)
+          (subst (λ (f : Event). HasAsked (f ∷ before) c.take.new.self) c.event.ensures.event (taken before asked))
+          (record { first = ticked.first; tick = ticked.tick })
+          ((c.in_ok-response.ensures {u = tt}).hears (file_ears a.own) past ear),
+      said_some a c.wait.new.self.asking.client rec past old (text_of c.wait.new.gathered) said e (event_of c.event.result) c.wait.ensures.client c.event.ensures.event is
+          ((c.in_ok-wait.ensures {u = tt}).text past waits.ticked k.asked)
+          (told before asked),
+    ) in
     subst (λ (b : Client). Fetches b now past → Fetches b new (rec ∷ past) × (said ≡ old ++ step_text b rec past)) h.same next h)) c.take.ensures.asked c.take.ensures.text

@@ -33,7 +33,7 @@ listen-ended-requires-clause-heard g c =
     let same = c.in-Ok.ensures.plan in
     let numbers = c.new-3.ensures in
     let at = at_none plan lines c.held.result c.bound-bound.result (c.held.ensures.held [] stands) (c.bound-bound.ensures.value ∙ ap bound_of (sym same)) in record {
-      over = record { lines = refl; tree = refl; files = refl };
+      over = record { lines = refl; tree = refl; told = refl };
       hears = hears_none c.args.plan lines (state c.in-Ok.node (writes_for c.new-writer.result) lines c.new-3.result.numbers) c.new-2.result c.requires.plan (sym same) stands c.in-Ok.ensures.keeps c.new-writer.ensures
           (subst (λ (n : Numbers). At plan [] (reported lines lines n)) (sym numbers) at) (subst (λ (n : Numbers). n.held ≤ bound_of plan) (sym numbers) (c.held.ensures.bound [] stands)) c.new-2.ensures.number c.new-2.ensures.next
           (ap (λ (n : Numbers). n.records) numbers);

@@ -10,7 +10,7 @@ use Rattle.node_run.proofs.log.running.Running.leave.Goals as goal
 
 pub returns-then-waiting-eq0-clause-same : goal.returns-then-waiting-eq0-clause-same
 returns-then-waiting-eq0-clause-same g c = record {
-  over = record { lines = refl; tree = refl; files = refl };
+  over = record { lines = refl; tree = refl; told = refl };
   node = still c.args.self.now.node.now;
   buses = refl;
   number = refl;

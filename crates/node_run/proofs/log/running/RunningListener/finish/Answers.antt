@@ -24,7 +24,7 @@ returns-in_err-emptied-clause-cut_short g c =
     let plan = first.node.now.plan in
     let all = steps plan past in
     let same : _ ≡ emptying plan all = ap (λ (k : Kept). rounds (waiting k.queues) self.clock.last k.queues) h.runs.keeps_are ∙ h.clock_is.last in record {
-      over = record { lines = hh.over.lines; tree = hh.over.tree; files = hh.over.files };
+      over = record { lines = hh.over.lines; tree = hh.over.tree; told = hh.over.told };
       failed = failed_stay (failed_lines all) (g.K.LineSink.failed first.lines.now) (g.K.LineSink.failed self.lines.now) (g.K.LineSink.failed c.empty.new.lines) (g.T.Tree.faults first.tree.now) (g.T.Tree.faults self.tree.now) c.empty.ensures.untold hh.failed;
       cut = record {
         first = first_cut plan all (reported (K first.lines.now) (K c.empty.new.lines) self.tally.numbers) (K self.lines.now) h.runs.at.reported
@@ -42,7 +42,7 @@ returns-in_err-push_end-clause-cut_short g c =
     let plan = first.node.now.plan in
     let all = steps plan past in
     let same : _ ≡ emptying plan all = ap (λ (k : Kept). rounds (waiting k.queues) self.clock.last k.queues) h.runs.keeps_are ∙ h.clock_is.last in record {
-      over = record { lines = hh.over.lines; tree = hh.over.tree; files = hh.over.files };
+      over = record { lines = hh.over.lines; tree = hh.over.tree; told = hh.over.told };
       failed = failed_stay (failed_lines all) (g.K.LineSink.failed first.lines.now) (g.K.LineSink.failed self.lines.now) (g.K.LineSink.failed c.empty.new.lines) (g.T.Tree.faults first.tree.now) (g.T.Tree.faults self.tree.now) c.empty.ensures.untold hh.failed;
       cut = record {
         first = first_cut plan all (reported (K first.lines.now) (K c.empty.new.lines) self.tally.numbers) (K self.lines.now) h.runs.at.reported
@@ -62,7 +62,7 @@ returns-clause-ended g c first past hh =
     let put = c.in_ok-emptied.ensures.told.put ∙ ap (put_behind (K self.lines.now)) same in
     let few : length all ≤ 2 ^ 50 = omega (arith, h.few, h.few_records, h.few_ticks) in
     let sent = sent_at_end plan all h.runs.is few self.tally.numbers.sent (ap (λ (n : Numbers). n.sent) h.runs.at.counted) c.in_ok-emptied.emptied (c.in_ok-emptied.ensures.sent ∙ ap length same) in record {
-      over = record { lines = hh.over.lines; tree = hh.over.tree; files = hh.over.files };
+      over = record { lines = hh.over.lines; tree = hh.over.tree; told = hh.over.told };
       failed = failed_stay (failed_lines all) (g.K.LineSink.failed first.lines.now) (g.K.LineSink.failed self.lines.now) (g.K.LineSink.failed c.empty.new.lines) (g.T.Tree.faults first.tree.now) (g.T.Tree.faults self.tree.now) c.empty.ensures.untold hh.failed;
       ended = record {
         at = record { reported = put ∙ (ap (λ o. put_behind o (emptying plan all)) h.runs.at.reported ∙ put_more (K first.lines.now) (lines plan all) (emptying plan all)); counted = h.runs.at.counted };
