@@ -68,10 +68,10 @@ pub fn top<T: Tree, L: Source, O: Sink, E: Sink>(
         (due : TheStatus) → job.is_told told ≡ true → job.expects told due
         → ¬ Rose old.input new.input → ¬ Rose old.out new.out
         → EndsAsDue due result.status old new }
-    // Where all was done, the tree failed in requests of files alone, and then the report names these.
+    // Where all was done, the tree's count is as it was, or the report names requests in which it failed.
     ensures failed { result.status ≡ Status.Ok
         → (T.faults tree.new ≡ T.faults tree.old) ⊎ (result.report.failed ≢ []) }
-    // A command that serves no files has none.
+    // Of a command that serves no files it names none.
     ensures unserved { (job_for (map string_bytes words.now)).serves ≡ false
         → result.report.failed ≡ [] }
     // The headline, where the words, the files and the input are told: of what is written, and of the report.
