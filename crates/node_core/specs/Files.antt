@@ -1,5 +1,5 @@
 -- What a node that serves files answers, and what its tree did for that.
-use Rattle.std.specs.Prelude.{◌≡◌, ◌==◌, ℕ, Bool, true, false, List, [], ◌∷◌, Option, Some, None}
+use Rattle.std.specs.Prelude.{◌≡◌, ◌==◌, ℕ, Bool, false, List, [], Option, Some, None}
 use Rattle.cy_outside.specs.Files.{Files as TreeFiles}
 use Rattle.dsdl_types.specs.Laws.{encoding}
 use Rattle.file_service.specs.Causes.{IsKnown}

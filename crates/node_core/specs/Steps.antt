@@ -1,5 +1,5 @@
 -- The steps of a node: the records that it hears, each with what its tree told, its ticks, and the lines that each gives.
-use Rattle.std.specs.Prelude.{◌≡◌, ℕ, zero, suc, Bool, true, false, ◌+◌, ◌-◌, ◌*◌, ◌/◌, ◌%◌, if◌then◌else◌, List, [], ◌∷◌, ◌++◌, length, map, count_by, Option, Some, None}
+use Rattle.std.specs.Prelude.{ℕ, zero, suc, Bool, true, false, ◌+◌, ◌-◌, ◌*◌, ◌/◌, ◌%◌, if◌then◌else◌, List, [], ◌∷◌, ◌++◌, length, map, count_by, Option, Some, None}
 use Rattle.std.specs.Option.{option_and_then}
 use Rattle.cy_outside.specs.Files.{Files as TreeFiles}
 use Rattle.tail_frame.specs.declared.logged.Record.{Record}

@@ -13,11 +13,7 @@ use std::str::from_utf8;
 const SERVES: &str = "plan 1\nnode 42\nbus can0\nsilent\nserve srv\n";
 
 /// A tree with a file of three bytes in that folder, of which the calls with these numbers fail.
-fn tree<'a>(
-    rt: &impl Abort,
-    alloc: Global,
-    failing: &'a [u64],
-) -> Result<MemTree<'a>, NoMemory> {
+fn tree<'a>(rt: &impl Abort, alloc: Global, failing: &'a [u64]) -> Result<MemTree<'a>, NoMemory> {
     let mut files = List::empty(alloc);
     files.push(File::new(alloc, "srv/a", b"abc")?)?;
     let Some(tree) = MemTree::new(files, failing) else {

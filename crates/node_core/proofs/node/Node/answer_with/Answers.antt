@@ -1,4 +1,4 @@
-use Rattle.std.proofs.Common.{◌≡◌, ◌∙◌, ℕ, List, Ok, IfOk, refl, sym, ap, subst, take}
+use Rattle.std.proofs.Common.{◌≡◌, ◌∙◌, ℕ, List, IfOk, refl, ap, subst, take}
 use Rattle.register_service.specs.RegisterMap.{access_reply, after_access}
 use Rattle.register_service.specs.Within.{is_allowed, limits_of}
 use Rattle.std_types.specs.Types.{schema_of}
