@@ -18,7 +18,7 @@ use Rattle.node_plan.specs.Bound.{bound_of}
 use Rattle.node_plan.specs.declared.plan.Plan.{Plan}
 use Rattle.node_core.specs.declared.line.Line.{Line}
 use Rattle.node_core.specs.declared.numbers.Numbers.{Numbers}
-use Rattle.node_core.specs.Steps.{AreServed, Met, Step, emptying, end_numbers, failed_lines, first_of, lines, lines_on, met_records, new_steps, steps, ticks_done, ticks_from, ticks_until}
+use Rattle.node_core.specs.Steps.{AreServed, Met, Step, emptying, end_numbers, failed_lines, first_of, lines, lines_on, met_records, new_steps, steps, ticks_before, ticks_done, ticks_from, ticks_until, ticks_upto}
 use Rattle.node_core.specs.Text.{text, end_text}
 use Rattle.node_run.specs.declared.log.running.Running.{Running}
 use Rattle.node_run.specs.declared.status.Status.{Status}
@@ -43,16 +43,16 @@ served_ticks : (told : Option Files) (plan : Plan) (first number n : ℕ) (past 
 served_ticks told plan first number zero past h = h
 served_ticks told plan first number (suc n) past h = (tt, served_ticks told plan first number n past h)
 
+served_before : (told : Option Files) (plan : Plan) (rec : Record) (log : List Record) (past : List Step) → AreServed told plan past → AreServed told plan (ticks_before plan rec log ++ past)
+served_before told plan rec log past h = go plan.silent
+  where
+    go : (silent : Bool) → AreServed told plan ((if silent then [] else ticks_upto (first_of rec log) (ticks_done log) rec.moment) ++ past)
+    go true = h
+    go false = served_ticks told plan (first_of rec log) (ticks_done log) (ticks_until (first_of rec log) rec.moment - ticks_done log) past h
+
 pub are_served : (told : Option Files) (plan : Plan) (mets : List Met) → MayCome (run_voice told plan) mets → AreServed told plan (steps plan mets)
 are_served told plan [] may = tt
-are_served told plan (m ∷ past) may = (may.0, ticks plan.silent)
-  where
-    records : List Record
-    records = met_records past
-
-    ticks : (silent : Bool) → AreServed told plan ((if silent then [] else ticks_from (first_of m.rec records) (ticks_done records) (ticks_until (first_of m.rec records) m.rec.moment - ticks_done records)) ++ steps plan past)
-    ticks true = are_served told plan past may.1
-    ticks false = served_ticks told plan (first_of m.rec records) (ticks_done records) (ticks_until (first_of m.rec records) m.rec.moment - ticks_done records) (steps plan past) (are_served told plan past may.1)
+are_served told plan (m ∷ past) may = (may.0, served_before told plan m.rec (met_records past) (steps plan past) (are_served told plan past may.1))
 
 -- The text.
 

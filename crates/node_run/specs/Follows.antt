@@ -80,5 +80,6 @@ pub record IsSameRun {K T : Type 0} (files : T → Option Files) (old new : Runn
   pub over : IsOver files old new
   pub node : IsSameNode old.node.now new.node.now
   pub buses : writes_for new.writer.now ≡ writes_for old.writer.now
+  pub records : new.tally.numbers.records ≡ old.tally.numbers.records
   pub number : new.clock.number ≡ old.clock.number
   pub next : new.clock.next ≡ old.clock.next

@@ -39,3 +39,38 @@ listen-ended-requires-clause-heard g c =
           (ap (λ (n : Numbers). n.records) numbers);
       failed = failed_none (g.K.LineSink.failed c.args.lines.now) (g.T.Tree.faults c.args.tree.now);
     }
+
+pub returns-clause-ran : goal.returns-clause-ran
+returns-clause-ran g c =
+    let v = views g.K.LineSink.lines g.K.LineSink.failed g.T.Tree.files g.T.Tree.faults in
+    let left = g.L.Source.left in
+    let written = g.O.Sink.written in
+    let run = c.listen-ended.new.listener in
+    let heard = c.listen-ended.ensures.listened in
+    let over = over_all v _ run _ _ _ _ _ _ _ heard in
+    let lines = v.lines c.args.lines.now in
+    let failed = v.failed c.args.lines.now in
+    let faults = v.faults c.args.tree.now in
+    run_gone (v.files c.args.tree.now) c.args.plan c.in-Ok.node.plan c.in-Ok.ensures.plan c.names_of-names.result c.names_of-names.ensures lines (state_in v.lines run) run.sent _ _ (are_runs v _ run)
+    (left c.args.input.now) (left c.listen-ended.new.input) (written c.args.out.now) (written c.listen-ended.new.out) c.listen-ended.result heard c.status_of.result c.status_of.ensures
+    _ (ap₂ (reported lines) (ap v.lines (c.lines-1.given.1 (sym over.lines))) c.numbers_of.ensures) _ (ap₂ (λ told risen. failures failed told faults risen) (ap v.failed (c.lines-1.given.1 (sym over.lines))) (ap v.faults (c.tree-1.given.1 (sym over.tree))))
+
+pub returns-clause-files : goal.returns-clause-files
+returns-clause-files g c =
+    let v = views g.K.LineSink.lines g.K.LineSink.failed g.T.Tree.files g.T.Tree.faults in
+    let over = over_all v _ c.listen-ended.new.listener _ _ _ _ _ _ _ c.listen-ended.ensures.listened in
+    ap v.files (c.tree-1.given.1 (sym over.tree)) ∙ over.told
+
+pub returns-clause-bound : goal.returns-clause-bound
+returns-clause-bound g c =
+    let v = views g.K.LineSink.lines g.K.LineSink.failed g.T.Tree.files g.T.Tree.faults in
+    let run = c.listen-ended.new.listener in
+    let bound = bound_all v _ run _ _ _ _ _ _ _ c.listen-ended.ensures.listened in
+    run_bound c.args.plan c.in-Ok.node.plan c.in-Ok.ensures.plan c.listen-ended.result run.tally.numbers c.numbers_of.result run.sent c.numbers_of.ensures bound.0
+
+pub returns-clause-held : goal.returns-clause-held
+returns-clause-held g c =
+    let v = views g.K.LineSink.lines g.K.LineSink.failed g.T.Tree.files g.T.Tree.faults in
+    let run = c.listen-ended.new.listener in
+    let bound = bound_all v _ run _ _ _ _ _ _ _ c.listen-ended.ensures.listened in
+    run_held c.in-Ok.node.plan c.listen-ended.result run.tally.numbers c.numbers_of.result run.sent c.numbers_of.ensures bound

@@ -8,6 +8,7 @@ use Rattle.node_core.specs.Queues.{leaving}
 use Rattle.node_core.specs.Steps.{Kept, left}
 use Rattle.node_core.specs.Writer.{writes_for}
 use Rattle.node_core.specs.declared.line.Line.{Line}
+use Rattle.node_core.specs.declared.numbers.Numbers.{Numbers}
 use Rattle.node_core.proofs.Steps.{on_err}
 use Rattle.node_run.specs.Follows.{asked, following}
 use Rattle.node_run.specs.Goes.{with_sent}
@@ -49,6 +50,16 @@ returns-in_err-full-clause-err g c =
       untold = record { told = refl; count = c.serve.ensures.count };
     })
 
+pub returns-in_err-sent-clause-same : goal.returns-in_err-sent-clause-same
+returns-in_err-sent-clause-same g c = record {
+  over = record { lines = refl; tree = refl; told = c.serve.ensures.files };
+  node = same_then (same_by c.reply.ensures.plan c.reply.ensures.latest c.reply.ensures.stands) c.send.ensures.same;
+  buses = c.send.ensures.buses;
+  records = refl;
+  number = refl;
+  next = refl;
+}
+
 pub returns-in_err-sent-clause-err : goal.returns-in_err-sent-clause-err
 returns-in_err-sent-clause-err g c =
     let self = c.args.self.now in
@@ -67,6 +78,16 @@ returns-in_err-sent-clause-err g c =
       };
       untold = record { told = c.send.ensures.untold; count = c.serve.ensures.count };
     })
+
+pub returns-in_err-tell_failed-clause-same : goal.returns-in_err-tell_failed-clause-same
+returns-in_err-tell_failed-clause-same g c = record {
+  over = record { lines = refl; tree = refl; told = c.serve.ensures.files };
+  node = same_then (same_by c.reply.ensures.plan c.reply.ensures.latest c.reply.ensures.stands) c.send.ensures.same;
+  buses = c.send.ensures.buses;
+  records = refl;
+  number = refl;
+  next = refl;
+}
 
 pub returns-in_err-tell_failed-clause-err : goal.returns-in_err-tell_failed-clause-err
 returns-in_err-tell_failed-clause-err g c =
@@ -88,6 +109,16 @@ returns-in_err-tell_failed-clause-err g c =
       };
       untold = record { told = c.in_err-tell_failed.ensures.err ∙ c.send.ensures.untold; count = c.serve.ensures.count };
     })
+
+pub returns-clause-same : goal.returns-clause-same
+returns-clause-same g c = record {
+  over = record { lines = refl; tree = refl; told = c.serve.ensures.files };
+  node = same_then (same_by c.reply.ensures.plan c.reply.ensures.latest c.reply.ensures.stands) c.send.ensures.same;
+  buses = c.send.ensures.buses;
+  records = ap (λ (n : Numbers). n.records) c.send-2.ensures;
+  number = refl;
+  next = refl;
+}
 
 pub returns-clause-ok : goal.returns-clause-ok
 returns-clause-ok g c =

@@ -13,6 +13,7 @@ returns-then-waiting-eq0-clause-same g c = record {
   over = record { lines = refl; tree = refl; told = refl };
   node = still c.args.self.now.node.now;
   buses = refl;
+  records = refl;
   number = refl;
   next = refl;
 }

@@ -8,6 +8,7 @@ use Rattle.node_core.specs.declared.file_reply.FileReply.TheVariants.{NoFile}
 use Rattle.node_core.specs.declared.line.FullLine.{FullLine}
 use Rattle.node_core.specs.declared.line.Line.{Line}
 use Rattle.node_core.specs.declared.line.Line.TheVariants.{Full}
+use Rattle.node_core.specs.declared.numbers.Numbers.{Numbers}
 use Rattle.node_core.proofs.Steps.{on_err}
 use Rattle.node_run.specs.Goes.{with_sent}
 use Rattle.node_run.specs.Tells.{HasTold}
@@ -31,6 +32,26 @@ returns-in_err-sent-clause-err g c =
       };
       untold = record { told = c.send.ensures.untold; count = omega arith };
     })
+
+pub returns-in_err-sent-clause-same : goal.returns-in_err-sent-clause-same
+returns-in_err-sent-clause-same g c = record {
+  over = record { lines = refl; tree = refl; told = refl };
+  node = c.send.ensures.same;
+  buses = c.send.ensures.buses;
+  records = refl;
+  number = refl;
+  next = refl;
+}
+
+pub returns-clause-same : goal.returns-clause-same
+returns-clause-same g c = record {
+  over = record { lines = refl; tree = refl; told = refl };
+  node = c.send.ensures.same;
+  buses = c.send.ensures.buses;
+  records = ap (λ (n : Numbers). n.records) c.send-2.ensures;
+  number = refl;
+  next = refl;
+}
 
 pub returns-clause-ok : goal.returns-clause-ok
 returns-clause-ok g c =

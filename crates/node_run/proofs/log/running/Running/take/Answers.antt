@@ -36,6 +36,9 @@ returns-in_err-came-clause-err g c =
 
 -- it is no frame for the node
 
+pub returns-in_err-leave-clause-count : goal.returns-in_err-leave-clause-count
+returns-in_err-leave-clause-count g c = let same = c.leave.ensures.same.records in omega arith
+
 pub returns-in_err-leave-clause-err : goal.returns-in_err-leave-clause-err
 returns-in_err-leave-clause-err g c =
     let lines = g.K.LineSink.lines in
@@ -121,6 +124,9 @@ follow-requires g c =
     let told = told_lines c.told-told.result in
     let asks = subst (λ (p : Plan). ForSome (came_request came told) (IsRequestTo p.node)) (sym c.step.ensures.plan) (c.in_ok-came.ensures.asks told) in
     subst (λ (r : Option Request). ForSome r (IsRequestTo node.plan.node)) (sym c.in_ok-request.ensures) asks
+
+pub returns-in_err-follow-clause-count : goal.returns-in_err-follow-clause-count
+returns-in_err-follow-clause-count g c = let same = c.follow.ensures.same.records in omega arith
 
 pub returns-in_err-follow-clause-err : goal.returns-in_err-follow-clause-err
 returns-in_err-follow-clause-err g c =
