@@ -1,5 +1,5 @@
 //! Logs that are cut off anywhere.
-use crate::runs::{HEARS, Run, SERVES, done};
+use crate::runs::{HEARS, Run, SERVES, come_of};
 use node_run::Status;
 use std::alloc::Global;
 use std::process::Abort;
@@ -33,7 +33,7 @@ fn a_log_that_is_cut_is_refused_at_its_last_line_alone(rt: HostRuntime) -> Resul
 /// Each beginning of the run's log is heard, or refused at its last line, and then what is written
 /// is a beginning of what comes of the whole log.
 fn cut_everywhere(rt: &impl Abort, alloc: Global, run: &Run<'_>) -> Result<(), Fail> {
-    let whole = done(alloc, run)?;
+    let whole = come_of(alloc, run)?;
     assert!(rt; matches!(whole.status, Status::Ok));
     let mut lines = 1;
     for end in 0..run.log.len() {
@@ -41,7 +41,7 @@ fn cut_everywhere(rt: &impl Abort, alloc: Global, run: &Run<'_>) -> Result<(), F
             log: &run.log[..end],
             ..*run
         };
-        let done = done(alloc, &cut)?;
+        let done = come_of(alloc, &cut)?;
         match done.status {
             Status::Ok => {}
             Status::Log { line, .. } => {
@@ -56,6 +56,7 @@ fn cut_everywhere(rt: &impl Abort, alloc: Global, run: &Run<'_>) -> Result<(), F
             _ => panic!(rt; "not of the log"),
         }
         if run.log[end] == b'\n' {
+            assert!(rt; lines < 100);
             lines += 1;
         }
     }

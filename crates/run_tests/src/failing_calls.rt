@@ -1,5 +1,5 @@
 //! The outside fails at one call, whichever that is.
-use crate::runs::{Done, HEARS, Run, SERVES, done};
+use crate::runs::{Done, HEARS, Run, SERVES, come_of};
 use node_run::Status;
 use std::alloc::Global;
 use std::process::Abort;
@@ -57,10 +57,11 @@ fn failing<'a>(run: &Run<'a>, part: Part, calls: &'a [u64]) -> Run<'a> {
 
 /// Lets each call of a part fail in turn, until there is none.
 fn fail_each(rt: &impl Abort, alloc: Global, run: &Run<'_>, part: Part) -> Result<(), Fail> {
-    let whole = done(alloc, run)?;
+    let whole = come_of(alloc, run)?;
+    assert!(rt; matches!(whole.status, Status::Ok) && whole.report.delivered > 1);
     for call in 0..100 {
         let calls = [call];
-        let failed = done(alloc, &failing(run, part, &calls))?;
+        let failed = come_of(alloc, &failing(run, part, &calls))?;
         if failed.faults == 0 {
             assert!(rt; matches!(failed.status, Status::Ok) && call > 2);
             assert_eq!(rt; failed.written.as_slice(), whole.written.as_slice());
@@ -98,14 +99,14 @@ fn differ_in_one_reply(
     let line = failed.report.failed.as_slice()[0];
     let reply = format!(in alloc; "tx 5.00000{line} ")?;
     let mut left = from_utf8(whole.written.as_slice())?.lines();
-    let mut others = 0;
+    let mut differs = false;
     for text in from_utf8(failed.written.as_slice())?.lines() {
         let same = left.next().ok_or("a line more")?;
         if text != same {
             assert!(rt; text.starts_with(reply.as_str()) && same.starts_with(reply.as_str()));
-            others += 1;
+            differs = true;
         }
     }
-    assert!(rt; left.next().is_none() && others > 0);
+    assert!(rt; left.next().is_none() && differs);
     Ok(())
 }

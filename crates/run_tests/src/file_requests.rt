@@ -1,5 +1,5 @@
 //! A node that serves files, and what its requests come to.
-use crate::runs::{Run, SERVES, done};
+use crate::runs::{Run, SERVES, come_of};
 use cy_bits::NoMemory;
 use node_run::Status;
 use std::alloc::Global;
@@ -230,7 +230,7 @@ fn come_to(rt: &impl Abort, alloc: Global, row: &Row) -> Result<(), Fail> {
         tree: row.tree,
         ..SERVES
     };
-    let done = done(alloc, &run)?;
+    let done = come_of(alloc, &run)?;
     assert!(rt; matches!(done.status, Status::Ok));
     assert_eq!(rt; done.written.as_slice(), row.written);
     assert_eq!(rt; done.report.failed.as_slice(), row.failed);
@@ -273,7 +273,7 @@ end records 5 delivered 1 badcrc 0 nosession 0 sent 1 held 300 bound 3600
         log: log.as_bytes(),
         ..SERVES
     };
-    let done = done(alloc, &run)?;
+    let done = come_of(alloc, &run)?;
     assert!(rt; matches!(done.status, Status::Ok));
     assert_eq!(rt; done.written.as_slice(), want.as_bytes());
     assert_eq!(rt; done.asked, 1);

@@ -1,5 +1,5 @@
 //! More sources than a port has sessions.
-use crate::runs::{HEARS, Run, done};
+use crate::runs::{HEARS, Run, come_of};
 use node_run::Status;
 use std::test::Fail;
 
@@ -35,7 +35,7 @@ end records 129 delivered 2 badcrc 0 nosession 125 sent 0 held 600 bound 600
         log: log.as_bytes(),
         ..HEARS
     };
-    let done = done(alloc, &run)?;
+    let done = come_of(alloc, &run)?;
     assert!(rt; matches!(done.status, Status::Ok));
     assert_eq!(rt; done.written.as_slice(), want.as_bytes());
     assert!(rt; done.report.nosession == 125 && done.report.held <= done.report.bound);

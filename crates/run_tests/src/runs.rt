@@ -58,7 +58,7 @@ pub struct Done {
 
 /// Runs the plan's node over the log, of which the input gives a few bytes at a time, and of whose
 /// text the output takes a few bytes at a time.
-pub fn done(alloc: Global, run: &Run<'_>) -> Result<Done, Fail> {
+pub fn come_of(alloc: Global, run: &Run<'_>) -> Result<Done, Fail> {
     let plan = read_plan(alloc, run.plan.as_bytes(), &no_types(alloc))?;
     let mut tree = MemTree::new(files_of(alloc, run.files)?, run.tree).ok_or("apart")?;
     let mut input = NarrowSource::new(run.log, run.input);
