@@ -1,22 +1,26 @@
--- Where nothing failed.
-use Rattle.std.proofs.Common.{◌≡◌, ◌⊎◌, inl, inr, false, refl}
+-- Where neither the input nor the output failed.
+use Rattle.std.proofs.Common.{◌≡◌, inl, inr, Bool, false, refl}
+use Rattle.cy_outside.specs.Outside.{Rose}
 use Rattle.node_run.specs.declared.status.Status.{Status}
 use Rattle.node_run.specs.declared.status.Status.TheVariants as status
+use Rattle.cyphal.specs.Cause.{Outside, EndsAsDue, HasCauseOver}
 use Rattle.cyphal.specs.Job.{is_fault}
 
--- where nothing failed, the call ended as it was to end, or memory was wanting
-pub completed : (due stat : Status) (A B C D : Type 0) → (is_fault stat ≡ false → stat ≡ due) → (stat ≡ status.ReadFault → (A × D) ⊎ B) → (stat ≡ status.WriteFault → C)
-    → (A → ⊥) → (B → ⊥) → (C → ⊥) → (stat ≡ due) ⊎ (stat ≡ status.NoMemory)
-completed due status.Ok A B C D e r w x y z = inl (e refl)
-completed due status.Usage A B C D e r w x y z = inl (e refl)
-completed due (status.Dsdl file n why) A B C D e r w x y z = inl (e refl)
-completed due (status.Plan n why) A B C D e r w x y z = inl (e refl)
-completed due (status.Log n why) A B C D e r w x y z = inl (e refl)
-completed due (status.Text line) A B C D e r w x y z = inl (e refl)
-completed due (status.Unreadable line path why) A B C D e r w x y z = inl (e refl)
-completed due (status.NotNewer path why) A B C D e r w x y z = inl (e refl)
-completed due status.LogLong A B C D e r w x y z = inl (e refl)
-completed due (status.NoFile path) A B C D e r w x y z = inl (e refl)
-completed due status.ReadFault A B C D e r w x y z = elim (r refl) [ inl f ↦ absurd (x f.0) | inr f ↦ absurd (y f) ]
-completed due status.WriteFault A B C D e r w x y z = absurd (z (w refl))
-completed due status.NoMemory A B C D e r w x y z = inr refl
+module _ {L : Type 0} (due : Status) (old new : Outside L) (takes serves : Bool) where
+  -- the call ended as it was to end, or memory was wanting, or the tree failed before any of the input was taken
+  pub completed : (stat : Status) → (is_fault stat ≡ false → stat ≡ due) → HasCauseOver takes serves stat old new
+      → ¬ Rose old.input new.input → ¬ Rose old.out new.out → EndsAsDue due stat old new
+  completed status.Ok e c x y = inl (e refl)
+  completed status.Usage e c x y = inl (e refl)
+  completed (status.Dsdl file n why) e c x y = inl (e refl)
+  completed (status.Plan n why) e c x y = inl (e refl)
+  completed (status.Log n why) e c x y = inl (e refl)
+  completed (status.Text line) e c x y = inl (e refl)
+  completed (status.Unreadable line path why) e c x y = inl (e refl)
+  completed (status.NotNewer path why) e c x y = inl (e refl)
+  completed status.LogLong e c x y = inl (e refl)
+  completed (status.NoFile path) e c x y = inl (e refl)
+  completed status.ReadFault e c x y =
+      elim (c.read refl) [ inl f ↦ inr (inr (record { read_fault = refl; rose = f.0; source = f.1 })) | inr f ↦ absurd (x f) ]
+  completed status.WriteFault e c x y = absurd (y (c.write refl))
+  completed status.NoMemory e c x y = inr (inl refl)

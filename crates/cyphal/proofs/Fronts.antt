@@ -1,16 +1,13 @@
 -- Which lines of a log were reported: the first of all that are due.
 use Rattle.std.proofs.Common.{◌≡◌, ◌∙◌, List, [], ◌∷◌, ◌++◌, Option, Some, None, refl, sym, ap, append-nil, append_assoc}
-use mathlib.Core.List.{reverse_aux}
-use Rattle.tail_frame.specs.declared.logged.Record.{Record}
-use Rattle.frame_log.specs.Log.{Log}
 use Rattle.frame_log.specs.declared.error.LogError.{LogError}
-use Rattle.log_loop.proofs.Logs.{newest_onto}
+use Rattle.log_loop.specs.Gone.{FirstOf}
 use Rattle.node_plan.specs.declared.plan.Plan.{Plan}
 use Rattle.node_core.specs.LineSinks.{put_behind}
-use Rattle.node_core.specs.Steps.{Step, lines, lines_at, emptying, all_lines, steps}
+use Rattle.node_core.specs.Steps.{Met, Step, lines, lines_at, lines_behind, emptying, all_lines, steps}
 use Rattle.node_core.specs.declared.line.Line.{Line}
-use Rattle.node_run.specs.Ran.{Reported, Tells, AtFirst, newest_first, steps_of, due_lines, due_numbers, first_lines, next_lines}
-use Rattle.node_run.proofs.Steps.{lines_front}
+use Rattle.node_run.specs.Ran.{Reported, Tells, AtFirst, due_lines, due_numbers, first_lines, next_lines}
+use Rattle.node_run.proofs.Steps.{first_steps, lines_newer}
 
 -- the lines of the steps are the first of those that are due
 pub steps_due : (plan : Plan) (all : List Step) (refusal : Option LogError) → (more : List Line) × (due_lines plan all refusal ≡ lines plan all ++ more)
@@ -48,41 +45,43 @@ next_due plan (step ∷ newer) past refusal =
           ∙ (append_assoc (lines plan past) (first ++ f.0) d.0 ∙ ap (λ t. lines plan past ++ t) (append_assoc first f.0 d.0))),
     )
 
--- the first lines of a log were put, and no other
-pub record IsFront (plan : Plan) (log : Log) (r : Reported) : Type 0 where
+-- the first lines of a log with these steps were put, and no other
+pub record IsFront (plan : Plan) (all : List Step) (refusal : Option LogError) (r : Reported) : Type 0 where
   pub mine : List Line
   pub rest : List Line
   pub put : r.new ≡ put_behind r.old mine
-  pub whole : due_lines plan (steps_of plan log) log.refusal ≡ mine ++ rest
+  pub whole : due_lines plan all refusal ≡ mine ++ rest
 
--- where it broke off
-pub first_front : (plan : Plan) (log : Log) (r : Reported) → AtFirst plan (steps_of plan log) log.refusal r → IsFront plan log r
-first_front plan log r f =
-    let more = next_due plan f.newer f.past log.refusal in
-    let before = lines plan f.past in
-    record {
-      mine = before ++ f.told;
-      rest = f.rest ++ more.0;
-      put = f.at.reported;
-      whole =
-          ap (λ s. due_lines plan s log.refusal) f.parts
-          ∙ (more.1
-          ∙ (ap (λ t. before ++ (t ++ more.0)) f.next
-          ∙ (ap (λ t. before ++ t) (append_assoc f.told f.rest more.0) ∙ sym (append_assoc before f.told (f.rest ++ more.0)))));
-    }
+module _ (plan : Plan) (all : List Step) (refusal : Option LogError) (r : Reported) where
+  -- where it broke off
+  pub first_front : AtFirst plan all refusal r → IsFront plan all refusal r
+  first_front f =
+      let more = next_due plan f.newer f.past refusal in
+      let before = lines plan f.past in
+      record {
+        mine = before ++ f.told;
+        rest = f.rest ++ more.0;
+        put = f.at.reported;
+        whole =
+            ap (λ s. due_lines plan s refusal) f.parts
+            ∙ (more.1
+            ∙ (ap (λ t. before ++ (t ++ more.0)) f.next
+            ∙ (ap (λ t. before ++ t) (append_assoc f.told f.rest more.0) ∙ sym (append_assoc before f.told (f.rest ++ more.0)))));
+      }
 
--- where it came to the end of what counts
-pub whole_front : (plan : Plan) (log : Log) (r : Reported) → Tells (due_lines plan (steps_of plan log) log.refusal) (due_numbers plan (steps_of plan log) log.refusal) r → IsFront plan log r
-whole_front plan log r t = let all = due_lines plan (steps_of plan log) log.refusal in record { mine = all; rest = []; put = t.reported; whole = sym (append-nil all) }
+  -- where it came to the end of what counts
+  pub whole_front : Tells (due_lines plan all refusal) (due_numbers plan all refusal) r → IsFront plan all refusal r
+  whole_front t = let due = due_lines plan all refusal in record { mine = due; rest = []; put = t.reported; whole = sym (append-nil due) }
 
 -- the lines of the records that came are the first of a log
-pub came_lines : (plan : Plan) (log : Log) (came left : List Record) → log.records ≡ reverse_aux came left → (rest : List Line) × (due_lines plan (steps_of plan log) log.refusal ≡ lines plan (steps plan came) ++ rest)
-came_lines plan log came left e =
-    let first : newest_first log ≡ reverse_aux left came = ap (λ t. reverse_aux t []) e ∙ newest_onto came left in
-    let f = lines_front plan came left in
-    let d = steps_due plan (steps_of plan log) log.refusal in (
-      f.0 ++ d.0,
+pub came_lines : (plan : Plan) (mets came : List Met) (refusal : Option LogError) → FirstOf mets came
+    → (rest : List Line) × (due_lines plan (steps plan mets) refusal ≡ lines plan (steps plan came) ++ rest)
+came_lines plan mets came refusal first =
+    let f = first_steps plan mets came first in
+    let more = lines_behind plan f.newer (steps plan came) in
+    let d = steps_due plan (steps plan mets) refusal in (
+      more ++ d.0,
       d.1
-          ∙ (ap (λ t. lines plan (steps plan t) ++ d.0) first
-          ∙ (ap (λ t. t ++ d.0) f.1 ∙ append_assoc (lines plan (steps plan came)) f.0 d.0)),
+          ∙ (ap (λ t. t ++ d.0) (ap (lines plan) f.parts ∙ lines_newer plan f.newer (steps plan came))
+          ∙ append_assoc (lines plan (steps plan came)) more d.0),
     )

@@ -1,8 +1,7 @@
 -- From what was run to the headline.
-use Rattle.std.proofs.Common.{◌≡◌, ◌∙◌, ◌⊎◌, inl, inr, ℕ, true, List, [], ◌++◌, Option, Some, None, refl, sym, ap, subst, append-nil, append_assoc}
+use Rattle.std.proofs.Common.{◌≡◌, ◌∙◌, ◌⊎◌, inl, inr, ℕ, true, List, [], ◌++◌, Option, Some, None, IfSome, refl, sym, ap, subst, append-nil, append_assoc}
 use Rattle.std.proofs.lemmas.Bool.{both_ways, true≢false}
 use Rattle.std.proofs.lemmas.List.{append_cancel_left}
-use mathlib.Core.List.{reverse_aux}
 use Rattle.tail_frame.specs.Chains.{KeyRecord}
 use Rattle.tail_frame.specs.declared.logged.Record.{Record}
 use Rattle.rx_table.specs.Keys.{SessionKey, KeyedFrame, history}
@@ -12,166 +11,192 @@ use Rattle.frag.specs.declared.sent.Pair.{Pair}
 use Rattle.frag.specs.declared.sent.Sent.{Sent}
 use Rattle.once.specs.Report.{AnyRx, Explains, IsDue, SelectedRx}
 use Rattle.once.specs.Report as rx_report
+use Rattle.cy_outside.specs.Files.{Files}
 use Rattle.cy_outside.specs.Written.{behind, Begins}
 use Rattle.dsdl_resolve.specs.Laws.{HaveOneAnswer}
 use Rattle.node_plan.specs.Laws.{OnePlan}
 use Rattle.dsdl_types.specs.Schemas.{Sch}
 use Rattle.node_plan.specs.IsPlan.{TypesKeepRules}
 use Rattle.node_plan.specs.declared.plan.Plan.{Plan}
-use Rattle.frame_log.specs.Log.{Log, log_of}
+use Rattle.frame_log.specs.Log.{log_of}
 use Rattle.frame_log.specs.declared.error.LogError.{LogError}
+use Rattle.log_loop.specs.Gone.{FirstOf}
 use Rattle.log_loop.proofs.Written.{begins_none}
 use Rattle.node_core.specs.declared.line.Line.{Line}
 use Rattle.rx_table.specs.Heard.{frames}
 use Rattle.node_core.specs.LineSinks.{put_behind}
-use Rattle.node_core.specs.Steps.{Step, lines, all_lines, steps}
+use Rattle.node_core.specs.Steps.{AreServed, Met, Step, lines, all_lines, met_records, records, steps, without_files}
 use Rattle.node_core.specs.Text.{text}
 use Rattle.session_lines.specs.Reported.{rxs, of_key, IsSession, StepsReportAll}
 use Rattle.session_lines.specs.Values.{type_of, IsSentTo, SayValues, SaysDueValue}
 use Rattle.session_lines.proofs.Sending.{rxs_append}
-use Rattle.node_run.specs.Ran.{Reported, Ran, HasRun, names_of, steps_of, due_lines, end_part, whole_text}
+use Rattle.node_run.specs.HasRun.{HasRun}
+use Rattle.node_run.specs.Ran.{Reported, Ran, names_of, newest_first, due_lines, end_part, whole_text}
+use Rattle.node_run.specs.Streamed.{IsStreamed}
+use Rattle.node_run.specs.Taken.{IsOfTaken}
 use Rattle.node_run.specs.declared.status.Status.{Status}
 use Rattle.node_run.specs.declared.status.Status.TheVariants as status
 use Rattle.node_run.proofs.Tells.{text_append}
 use Rattle.cyphal.specs.Words.{Command}
 use Rattle.cyphal.specs.Cause.{Outside}
-use Rattle.cyphal.specs.Job.{Told, Outcome, is_settled, NotDone}
+use Rattle.cyphal.specs.Job.{Told, Outcome, flow_of, is_settled, NotDone}
 use Rattle.cyphal.specs.Plans.{PlanAt}
 use Rattle.cyphal.specs.jobs.Run.{HasRunAt}
 use Rattle.cyphal.specs.Expected.{job_asked, job_for, WasDone}
 use Rattle.rx_table.specs.Heard.{heard_as}
 use Rattle.cyphal.specs.Laws.{HeadlineLaws}
 use Rattle.cyphal.proofs.Plans.{one_plan}
-use Rattle.cyphal.specs.Headline.{log_in, logged_in, lines_of, report_text, Asked, ExplainsIn, OnceIn, DueIn, ValuesIn, DueValuesIn, HeadlineOf, HasPut, OncePut, DuePut, ValuesPut, DueValuesPut}
+use Rattle.cyphal.specs.Headline.{log_in, logged_in, lines_of, report_text, AreMet, Asked, ExplainsIn, OnceIn, DueIn, ValuesIn, DueValuesIn, HeadlineOf, HasPut, OncePut, DuePut, ValuesPut, DueValuesPut}
 use Rattle.cyphal.proofs.Frames.{frames_are, are_records, in_order}
 use Rattle.cyphal.proofs.Fronts.{IsFront, first_front, whole_front, came_lines, steps_due, due_all}
+use Rattle.cyphal.proofs.Mets.{met_all}
 
--- whatever the status, the first lines of the log were put
-front : (plan : Plan) (log : Log) (stat : Status) (r : Reported) (before after : Option (List ℕ)) → Ran plan log stat r before after → IsFront plan log r
-front plan log status.Ok r before after x = whole_front plan log r x.1.at
-front plan log status.Usage r before after x = absurd x
-front plan log (status.Dsdl file n w) r before after x = absurd x
-front plan log (status.Plan n w) r before after x = absurd x
-front plan log (status.Log n w) r before after x = whole_front plan log r x.1.at
-front plan log (status.Text line) r before after x = absurd x
-front plan log (status.Unreadable line path w) r before after x = absurd x
-front plan log (status.NotNewer path w) r before after x = absurd x
-front plan log status.LogLong r before after x = whole_front plan log r x.1.at
-front plan log (status.NoFile path) r before after x = absurd x
-front plan log status.ReadFault r before after x =
-    let more = came_lines plan log x.came x.left x.parts in
-    record { mine = lines plan (steps plan x.came); rest = more.0; put = x.settled.at.reported; whole = more.1 }
-front plan log status.WriteFault r before after x = first_front plan log r x.first
-front plan log status.NoMemory r before after x = first_front plan log r x.first
+-- what was run over a log with these records that ends so
+module _ (plan : Plan) (mets : List Met) (refusal : Option LogError) (r : Reported) (before after : Option (List ℕ)) where
+  -- the steps of the log, and its text
+  abbrev all : List Step
+  all = steps plan mets
 
--- where the run wasn't cut short, all of them were put
-whole : (plan : Plan) (log : Log) (stat : Status) (r : Reported) (before after : Option (List ℕ)) → is_settled stat ≡ true → Ran plan log stat r before after → r.new ≡ put_behind r.old (due_lines plan (steps_of plan log) log.refusal)
-whole plan log status.Ok r before after s x = x.1.at.reported
-whole plan log status.Usage r before after s x = absurd x
-whole plan log (status.Dsdl file n w) r before after s x = absurd x
-whole plan log (status.Plan n w) r before after s x = absurd x
-whole plan log (status.Log n w) r before after s x = x.1.at.reported
-whole plan log (status.Text line) r before after s x = absurd x
-whole plan log (status.Unreadable line path w) r before after s x = absurd x
-whole plan log (status.NotNewer path w) r before after s x = absurd x
-whole plan log status.LogLong r before after s x = x.1.at.reported
-whole plan log (status.NoFile path) r before after s x = absurd x
-whole plan log status.ReadFault r before after s x = absurd (true≢false (sym s))
-whole plan log status.WriteFault r before after s x = absurd (true≢false (sym s))
-whole plan log status.NoMemory r before after s x = absurd (true≢false (sym s))
+  abbrev text_in : List ℕ
+  text_in = whole_text plan all refusal
 
--- and all was written
-abbrev text_in : Plan → Log → List ℕ
-text_in plan log = whole_text plan (steps_of plan log) log.refusal
+  -- whatever the status, the first lines of the log were put
+  came_front : (came : List Met) → FirstOf mets came → r.new ≡ put_behind r.old (lines plan (steps plan came)) → IsFront plan all refusal r
+  came_front came first put =
+      let more = came_lines plan mets came refusal first in
+      record { mine = lines plan (steps plan came); rest = more.0; put = put; whole = more.1 }
 
-written_whole : (plan : Plan) (log : Log) (stat : Status) (r : Reported) (before after : Option (List ℕ)) → is_settled stat ≡ true → Ran plan log stat r before after → after ≡ behind before (text_in plan log)
-written_whole plan log status.Ok r before after s x = x.1.written
-written_whole plan log status.Usage r before after s x = absurd x
-written_whole plan log (status.Dsdl file n w) r before after s x = absurd x
-written_whole plan log (status.Plan n w) r before after s x = absurd x
-written_whole plan log (status.Log n w) r before after s x = x.1.written
-written_whole plan log (status.Text line) r before after s x = absurd x
-written_whole plan log (status.Unreadable line path w) r before after s x = absurd x
-written_whole plan log (status.NotNewer path w) r before after s x = absurd x
-written_whole plan log status.LogLong r before after s x = x.1.written
-written_whole plan log (status.NoFile path) r before after s x = absurd x
-written_whole plan log status.ReadFault r before after s x = absurd (true≢false (sym s))
-written_whole plan log status.WriteFault r before after s x = absurd (true≢false (sym s))
-written_whole plan log status.NoMemory r before after s x = absurd (true≢false (sym s))
+  front : (stat : Status) → Ran plan mets refusal stat r before after → IsFront plan all refusal r
+  front status.Ok x = whole_front plan all refusal r x.1.at
+  front status.Usage x = absurd x
+  front (status.Dsdl file n w) x = absurd x
+  front (status.Plan n w) x = absurd x
+  front (status.Log n w) x = whole_front plan all refusal r x.1.at
+  front (status.Text line) x = absurd x
+  front (status.Unreadable line path w) x = absurd x
+  front (status.NotNewer path w) x = absurd x
+  front status.LogLong x = whole_front plan all refusal r x.1.at
+  front (status.NoFile path) x = absurd x
+  front status.ReadFault x = came_front x.came x.first x.settled.at.reported
+  front status.WriteFault x = first_front plan all refusal r x.first
+  front status.NoMemory x = first_front plan all refusal r x.first
 
--- whatever the status, a beginning of it was written
-begins_whole : (bytes : List ℕ) (before after : Option (List ℕ)) → after ≡ behind before bytes → Begins bytes before after
-begins_whole bytes before after w = record { front = bytes; rest = []; whole = sym (append-nil bytes); written = w }
+  -- where the run wasn't cut short, all of them were put
+  whole : (stat : Status) → is_settled stat ≡ true → Ran plan mets refusal stat r before after → r.new ≡ put_behind r.old (due_lines plan all refusal)
+  whole status.Ok s x = x.1.at.reported
+  whole status.Usage s x = absurd x
+  whole (status.Dsdl file n w) s x = absurd x
+  whole (status.Plan n w) s x = absurd x
+  whole (status.Log n w) s x = x.1.at.reported
+  whole (status.Text line) s x = absurd x
+  whole (status.Unreadable line path w) s x = absurd x
+  whole (status.NotNewer path w) s x = absurd x
+  whole status.LogLong s x = x.1.at.reported
+  whole (status.NoFile path) s x = absurd x
+  whole status.ReadFault s x = absurd (true≢false (sym s))
+  whole status.WriteFault s x = absurd (true≢false (sym s))
+  whole status.NoMemory s x = absurd (true≢false (sym s))
 
-begins_came : (plan : Plan) (log : Log) (came left : List Record) (before after : Option (List ℕ)) → log.records ≡ reverse_aux came left → after ≡ behind before (text plan.buses (lines plan (steps plan came)) ++ []) → Begins (text_in plan log) before after
-begins_came plan log came left before after e w =
-    let more = came_lines plan log came left e in
-    let first = text plan.buses (lines plan (steps plan came)) in
-    let last = end_part plan (steps_of plan log) log.refusal in record {
-      front = first;
-      rest = text plan.buses more.0 ++ last;
-      whole =
-          ap (λ t. t ++ last) (ap (text plan.buses) more.1 ∙ text_append plan.buses (lines plan (steps plan came)) more.0)
-          ∙ append_assoc first (text plan.buses more.0) last;
-      written = w ∙ ap (behind before) (append-nil first);
-    }
+  -- and all was written
+  written_whole : (stat : Status) → is_settled stat ≡ true → Ran plan mets refusal stat r before after → after ≡ behind before text_in
+  written_whole status.Ok s x = x.1.written
+  written_whole status.Usage s x = absurd x
+  written_whole (status.Dsdl file n w) s x = absurd x
+  written_whole (status.Plan n w) s x = absurd x
+  written_whole (status.Log n w) s x = x.1.written
+  written_whole (status.Text line) s x = absurd x
+  written_whole (status.Unreadable line path w) s x = absurd x
+  written_whole (status.NotNewer path w) s x = absurd x
+  written_whole status.LogLong s x = x.1.written
+  written_whole (status.NoFile path) s x = absurd x
+  written_whole status.ReadFault s x = absurd (true≢false (sym s))
+  written_whole status.WriteFault s x = absurd (true≢false (sym s))
+  written_whole status.NoMemory s x = absurd (true≢false (sym s))
 
-written_first : (plan : Plan) (log : Log) (stat : Status) (r : Reported) (before after : Option (List ℕ)) → Ran plan log stat r before after → Begins (text_in plan log) before after
-written_first plan log status.Ok r before after x = begins_whole (text_in plan log) before after x.1.written
-written_first plan log status.Usage r before after x = absurd x
-written_first plan log (status.Dsdl file n w) r before after x = absurd x
-written_first plan log (status.Plan n w) r before after x = absurd x
-written_first plan log (status.Log n w) r before after x = begins_whole (text_in plan log) before after x.1.written
-written_first plan log (status.Text line) r before after x = absurd x
-written_first plan log (status.Unreadable line path w) r before after x = absurd x
-written_first plan log (status.NotNewer path w) r before after x = absurd x
-written_first plan log status.LogLong r before after x = begins_whole (text_in plan log) before after x.1.written
-written_first plan log (status.NoFile path) r before after x = absurd x
-written_first plan log status.ReadFault r before after x = begins_came plan log x.came x.left before after x.parts x.settled.written
-written_first plan log status.WriteFault r before after x = x.written
-written_first plan log status.NoMemory r before after x = x.written
+  -- whatever the status, a beginning of it was written
+  begins_whole : after ≡ behind before text_in → Begins text_in before after
+  begins_whole w = record { front = text_in; rest = []; whole = sym (append-nil text_in); written = w }
+
+  begins_came : (came : List Met) → FirstOf mets came → after ≡ behind before (text plan.buses (lines plan (steps plan came)) ++ []) → Begins text_in before after
+  begins_came came is_first w =
+      let more = came_lines plan mets came refusal is_first in
+      let first = text plan.buses (lines plan (steps plan came)) in
+      let last = end_part plan all refusal in record {
+        front = first;
+        rest = text plan.buses more.0 ++ last;
+        whole =
+            ap (λ t. t ++ last) (ap (text plan.buses) more.1 ∙ text_append plan.buses (lines plan (steps plan came)) more.0)
+            ∙ append_assoc first (text plan.buses more.0) last;
+        written = w ∙ ap (behind before) (append-nil first);
+      }
+
+  written_first : (stat : Status) → Ran plan mets refusal stat r before after → Begins text_in before after
+  written_first status.Ok x = begins_whole x.1.written
+  written_first status.Usage x = absurd x
+  written_first (status.Dsdl file n w) x = absurd x
+  written_first (status.Plan n w) x = absurd x
+  written_first (status.Log n w) x = begins_whole x.1.written
+  written_first (status.Text line) x = absurd x
+  written_first (status.Unreadable line path w) x = absurd x
+  written_first (status.NotNewer path w) x = absurd x
+  written_first status.LogLong x = begins_whole x.1.written
+  written_first (status.NoFile path) x = absurd x
+  written_first status.ReadFault x = begins_came x.came x.first x.settled.written
+  written_first status.WriteFault x = x.written
+  written_first status.NoMemory x = x.written
 
 -- what was done where the words name a run: that run
-pub did_run : (words : List (List ℕ)) (told : Told) (came : Outcome) (plan : Plan) (bytes : List ℕ)
+did_run : (words : List (List ℕ)) (told : Told) (came : Outcome) (plan : Plan) (bytes : List ℕ)
     → (job_for words).did told came → (a : Asked words told plan bytes) → HasRunAt a.root a.path told came
 did_run words told came plan bytes d a = subst (λ (o : Option Command). (job_asked o).did told came) a.command d
 
--- or nothing
-pub run_done : {L : Type 0} (words : List (List ℕ)) (told : Told) (came : Outcome) (old new : Outside L) (plan : Plan) (bytes : List ℕ)
-    → WasDone words told came old new → (a : Asked words told plan bytes) → NotDone told came old new ⊎ HasRunAt a.root a.path told came
-run_done words told came old new plan bytes (inl n) a = inl n
-run_done words told came old new plan bytes (inr d) a = inr (did_run words told came plan bytes d a)
+-- the run of a plan over told files and a told input
+pub record RunOver (plan : Plan) (tree : Files) (bytes : List ℕ) (told : Told) (came : Outcome) : Type 0 where
+  pub mets : List Met
+  pub are : AreMet plan tree bytes mets
+  pub ran : Ran plan mets (log_in plan bytes).refusal came.status came.reported told.written came.written
+  pub taken : came.status ≡ status.ReadFault → IsOfTaken plan mets (flow_of told came) came.reported
+  pub streamed : IsStreamed plan mets (flow_of told came) came.status came.reported
 
--- it was of the plan that is asked for
-pub the_plan : HaveOneAnswer × OnePlan → (words : List (List ℕ)) (told : Told) (came : Outcome) (plan : Plan) (bytes : List ℕ) (a : Asked words told plan bytes) (r : HasRunAt a.root a.path told came) → r.plan ≡ plan
-the_plan one words told came plan bytes a r = one_plan one a.root a.path a.tree r.plan plan (subst (λ f. PlanAt a.root a.path f r.plan) a.is_tree r.is) a.is_plan
+module _ (one : HaveOneAnswer × OnePlan) (words : List (List ℕ)) (told : Told) (came : Outcome) (plan : Plan) (bytes : List ℕ) (a : Asked words told plan bytes) where
+  -- a run is of the plan that is asked for
+  of_plan : HasRunAt a.root a.path told came → HasRun plan told.files (flow_of told came) came.status came.reported came.failures
+  of_plan r =
+      let same : r.plan ≡ plan = one_plan one a.root a.path a.tree r.plan plan (subst (λ f. PlanAt a.root a.path f r.plan) a.is_tree r.is) a.is_plan in
+      subst (λ (q : Plan). HasRun q told.files (flow_of told came) came.status came.reported came.failures) same r.run
 
--- a run of a told plan over a told input
-ran : HaveOneAnswer × OnePlan → (words : List (List ℕ)) (told : Told) (came : Outcome) (plan : Plan) (bytes : List ℕ) (a : Asked words told plan bytes) → HasRunAt a.root a.path told came
-    → Ran plan (log_in plan bytes) came.status came.reported told.written came.written
-ran one words told came plan bytes a r =
-    let stat = came.status in
-    let put = came.reported in
-    let same : r.plan ≡ plan = the_plan one words told came plan bytes a r in
-    let run : HasRun plan (Some bytes) stat put told.written came.written =
-    subst (λ (q : Plan). HasRun q (Some bytes) stat put told.written came.written) same (subst (λ i. HasRun r.plan i stat put told.written came.written) a.is_input r.run) in
-    subst (λ (b : List ℕ). Ran plan (log_of (names_of plan) b) stat put told.written came.written) run.is run.ran
+  -- over the told files and the told input
+  run_over : HasRunAt a.root a.path told came → RunOver plan a.tree bytes told came
+  run_over at =
+      let r = of_plan at in
+      let is : r.bytes ≡ bytes = subst (λ (i : Option (List ℕ)). IfSome i (λ (left : List ℕ). r.bytes ≡ left)) a.is_input r.is in
+      record {
+        mets = r.mets;
+        are = record {
+          of_log = r.of_log ∙ ap (λ (b : List ℕ). newest_first (log_of (names_of plan) b)) is;
+          served = subst (λ (f : Option Files). AreServed f plan (steps plan r.mets)) a.is_tree r.served;
+        };
+        ran = subst (λ (b : List ℕ). Ran plan r.mets (log_of (names_of plan) b).refusal came.status came.reported told.written came.written) is r.ran;
+        taken = r.taken;
+        streamed = r.streamed;
+      }
+
+  pub did_over : (job_for words).did told came → RunOver plan a.tree bytes told came
+  did_over d = run_over (did_run words told came plan bytes d a)
+
+  -- or nothing was done
+  pub run_done : {L : Type 0} (old new : Outside L) → WasDone words told came old new → NotDone told came old new ⊎ RunOver plan a.tree bytes told came
+  run_done old new (inl n) = inl n
+  run_done old new (inr d) = inr (did_over d)
 
 -- the lines that are due report of a session what those of the steps do
-due_report : StepsReportAll → (plan : Plan) (key : SessionKey) (all : List Step) (refusal : Option LogError) → rxs key (due_lines plan all refusal) ≡ rxs key (lines plan all)
-due_report law plan key all None = law plan key all
-due_report law plan key all (Some refusal) = refl
+due_report : StepsReportAll → (plan : Plan) (key : SessionKey) (past : List Step) (refusal : Option LogError) → rxs key (due_lines plan past refusal) ≡ rxs key (lines plan past)
+due_report law plan key past None = law plan key past
+due_report law plan key past (Some refusal) = refl
 
 module _ (law : HeadlineLaws) (plan : Plan) (bytes : List ℕ) (key : SessionKey) where
   abbrev past : List Record
   past = logged_in plan bytes
-
-  -- what is reported of a session over the whole log
-  session : (p : Port) → IsSession plan key past p → rxs key (lines_of plan bytes) ≡ rx_report.reported plan.timeout p.extent (of_key plan key past)
-  session p s =
-      let e = law.records plan past in
-      due_report law.all plan key (steps plan past) (log_in plan bytes).refusal
-      ∙ (law.sessions plan key (steps plan past) p (subst (λ t. IsSession plan key t p) (sym e) s) ∙ ap (λ t. rx_report.reported plan.timeout p.extent (of_key plan key t)) e)
 
   -- a sent list that explains its records by identifier and data explains them by their fields
   by_fields : (sent : Sent) (origin : List Pair) → ExplainsIn plan bytes sent key origin → Explains plan.timeout sent key origin (of_key plan key past)
@@ -179,33 +204,34 @@ module _ (law : HeadlineLaws) (plan : Plan) (bytes : List ℕ) (key : SessionKey
       subst (λ (log : List KeyedFrame). Explains plan.timeout sent key origin (history key log)) (frames_are plan.node past)
       (law.fields (heard_as plan.node) (are_records plan.node) plan.timeout sent key origin past x)
 
-  -- what a front of all lines of the log says
-  front_values : (mine rest : List Line) → all_lines plan (steps plan past) ≡ mine ++ rest → (p : Port) (port : Sch) (sent : Sent) (origin : List Pair)
-      → IsSentTo plan key past p port sent origin → SayValues key port sent origin (of_key plan key past) mine
-  front_values mine rest front p port sent origin =
-      subst (λ (t : List Record). IsSentTo plan key t p port sent origin → SayValues key port sent origin (of_key plan key t) mine)
-      (law.records plan past) (λ x. law.values plan key (steps plan past) p port sent origin mine rest x front)
+  module _ (mets : List Met) (is : met_records mets ≡ past) where
+    abbrev log_steps : List Step
+    log_steps = steps plan mets
 
-  -- and those of its steps, whatever comes behind them
-  behind_values : (behind : List Line) (p : Port) (port : Sch) (sent : Sent) (origin : List Pair) (q : KeyRecord) → IsSentTo plan key past p port sent origin
-      → (due : IsDue plan.timeout sent origin (of_key plan key past) q) → SaysDueValue key port (transfer_at sent due.j).payload q (lines plan (steps plan past) ++ behind)
-  behind_values behind p port sent origin q =
-      subst
-      (λ (t : List Record). IsSentTo plan key t p port sent origin → (due : IsDue plan.timeout sent origin (of_key plan key t) q) → SaysDueValue key port (transfer_at sent due.j).payload q (lines plan (steps plan past) ++ behind))
-      (law.records plan past) (law.due_values plan key (steps plan past) p port sent origin q behind)
+    -- the records of the steps are those of the log
+    log_is : records log_steps ≡ past
+    log_is = law.records plan mets ∙ is
 
--- of each front of the lines of a log
-once_in : HeadlineLaws → (plan : Plan) (bytes : List ℕ) (mine rest : List Line) → lines_of plan bytes ≡ mine ++ rest → OnceIn plan bytes mine
-once_in law plan bytes mine rest e key p sent origin s x =
-    law.once plan.timeout p.extent sent key origin (frames plan.node (logged_in plan bytes)) (rxs key mine) (rxs key rest)
-    (in_order plan.node (log_in plan bytes).records (law.order (names_of plan) bytes)) (by_fields law plan bytes key sent origin x)
-    (sym (session law plan bytes key p s) ∙ (ap (rxs key) e ∙ rxs_append key mine rest))
+    -- what is reported of a session over the whole log
+    session : (p : Port) → IsSession plan key past p → rxs key (lines_of plan bytes mets) ≡ rx_report.reported plan.timeout p.extent (of_key plan key past)
+    session p s =
+        due_report law.all plan key log_steps (log_in plan bytes).refusal
+        ∙ (law.sessions plan key log_steps p (subst (λ t. IsSession plan key t p) (sym log_is) s) ∙ ap (λ t. rx_report.reported plan.timeout p.extent (of_key plan key t)) log_is)
 
--- of all of them
-due_in : HeadlineLaws → (plan : Plan) (bytes : List ℕ) → DueIn plan bytes (lines_of plan bytes)
-due_in law plan bytes key p sent origin q s x d =
-    subst (AnyRx (λ rx. rx.last ≡ q.line)) (sym (session law plan bytes key p s))
-    (law.due plan.timeout p.extent sent key origin (of_key plan key (logged_in plan bytes)) q (by_fields law plan bytes key sent origin x) d)
+    -- what a front of all lines of the log says
+    front_values : (mine rest : List Line) → all_lines plan log_steps ≡ mine ++ rest → (p : Port) (port : Sch) (sent : Sent) (origin : List Pair)
+        → IsSentTo plan key past p port sent origin → SayValues key port sent origin (of_key plan key past) mine
+    front_values mine rest front p port sent origin =
+        subst (λ (t : List Record). IsSentTo plan key t p port sent origin → SayValues key port sent origin (of_key plan key t) mine)
+        log_is (λ x. law.values plan key log_steps p port sent origin mine rest x front)
+
+    -- and those of its steps, whatever comes behind them
+    behind_values : (behind : List Line) (p : Port) (port : Sch) (sent : Sent) (origin : List Pair) (q : KeyRecord) → IsSentTo plan key past p port sent origin
+        → (due : IsDue plan.timeout sent origin (of_key plan key past) q) → SaysDueValue key port (transfer_at sent due.j).payload q (lines plan log_steps ++ behind)
+    behind_values behind p port sent origin q =
+        subst
+        (λ (t : List Record). IsSentTo plan key t p port sent origin → (due : IsDue plan.timeout sent origin (of_key plan key t) q) → SaysDueValue key port (transfer_at sent due.j).payload q (lines plan log_steps ++ behind))
+        log_is (law.due_values plan key log_steps p port sent origin q behind)
 
 -- the types of a plan that is asked for keep the rules
 types_of : HeadlineLaws → (words : List (List ℕ)) (told : Told) (plan : Plan) (bytes : List ℕ) → Asked words told plan bytes → TypesKeepRules plan
@@ -223,43 +249,87 @@ sent_to law plan bytes rules key p port sent origin s t x = record {
   explains = by_fields law plan bytes key sent origin x;
 }
 
-values_in : HeadlineLaws → (plan : Plan) (bytes : List ℕ) → TypesKeepRules plan → (mine rest : List Line) → lines_of plan bytes ≡ mine ++ rest → ValuesIn plan bytes mine
-values_in law plan bytes rules mine rest e key p port sent origin s t x =
-    let all = due_all plan (steps_of plan (log_in plan bytes)) (log_in plan bytes).refusal in
-    front_values law plan bytes key mine (rest ++ all.0) (all.1 ∙ (ap (λ t. t ++ all.0) e ∙ append_assoc mine rest all.0)) p port sent origin
-    (sent_to law plan bytes rules key p port sent origin s t x)
+module _ (law : HeadlineLaws) (plan : Plan) (bytes : List ℕ) (mets : List Met) (is : met_records mets ≡ logged_in plan bytes) where
+  -- of each front of the lines of a log
+  once_in : (mine rest : List Line) → lines_of plan bytes mets ≡ mine ++ rest → OnceIn plan bytes mine
+  once_in mine rest e key p sent origin s x =
+      law.once plan.timeout p.extent sent key origin (frames plan.node (logged_in plan bytes)) (rxs key mine) (rxs key rest)
+      (in_order plan.node (log_in plan bytes).records (law.order (names_of plan) bytes)) (by_fields law plan bytes key sent origin x)
+      (sym (session law plan bytes key mets is p s) ∙ (ap (rxs key) e ∙ rxs_append key mine rest))
 
-due_values_in : HeadlineLaws → (plan : Plan) (bytes : List ℕ) → TypesKeepRules plan → DueValuesIn plan bytes (lines_of plan bytes)
-due_values_in law plan bytes rules key p port sent origin q s t x due =
-    let all = steps_due plan (steps_of plan (log_in plan bytes)) (log_in plan bytes).refusal in
-    subst (λ (ls : List Line). SaysDueValue key port (transfer_at sent due.j).payload q ls) (sym all.1)
-    (behind_values law plan bytes key all.0 p port sent origin q (sent_to law plan bytes rules key p port sent origin s t x) due)
+  -- of all of them
+  due_in : DueIn plan bytes (lines_of plan bytes mets)
+  due_in key p sent origin q s x d =
+      subst (AnyRx (λ rx. rx.last ≡ q.line)) (sym (session law plan bytes key mets is p s))
+      (law.due plan.timeout p.extent sent key origin (of_key plan key (logged_in plan bytes)) q (by_fields law plan bytes key sent origin x) d)
 
-module _ {L : Type 0} (one : HaveOneAnswer × OnePlan) (words : List (List ℕ)) (told : Told) (came : Outcome) (old new : Outside L) (done : WasDone words told came old new) where
-  settled_text : (plan : Plan) (bytes : List ℕ) → Asked words told plan bytes → is_settled came.status ≡ true → came.written ≡ behind told.written (report_text plan bytes)
-  settled_text plan bytes a s = by_run (run_done words told came old new plan bytes done a)
+  values_in : TypesKeepRules plan → (mine rest : List Line) → lines_of plan bytes mets ≡ mine ++ rest → ValuesIn plan bytes mine
+  values_in rules mine rest e key p port sent origin s t x =
+      let all = due_all plan (steps plan mets) (log_in plan bytes).refusal in
+      front_values law plan bytes key mets is mine (rest ++ all.0) (all.1 ∙ (ap (λ t. t ++ all.0) e ∙ append_assoc mine rest all.0)) p port sent origin
+      (sent_to law plan bytes rules key p port sent origin s t x)
+
+  due_values_in : TypesKeepRules plan → DueValuesIn plan bytes (lines_of plan bytes mets)
+  due_values_in rules key p port sent origin q s t x due =
+      let all = steps_due plan (steps plan mets) (log_in plan bytes).refusal in
+      subst (λ (ls : List Line). SaysDueValue key port (transfer_at sent due.j).payload q ls) (sym all.1)
+      (behind_values law plan bytes key mets is all.0 p port sent origin q (sent_to law plan bytes rules key p port sent origin s t x) due)
+
+-- what was met of a log, and what was written of it
+record Writes (plan : Plan) (tree : Files) (bytes : List ℕ) (stat : Status) (before after : Option (List ℕ)) : Type 0 where
+  mets : List Met
+  are : AreMet plan tree bytes mets
+  written : is_settled stat ≡ true → after ≡ behind before (report_text plan bytes mets)
+  begun : Begins (report_text plan bytes mets) before after
+
+-- the lines that were put are the first of the log
+record PutsFront (plan : Plan) (bytes : List ℕ) (mine : List Line) : Type 0 where
+  mets : List Met
+  is : met_records mets ≡ logged_in plan bytes
+  rest : List Line
+  whole : lines_of plan bytes mets ≡ mine ++ rest
+
+-- they are all
+record PutsAll (plan : Plan) (bytes : List ℕ) (mine : List Line) : Type 0 where
+  mets : List Met
+  is : met_records mets ≡ logged_in plan bytes
+  all : lines_of plan bytes mets ≡ mine
+
+module _ {L : Type 0} (one : HaveOneAnswer × OnePlan) (words : List (List ℕ)) (told : Told) (came : Outcome) (old new : Outside L) (done : WasDone words told came old new) (law : HeadlineLaws) where
+  writes : (plan : Plan) (bytes : List ℕ) (a : Asked words told plan bytes) → Writes plan a.tree bytes came.status told.written came.written
+  writes plan bytes a = by_run (run_done one words told came plan bytes a old new done)
     where
-      by_run : NotDone told came old new ⊎ HasRunAt a.root a.path told came → came.written ≡ behind told.written (report_text plan bytes)
-      by_run (inl n) = absurd (both_ways (is_settled came.status) n.not_settled s)
-      by_run (inr r) = written_whole plan (log_in plan bytes) came.status came.reported told.written came.written s (ran one words told came plan bytes a r)
+      by_run : NotDone told came old new ⊎ RunOver plan a.tree bytes told came → Writes plan a.tree bytes came.status told.written came.written
+      by_run (inl n) =
+          let m = met_all (Some a.tree) plan law.served (logged_in plan bytes) in record {
+            mets = m.mets;
+            are = record { of_log = m.records_are; served = m.served };
+            written = λ s. absurd (both_ways (is_settled came.status) n.not_settled s);
+            begun = subst (λ w. Begins (report_text plan bytes m.mets) told.written w) (sym n.written) (begins_none (report_text plan bytes m.mets) told.written);
+          }
+      by_run (inr r) =
+          let refusal = (log_in plan bytes).refusal in record {
+            mets = r.mets;
+            are = r.are;
+            written = λ s. written_whole plan r.mets refusal came.reported told.written came.written came.status s r.ran;
+            begun = written_first plan r.mets refusal came.reported told.written came.written came.status r.ran;
+          }
 
-  first_text : (plan : Plan) (bytes : List ℕ) → Asked words told plan bytes → Begins (report_text plan bytes) told.written came.written
-  first_text plan bytes a = by_run (run_done words told came old new plan bytes done a)
-    where
-      by_run : NotDone told came old new ⊎ HasRunAt a.root a.path told came → Begins (report_text plan bytes) told.written came.written
-      by_run (inl n) = subst (λ w. Begins (report_text plan bytes) told.written w) (sym n.written) (begins_none (report_text plan bytes) told.written)
-      by_run (inr r) = written_first plan (log_in plan bytes) came.status came.reported told.written came.written (ran one words told came plan bytes a r)
-
-  pub headline_of : HeadlineLaws → HeadlineOf words told came
-  headline_of law plan bytes a =
+  pub headline_of : HeadlineOf words told came
+  headline_of plan bytes a =
       let rules = types_of law words told plan bytes a in
+      let w = writes plan bytes a in
+      let is = w.are.of_log in
       record {
-        written = settled_text plan bytes a;
-        begun = first_text plan bytes a;
-        once = once_in law plan bytes;
-        due = due_in law plan bytes;
-        values = values_in law plan bytes rules;
-        due_values = due_values_in law plan bytes rules;
+        mets = w.mets;
+        are = w.are;
+        plain = λ none. law.plain (Some a.tree) plan w.mets none w.are.served ∙ ap without_files is;
+        written = w.written;
+        begun = w.begun;
+        once = once_in law plan bytes w.mets is;
+        due = due_in law plan bytes w.mets is;
+        values = values_in law plan bytes w.mets is rules;
+        due_values = due_values_in law plan bytes w.mets is rules;
       }
 
   -- what a sink tells is what was put
@@ -268,34 +338,41 @@ module _ {L : Type 0} (one : HaveOneAnswer × OnePlan) (words : List (List ℕ))
       let all : Some (h.0 ++ put) ≡ Some (h.0 ++ mine) = ap (λ o. put_behind o put) (sym h.1) ∙ (sym e ∙ h.2) in
       append_cancel_left h.0 put mine cc
 
-  -- the lines that were put are the first of the log
-  front_put : (plan : Plan) (bytes : List ℕ) (mine : List Line) → Asked words told plan bytes → HasPut came.reported mine → (rest : List Line) × (lines_of plan bytes ≡ mine ++ rest)
-  front_put plan bytes mine a h = by_run (run_done words told came old new plan bytes done a)
+  front_put : (plan : Plan) (bytes : List ℕ) (mine : List Line) → Asked words told plan bytes → HasPut came.reported mine → PutsFront plan bytes mine
+  front_put plan bytes mine a h = by_run (run_done one words told came plan bytes a old new done)
     where
-      by_run : NotDone told came old new ⊎ HasRunAt a.root a.path told came → (rest : List Line) × (lines_of plan bytes ≡ mine ++ rest)
+      by_run : NotDone told came old new ⊎ RunOver plan a.tree bytes told came → PutsFront plan bytes mine
       by_run (inl n) =
           let none : [] ≡ mine = same_put mine [] h (n.empty.lines ∙ (h.1 ∙ (ap Some (sym (append-nil h.0)) ∙ ap (λ o. put_behind o []) (sym h.1)))) in
-          (lines_of plan bytes, ap (λ m. m ++ lines_of plan bytes) none)
+          let m = met_all (Some a.tree) plan law.served (logged_in plan bytes) in
+          record { mets = m.mets; is = m.records_are; rest = lines_of plan bytes m.mets; whole = ap (λ t. t ++ lines_of plan bytes m.mets) none }
       by_run (inr r) =
-          let f = front plan (log_in plan bytes) came.status came.reported told.written came.written (ran one words told came plan bytes a r) in
-          (f.rest, f.whole ∙ ap (λ m. m ++ f.rest) (same_put mine f.mine h f.put))
+          let f = front plan r.mets (log_in plan bytes).refusal came.reported told.written came.written came.status r.ran in
+          record { mets = r.mets; is = r.are.of_log; rest = f.rest; whole = f.whole ∙ ap (λ t. t ++ f.rest) (same_put mine f.mine h f.put) }
 
-  -- where all that counts was run, they are all
-  whole_put : (plan : Plan) (bytes : List ℕ) (mine : List Line) → Asked words told plan bytes → HasPut came.reported mine → is_settled came.status ≡ true → lines_of plan bytes ≡ mine
-  whole_put plan bytes mine a h s = by_run (run_done words told came old new plan bytes done a)
+  -- where all that counts was run
+  whole_put : (plan : Plan) (bytes : List ℕ) (mine : List Line) → Asked words told plan bytes → HasPut came.reported mine → is_settled came.status ≡ true → PutsAll plan bytes mine
+  whole_put plan bytes mine a h s = by_run (run_done one words told came plan bytes a old new done)
     where
-      by_run : NotDone told came old new ⊎ HasRunAt a.root a.path told came → lines_of plan bytes ≡ mine
+      by_run : NotDone told came old new ⊎ RunOver plan a.tree bytes told came → PutsAll plan bytes mine
       by_run (inl n) = absurd (both_ways (is_settled came.status) n.not_settled s)
-      by_run (inr r) = same_put mine (lines_of plan bytes) h (whole plan (log_in plan bytes) came.status came.reported told.written came.written s (ran one words told came plan bytes a r))
+      by_run (inr r) = record {
+        mets = r.mets;
+        is = r.are.of_log;
+        all = same_put mine (lines_of plan bytes r.mets) h (whole plan r.mets (log_in plan bytes).refusal came.reported told.written came.written came.status s r.ran);
+      }
 
-  pub once_of : HeadlineOf words told came → OncePut words told came
-  once_of head mine h plan bytes a = let f = front_put plan bytes mine a h in (head plan bytes a).once mine f.0 f.1
+  pub once_of : OncePut words told came
+  once_of mine h plan bytes a = let f = front_put plan bytes mine a h in once_in law plan bytes f.mets f.is mine f.rest f.whole
 
-  pub due_of : HeadlineOf words told came → DuePut words told came
-  due_of head mine h plan bytes a s = subst (λ ls. DueIn plan bytes ls) (whole_put plan bytes mine a h s) (head plan bytes a).due
+  pub due_of : DuePut words told came
+  due_of mine h plan bytes a s = let f = whole_put plan bytes mine a h s in subst (λ ls. DueIn plan bytes ls) f.all (due_in law plan bytes f.mets f.is)
 
-  pub values_of : HeadlineOf words told came → ValuesPut words told came
-  values_of head mine h plan bytes a = let f = front_put plan bytes mine a h in (head plan bytes a).values mine f.0 f.1
+  pub values_of : ValuesPut words told came
+  values_of mine h plan bytes a =
+      let f = front_put plan bytes mine a h in values_in law plan bytes f.mets f.is (types_of law words told plan bytes a) mine f.rest f.whole
 
-  pub due_values_of : HeadlineOf words told came → DueValuesPut words told came
-  due_values_of head mine h plan bytes a s = subst (λ ls. DueValuesIn plan bytes ls) (whole_put plan bytes mine a h s) (head plan bytes a).due_values
+  pub due_values_of : DueValuesPut words told came
+  due_values_of mine h plan bytes a s =
+      let f = whole_put plan bytes mine a h s in
+      subst (λ ls. DueValuesIn plan bytes ls) f.all (due_values_in law plan bytes f.mets f.is (types_of law words told plan bytes a))

@@ -4,11 +4,13 @@ pub mod Plans
 pub mod Migrations
 pub mod Loaded
 pub mod Ended
+pub mod Served
 pub mod LogEnds
 pub mod statuses
 pub mod OneStatus
 pub mod Frames
 pub mod Fronts
+pub mod Mets
 pub mod Headlines
 pub mod Streaming
 pub mod Answered

@@ -1,6 +1,5 @@
 -- What the plan at a path becomes in version 2.
 use Rattle.std.proofs.Common.{◌≡◌, ◌∙◌, ℕ, inr, List, Option, Some, None, take, refl, sym, subst, arith}
-use Rattle.std.specs.FinMap as map
 use Rattle.cy_outside.specs.Files.{Files, ReadsFront}
 use Rattle.dsdl_types.specs.declared.namespace.Namespace.{Namespace}
 use Rattle.node_plan.specs.Laws.{PlansAreShort}

@@ -14,7 +14,7 @@ use Rattle.node_run.specs.Loaded.{is_none}
 use Rattle.node_run.specs.declared.status.Status.{Status}
 use Rattle.node_run.specs.declared.status.Status.TheVariants as status
 use Rattle.cyphal.specs.Job.{is_fault}
-use Rattle.cyphal.specs.Plans.{PlanEnds, EndsAs, EndsOnText, EndsOnFile, EndsIn, EndsAt, without_plan, GivesPlan, PlanAt}
+use Rattle.cyphal.specs.Plans.{PlanEnds, EndsAs, EndsOnFile, EndsIn, EndsAt, without_plan, GivesPlan, PlanAt}
 use Rattle.cyphal.proofs.Loaded.{Comes, loaded, Found, found_told, one_names, not_loaded, one}
 
 -- the first bytes of a text that count have its meaning

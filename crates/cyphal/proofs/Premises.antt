@@ -1,5 +1,5 @@
 -- The premises of the headline are met by a plan and a log.
-use Rattle.std.proofs.Common.{◌≡◌, ℕ, zero, suc, le_refl, zero-le, ◌≤◌, ◌<◌, true, false, Some, List, [], ◌∷◌, ◌++◌, codes, refl, sym, ap, ◌∙◌, subst, inl, inr, arith}
+use Rattle.std.proofs.Common.{◌≡◌, ℕ, zero, suc, le_refl, zero-le, ◌≤◌, ◌<◌, true, false, Some, None, List, [], ◌∷◌, ◌++◌, codes, refl, sym, ap, ◌∙◌, subst, inl, inr, arith}
 use Rattle.std.proofs.lemmas.Bool.{and_parts, both_ways}
 use Rattle.std.specs.FinMap as map
 use Rattle.std.specs.Ordering.{nat_cmp}
@@ -47,6 +47,7 @@ plan = record {
   status = record { health = 0; mode = 0; code = 0 };
   info = blank_info;
   registers = [];
+  serve = None;
   queue = 64;
 }
 

@@ -3,12 +3,13 @@ use Rattle.std.specs.Prelude.{◌≡◌, ◌⊎◌, ◌↔◌, ◌≤◌, ℕ, t
 use Rattle.cy_outside.specs.Outside.{Rose}
 use Rattle.cy_outside.specs.Written.{behind, Begins}
 use Rattle.node_core.specs.declared.numbers.Numbers.{Numbers}
+use Rattle.node_run.specs.Failures.{failures}
 use Rattle.node_run.specs.Ran.{reported}
 use Rattle.node_run.specs.declared.status.Status.{Status}
 use Rattle.node_run.specs.declared.status.Status.TheVariants as status
 use Rattle.cyphal.specs.Words.{command_of}
 use Rattle.cyphal.specs.ErrorLine.{error_line, code_of}
-use Rattle.cyphal.specs.Cause.{Outside, HasCauseOver}
+use Rattle.cyphal.specs.Cause.{Outside, HasCauseOver, EndsAsDue}
 use Rattle.cyphal.specs.Job.{Told, Outcome, outcome, is_fault, NotDone}
 use Rattle.cyphal.specs.Expected.{job_for, WasDone}
 use Rattle.cyphal.specs.Headline.{HeadlineOf}
@@ -21,13 +22,13 @@ pub record IsAnswered {L : Type 0} (words : List (List ℕ)) (told : Told) (came
   pub exact : (stat : Status) → (job_for words).is_told told ≡ true
       → (job_for words).expects told stat → is_fault came.status ≡ false → came.status ≡ stat
   pub usage : (came.status ≡ status.Usage) ↔ (command_of words ≡ None)
-  pub cause : HasCauseOver (job_for words).takes_input came.status old new
+  pub cause : HasCauseOver (job_for words).takes_input (job_for words).serves came.status old new
   pub ran : WasDone words told came old new
   pub held : came.reported.numbers.held ≤ came.reported.numbers.bound
   pub complete : (due : Status)
       → (job_for words).is_told told ≡ true → (job_for words).expects told due
-      → ¬ Rose old.tree new.tree → ¬ Rose old.input new.input → ¬ Rose old.out new.out
-      → (came.status ≡ due) ⊎ (came.status ≡ status.NoMemory)
+      → ¬ Rose old.input new.input → ¬ Rose old.out new.out
+      → EndsAsDue due came.status old new
   pub headline : HeadlineOf words told came
   pub taken : came.status ≡ status.ReadFault → NotDone told came old new ⊎ TakenOf words told came
   pub streamed : StreamedOf words told came
@@ -55,12 +56,14 @@ abbrev pub left_by : Option (List ℕ) → Option (List ℕ) → Left
 left_by input written = record { input = input; written = written }
 
 -- The program ended with this number: it is that of a status with which the words were answered, and which was said. It
--- keeps no line of its report, but the numbers.
+-- keeps no line of its report, nor those of requests in which the tree failed, but the numbers.
 pub record HasEnded {L : Type 0} (words : List (List ℕ)) (told : Told) (code : ℕ) (left : Left)
     (old new : Outside L) (err err_new : Stream) : Type 0 where
   pub stat : Status
   pub numbers : Numbers
   pub code_is : code ≡ code_of stat
-  pub answered : IsAnswered words told
-      (outcome stat (reported None None numbers) left.input left.written) old new
+  pub answered :
+      let put = reported None None numbers in
+      let failed = failures None None old.tree new.tree in
+      IsAnswered words told (outcome stat put failed left.input left.written) old new
   pub said : HasSaid stat err err_new

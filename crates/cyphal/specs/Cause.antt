@@ -38,14 +38,28 @@ is_refused (status.NotNewer path why) = true
 is_refused (status.NoFile path) = true
 is_refused other = false
 
--- the same of any command, by whether it takes of the input: where it does not, where it
--- is refused, or where the tree failed, the input stays as it was
-pub record HasCauseOver {L : Type 0} (takes : Bool) (stat : Status)
+-- The same of any command, by whether it takes of the input: where it does not, where it is refused,
+-- or where the tree failed, the input stays as it was. And by whether it serves files: where it does
+-- not, the tree's count stays where all was done. That the tree fails in a request of a file is no
+-- status.
+pub record HasCauseOver {L : Type 0} (takes serves : Bool) (stat : Status)
     (old new : Outside L) : Type 0 where
   pub read : stat ≡ status.ReadFault
       → (Rose old.tree new.tree × (new.source ≡ old.source)) ⊎ Rose old.input new.input
   pub unread : takes ≡ false → new.source ≡ old.source
   pub refused : is_refused stat ≡ true → new.source ≡ old.source
   pub write : stat ≡ status.WriteFault → Rose old.out new.out
-  pub kept : stat ≡ status.Ok
-      → (new.tree ≡ old.tree) × (new.input ≡ old.input) × (new.out ≡ old.out)
+  pub kept : stat ≡ status.Ok → (new.input ≡ old.input) × (new.out ≡ old.out)
+  pub unserved : serves ≡ false → stat ≡ status.Ok → new.tree ≡ old.tree
+
+-- the tree failed before any of the input was taken
+pub record TreeFailed {L : Type 0} (stat : Status) (old new : Outside L) : Type 0 where
+  pub read_fault : stat ≡ status.ReadFault
+  pub rose : Rose old.tree new.tree
+  pub source : new.source ≡ old.source
+
+-- a call ended as it was to end, or memory was wanting, or the tree failed before any of the input
+-- was taken
+abbrev pub EndsAsDue : {L : Type 0} → Status → Status → Outside L → Outside L → Type 0
+EndsAsDue due stat old new =
+    (stat ≡ due) ⊎ ((stat ≡ status.NoMemory) ⊎ TreeFailed stat old new)

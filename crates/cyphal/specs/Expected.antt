@@ -38,6 +38,7 @@ abbrev pub no_job : Job
 no_job = record {
   calls_tree = false;
   takes_input = false;
+  serves = false;
   is_told = λ told. true;
   expects = λ told stat. stat ≡ status.Usage;
   did = λ told came. ⊥;

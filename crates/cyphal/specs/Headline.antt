@@ -1,7 +1,7 @@
 -- The headline: of each session only sent transfers are reported, in order and at most once, and
 -- each transfer that is due is; what was sent as a value is reported as that value; and what is
 -- written is the text of this report.
-use Rattle.std.specs.Prelude.{◌≡◌, ◌++◌, ℕ, true, List, Option, Some}
+use Rattle.std.specs.Prelude.{◌≡◌, ◌++◌, ℕ, true, List, Option, Some, None}
 use Rattle.tail_frame.specs.Chains.{KeyRecord}
 use Rattle.tail_frame.specs.declared.logged.Record.{Record}
 use Rattle.rx_table.specs.Keys.{SessionKey}
@@ -18,10 +18,10 @@ use Rattle.frame_log.specs.Log.{Log, log_of}
 use Rattle.node_plan.specs.declared.plan.Plan.{Plan}
 use Rattle.node_core.specs.declared.line.Line.{Line}
 use Rattle.rx_table.specs.Heard.{heard_as}
-use Rattle.node_core.specs.Text.{text}
+use Rattle.node_core.specs.Steps.{AreServed, Met, met_records, steps, without_files}
 use Rattle.session_lines.specs.Reported.{rxs, of_key, IsSession}
 use Rattle.session_lines.specs.Values.{type_of, SayValues, SaysDueValue}
-use Rattle.node_run.specs.Ran.{Reported, names_of, newest_first, steps_of, due_lines, end_part}
+use Rattle.node_run.specs.Ran.{Reported, names_of, newest_first, due_lines, whole_text}
 use Rattle.node_run.specs.declared.status.Status.{Status}
 use Rattle.cyphal.specs.Words.{Run, command_of}
 use Rattle.cyphal.specs.Job.{Told, Outcome, is_settled}
@@ -56,16 +56,20 @@ ExplainsIn plan bytes sent key origin =
 abbrev pub log_in : Plan → List ℕ → Log
 log_in plan bytes = log_of (names_of plan) bytes
 
--- its lines: those of its steps, and where it was read to its end those on the frames that then
--- leave
-abbrev pub lines_of : Plan → List ℕ → List Line
-lines_of plan bytes = due_lines plan (steps_of plan (log_in plan bytes)) (log_in plan bytes).refusal
+-- these are its records, each with what the tree told of a file there: what its files say, or that
+-- it failed
+pub record AreMet (plan : Plan) (tree : Files) (bytes : List ℕ) (mets : List Met) : Type 0 where
+  pub of_log : met_records mets ≡ logged_in plan bytes
+  pub served : AreServed (Some tree) plan (steps plan mets)
+
+-- the lines of the log with these records: those of its steps, and where it was read to its end those
+-- on the frames that then leave
+abbrev pub lines_of : Plan → List ℕ → List Met → List Line
+lines_of plan bytes mets = due_lines plan (steps plan mets) (log_in plan bytes).refusal
 
 -- the text of its lines, and where it was read to its end the last line
-abbrev pub report_text : Plan → List ℕ → List ℕ
-report_text plan bytes =
-    text plan.buses (lines_of plan bytes)
-    ++ end_part plan (steps_of plan (log_in plan bytes)) (log_in plan bytes).refusal
+abbrev pub report_text : Plan → List ℕ → List Met → List ℕ
+report_text plan bytes mets = whole_text plan (steps plan mets) (log_in plan bytes).refusal
 
 -- once: what these lines say of a session are sent transfers, in the order of the sent list, each
 -- at most once, cut to the extent
@@ -102,26 +106,30 @@ DueValuesIn plan bytes lines =
     → (due : IsDue plan.timeout sent origin (of_session_in plan bytes key) q)
     → SaysDueValue key port (transfer_at sent due.j).payload q lines
 
--- The headline over what is written: where all that counts of the input was run it is the text of
--- the lines of the log, and a beginning of it however the run ended. These lines, and each front of
--- them, say of a session only what was sent, at most once, each value as it was sent; and all of
--- them say what is due.
-pub record Headline (plan : Plan) (bytes : List ℕ) (stat : Status)
+-- The headline over what is written. The records of the log are met, each with what the tree told of
+-- a file there; a plan that serves no files asks for none, so its log has one text. Where all that
+-- counts of the input was run, what is written is the text of the lines of the log with these, and a
+-- beginning of it however the run ended. These lines, and each front of them, say of a session only
+-- what was sent, at most once, each value as it was sent; and all of them say what is due.
+pub record Headline (plan : Plan) (tree : Files) (bytes : List ℕ) (stat : Status)
     (before after : Option (List ℕ)) : Type 0 where
-  pub written : is_settled stat ≡ true → after ≡ behind before (report_text plan bytes)
-  pub begun : Begins (report_text plan bytes) before after
-  pub once : (front rest : List Line) → lines_of plan bytes ≡ front ++ rest
+  pub mets : List Met
+  pub are : AreMet plan tree bytes mets
+  pub plain : plan.serve ≡ None → mets ≡ without_files (logged_in plan bytes)
+  pub written : is_settled stat ≡ true → after ≡ behind before (report_text plan bytes mets)
+  pub begun : Begins (report_text plan bytes mets) before after
+  pub once : (front rest : List Line) → lines_of plan bytes mets ≡ front ++ rest
       → OnceIn plan bytes front
-  pub due : DueIn plan bytes (lines_of plan bytes)
-  pub values : (front rest : List Line) → lines_of plan bytes ≡ front ++ rest
+  pub due : DueIn plan bytes (lines_of plan bytes mets)
+  pub values : (front rest : List Line) → lines_of plan bytes mets ≡ front ++ rest
       → ValuesIn plan bytes front
-  pub due_values : DueValuesIn plan bytes (lines_of plan bytes)
+  pub due_values : DueValuesIn plan bytes (lines_of plan bytes mets)
 
 -- of words that ask for a run of a told plan over a told input
 abbrev pub HeadlineOf : List (List ℕ) → Told → Outcome → Type 0
 HeadlineOf words told came =
-    (plan : Plan) (bytes : List ℕ) → Asked words told plan bytes
-    → Headline plan bytes came.status told.written came.written
+    (plan : Plan) (bytes : List ℕ) (a : Asked words told plan bytes)
+    → Headline plan a.tree bytes came.status told.written came.written
 
 -- the lines that were put, where the sink of lines tells them
 abbrev pub HasPut : Reported → List Line → Type 0
@@ -159,7 +167,8 @@ DuePut words told came =
     (mine : List Line) → HasPut came.reported mine → DueOf words told came.status mine
 
 abbrev pub ValuesPut : List (List ℕ) → Told → Outcome → Type 0
-ValuesPut words told came = (mine : List Line) → HasPut came.reported mine → ValuesOf words told mine
+ValuesPut words told came =
+    (mine : List Line) → HasPut came.reported mine → ValuesOf words told mine
 
 abbrev pub DueValuesPut : List (List ℕ) → Told → Outcome → Type 0
 DueValuesPut words told came =

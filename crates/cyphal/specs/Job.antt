@@ -2,6 +2,7 @@
 use Rattle.std.specs.Prelude.{◌≡◌, ℕ, Bool, true, false, List, Option}
 use Rattle.cy_outside.specs.Files.{Files}
 use Rattle.cy_outside.specs.Outside.{Rose}
+use Rattle.node_run.specs.Failures.{Failures}
 use Rattle.node_run.specs.Ran.{Reported, no_numbers}
 use Rattle.node_run.specs.ValueLines.{Flow, flow}
 use Rattle.node_run.specs.declared.status.Status.{Status}
@@ -17,16 +18,18 @@ pub record Told : Type 0 where
 abbrev pub told_by : Option Files → Option (List ℕ) → Option (List ℕ) → Told
 told_by files input written = record { files = files; input = input; written = written }
 
--- what a call came to: its status, what it reported, what is left of the input, and what is written at its end
+-- what a call came to: its status, what it reported, in which requests of files the tree failed, what is left of the input,
+-- and what is written at its end
 pub record Outcome : Type 0 where
   pub status : Status
   pub reported : Reported
+  pub failures : Failures
   pub left : Option (List ℕ)
   pub written : Option (List ℕ)
 
-abbrev pub outcome : Status → Reported → Option (List ℕ) → Option (List ℕ) → Outcome
-outcome stat reported left written =
-    record { status = stat; reported = reported; left = left; written = written }
+abbrev pub outcome : Status → Reported → Failures → Option (List ℕ) → Option (List ℕ) → Outcome
+outcome stat put failures left written =
+    record { status = stat; reported = put; failures = failures; left = left; written = written }
 
 -- what a command came to that is given neither an input nor a sink of lines: its status, and what was written before and after it
 pub record Printed : Type 0 where
@@ -41,10 +44,11 @@ printed stat before after = record { status = stat; before = before; after = aft
 abbrev pub print_of : Told → Outcome → Printed
 print_of told came = printed came.status told.written came.written
 
--- no line was put, and nothing was counted
-pub record ReportsNothing (reported : Reported) : Type 0 where
-  pub lines : reported.new ≡ reported.old
-  pub counted : reported.numbers ≡ no_numbers
+-- no line was put, nothing was counted, and no request was told in which the tree failed
+pub record ReportsNothing (came : Outcome) : Type 0 where
+  pub lines : came.reported.new ≡ came.reported.old
+  pub counted : came.reported.numbers ≡ no_numbers
+  pub failed : came.failures.new ≡ came.failures.old
 
 -- a command with its arguments
 pub record Job : Type 1 where
@@ -52,6 +56,8 @@ pub record Job : Type 1 where
   pub calls_tree : Bool
   -- whether it takes of the input
   pub takes_input : Bool
+  -- whether it answers requests of files of the tree
+  pub serves : Bool
   -- whether all that decides its status is told
   pub is_told : Told → Bool
   -- a status is what it asks for, as far as what is told decides it
@@ -77,7 +83,7 @@ is_settled other = false
 
 -- nothing was run, written or taken: no write failed, and a read fault is one of the tree
 pub record NotDone {L : Type 0} (told : Told) (came : Outcome) (old new : Outside L) : Type 0 where
-  pub empty : ReportsNothing came.reported
+  pub empty : ReportsNothing came
   pub written : came.written ≡ told.written
   pub not_settled : is_settled came.status ≡ false
   pub not_write : ¬ (came.status ≡ status.WriteFault)

@@ -5,7 +5,7 @@ use Rattle.once.specs.Report.{DueInReport, OnceInPart}
 use Rattle.frame_log.specs.Log.{log_of}
 use Rattle.frame_log.specs.Order.{IsAhead}
 use Rattle.dsdl_resolve.specs.Soundness.{NamespacesKeepRules}
-use Rattle.node_core.specs.Laws.{RecordsOfSteps}
+use Rattle.node_core.specs.Laws.{NothingServed, RecordsOfSteps, SomethingServed}
 use Rattle.node_plan.specs.Laws.{PlansKeepTypeRules}
 use Rattle.session_lines.specs.Reported.{Reported, StepsReportAll}
 use Rattle.session_lines.specs.Values.{DueValuesInReport, ValuesInReport}
@@ -17,6 +17,8 @@ LogsAreInOrder = (buses : List (List ℕ)) (bytes : List ℕ) → IsAhead 0 0 (l
 -- all of them
 pub record HeadlineLaws : Type 0 where
   pub records : RecordsOfSteps
+  pub plain : NothingServed
+  pub served : SomethingServed
   pub sessions : Reported
   pub all : StepsReportAll
   pub fields : WireExplainsFields

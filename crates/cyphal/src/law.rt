@@ -4,7 +4,7 @@ ghost use Rattle.cyphal.specs.Premises.{PremisesCanBeMet};
 
 use dsdl_resolve::namespaces_keep_rules;
 use frame_log::ordered;
-use node_core::laws::steps_follow;
+use node_core::laws::{nothing_served, something_served, steps_follow};
 use node_plan::laws::{plain_plans, plans_keep_type_rules};
 use once::{due_in_report, once_in_part, wire_explains_fields};
 use session_lines::laws::{due_values, emptying, reported, values};
@@ -14,6 +14,8 @@ pub fn headline_laws()
     ensures { HeadlineLaws }
 {
     steps_follow();
+    nothing_served();
+    something_served();
     reported();
     emptying();
     wire_explains_fields();

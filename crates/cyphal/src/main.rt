@@ -33,27 +33,45 @@ mod words;
 mod work;
 
 use cy_outside::{RealSink, RealSource, RealTree};
+use error_line::put_error;
 use node_run::Status;
 use program::program;
 use std::io;
 use std::process::ExitCode;
 
-fn main(rt: HostRuntime) -> io::Result<ExitCode> {
-    let alloc = rt.alloc();
-    let words: Vec<String> = std::env::args(&rt)?.skip(1).collect(alloc)?;
+fn main(rt: HostRuntime) -> ExitCode {
+    let mut err = RealSink::new(rt.stderr());
+    let words = match words_of(&rt) {
+        Ok(words) => words,
+        Err(status) => {
+            let _ = put_error(&mut err, &status);
+            return ExitCode::from(code_of(&status));
+        }
+    };
     let mut tree = RealTree::new(&rt);
     let mut input = RealSource::new(rt.stdin());
     let mut out = RealSink::new(rt.stdout());
-    let mut err = RealSink::new(rt.stderr());
     let code = program(
-        alloc,
+        rt.alloc(),
         words.as_slice(),
         &mut tree,
         &mut input,
         &mut out,
         &mut err,
     );
-    Ok(ExitCode::from(code))
+    ExitCode::from(code)
+}
+
+/// The words of the command line behind the program's name. Words that aren't UTF-8 are no command.
+fn words_of(rt: &HostRuntime) -> Result<Vec<String>, Status> {
+    match std::env::args(rt) {
+        Ok(words) => match words.skip(1).collect(rt.alloc()) {
+            Ok(words) => Ok(words),
+            Err(_) => Err(Status::NoMemory),
+        },
+        Err(error) if error.kind() == io::ErrorKind::OutOfMemory => Err(Status::NoMemory),
+        Err(_) => Err(Status::Usage),
+    }
 }
 
 /// The number of a status, with which the program ends.

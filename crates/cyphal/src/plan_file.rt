@@ -22,6 +22,7 @@ const MOST: usize = MAX_TEXT + 1;
 /// The plan at a path, read in the namespace of a root, or how a command ends for want of it. The
 /// root comes first: where it has no namespace, nothing of the plan is read.
 pub fn plan_at<T: Tree>(alloc: Global, root: &str, path: &str, tree: &mut T) -> Result<Plan, Status>
+    ensures files { T.files tree.new ≡ T.files tree.old }
     ensures plan { IfOk result (PlanAt root.now path.now (T.files tree.old)) }
     ensures sound { IfOk result IsPlan }
     ensures kept { OnOk result (T.faults tree.new ≡ T.faults tree.old) }
@@ -48,6 +49,7 @@ fn plan_in<T: Tree>(
     tree: &mut T,
 ) -> Result<Plan, Status>
     requires { IsNamespace names.now }
+    ensures files { T.files tree.new ≡ T.files tree.old }
     ensures plan { IfOk result (GivesPlan names.now path.now (T.files tree.old)) }
     ensures sound { IfOk result IsPlan }
     ensures kept { OnOk result (T.faults tree.new ≡ T.faults tree.old) }
@@ -71,6 +73,7 @@ fn plan_in<T: Tree>(
 
 /// As much of the file at a path as decides which plan it is.
 pub fn text_at<T: Tree>(alloc: Global, path: &str, tree: &mut T) -> Result<Bytes, Status>
+    ensures files { T.files tree.new ≡ T.files tree.old }
     ensures text { IfOk result (λ text.
         ReadsFront (T.files tree.old) path.now MOST (Some text)) }
     ensures kept { OnOk result (T.faults tree.new ≡ T.faults tree.old) }

@@ -2,12 +2,13 @@
 ghost use Rattle.std.specs.Prelude.{◌≡◌, ◌⊎◌, ◌↔◌, ◌≤◌, None, true, false, map, string_bytes};
 ghost use Rattle.cy_outside.specs.Outside.{Rose};
 ghost use Rattle.cy_outside.specs.Written.{behind, Begins};
+ghost use Rattle.node_run.specs.Failures.{failures};
 ghost use Rattle.node_run.specs.Ran.{reported, no_numbers};
 ghost use Rattle.node_run.specs.declared.status.Status.{Status as TheStatus};
 ghost use Rattle.cyphal.specs.Words.{command_of};
 ghost use Rattle.cyphal.specs.ErrorLine.{error_line};
 ghost use Rattle.cyphal.specs.Job.{outcome, told_by, is_fault, NotDone};
-ghost use Rattle.cyphal.specs.Cause.{outside, HasCauseOver};
+ghost use Rattle.cyphal.specs.Cause.{outside, EndsAsDue, HasCauseOver};
 ghost use Rattle.cyphal.specs.Expected.{job_for, WasDone};
 ghost use Rattle.cyphal.specs.Headline.{HeadlineOf, OncePut, DuePut, ValuesPut, DueValuesPut};
 ghost use Rattle.cyphal.specs.Streaming.{TakenOf, StreamedOf};
@@ -55,59 +56,77 @@ pub fn run_words<T: Tree, L: Source, O: Sink, E: Sink, K: LineSink>(
     ensures cause { let job = job_for (map string_bytes words.now) in
         let old = outside (T.faults tree.old) (L.faults input.old) (O.faults out.old) input.old in
         let new = outside (T.faults tree.new) (L.faults input.new) (O.faults out.new) input.new in
-        HasCauseOver job.takes_input result.status old new }
+        HasCauseOver job.takes_input job.serves result.status old new }
     // A command that needs no file leaves the tree as it is.
     ensures untouched { (job_for (map string_bytes words.now)).calls_tree ≡ false
         → tree.new ≡ tree.old }
     ensures ran { let words = map string_bytes words.now in
         let told = told_by (T.files tree.old) (L.left input.old) (O.written out.old) in
         let put = reported (K.lines lines.old) (K.lines lines.new) result.numbers in
-        let came = outcome result.status put (L.left input.new) (O.written out.new) in
+        let failed = failures (K.failed lines.old) (K.failed lines.new)
+        (T.faults tree.old) (T.faults tree.new) in
+        let came = outcome result.status put failed (L.left input.new) (O.written out.new) in
         let old = outside (T.faults tree.old) (L.faults input.old) (O.faults out.old) input.old in
         let new = outside (T.faults tree.new) (L.faults input.new) (O.faults out.new) input.new in
         WasDone words told came old new }
     ensures held { result.numbers.held ≤ result.numbers.bound }
     ensures complete { let job = job_for (map string_bytes words.now) in
         let told = told_by (T.files tree.old) (L.left input.old) (O.written out.old) in
+        let old = outside (T.faults tree.old) (L.faults input.old) (O.faults out.old) input.old in
+        let new = outside (T.faults tree.new) (L.faults input.new) (O.faults out.new) input.new in
         (due : TheStatus) → job.is_told told ≡ true → job.expects told due
-        → ¬ Rose (T.faults tree.old) (T.faults tree.new)
-        → ¬ Rose (L.faults input.old) (L.faults input.new)
-        → ¬ Rose (O.faults out.old) (O.faults out.new)
-        → (result.status ≡ due) ⊎ (result.status ≡ Status.NoMemory) }
+        → ¬ Rose old.input new.input → ¬ Rose old.out new.out
+        → EndsAsDue due result.status old new }
     // The headline, where the words, the files and the input are told: of what is written, and of the lines where the
     // sink tells them.
-    ensures headline { let told = told_by (T.files tree.old) (L.left input.old) (O.written out.old) in
+    ensures headline { let words = map string_bytes words.now in
+        let told = told_by (T.files tree.old) (L.left input.old) (O.written out.old) in
         let put = reported (K.lines lines.old) (K.lines lines.new) result.numbers in
-        let came = outcome result.status put (L.left input.new) (O.written out.new) in
-        HeadlineOf (map string_bytes words.now) told came }
+        let failed = failures (K.failed lines.old) (K.failed lines.new)
+        (T.faults tree.old) (T.faults tree.new) in
+        let came = outcome result.status put failed (L.left input.new) (O.written out.new) in
+        HeadlineOf words told came }
     ensures once { let told = told_by (T.files tree.old) (L.left input.old) (O.written out.old) in
         let put = reported (K.lines lines.old) (K.lines lines.new) result.numbers in
-        let came = outcome result.status put (L.left input.new) (O.written out.new) in
+        let failed = failures (K.failed lines.old) (K.failed lines.new)
+        (T.faults tree.old) (T.faults tree.new) in
+        let came = outcome result.status put failed (L.left input.new) (O.written out.new) in
         OncePut (map string_bytes words.now) told came }
     ensures due { let told = told_by (T.files tree.old) (L.left input.old) (O.written out.old) in
         let put = reported (K.lines lines.old) (K.lines lines.new) result.numbers in
-        let came = outcome result.status put (L.left input.new) (O.written out.new) in
+        let failed = failures (K.failed lines.old) (K.failed lines.new)
+        (T.faults tree.old) (T.faults tree.new) in
+        let came = outcome result.status put failed (L.left input.new) (O.written out.new) in
         DuePut (map string_bytes words.now) told came }
     ensures values { let told = told_by (T.files tree.old) (L.left input.old) (O.written out.old) in
         let put = reported (K.lines lines.old) (K.lines lines.new) result.numbers in
-        let came = outcome result.status put (L.left input.new) (O.written out.new) in
+        let failed = failures (K.failed lines.old) (K.failed lines.new)
+        (T.faults tree.old) (T.faults tree.new) in
+        let came = outcome result.status put failed (L.left input.new) (O.written out.new) in
         ValuesPut (map string_bytes words.now) told came }
-    ensures due_values { let told = told_by (T.files tree.old) (L.left input.old) (O.written out.old) in
+    ensures due_values { let words = map string_bytes words.now in
+        let told = told_by (T.files tree.old) (L.left input.old) (O.written out.old) in
         let put = reported (K.lines lines.old) (K.lines lines.new) result.numbers in
-        let came = outcome result.status put (L.left input.new) (O.written out.new) in
-        DueValuesPut (map string_bytes words.now) told came }
+        let failed = failures (K.failed lines.old) (K.failed lines.new)
+        (T.faults tree.old) (T.faults tree.new) in
+        let came = outcome result.status put failed (L.left input.new) (O.written out.new) in
+        DueValuesPut words told came }
     // How far the input is taken where a read fails: not at all, where the tree failed, or up to the last whole line.
     ensures taken { let words = map string_bytes words.now in
         let told = told_by (T.files tree.old) (L.left input.old) (O.written out.old) in
         let put = reported (K.lines lines.old) (K.lines lines.new) result.numbers in
-        let came = outcome result.status put (L.left input.new) (O.written out.new) in
+        let failed = failures (K.failed lines.old) (K.failed lines.new)
+        (T.faults tree.old) (T.faults tree.new) in
+        let came = outcome result.status put failed (L.left input.new) (O.written out.new) in
         let old = outside (T.faults tree.old) (L.faults input.old) (O.faults out.old) input.old in
         let new = outside (T.faults tree.new) (L.faults input.new) (O.faults out.new) input.new in
         result.status ≡ Status.ReadFault → NotDone told came old new ⊎ TakenOf words told came }
     ensures streamed { let words = map string_bytes words.now in
         let told = told_by (T.files tree.old) (L.left input.old) (O.written out.old) in
         let put = reported (K.lines lines.old) (K.lines lines.new) result.numbers in
-        let came = outcome result.status put (L.left input.new) (O.written out.new) in
+        let failed = failures (K.failed lines.old) (K.failed lines.new)
+        (T.faults tree.old) (T.faults tree.new) in
+        let came = outcome result.status put failed (L.left input.new) (O.written out.new) in
         StreamedOf words told came }
     ensures line { Begins (error_line result.status) (E.written err.old) (E.written err.new) }
     ensures whole_line { ¬ Rose (E.faults err.old) (E.faults err.new)

@@ -1,5 +1,6 @@
 //! What the words ask for is done here, by the command that they are.
 ghost use Rattle.std.specs.Prelude.{◌≡◌, ◌⊎◌, ◌↔◌, ◌≤◌, None, false, map, string_bytes};
+ghost use Rattle.node_run.specs.Failures.{failures};
 ghost use Rattle.node_run.specs.Ran.{reported, no_numbers};
 ghost use Rattle.cyphal.specs.Words.{asked_by, command_of};
 ghost use Rattle.cyphal.specs.Job.{outcome, told_by, is_fault, NotDone};
@@ -40,13 +41,15 @@ pub fn work<T: Tree, L: Source, O: Sink, K: LineSink>(
     ensures cause { let job = job_for (map string_bytes words.now) in
         let old = outside (T.faults tree.old) (L.faults input.old) (O.faults out.old) input.old in
         let new = outside (T.faults tree.new) (L.faults input.new) (O.faults out.new) input.new in
-        HasCauseOver job.takes_input result old new }
+        HasCauseOver job.takes_input job.serves result old new }
     ensures untouched { (job_for (map string_bytes words.now)).calls_tree ≡ false
         → tree.new ≡ tree.old }
     ensures ran { let words = map string_bytes words.now in
         let told = told_by (T.files tree.old) (L.left input.old) (O.written out.old) in
         let put = reported (K.lines lines.old) (K.lines lines.new) numbers.new in
-        let came = outcome result put (L.left input.new) (O.written out.new) in
+        let failed = failures (K.failed lines.old) (K.failed lines.new)
+        (T.faults tree.old) (T.faults tree.new) in
+        let came = outcome result put failed (L.left input.new) (O.written out.new) in
         let old = outside (T.faults tree.old) (L.faults input.old) (O.faults out.old) input.old in
         let new = outside (T.faults tree.new) (L.faults input.new) (O.faults out.new) input.new in
         WasDone words told came old new }
@@ -78,12 +81,14 @@ fn carry_out<T: Tree, L: Source, O: Sink, K: LineSink>(
     ensures cause { let job = job_of (asked_by given.entry) in
         let old = outside (T.faults tree.old) (L.faults input.old) (O.faults out.old) input.old in
         let new = outside (T.faults tree.new) (L.faults input.new) (O.faults out.new) input.new in
-        HasCauseOver job.takes_input result old new }
+        HasCauseOver job.takes_input job.serves result old new }
     ensures untouched { (job_of (asked_by given.entry)).calls_tree ≡ false → tree.new ≡ tree.old }
     ensures ran { let job = job_of (asked_by given.entry) in
         let told = told_by (T.files tree.old) (L.left input.old) (O.written out.old) in
         let put = reported (K.lines lines.old) (K.lines lines.new) numbers.new in
-        let came = outcome result put (L.left input.new) (O.written out.new) in
+        let failed = failures (K.failed lines.old) (K.failed lines.new)
+        (T.faults tree.old) (T.faults tree.new) in
+        let came = outcome result put failed (L.left input.new) (O.written out.new) in
         let old = outside (T.faults tree.old) (L.faults input.old) (O.faults out.old) input.old in
         let new = outside (T.faults tree.new) (L.faults input.new) (O.faults out.new) input.new in
         NotDone told came old new ⊎ job.did told came }

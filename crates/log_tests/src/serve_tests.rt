@@ -49,7 +49,7 @@ fn folders_that_are_read(rt: HostRuntime) -> Result<(), Fail> {
     let names = no_types(rt.alloc());
     for (text, wanted) in READ {
         let plan = read_plan(rt.alloc(), text, &names)?;
-        let Some(path) = plan.serve else {
+        let Some(path) = &plan.serve else {
             panic!(rt; "no folder is served");
         };
         assert_eq!(rt; path.as_str().as_bytes(), wanted);

@@ -67,7 +67,8 @@ pub record DidAnswer (told : Option TreeFiles) (moment : ℕ) (request : Option 
   pub file : FileReply
   pub served : IsServed told old.plan request file
   pub keeps_are : keeps new ≡ answered old.plan request file (keeps old)
-  pub lines_are : lines_new ≡ lines ++ fulls moment (reply_by old.plan request file (keeps old)) (keeps old).queues
+  pub lines_are : lines_new
+      ≡ lines ++ fulls moment (reply_by old.plan request file (keeps old)) (keeps old).queues
   pub failed_is : failed ≡ is_failed file
 
 -- A record was taken, with what the tree told of a file: by that the node keeps what the step leaves, and the lines stand

@@ -8,7 +8,7 @@ ghost use Rattle.std_types.specs.Types.{schema_of};
 ghost use Rattle.node_core.specs.Files.{FitsFileReply, file_payload, name_reply};
 ghost use Rattle.node_core.specs.Keeps.{keeps, questioned};
 ghost use Rattle.node_core.specs.Questions.{FitsQuestion};
-ghost use Rattle.node_core.specs.Sending.{answer_to, unsupported};
+ghost use Rattle.node_core.specs.Sending.{answer_to};
 ghost use Rattle.node_core.specs.Stands.{StandsAsBefore};
 
 use crate::file_reply::FileReply;

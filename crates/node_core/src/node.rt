@@ -64,9 +64,8 @@ pub struct Stepped {
 impl Node {
     ghost use Rattle.std.specs.Prelude.{[], List as ListOf, IfOk, OnOk, OnErr, length, take};
     ghost use Rattle.std.specs.Option.{ForSome};
+    ghost use Rattle.file_service.specs.Causes.{TellsFault};
     ghost use Rattle.tail_frame.specs.Frames.{seen};
-    ghost use Rattle.tail_frame.specs.declared.logged.Record.{Record as RecordOf};
-    ghost use Rattle.node_plan.specs.Bound.{bound_of};
     ghost use Rattle.node_plan.specs.IsPlan.{IsPlan};
     ghost use Rattle.std.specs.Bool.{OnTrue};
     ghost use Rattle.rx_table.specs.Views.{subscriptions};
@@ -74,7 +73,6 @@ impl Node {
     ghost use Rattle.node_core.specs.Shapes.{port_schema};
     ghost use Rattle.node_core.specs.Came.{answer_in, heard_is_bad, came_lines, came_request};
     ghost use Rattle.node_core.specs.Came.{met_lines, TellsRequest};
-    ghost use Rattle.file_service.specs.Causes.{TellsFault};
     ghost use Rattle.node_core.specs.Keeps.{DidStep, keeps};
     ghost use Rattle.node_core.specs.Sending.{IsRequestTo};
     ghost use Rattle.node_core.specs.Steps.{kept};

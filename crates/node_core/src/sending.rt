@@ -27,7 +27,8 @@ impl Node {
     /// one who asks, with the request's priority and transfer-ID (Cyphal Specification, section
     /// 5.3.3). The reply to a request of a file is what the tree told for it. Tells on which buses
     /// there is no room for the reply, at a moment in microseconds. Memory is taken for what is
-    /// asked of registers and files alone; where it is wanting, the node is not to be used further.
+    /// asked of registers and files; where it is wanting, the node is not to be used further: its
+    /// plan and its sessions are as they were, and of the rest nothing is known.
     #[inline(never)]
     pub fn reply(
         &mut self,

@@ -1,6 +1,5 @@
 //! What a node asks its tree for a request.
-ghost use Rattle.std.specs.Prelude.{◌≡◌, ◌≤◌, ◌<◌, ◌==◌, IfOk, OnErr, Some};
-ghost use Rattle.cy_outside.specs.Files.{Files};
+ghost use Rattle.std.specs.Prelude.{◌≡◌, ◌≤◌, ◌<◌, IfOk, OnErr, Some};
 ghost use Rattle.file_service.specs.Causes.{IsKnown, TellsFault};
 ghost use Rattle.file_service.specs.Paths.{place_of};
 ghost use Rattle.file_service.specs.Replies.{read_of};
@@ -20,7 +19,8 @@ use std_types::file::{FileError, ReadReply, ReadRequest};
 
 impl Node {
     /// What the tree tells for a request: what stands at the path below the served folder, a name
-    /// there, or bytes, or that it failed. Nothing is asked of it, and no memory is taken, where
+    /// there, or bytes, or that it failed. Nothing is asked of it where the request is of no file,
+    /// where its path is invalid, or where it is known what stands there. No memory is taken where
     /// the request is of no file.
     #[inline(never)]
     pub fn serve<T: Tree>(&self, request: &Request, tree: &mut T) -> Result<FileReply, NoMemory>
@@ -76,7 +76,8 @@ fn bytes_of<T: Tree>(
     ensures fits { IfOk result FitsFileReply }
     ensures cause { IfOk result (λ file.
         TellsFault (is_failed file) (T.faults tree.old) (T.faults tree.new)) }
-    ensures unasked { IsKnown (place_of served.entry.root.now asked.now.path) → tree.new ≡ tree.old }
+    ensures unasked { IsKnown (place_of served.entry.root.now asked.now.path)
+        → tree.new ≡ tree.old }
     ensures memory { OnErr result (T.faults tree.new ≡ T.faults tree.old) }
     ensures count { T.faults tree.old ≤ T.faults tree.new }
 {

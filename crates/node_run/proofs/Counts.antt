@@ -18,6 +18,7 @@ use Rattle.node_core.specs.declared.line.FullLine.{FullLine}
 use Rattle.node_core.specs.declared.line.Line.TheVariants.{Full}
 use Rattle.node_core.specs.declared.numbers.Numbers.{Numbers}
 use Rattle.node_core.specs.Heard.{ports_of}
+use Rattle.node_core.specs.declared.file_reply.FileReply.{FileReply}
 use Rattle.node_core.specs.Queues.{Queue, Sends, full_line, fulls, fulls_from, leaving, takes, waiting}
 use Rattle.node_core.specs.Received.{of_delivery, of_frame, of_session, of_source, on_port, refused_line}
 use Rattle.node_core.specs.Steps.{Step, Heard, Tick, all_lines, emptying, badcrcs, got, held_at, is_bad_at, is_nosession, is_rx, is_tx, kept, lines, lines_at, moment_of, node_lines, numbers, one_if, pushed, received_at, records, sends}
@@ -78,7 +79,7 @@ tx_frame plan log None = refl
 tx_frame plan log (Some f) = tx_port plan f log (port_on (ports_of plan) f)
 
 tx_received : (plan : Plan) (s : Step) (past : List Step) → count_by is_tx (received_at plan s past) ≡ 0
-tx_received plan (Heard rec) past = tx_frame plan (frames plan.node (records past)) (frame_for plan.node rec)
+tx_received plan (Heard rec file) past = tx_frame plan (frames plan.node (records past)) (frame_for plan.node rec)
 tx_received plan (Tick number moment) past = refl
 
 -- One step.
@@ -159,11 +160,11 @@ module _ (plan : Plan) (past : List Step) (is : IsPlan plan) where
       }
 
   -- a record, behind which so many frames left
-  pub numbers_heard : (rec : Record) → let s = Heard rec in IsFew (s ∷ past) → (n m : Numbers) → n ≡ numbers plan past → (more : ℕ) → more ≡ length (leaving rec.moment (pushed plan s past (kept plan past)).queues) → m ≡ with_sent n more
+  pub numbers_heard : (rec : Record) (file : FileReply) → let s = Heard rec file in IsFew (s ∷ past) → (n m : Numbers) → n ≡ numbers plan past → (more : ℕ) → more ≡ length (leaving rec.moment (pushed plan s past (kept plan past)).queues) → m ≡ with_sent n more
       → (seen : Seen) (held : ℕ) → seen.delivered ≡ count_by is_rx (got plan rec (records past)) → seen.badcrc ≡ one_if (is_bad_at plan rec (records past))
       → seen.nosession ≡ count_by is_nosession (got plan rec (records past)) → held ≡ held_at plan (rec ∷ records past) → counted m seen held ≡ numbers plan (s ∷ past)
-  numbers_heard rec few n m e more f g seen held d b r h =
-      let s = Heard rec in
+  numbers_heard rec file few n m e more f g seen held d b r h =
+      let s = Heard rec file in
       let sent = ap (λ (x : Numbers). x.sent) g ∙ sent_next s few n.sent (ap (λ (x : Numbers). x.sent) e) more f in
       let rx = next plan s past is_rx ∙ ap (λ x. count_by is_rx (lines plan past) + x) (rx_at plan s past) in
       let refused = next plan s past is_nosession ∙ ap (λ x. count_by is_nosession (lines plan past) + x) (nosession_at plan s past) in

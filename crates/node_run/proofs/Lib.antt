@@ -7,10 +7,12 @@ pub mod Goes
 pub mod SameNodes
 pub mod Takes
 pub mod Ticks
+pub mod Fails
 pub mod Hearing
-pub mod Starts
+pub mod Listens
 pub mod Runs
 pub mod Streams
+pub mod Starts
 pub mod Roots
 pub mod Endings
 pub mod Summaries

@@ -1,233 +1,300 @@
 -- From what a listener's loop did to what a run did.
-use Rattle.std.proofs.Common.{◌≡◌, ◌∙◌, inl, inr, ◌<◌, ◌≤◌, ℕ, List, length, [], ◌∷◌, ◌++◌, Option, Some, None, refl, sym, ap, ap₂, subst, append_assoc, append-nil, arith}
-use mathlib.Core.List.{reverse_aux}
+use Rattle.std.proofs.Common.{◌≡◌, ◌∙◌, inl, inr, ◌<◌, ◌≤◌, ◌-◌, ℕ, List, length, [], ◌∷◌, ◌++◌, Option, Some, None, Bool, true, false, zero, suc, refl, sym, ap, ap₂, subst, append_assoc, append-nil, arith}
+use Rattle.std.specs.Prelude.{if◌then◌else◌}
 use Rattle.tail_frame.specs.declared.logged.Record.{Record}
+use Rattle.cy_outside.specs.Files.{Files}
 use Rattle.cy_outside.specs.Written.{behind, Begins}
-use Rattle.frame_log.specs.Log.{Log, log_of}
+use Rattle.frame_log.specs.Log.{log_of}
 use Rattle.frame_log.specs.declared.error.LogError.{LogError}
-use Rattle.log_loop.specs.Voice.{Voice, voice, said, newest_first, end_part as last_said, whole_text as all_said}
-use Rattle.log_loop.specs.Gone.{HeardOrEnded, Settled as HeardAll, Upto as HeardUpto, Begun as HeardFirst, BegunWhole as HeardWhole, Gone, HasGone}
-use Rattle.log_loop.specs.Taken.{whole_records, IsOfTaken as HeardTaken}
-use Rattle.log_loop.specs.Streamed.{IsStreamed as HeardStreamed, HasWritten}
+use Rattle.frame_log.specs.declared.error.LogError.TheVariants as error
+use Rattle.log_loop.specs.Voice.{MayCome, Voice, said, whole_text as all_said}
+use Rattle.log_loop.specs.Gone.{FirstOf, Stages, HeardOrEnded, Settled as HeardAll, Upto as HeardUpto, Begun as HeardFirst, BegunWhole as HeardWhole, Gone}
+use Rattle.log_loop.specs.Listened.{HasListened}
+use Rattle.log_loop.specs.Taken.{IsOfTaken as HeardTaken}
+use Rattle.log_loop.specs.Streamed.{HearsBytes, IsStreamed as HeardStreamed, HasWritten}
 use Rattle.log_loop.specs.declared.ended.Ended.{Ended}
 use Rattle.log_loop.specs.declared.ended.Ended.TheVariants as end
-use Rattle.log_loop.proofs.Logs.{newest_onto}
 use Rattle.node_plan.specs.Bound.{bound_of}
 use Rattle.node_plan.specs.declared.plan.Plan.{Plan}
 use Rattle.node_core.specs.declared.line.Line.{Line}
 use Rattle.node_core.specs.declared.numbers.Numbers.{Numbers}
-use Rattle.node_core.specs.Steps.{Step, emptying, new_steps, steps, lines, lines_on, end_numbers}
+use Rattle.node_core.specs.Steps.{AreServed, Met, Step, emptying, end_numbers, failed_lines, first_of, lines, lines_on, met_records, new_steps, steps, ticks_before, ticks_done, ticks_from, ticks_until, ticks_upto}
 use Rattle.node_core.specs.Text.{text, end_text}
+use Rattle.node_run.specs.declared.log.running.Running.{Running}
 use Rattle.node_run.specs.declared.status.Status.{Status}
 use Rattle.node_run.specs.declared.status.Status.TheVariants as status
-use Rattle.node_run.specs.Ran.{Reported, reported, Tells, AtEnd, AtFirst, due_lines, due_numbers, end_sent, Settled, Begun, Upto, Ran, HasRun, names_of, steps_of, whole_text, status_of}
-use Rattle.node_run.specs.Taken.{IsOfTaken}
-use Rattle.node_run.specs.Streamed.{IsReported, IsStreamed, records_of_front}
-use Rattle.node_run.specs.Goes.{Broke, Runs, State, report_of}
-use Rattle.node_run.specs.Hears.{CutShort, HasEnded, step_text, last_text, run_voice}
+use Rattle.node_run.specs.Failures.{AreFailures, Failures}
+use Rattle.node_run.specs.HasRun.{HasRun}
+use Rattle.node_run.specs.Ran.{Reported, reported, Tells, AtEnd, AtFirst, due_lines, due_numbers, end_sent, Failed, FailedBefore, Settled, Begun, Upto, Ran, names_of, whole_text, status_of}
+use Rattle.node_run.specs.Taken.{AreOfBytes, IsOfTaken}
+use Rattle.node_run.specs.Streamed.{IsReported, IsStreamed, ReportsBytes}
+use Rattle.node_run.specs.Goes.{Broke, Runs, State, report_of, state_in}
+use Rattle.node_run.specs.Hears.{CutShort, HasEnded, run_voice}
+use Rattle.node_run.specs.Listens.{HasBrokenOff, HasEndedBehind, HasHeardAll, IsCutShort, IsOver, Views, failed_since}
+use Rattle.node_run.specs.ValueLines.{flow}
+use Rattle.node_run.proofs.Fails.{before_all, before_more}
 use Rattle.node_run.proofs.Goes.{broke_grow, broke_none, first_emptied}
-use Rattle.node_run.proofs.Steps.{lines_newer, steps_newer}
+use Rattle.node_run.proofs.Steps.{first_steps, lines_newer}
 use Rattle.node_run.proofs.Tells.{text_append}
+
+-- What the tree did in each step is what it may do.
+
+served_ticks : (told : Option Files) (plan : Plan) (first number n : ℕ) (past : List Step) → AreServed told plan past → AreServed told plan (ticks_from first number n ++ past)
+served_ticks told plan first number zero past h = h
+served_ticks told plan first number (suc n) past h = (tt, served_ticks told plan first number n past h)
+
+served_before : (told : Option Files) (plan : Plan) (rec : Record) (log : List Record) (past : List Step) → AreServed told plan past → AreServed told plan (ticks_before plan rec log ++ past)
+served_before told plan rec log past h = go plan.silent
+  where
+    go : (silent : Bool) → AreServed told plan ((if silent then [] else ticks_upto (first_of rec log) (ticks_done log) rec.moment) ++ past)
+    go true = h
+    go false = served_ticks told plan (first_of rec log) (ticks_done log) (ticks_until (first_of rec log) rec.moment - ticks_done log) past h
+
+pub are_served : (told : Option Files) (plan : Plan) (mets : List Met) → MayCome (run_voice told plan) mets → AreServed told plan (steps plan mets)
+are_served told plan [] may = tt
+are_served told plan (m ∷ past) may = (may.0, served_before told plan m.rec (met_records past) (steps plan past) (are_served told plan past may.1))
 
 -- The text.
 
-said_text : (plan : Plan) (past : List Record) → said (run_voice plan) past ≡ text plan.buses (lines plan (steps plan past))
-said_text plan [] = refl
-said_text plan (r ∷ past) =
-    ap (λ t. t ++ text plan.buses (lines_on plan r past)) (said_text plan past)
-    ∙ (sym (text_append plan.buses (lines plan (steps plan past)) (lines_on plan r past)) ∙ ap (text plan.buses) (sym (lines_newer plan (new_steps plan r past) (steps plan past))))
+said_text : (told : Option Files) (plan : Plan) (past : List Met) → said (run_voice told plan) past ≡ text plan.buses (lines plan (steps plan past))
+said_text told plan [] = refl
+said_text told plan (m ∷ past) =
+    ap (λ t. t ++ text plan.buses (lines_on plan m past)) (said_text told plan past)
+    ∙ (sym (text_append plan.buses (lines plan (steps plan past)) (lines_on plan m past)) ∙ ap (text plan.buses) (sym (lines_newer plan (new_steps plan m past) (steps plan past))))
 
-whole_said : (plan : Plan) (past : List Record) (refusal : Option LogError) → said (run_voice plan) past ++ last_said (run_voice plan) past refusal ≡ whole_text plan (steps plan past) refusal
-whole_said plan past None =
+whole_said : (told : Option Files) (plan : Plan) (past : List Met) (refusal : Option LogError) → all_said (run_voice told plan) past refusal ≡ whole_text plan (steps plan past) refusal
+whole_said told plan past None =
     let all = steps plan past in
     let last = end_text (end_numbers plan all) in
-    ap (λ t. t ++ (text plan.buses (emptying plan all) ++ last)) (said_text plan past)
+    ap (λ t. t ++ (text plan.buses (emptying plan all) ++ last)) (said_text told plan past)
     ∙ (sym (append_assoc (text plan.buses (lines plan all)) (text plan.buses (emptying plan all)) last)
     ∙ ap (λ t. t ++ last) (sym (text_append plan.buses (lines plan all) (emptying plan all))))
-whole_said plan past (Some e) = ap (λ t. t ++ []) (said_text plan past)
+whole_said told plan past (Some e) = ap (λ t. t ++ []) (said_text told plan past)
 
-whole_same : (plan : Plan) (log : Log) → all_said (run_voice plan) log ≡ whole_text plan (steps_of plan log) log.refusal
-whole_same plan log = whole_said plan (newest_first log) log.refusal
+-- What a run has reported, and in which requests the tree failed, at each of its stages.
+pub record AreRuns (plan : Plan) (before : Option (List Line)) (s : State) (sent : ℕ) (f : Failures) (stages : Stages Met) : Type 0 where
+  pub heard : (past : List Met) → stages.heard past → Runs plan before s (steps plan past) × AreFailures (failed_lines (steps plan past)) f
+  pub ended : (past : List Met) → stages.ended past → HasEnded plan (report_of before s) sent past × AreFailures (failed_lines (steps plan past)) f
+  pub broke : (past : List Met) → stages.broke past → Broke plan (report_of before s) (steps plan past) × FailedBefore (steps plan past) f
+  pub cut : (past : List Met) → stages.cut_short past → CutShort plan (report_of before s) past × AreFailures (failed_lines (steps plan past)) f
+
+abbrev pub stages_of : {K T : Type 0} → Views K T → Running K T → Running K T → Stages Met
+stages_of v first now = record { heard = HasHeardAll v first now; ended = HasEndedBehind v first now; broke = HasBrokenOff v first now; cut_short = IsCutShort v first now }
+
+pub are_runs : {K T : Type 0} (v : Views K T) (first now : Running K T) → AreRuns first.node.now.plan (v.lines first.lines.now) (state_in v.lines now) now.sent (failed_since v first now) (stages_of v first now)
+are_runs v first now = record {
+  heard = λ past h. (h.hears.runs, h.failed);
+  ended = λ past h. (h.ended, h.failed);
+  broke = λ past h. (h.broke, h.failed);
+  cut = λ past h. (h.cut, h.failed);
+}
 
 -- A whole run.
 
--- the steps over the first records of a log are its first steps
-pub first_of_log : (plan : Plan) (came left : List Record) (log : Log) (r : Reported) → log.records ≡ reverse_aux came left → Broke plan r (steps plan came) → AtFirst plan (steps_of plan log) log.refusal r
-first_of_log plan came left log r e b =
-    let n = steps_newer plan came left in
-    let all : newest_first log ≡ reverse_aux left came = ap (λ t. reverse_aux t []) e ∙ newest_onto came left in
-    subst (λ (ss : List Step). AtFirst plan ss log.refusal r) (sym (ap (steps plan) all ∙ n.1)) ((broke_grow plan n.0 (steps plan came) r b).first log.refusal)
-
 -- a run whose loop over its log ended so, where so many frames were sent in all
-module _ (plan : Plan) (before : Option (List Line)) (s : State) (sent : ℕ) (heard ended broke cut : List Record → Type 0) (h : (past : List Record) → heard past → Runs plan before s (steps plan past)) (e : (past : List Record) → ended past → HasEnded plan (report_of before s) sent past)
-    (b : (past : List Record) → broke past → Broke plan (report_of before s) (steps plan past)) (c : (past : List Record) → cut past → CutShort plan (report_of before s) past) where
+module _ (told : Option Files) (plan : Plan) (before : Option (List Line)) (s : State) (sent : ℕ) (f : Failures) (stages : Stages Met) (runs : AreRuns plan before s sent f stages) where
   abbrev steps_report : Reported
   steps_report = report_of before s
 
   abbrev end_report : Reported
   end_report = reported before s.told (end_sent end.Ok s.numbers sent)
 
-  at_end : (past : List Record) → ended past → AtEnd plan (steps plan past) end_report
+  at_end : (past : List Met) → stages.ended past → AtEnd plan (steps plan past) end_report
   at_end past k =
-      let x = e past k in record {
+      let x = (runs.ended past k).0 in record {
         reported = x.at.reported;
         counted = ap₂ (λ (n : Numbers) m. record n { sent = m }) x.at.counted x.sent_is;
       }
 
-  settled : (log : Log) (refusal : Option LogError) (r : Reported) (done : List Record → Type 0) (before_text after : Option (List ℕ)) → ((past : List Record) → done past → Tells (due_lines plan (steps plan past) refusal) (due_numbers plan (steps plan past) refusal) r)
-      → log.refusal ≡ refusal → HeardAll (run_voice plan) done log before_text after → Settled plan (steps_of plan log) log.refusal r before_text after
-  settled log refusal r done before_text after at is x = record {
-    at = subst (λ (y : Option LogError). Tells (due_lines plan (steps_of plan log) y) (due_numbers plan (steps_of plan log) y) r) (sym is) (at (newest_first log) x.hears);
-    written = x.written ∙ ap (behind before_text) (whole_same plan log);
+  settled : (events : List Met) (is refusal : Option LogError) (r : Reported) (done : List Met → Type 0) (before_text after : Option (List ℕ)) → ((past : List Met) → done past → Tells (due_lines plan (steps plan past) is) (due_numbers plan (steps plan past) is) r)
+      → refusal ≡ is → HeardAll (run_voice told plan) done events refusal before_text after → Settled plan (steps plan events) refusal r before_text after
+  settled events is refusal r done before_text after at e x = record {
+    at = subst (λ (y : Option LogError). Tells (due_lines plan (steps plan events) y) (due_numbers plan (steps plan events) y) r) (sym e) (at events x.hears);
+    written = x.written ∙ ap (behind before_text) (whole_said told plan events refusal);
   }
 
-  upto : (log : Log) (before_text after : Option (List ℕ)) → HeardUpto (run_voice plan) heard log before_text after → Upto plan log steps_report before_text after
-  upto log before_text after u = record {
-    came = u.came;
-    left = u.left;
-    parts = u.parts;
-    settled = record { at = (h u.came u.hears).at; written = u.written ∙ ap (behind before_text) (said_text plan u.came ∙ sym (append-nil (text plan.buses (lines plan (steps plan u.came))))) };
+  -- exactly these records are reported and written, whatever came behind them
+  settled_upto : (past : List Met) (before_text after : Option (List ℕ)) → stages.heard past → after ≡ behind before_text (said (run_voice told plan) past) → Settled plan (steps plan past) (Some error.Failed) steps_report before_text after
+  settled_upto past before_text after k w = record {
+    at = (runs.heard past k).0.at;
+    written = w ∙ ap (behind before_text) (said_text told plan past ∙ sym (append-nil (text plan.buses (lines plan (steps plan past)))));
   }
 
-  begun : (log : Log) (done : List Record → Type 0) (before_text after : Option (List ℕ)) → ((past : List Record) → done past → Broke plan steps_report (steps plan past)) → HeardFirst (run_voice plan) done log before_text after
-      → Begun plan (steps_of plan log) log.refusal steps_report before_text after
-  begun log done before_text after f x = record {
-    first = first_of_log plan x.came x.left log steps_report x.parts (f x.came x.is);
-    written = subst (λ t. Begins t before_text after) (whole_same plan log) x.written;
-  }
+  upto : (events : List Met) (before_text after : Option (List ℕ)) → HeardUpto (run_voice told plan) stages.heard events before_text after → Upto plan events steps_report before_text after
+  upto events before_text after u = record { came = u.came; first = u.first; settled = settled_upto u.came before_text after u.hears u.written }
 
-  begun_whole : (log : Log) (done : List Record → Type 0) (before_text after : Option (List ℕ)) → ((past : List Record) → done past → AtFirst plan (steps plan past) None steps_report) → HeardWhole (run_voice plan) done log before_text after
-      → Begun plan (steps_of plan log) log.refusal steps_report before_text after
-  begun_whole log done before_text after f x =
-      let y = x.begun in
-      let all : newest_first log ≡ y.came = ap (λ t. reverse_aux t []) y.parts ∙ (newest_onto y.came y.left ∙ ap (λ t. reverse_aux t y.came) x.all) in record {
-        first = subst (λ (p : List Record). AtFirst plan (steps plan p) log.refusal steps_report) (sym all) (subst (λ (z : Option LogError). AtFirst plan (steps plan y.came) z steps_report) (sym x.read) (f y.came y.is));
-        written = subst (λ t. Begins t before_text after) (whole_same plan log) y.written;
+  begun : (events : List Met) (refusal : Option LogError) (done : List Met → Type 0) (before_text after : Option (List ℕ)) → ((past : List Met) → done past → Broke plan steps_report (steps plan past)) → HeardFirst (run_voice told plan) done events refusal before_text after
+      → Begun plan (steps plan events) refusal steps_report before_text after
+  begun events refusal done before_text after g x =
+      let n = first_steps plan events x.came x.first in record {
+        first = subst (λ (ss : List Step). AtFirst plan ss refusal steps_report) (sym n.parts) ((broke_grow plan n.newer (steps plan x.came) steps_report (g x.came x.is)).first refusal);
+        written = subst (λ t. Begins t before_text after) (whole_said told plan events refusal) x.written;
       }
 
-  clean : (past : List Record) → heard past → Broke plan steps_report (steps plan past)
-  clean past k = broke_none plan before [] (steps plan past) s s (h past k) refl refl
+  begun_whole : (events : List Met) (refusal : Option LogError) (done : List Met → Type 0) (before_text after : Option (List ℕ)) → ((past : List Met) → done past → AtFirst plan (steps plan past) None steps_report) → HeardWhole (run_voice told plan) done events refusal before_text after
+      → Begun plan (steps plan events) refusal steps_report before_text after
+  begun_whole events refusal done before_text after g x = record {
+    first = subst (λ (z : Option LogError). AtFirst plan (steps plan events) z steps_report) (sym x.read) (g events x.is);
+    written = subst (λ t. Begins t before_text after) (whole_said told plan events refusal) x.written;
+  }
 
-  emptied : (past : List Record) → ended past → AtFirst plan (steps plan past) None steps_report
-  emptied past k = first_emptied plan (steps plan past) steps_report (e past k).at
+  clean : (past : List Met) → stages.heard past → Broke plan steps_report (steps plan past)
+  clean past k = broke_none plan before [] (steps plan past) s s (runs.heard past k).0 refl refl
 
-  ran : (log : Log) (how : Ended) (before_text after : Option (List ℕ)) → Gone (run_voice plan) heard ended broke cut log how before_text after → Ran plan log (status_of how) (reported before s.told (end_sent how s.numbers sent)) before_text after
-  ran log end.Ok before_text after g = (g.0, settled log None end_report ended before_text after at_end g.0 g.1)
-  ran log (end.Log line why) before_text after g = (g.0, settled log (Some _) steps_report heard before_text after (λ past k. (h past k).at) g.0 g.1)
-  ran log end.LogLong before_text after g = (g.0, settled log (Some _) steps_report heard before_text after (λ past k. (h past k).at) g.0 g.1)
-  ran log end.ReadFault before_text after g = upto log before_text after g
-  ran log end.WriteFault before_text after g = elim g [
-    | inl x ↦ begun log heard before_text after clean x
-    | inr x ↦ begun_whole log ended before_text after emptied x
+  emptied : (past : List Met) → stages.ended past → AtFirst plan (steps plan past) None steps_report
+  emptied past k = first_emptied plan (steps plan past) steps_report (runs.ended past k).0.at
+
+  ran : (events : List Met) (refusal : Option LogError) (how : Ended) (before_text after : Option (List ℕ)) → Gone (run_voice told plan) stages events refusal how before_text after
+      → Ran plan events refusal (status_of how) (reported before s.told (end_sent how s.numbers sent)) before_text after
+  ran events refusal end.Ok before_text after g = (g.0, settled events None refusal end_report stages.ended before_text after at_end g.0 g.1)
+  ran events refusal (end.Log line why) before_text after g = (g.0, settled events (Some _) refusal steps_report stages.heard before_text after (λ past k. (runs.heard past k).0.at) g.0 g.1)
+  ran events refusal end.LogLong before_text after g = (g.0, settled events (Some _) refusal steps_report stages.heard before_text after (λ past k. (runs.heard past k).0.at) g.0 g.1)
+  ran events refusal end.ReadFault before_text after g = upto events before_text after g
+  ran events refusal end.WriteFault before_text after g = elim g [
+    | inl x ↦ begun events refusal stages.heard before_text after clean x
+    | inr x ↦ begun_whole events refusal stages.ended before_text after emptied x
   ]
-  ran log end.NoMemory before_text after g = elim g [
-    | inl x ↦ begun log broke before_text after b x
-    | inr x ↦ begun_whole log cut before_text after (λ past k. (c past k).first) x
+  ran events refusal end.NoMemory before_text after g = elim g [
+    | inl x ↦ begun events refusal stages.broke before_text after (λ past k. (runs.broke past k).0) x
+    | inr x ↦ begun_whole events refusal stages.cut_short before_text after (λ past k. (runs.cut past k).0.first) x
   ]
 
-  has_run : (told : Option (List ℕ)) (how : Ended) (before_text after : Option (List ℕ)) → HasGone (run_voice plan) heard ended broke cut told how before_text after → HasRun plan told (status_of how) (reported before s.told (end_sent how s.numbers sent)) before_text after
-  has_run told how before_text after g = record { bytes = g.bytes; is = g.is; ran = ran (log_of (names_of plan) g.bytes) how before_text after g.gone }
+  fails : (events : List Met) (refusal : Option LogError) (how : Ended) (before_text after : Option (List ℕ)) → Gone (run_voice told plan) stages events refusal how before_text after → Failed plan events (status_of how) f
+  fails events refusal end.Ok before_text after g = (runs.ended events g.1.hears).1
+  fails events refusal (end.Log line why) before_text after g = (runs.heard events g.1.hears).1
+  fails events refusal end.LogLong before_text after g = (runs.heard events g.1.hears).1
+  fails events refusal end.ReadFault before_text after g = record { came = g.came; first = g.first; are = (runs.heard g.came g.hears).1 }
+  fails events refusal end.WriteFault before_text after g = elim g [
+    | inl x ↦ record { came = x.came; first = x.first; are = (runs.heard x.came x.is).1 }
+    | inr x ↦ record { came = events; first = record { newer = []; parts = refl }; are = (runs.ended events x.is).1 }
+  ]
+  fails events refusal end.NoMemory before_text after g = elim g [
+    | inl x ↦ before_more (steps plan events) (steps plan x.came) f (first_steps plan events x.came x.first) (runs.broke x.came x.is).1
+    | inr x ↦ before_all (steps plan events) f (runs.cut events x.is).1
+  ]
 
-  has_taken : (left new before_text after : Option (List ℕ)) → HeardTaken (run_voice plan) heard left new before_text after → IsOfTaken plan left new steps_report before_text after
-  has_taken left new before_text after t =
-      let past = whole_records (names_of plan) t.taken in record {
-        taken = t.taken;
-        took = t.took;
-        settled = record { at = (h past t.hears).at; written = t.written ∙ ap (behind before_text) (said_text plan past ∙ sym (append-nil (text plan.buses (lines plan (steps plan past))))) };
-      }
+  has_taken : (events : List Met) (left new before_text after : Option (List ℕ)) → HeardTaken (names_of plan) (run_voice told plan) stages.heard events left new before_text after → IsOfTaken plan events (flow left new before_text after) steps_report
+  has_taken events left new before_text after t = record {
+    taken = t.taken;
+    took = t.took;
+    came = t.came;
+    are = record { first = t.are.first; records_are = t.are.records_are };
+    settled = settled_upto t.came before_text after t.hears t.written;
+  }
 
-  is_reported : (past : List Record) → HeardOrEnded heard ended past → IsReported plan (steps plan past) steps_report
+  is_reported : (past : List Met) → HeardOrEnded stages past → IsReported plan (steps plan past) steps_report
   is_reported past k = elim k [
-    | inl x ↦ inl (h past x).at
-    | inr x ↦ inr (inr (e past x).at)
+    | inl x ↦ inl (runs.heard past x).0.at
+    | inr x ↦ inr (inr (runs.ended past x).0.at)
   ]
 
-  has_streamed : (left new : Option (List ℕ)) (how : Ended) (before_text after : Option (List ℕ)) → HeardStreamed (run_voice plan) heard ended left new how before_text after → IsStreamed plan left new (status_of how) (reported before s.told (end_sent how s.numbers sent)) before_text after
-  has_streamed left new how before_text after x = record {
+  -- of a loop that the log's end or a fault ended, what was heard is reported
+  reports : (events : List Met) (front : List ℕ) → HearsBytes (names_of plan) (run_voice told plan) stages events front → ReportsBytes plan events steps_report front
+  reports events front k = record {
+    came = k.came;
+    are = record { first = k.are.first; records_are = k.are.records_are };
+    newer = k.hears.newer;
+    first = k.hears.first;
+    reported = is_reported (k.hears.newer ++ k.came) k.hears.hears;
+  }
+
+  reports_end : (events : List Met) (front : List ℕ) → stages.ended events → HearsBytes (names_of plan) (run_voice told plan) stages events front → ReportsBytes plan events end_report front
+  reports_end events front e k =
+      let n = k.are.first in record {
+        came = k.came;
+        are = record { first = n; records_are = k.are.records_are };
+        newer = n.newer;
+        first = record { newer = []; parts = n.parts };
+        reported = subst (λ (all : List Met). IsReported plan (steps plan all) end_report) n.parts (inr (inl (at_end events e)));
+      }
+
+  has_streamed : (events : List Met) (refusal : Option LogError) (left new : Option (List ℕ)) (how : Ended) (before_text after : Option (List ℕ)) → Gone (run_voice told plan) stages events refusal how before_text after
+      → HeardStreamed (names_of plan) (run_voice told plan) stages events left new how before_text after → IsStreamed plan events (flow left new before_text after) (status_of how) (reported before s.told (end_sent how s.numbers sent))
+  has_streamed events refusal left new how before_text after g x = record {
     taken = x.taken;
     took = x.took;
-    written = λ front more same long. subst (λ t. HasWritten t before_text after) (said_text plan (records_of_front plan front)) (x.written front more same long);
-    reported = λ n front more same long. told how n x front more same long;
+    written = λ front more same long.
+        let w = x.written front more same long in record {
+          came = w.came;
+          are = record { first = w.are.first; records_are = w.are.records_are };
+          written = subst (λ t. HasWritten t before_text after) (said_text told plan w.came) w.written;
+        };
+    reported = λ n front more same long. by how n g x front more same long;
   }
     where
       -- all of this, by how it ended
-      told : (how : Ended) → (status_of how ≡ status.NoMemory → ⊥) → (y : HeardStreamed (run_voice plan) heard ended left new how before_text after) → (front more : List ℕ) → y.taken ≡ front ++ more → 8192 < length more
-          → (newer : List Record) × IsReported plan (steps plan (reverse_aux newer (records_of_front plan front))) (reported before s.told (end_sent how s.numbers sent))
-      told end.Ok n y front more same long = let k = y.ends refl front more same long in (k.0, inr (inl (at_end (reverse_aux k.0 (records_of_front plan front)) k.1)))
-      told (end.Log line why) n y front more same long = let k = y.hears (λ o. cc) front more same long in (k.0, is_reported (reverse_aux k.0 (records_of_front plan front)) k.1)
-      told end.LogLong n y front more same long = let k = y.hears (λ o. cc) front more same long in (k.0, is_reported (reverse_aux k.0 (records_of_front plan front)) k.1)
-      told end.ReadFault n y front more same long = let k = y.hears (λ o. cc) front more same long in (k.0, is_reported (reverse_aux k.0 (records_of_front plan front)) k.1)
-      told end.WriteFault n y front more same long = let k = y.hears (λ o. cc) front more same long in (k.0, is_reported (reverse_aux k.0 (records_of_front plan front)) k.1)
-      told end.NoMemory n y front more same long = absurd (n refl)
+      by : (how : Ended) → (status_of how ≡ status.NoMemory → ⊥) → Gone (run_voice told plan) stages events refusal how before_text after → (y : HeardStreamed (names_of plan) (run_voice told plan) stages events left new how before_text after)
+          → (front more : List ℕ) → y.taken ≡ front ++ more → 8192 < length more → ReportsBytes plan events (reported before s.told (end_sent how s.numbers sent)) front
+      by end.Ok n e y front more same long = reports_end events front e.1.hears (y.hears (λ o. cc) front more same long)
+      by (end.Log line why) n e y front more same long = reports events front (y.hears (λ o. cc) front more same long)
+      by end.LogLong n e y front more same long = reports events front (y.hears (λ o. cc) front more same long)
+      by end.ReadFault n e y front more same long = reports events front (y.hears (λ o. cc) front more same long)
+      by end.WriteFault n e y front more same long = reports events front (y.hears (λ o. cc) front more same long)
+      by end.NoMemory n e y front more same long = absurd (n refl)
+
+  has_run : (left new : Option (List ℕ)) (how : Ended) (before_text after : Option (List ℕ)) → HasListened (names_of plan) (run_voice told plan) stages left new how before_text after
+      → HasRun plan told (flow left new before_text after) (status_of how) (reported before s.told (end_sent how s.numbers sent)) f
+  has_run left new how before_text after g = record {
+    bytes = g.bytes;
+    is = g.is;
+    mets = g.events;
+    of_log = g.of_log.records_are;
+    served = are_served told plan g.events g.of_log.may;
+    ran = ran g.events (log_of (names_of plan) g.bytes).refusal how before_text after g.gone;
+    failed = fails g.events (log_of (names_of plan) g.bytes).refusal how before_text after g.gone;
+    taken = taken_by how g.taken;
+    streamed = has_streamed g.events (log_of (names_of plan) g.bytes).refusal left new how before_text after g.gone g.streamed;
+  }
+    where
+      taken_by : (how : Ended) → (how ≡ end.ReadFault → HeardTaken (names_of plan) (run_voice told plan) stages.heard g.events left new before_text after) → status_of how ≡ status.ReadFault
+          → IsOfTaken plan g.events (flow left new before_text after) (reported before s.told (end_sent how s.numbers sent))
+      taken_by end.Ok t e = absurd cc
+      taken_by (end.Log line why) t e = absurd cc
+      taken_by end.LogLong t e = absurd cc
+      taken_by end.ReadFault t e = has_taken g.events left new before_text after (t refl)
+      taken_by end.WriteFault t e = absurd cc
+      taken_by end.NoMemory t e = absurd cc
+
+-- The same for a node that was opened by the plan, and what was reported in the end.
+pub run_gone : (told : Option Files) (plan of_node : Plan) → of_node ≡ plan → (names : List (List ℕ)) → names ≡ names_of plan → (before : Option (List Line)) (s : State) (sent : ℕ) (f : Failures) (stages : Stages Met) → AreRuns of_node before s sent f stages
+    → (left new before_text after : Option (List ℕ)) (how : Ended) → HasListened names (run_voice told of_node) stages left new how before_text after → (stat : Status) → stat ≡ status_of how → (r : Reported) → r ≡ reported before s.told (end_sent how s.numbers sent) → (g : Failures) → g ≡ f
+    → HasRun plan told (flow left new before_text after) stat r g
+run_gone told plan of_node same names named before s sent f stages runs left new before_text after how h stat by r is g are =
+    let there : HasRun of_node told (flow left new before_text after) (status_of how) (reported before s.told (end_sent how s.numbers sent)) f =
+    has_run told of_node before s sent f stages runs left new how before_text after
+    (subst (λ (t : List (List ℕ)). HasListened t (run_voice told of_node) stages left new how before_text after) (named ∙ ap names_of (sym same)) h) in
+    subst (λ (x : Failures). HasRun plan told (flow left new before_text after) stat r x) (sym are)
+    (subst (λ (x : Reported). HasRun plan told (flow left new before_text after) stat x f) (sym is)
+    (subst (λ (x : Status). HasRun plan told (flow left new before_text after) x (reported before s.told (end_sent how s.numbers sent)) f) (sym by)
+    (subst (λ (p : Plan). HasRun p told (flow left new before_text after) (status_of how) (reported before s.told (end_sent how s.numbers sent)) f) same there)))
 
 -- what holds of the records that were heard, or broken off on, whichever they are
-of_gone : (P : Type 0) (v : Voice) (heard ended broke cut : List Record → Type 0) (log : Log) (how : Ended) (before after : Option (List ℕ)) → ((past : List Record) → heard past → P) → ((past : List Record) → ended past → P) → ((past : List Record) → broke past → P) → ((past : List Record) → cut past → P)
-    → Gone v heard ended broke cut log how before after → P
-of_gone P v heard ended broke cut log end.Ok before after h e b c g = e _ g.1.hears
-of_gone P v heard ended broke cut log (end.Log line why) before after h e b c g = h _ g.1.hears
-of_gone P v heard ended broke cut log end.LogLong before after h e b c g = h _ g.1.hears
-of_gone P v heard ended broke cut log end.ReadFault before after h e b c g = h g.came g.hears
-of_gone P v heard ended broke cut log end.WriteFault before after h e b c g = elim g [ inl x ↦ h x.came x.is | inr x ↦ e x.begun.came x.begun.is ]
-of_gone P v heard ended broke cut log end.NoMemory before after h e b c g = elim g [ inl x ↦ b x.came x.is | inr x ↦ c x.begun.came x.begun.is ]
+pub whichever : (P : Type 0) (names : List (List ℕ)) (v : Voice Met) (stages : Stages Met) (left new before after : Option (List ℕ)) (how : Ended) → ((past : List Met) → stages.heard past → P) → ((past : List Met) → stages.ended past → P) → ((past : List Met) → stages.broke past → P) → ((past : List Met) → stages.cut_short past → P)
+    → HasListened names v stages left new how before after → P
+whichever P names v stages left new before after how h e b c g = of_gone how g.gone
+  where
+    refusal : Option LogError
+    refusal = (log_of names g.bytes).refusal
 
-pub whichever : (P : Type 0) (v : Voice) (heard ended broke cut : List Record → Type 0) (told : Option (List ℕ)) (how : Ended) (before after : Option (List ℕ)) → ((past : List Record) → heard past → P) → ((past : List Record) → ended past → P) → ((past : List Record) → broke past → P) → ((past : List Record) → cut past → P)
-    → HasGone v heard ended broke cut told how before after → P
-whichever P v heard ended broke cut told how before after h e b c g = of_gone P v heard ended broke cut (log_of v.names g.bytes) how before after h e b c g.gone
+    of_gone : (how : Ended) → Gone v stages g.events refusal how before after → P
+    of_gone end.Ok k = e g.events k.1.hears
+    of_gone (end.Log line why) k = h g.events k.1.hears
+    of_gone end.LogLong k = h g.events k.1.hears
+    of_gone end.ReadFault k = h k.came k.hears
+    of_gone end.WriteFault k = elim k [ inl x ↦ h x.came x.is | inr x ↦ e g.events x.is ]
+    of_gone end.NoMemory k = elim k [ inl x ↦ b x.came x.is | inr x ↦ c g.events x.is ]
 
--- The same for a node that was opened by the plan, a sink of lines that ended so, and the numbers of the run.
-module _ (plan of_node : Plan) (same : of_node ≡ plan) (names : List (List ℕ)) (named : names ≡ names_of plan) (before : Option (List Line)) (s : State) (sent : ℕ) (heard ended broke cut : List Record → Type 0) (h : (past : List Record) → heard past → Runs of_node before s (steps of_node past)) (e : (past : List Record) → ended past → HasEnded of_node (report_of before s) sent past)
-    (b : (past : List Record) → broke past → Broke of_node (report_of before s) (steps of_node past)) (c : (past : List Record) → cut past → CutShort of_node (report_of before s) past) (told : Option (List Line)) (is : told ≡ s.told) (n : Numbers) (how : Ended) (counted : n ≡ end_sent how s.numbers sent) (stat : Status) (by : stat ≡ status_of how) where
-  named_so : names ≡ names_of of_node
-  named_so = named ∙ ap names_of (sym same)
+-- whatever it heard, it is over the sink and the tree that it was over
+pub over_all : {K T : Type 0} (v : Views K T) (first now : Running K T) (names : List (List ℕ)) (voice : Voice Met) (left new before after : Option (List ℕ)) (how : Ended) → HasListened names voice (stages_of v first now) left new how before after → IsOver v.files first now
+over_all v first now names voice left new before after how g =
+    whichever (IsOver v.files first now) names voice (stages_of v first now) left new before after how (λ past h. h.over) (λ past h. h.over) (λ past h. h.over) (λ past h. h.over) g
 
-  told_so : reported before told n ≡ reported before s.told (end_sent how s.numbers sent)
-  told_so = ap₂ (reported before) is counted
-
-  pub run_gone : (input before_text after : Option (List ℕ)) → HasGone (voice names (step_text of_node) (last_text of_node)) heard ended broke cut input how before_text after → HasRun plan input stat (reported before told n) before_text after
-  run_gone input before_text after g =
-      subst (λ (r : Reported). HasRun plan input stat r before_text after) (sym told_so)
-      (subst (λ (x : Status). HasRun plan input x (reported before s.told (end_sent how s.numbers sent)) before_text after) (sym by)
-      (subst (λ (p : Plan). HasRun p input (status_of how) (reported before s.told (end_sent how s.numbers sent)) before_text after) same
-      (has_run of_node before s sent heard ended broke cut h e b c input how before_text after
-      (subst (λ (t : List (List ℕ)). HasGone (voice t (step_text of_node) (last_text of_node)) heard ended broke cut input how before_text after) named_so g))))
-
-  pub run_taken : (left new before_text after : Option (List ℕ)) → how ≡ end.ReadFault → HeardTaken (voice names (step_text of_node) (last_text of_node)) heard left new before_text after → IsOfTaken plan left new (reported before told n) before_text after
-  run_taken left new before_text after fault t =
-      subst (λ (r : Reported). IsOfTaken plan left new r before_text after) (sym (told_so ∙ ap (λ (x : Ended). reported before s.told (end_sent x s.numbers sent)) fault))
-      (subst (λ (p : Plan). IsOfTaken p left new (report_of before s) before_text after) same
-      (has_taken of_node before s sent heard ended broke cut h e b c left new before_text after
-      (subst (λ (x : List (List ℕ)). HeardTaken (voice x (step_text of_node) (last_text of_node)) heard left new before_text after) named_so t)))
-
-  pub run_streamed : (left new before_text after : Option (List ℕ)) → HeardStreamed (voice names (step_text of_node) (last_text of_node)) heard ended left new how before_text after → IsStreamed plan left new stat (reported before told n) before_text after
-  run_streamed left new before_text after x =
-      subst (λ (r : Reported). IsStreamed plan left new stat r before_text after) (sym told_so)
-      (subst (λ (y : Status). IsStreamed plan left new y (reported before s.told (end_sent how s.numbers sent)) before_text after) (sym by)
-      (subst (λ (p : Plan). IsStreamed p left new (status_of how) (reported before s.told (end_sent how s.numbers sent)) before_text after) same
-      (has_streamed of_node before s sent heard ended broke cut h e b c left new how before_text after
-      (subst (λ (t : List (List ℕ)). HeardStreamed (voice t (step_text of_node) (last_text of_node)) heard ended left new how before_text after) named_so x))))
-
--- what was taken, and how far, of the same run
-pub taken_of : {heard ended broke cut : List Record → Type 0} (plan of_node : Plan) (same : of_node ≡ plan) (names : List (List ℕ)) (named : names ≡ names_of plan) (before : Option (List Line)) (s : State) (sent : ℕ) (told : Option (List Line)) (is : told ≡ s.told) (n : Numbers) (how : Ended) (counted : n ≡ end_sent how s.numbers sent)
-    (left new before_text after : Option (List ℕ)) → HasGone (voice names (step_text of_node) (last_text of_node)) heard ended broke cut left how before_text after → ((past : List Record) → heard past → Runs of_node before s (steps of_node past)) → ((past : List Record) → ended past → HasEnded of_node (report_of before s) sent past)
-    → ((past : List Record) → broke past → Broke of_node (report_of before s) (steps of_node past)) → ((past : List Record) → cut past → CutShort of_node (report_of before s) past) → how ≡ end.ReadFault
-    → HeardTaken (voice names (step_text of_node) (last_text of_node)) heard left new before_text after → IsOfTaken plan left new (reported before told n) before_text after
-taken_of {heard} {ended} {broke} {cut} plan of_node same names named before s sent told is n how counted left new before_text after gone h e b c fault t =
-    run_taken plan of_node same names named before s sent heard ended broke cut h e b c told is n how counted (status_of how) refl left new before_text after fault t
-
-pub streamed_of : {heard ended broke cut : List Record → Type 0} (plan of_node : Plan) (same : of_node ≡ plan) (names : List (List ℕ)) (named : names ≡ names_of plan) (before : Option (List Line)) (s : State) (sent : ℕ) (told : Option (List Line)) (is : told ≡ s.told) (n : Numbers) (how : Ended) (counted : n ≡ end_sent how s.numbers sent) (stat : Status) (by : stat ≡ status_of how)
-    (left new before_text after : Option (List ℕ)) → HasGone (voice names (step_text of_node) (last_text of_node)) heard ended broke cut left how before_text after → ((past : List Record) → heard past → Runs of_node before s (steps of_node past)) → ((past : List Record) → ended past → HasEnded of_node (report_of before s) sent past)
-    → ((past : List Record) → broke past → Broke of_node (report_of before s) (steps of_node past)) → ((past : List Record) → cut past → CutShort of_node (report_of before s) past)
-    → HeardStreamed (voice names (step_text of_node) (last_text of_node)) heard ended left new how before_text after → IsStreamed plan left new stat (reported before told n) before_text after
-streamed_of {heard} {ended} {broke} {cut} plan of_node same names named before s sent told is n how counted stat by left new before_text after gone h e b c x =
-    run_streamed plan of_node same names named before s sent heard ended broke cut h e b c told is n how counted stat by left new before_text after x
-
-pub of_read_fault : (how : Ended) → status_of how ≡ status.ReadFault → how ≡ end.ReadFault
-of_read_fault end.Ok e = absurd cc
-of_read_fault (end.Log line why) e = absurd cc
-of_read_fault end.LogLong e = absurd cc
-of_read_fault end.ReadFault e = refl
-of_read_fault end.WriteFault e = absurd cc
-of_read_fault end.NoMemory e = absurd cc
+-- its bound is the plan's, and it holds no more
+pub bound_all : {K T : Type 0} (v : Views K T) (first now : Running K T) (names : List (List ℕ)) (voice : Voice Met) (left new before after : Option (List ℕ)) (how : Ended) → HasListened names voice (stages_of v first now) left new how before after
+    → (now.tally.numbers.bound ≡ bound_of first.node.now.plan) × (now.tally.numbers.held ≤ bound_of first.node.now.plan)
+bound_all v first now names voice left new before after how g =
+    whichever _ names voice (stages_of v first now) left new before after how (λ past h. (ap (λ (n : Numbers). n.bound) h.hears.runs.at.counted, h.hears.runs.within)) (λ past h. (ap (λ (n : Numbers). n.bound) h.ended.at.counted, h.ended.within))
+    (λ past h. (ap (λ (n : Numbers). n.bound) (h.broke.first (Some error.Failed)).at.counted, h.broke.within)) (λ past h. (ap (λ (n : Numbers). n.bound) h.cut.first.at.counted, h.cut.within)) g
 
 -- The memory bound, and what is held.
 

@@ -1,9 +1,12 @@
 -- A run that heard nothing.
-use Rattle.std.proofs.Common.{◌≡◌, ◌∙◌, ℕ, ◌+◌, ◌*◌, ◌≤◌, Bool, true, false, List, [], ◌∷◌, length, take, Option, refl, sym, ap, subst, append-nil, arith}
+use Rattle.std.proofs.Common.{◌≡◌, ◌∙◌, ℕ, ◌+◌, ◌*◌, ◌≤◌, Bool, true, false, List, [], ◌∷◌, length, take, Option, refl, sym, ap, ap₂, subst, append-nil, arith}
 use Rattle.std.proofs.lemmas.Grind.{common_steps}
 use Rattle.std.specs.Prelude.{if◌then◌else◌, unwrap_or}
 use Rattle.rx_table.specs.Ports.{Port, held}
+use Rattle.cy_outside.specs.Files.{Files}
+use Rattle.tail_frame.specs.declared.logged.Record.{Record}
 use Rattle.frame_log.specs.Log.{log_of}
+use Rattle.log_loop.specs.Voice.{MayCome}
 use Rattle.log_loop.proofs.Runs.{told_none}
 use Rattle.log_loop.proofs.Written.{begins_none}
 use Rattle.node_plan.specs.Bound.{bound_of}
@@ -13,16 +16,24 @@ use Rattle.node_core.specs.Heard.{ports_of}
 use Rattle.node_core.specs.Keeps.{keeps}
 use Rattle.node_core.specs.Queues.{waiting}
 use Rattle.node_core.specs.Stands.{Stands}
-use Rattle.node_core.specs.Steps.{Step, held_at, kept}
+use Rattle.node_core.specs.Steps.{Met, Step, held_at, kept, met_records, steps}
 use Rattle.node_core.proofs.Queues.{nothing_waits}
+use Rattle.node_core.proofs.Served.{something_served}
+use Rattle.node_run.specs.Listens.{some_met}
 use Rattle.node_plan.specs.IsPlan.{IsPlan}
 use Rattle.node_run.specs.declared.log.clock.Clock.{Clock}
 use Rattle.node_run.specs.Goes.{State, report_of}
-use Rattle.node_run.specs.Hears.{Hears, next_of, ticks_of}
+use Rattle.node_run.specs.Hears.{Hears, next_of, run_voice, ticks_of}
 use Rattle.node_run.proofs.Waits.{none_rounds}
 use Rattle.node_run.specs.declared.status.Status.TheVariants as status
-use Rattle.node_run.specs.Ran.{names_of, steps_of, reported, no_numbers, At, AtFirst, HasRun, whole_text}
+use Rattle.node_run.specs.Failures.{failures}
+use Rattle.node_run.specs.HasRun.{HasRun}
+use Rattle.node_run.specs.Ran.{names_of, newest_first, reported, no_numbers, At, AtFirst, whole_text}
+use Rattle.node_run.specs.ValueLines.{flow}
+use Rattle.node_run.proofs.Fails.{before_some, failed_none}
 use Rattle.node_run.proofs.Goes.{first_none}
+use Rattle.node_run.proofs.Runs.{are_served}
+use Rattle.node_run.proofs.Streams.{streamed_none}
 use Rattle.node_run.proofs.Tells.{put_none}
 
 take_none : (n : ℕ) → take {A = ℕ} n [] ≡ []
@@ -43,18 +54,43 @@ at_none plan lines held bound h b = record {
   counted = λ i. record { records = 0; delivered = 0; badcrc = 0; nosession = 0; sent = 0; held = h i; bound = b i };
 }
 
+-- records of a log, each with something that the tree may tell for it
+pub record SomeMet (told : Option Files) (plan : Plan) (log : List Record) : Type 0 where
+  pub mets : List Met
+  pub are : met_records mets ≡ log
+  pub may : MayCome (run_voice told plan) mets
+
+pub some_mets : (told : Option Files) (plan : Plan) (log : List Record) → SomeMet told plan log
+some_mets told plan [] = record { mets = []; are = refl; may = tt }
+some_mets told plan (rec ∷ log) =
+    let past = some_mets told plan log in
+    let next = some_met something_served told plan rec past.mets in record {
+      mets = next.event ∷ past.mets;
+      are = ap₂ (λ (r : Record) (rs : List Record). r ∷ rs) next.of past.are;
+      may = (next.may, past.may);
+    }
+
 -- memory was wanting before the first record
-pub has_none : (plan : Plan) (told : Option (List ℕ)) (lines : Option (List Line)) (bound : ℕ) (before : Option (List ℕ)) → bound ≡ bound_of plan
-    → HasRun plan told status.NoMemory (reported lines lines (record no_numbers { bound = bound })) before before
-has_none plan told lines bound before b =
-    let log = log_of (names_of plan) (unwrap_or told []) in
-    let all = steps_of plan log in record {
-      bytes = unwrap_or told [];
-      is = told_none told;
+pub has_none : (told : Option Files) (plan : Plan) (left : Option (List ℕ)) (lines : Option (List Line)) (bound : ℕ) (before : Option (List ℕ)) (failed : Option (List ℕ)) (faults : ℕ) → bound ≡ bound_of plan
+    → HasRun plan told (flow left left before before) status.NoMemory (reported lines lines (record no_numbers { bound = bound })) (failures failed failed faults faults)
+has_none told plan left lines bound before failed faults b =
+    let log = log_of (names_of plan) (unwrap_or left []) in
+    let some = some_mets told plan (newest_first log) in
+    let all = steps plan some.mets in
+    let r = reported lines lines (record no_numbers { bound = bound }) in
+    let f = failures failed failed faults faults in record {
+      bytes = unwrap_or left [];
+      is = told_none left;
+      mets = some.mets;
+      of_log = some.are;
+      served = are_served told plan some.mets some.may;
       ran = record {
-        first = subst (λ (ss : List Step). AtFirst plan ss log.refusal (reported lines lines (record no_numbers { bound = bound }))) (append-nil all) (first_none plan all [] log.refusal (reported lines lines (record no_numbers { bound = bound })) (at_none plan lines 0 bound (sym (held_none plan)) b));
+        first = subst (λ (ss : List Step). AtFirst plan ss log.refusal r) (append-nil all) (first_none plan all [] log.refusal r (at_none plan lines 0 bound (sym (held_none plan)) b));
         written = begins_none (whole_text plan all log.refusal) before;
       };
+      failed = before_some all [] all f (sym (append-nil all)) (failed_none failed faults).tells;
+      taken = λ e. absurd cc;
+      streamed = streamed_none plan some.mets left before status.NoMemory r;
     }
 
 no_ticks : (plan : Plan) → ticks_of plan [] ≡ 0

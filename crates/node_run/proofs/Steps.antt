@@ -1,12 +1,11 @@
 -- The steps over the records of a log, and their lines.
-use Rattle.std.proofs.Common.{◌≡◌, ◌∙◌, ℕ, zero, suc, ◌+◌, ◌*◌, List, [], ◌∷◌, ◌++◌, refl, sym, ap, ap₂, add-one, length-append, append-nil, append_assoc, arith}
+use Rattle.std.proofs.Common.{◌≡◌, ◌∙◌, ℕ, zero, suc, ◌+◌, ◌*◌, List, [], ◌∷◌, ◌++◌, refl, sym, ap, ap₂, add-one, length-append, subst, append-nil, append_assoc, arith}
 use Rattle.std.specs.Prelude.{length}
-use mathlib.Core.List.{reverse_aux}
-use Rattle.tail_frame.specs.declared.logged.Record.{Record}
+use Rattle.log_loop.specs.Gone.{FirstOf}
 use Rattle.node_plan.specs.declared.plan.Plan.{Plan}
 use Rattle.node_core.specs.declared.line.Line.{Line}
 use Rattle.node_core.proofs.Waits.{lines_join}
-use Rattle.node_core.specs.Steps.{Step, Tick, ticks_from, new_steps, steps, lines, lines_at, lines_behind}
+use Rattle.node_core.specs.Steps.{Met, Step, Tick, ticks_from, new_steps, steps, lines, lines_at, lines_behind}
 
 pub lines_newer : (plan : Plan) (newer past : List Step) → lines plan (newer ++ past) ≡ lines plan past ++ lines_behind plan newer past
 lines_newer = lines_join
@@ -19,18 +18,18 @@ behind_newer plan (s ∷ a) b past =
     ∙ append_assoc (lines_behind plan b past) (lines_behind plan a (b ++ past)) (lines_at plan s (a ++ (b ++ past))))
 
 -- the steps over the first records are the first steps
-pub steps_newer : (plan : Plan) (past rest : List Record) → (newer : List Step) × (steps plan (reverse_aux rest past) ≡ newer ++ steps plan past)
-steps_newer plan past [] = ([], refl)
-steps_newer plan past (r ∷ rest) =
-    let f = steps_newer plan (r ∷ past) rest in
-    let new = new_steps plan r past in
-    (f.0 ++ new, f.1 ∙ sym (append_assoc f.0 new (steps plan past)))
+pub steps_newer : (plan : Plan) (newer past : List Met) → FirstOf (steps plan (newer ++ past)) (steps plan past)
+steps_newer plan [] past = record { newer = []; parts = refl }
+steps_newer plan (m ∷ newer) past =
+    let f = steps_newer plan newer past in
+    let new = new_steps plan m (newer ++ past) in record {
+      newer = new ++ f.newer;
+      parts = ap (λ (t : List Step). new ++ t) f.parts ∙ sym (append_assoc new f.newer (steps plan past));
+    }
 
--- so their lines are the first lines
-pub lines_front : (plan : Plan) (past rest : List Record) → (more : List Line) × (lines plan (steps plan (reverse_aux rest past)) ≡ lines plan (steps plan past) ++ more)
-lines_front plan past rest =
-    let f = steps_newer plan past rest in
-    (lines_behind plan f.0 (steps plan past), ap (lines plan) f.1 ∙ lines_newer plan f.0 (steps plan past))
+pub first_steps : (plan : Plan) (mets came : List Met) → FirstOf mets came → FirstOf (steps plan mets) (steps plan came)
+first_steps plan mets came f =
+    subst (λ (t : List Met). FirstOf (steps plan t) (steps plan came)) (sym f.parts) (steps_newer plan f.newer came)
 
 -- Ticks.
 

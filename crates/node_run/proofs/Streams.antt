@@ -3,13 +3,15 @@ use Rattle.std.proofs.Common.{ℕ, List, [], Option}
 use Rattle.frame_log.proofs.LogLemmas.{Took-none}
 use Rattle.log_loop.proofs.Streams.{no_front}
 use Rattle.node_plan.specs.declared.plan.Plan.{Plan}
+use Rattle.node_core.specs.Steps.{Met}
 use Rattle.node_run.specs.declared.status.Status.{Status}
 use Rattle.node_run.specs.Ran.{Reported}
 use Rattle.node_run.specs.Streamed.{IsStreamed}
+use Rattle.node_run.specs.ValueLines.{flow}
 
 -- a run that took nothing
-pub streamed_none : (plan : Plan) (left : Option (List ℕ)) (stat : Status) (r : Reported) (before after : Option (List ℕ)) → IsStreamed plan left left stat r before after
-streamed_none plan left stat r before after = record {
+pub streamed_none : (plan : Plan) (mets : List Met) (left before : Option (List ℕ)) (stat : Status) (r : Reported) → IsStreamed plan mets (flow left left before before) stat r
+streamed_none plan mets left before stat r = record {
   taken = [];
   took = Took-none left;
   written = λ front more e long. absurd (no_front front more e long);

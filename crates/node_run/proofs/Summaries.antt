@@ -1,7 +1,7 @@
 -- What a run over a generated log came to.
 use Rattle.std.proofs.Common.{◌≡◌, ℕ, ◌⊎◌, List, Option, Some, None, reverse, [], ◌∷◌, ◌++◌, append_assoc, refl, ap, ◌∙◌, subst, inl, inr, arith}
-use Rattle.tail_frame.specs.declared.logged.Record.{Record}
 use Rattle.std.proofs.lemmas.List.{reverse-reverse}
+use Rattle.cy_outside.specs.Files.{Files}
 use Rattle.cy_outside.specs.Outside.{Rose}
 use Rattle.frame_log.specs.Log.{Log, log_of}
 use Rattle.frame_log.specs.declared.error.LogError.{LogError}
@@ -14,11 +14,15 @@ use Rattle.node_plan.specs.PlainPlan.{plan_of}
 use Rattle.node_plan.specs.Plan.{Bad, Good, IsPlanOf, PlanIs}
 use Rattle.node_plan.specs.declared.plan.Plan.{Plan}
 use Rattle.node_plan.specs.declared.plan.PlanWhy.{PlanWhy}
-use Rattle.node_core.specs.Steps.{end_numbers, numbers, steps}
+use Rattle.node_core.specs.Laws.{NothingServed}
+use Rattle.node_core.specs.Steps.{Met, end_numbers, numbers, steps, without_files}
 use Rattle.node_core.proofs.Silence.{mute_keep_nothing}
 use Rattle.node_core.proofs.Waits.{nothing_emptied}
 use Rattle.node_run.specs.Generated.{generated_plan, generated_numbers}
-use Rattle.node_run.specs.Ran.{Reported, Ran, HasRun, names_of}
+use Rattle.node_run.specs.Failures.{Failures}
+use Rattle.node_run.specs.HasRun.{HasRun}
+use Rattle.node_run.specs.Ran.{Reported, Ran, names_of, newest_first}
+use Rattle.node_run.specs.ValueLines.{flow}
 use Rattle.node_run.specs.declared.status.Status.{Status}
 use Rattle.node_run.specs.declared.status.Status.TheVariants as status
 
@@ -38,7 +42,7 @@ pub not_refused : (n : ℕ) (why : PlanWhy) → Bad n why ≡ Good generated_pla
 not_refused n why e = cc
 
 -- its node sends nothing, so its numbers are those of the steps
-same_numbers : (past : List Record) → end_numbers generated_plan (steps generated_plan past) ≡ numbers generated_plan (steps generated_plan past)
+same_numbers : (past : List Met) → end_numbers generated_plan (steps generated_plan past) ≡ numbers generated_plan (steps generated_plan past)
 same_numbers past = (nothing_emptied generated_plan (steps generated_plan past) (mute_keep_nothing generated_plan past (record { silent = refl; no_service = refl })).1).1
 
 -- a count that is always 0 doesn't rise
@@ -48,45 +52,54 @@ never rose = elim rose [ inl l ↦ omega arith | inr e ↦ omega arith ]
 no_refusal : (e : LogError) → None ≡ Some e → ⊥
 no_refusal e h = cc
 
-module _ (number : ℕ) (reads : IsRead number) (r : Reported) (before after : Option (List ℕ)) where
+-- where a log was read to its end and no fault came, all was run, or memory was wanting
+only : (mets : List Met) (stat : Status) (r : Reported) (before after : Option (List ℕ)) → Ran generated_plan mets None stat r before after → (stat ≡ status.ReadFault → ⊥) → (stat ≡ status.WriteFault → ⊥) → (stat ≡ status.Ok) ⊎ (stat ≡ status.NoMemory)
+only mets status.Ok r before after h read write = inl refl
+only mets status.Usage r before after h read write = absurd h
+only mets (status.Dsdl file line why) r before after h read write = absurd h
+only mets (status.Plan line why) r before after h read write = absurd h
+only mets (status.Log line why) r before after h read write = absurd (no_refusal _ h.0)
+only mets (status.Text line) r before after h read write = absurd h
+only mets (status.Unreadable line path why) r before after h read write = absurd h
+only mets (status.NotNewer path why) r before after h read write = absurd h
+only mets status.LogLong r before after h read write = absurd (no_refusal _ h.0)
+only mets (status.NoFile path) r before after h read write = absurd h
+only mets status.ReadFault r before after h read write = absurd (read refl)
+only mets status.WriteFault r before after h read write = absurd (write refl)
+only mets status.NoMemory r before after h read write = inr refl
+
+module _ (number : ℕ) (reads : IsRead number) (told : Option Files) (bytes : List ℕ) (are : bytes ≡ log_text number) (new before after : Option (List ℕ)) (stat : Status) (r : Reported) (f : Failures) where
+  abbrev HasRunBy : Plan → Type 0
+  HasRunBy plan = HasRun plan told (flow (Some bytes) new before after) stat r f
+
   abbrev whole : Log
   whole = record { records = reverse (records_by number); refusal = None }
 
-  -- where all was run, the numbers are those of the log
-  numbers_are : Ran generated_plan whole status.Ok r before after → r.numbers ≡ generated_numbers number
-  numbers_are h =
-      h.1.at.counted
-      ∙ (ap (λ recs. end_numbers generated_plan (steps generated_plan recs)) (reverse-reverse (records_by number)) ∙ same_numbers (records_by number))
+  log_is : (h : HasRunBy generated_plan) → log_of (names_of generated_plan) h.bytes ≡ whole
+  log_is h = ap (log_of (names_of generated_plan)) (h.is ∙ are) ∙ reads
 
-  -- and that, or want of memory, is all that can come
-  only : (stat : Status) → Ran generated_plan whole stat r before after → (stat ≡ status.ReadFault → ⊥) → (stat ≡ status.WriteFault → ⊥) → (stat ≡ status.Ok) ⊎ (stat ≡ status.NoMemory)
-  only status.Ok h read write = inl refl
-  only status.Usage h read write = absurd h
-  only (status.Dsdl file line why) h read write = absurd h
-  only (status.Plan line why) h read write = absurd h
-  only (status.Log line why) h read write = absurd (no_refusal _ h.0)
-  only (status.Text line) h read write = absurd h
-  only (status.Unreadable line path why) h read write = absurd h
-  only (status.NotNewer path why) h read write = absurd h
-  only status.LogLong h read write = absurd (no_refusal _ h.0)
-  only (status.NoFile path) h read write = absurd h
-  only status.ReadFault h read write = absurd (read refl)
-  only status.WriteFault h read write = absurd (write refl)
-  only status.NoMemory h read write = inr refl
+  ran_whole : (h : HasRunBy generated_plan) → Ran generated_plan h.mets None stat r before after
+  ran_whole h = subst (λ (log : Log). Ran generated_plan h.mets log.refusal stat r before after) (log_is h) h.ran
 
-  module _ (plan : Plan) (is : plan ≡ generated_plan) (bytes : List ℕ) (are : bytes ≡ log_text number) where
-    ran_there : (stat : Status) → HasRun plan (Some bytes) stat r before after → Ran generated_plan whole stat r before after
-    ran_there stat h =
-        let P : Plan → List ℕ → Type 0 = λ p b. Ran p (log_of (names_of p) b) stat r before after in
-        let here : P generated_plan (log_text number) = subst (λ b. P generated_plan b) (h.is ∙ are) (subst (λ p. P p h.bytes) is h.ran) in
-        subst (λ log. Ran generated_plan log stat r before after) reads here
+  -- no file was asked for
+  mets_are : NothingServed → (h : HasRunBy generated_plan) → h.mets ≡ without_files (records_by number)
+  mets_are nothing h =
+      nothing told generated_plan h.mets refl h.served
+      ∙ ap without_files (h.of_log ∙ (ap newest_first (log_is h) ∙ reverse-reverse (records_by number)))
 
-    pub all_run : (stat : Status) → HasRun plan (Some bytes) stat r before after → stat ≡ status.Ok → r.numbers ≡ generated_numbers number
-    all_run stat h e =
-        numbers_are (subst (λ s. Ran generated_plan whole s r before after) e (ran_there stat h))
+  module _ (plan : Plan) (is : plan ≡ generated_plan) (h : HasRunBy plan) where
+    there : HasRunBy generated_plan
+    there = subst HasRunBy is h
 
-    pub either : (stat : Status) → HasRun plan (Some bytes) stat r before after → (stat ≡ status.ReadFault → ⊥) → (stat ≡ status.WriteFault → ⊥) → (stat ≡ status.Ok) ⊎ (stat ≡ status.NoMemory)
-    either stat h read write = only stat (ran_there stat h) read write
+    -- where all was run, the numbers are those of the log
+    pub all_run : NothingServed → stat ≡ status.Ok → r.numbers ≡ generated_numbers number
+    all_run nothing e =
+        let ok : Ran generated_plan there.mets None status.Ok r before after = subst (λ (s : Status). Ran generated_plan there.mets None s r before after) e (ran_whole there) in
+        ok.1.at.counted ∙ (same_numbers there.mets ∙ ap (λ (mets : List Met). numbers generated_plan (steps generated_plan mets)) (mets_are nothing there))
+
+    -- and that, or want of memory, is all that can come
+    pub either : (stat ≡ status.ReadFault → ⊥) → (stat ≡ status.WriteFault → ⊥) → (stat ≡ status.Ok) ⊎ (stat ≡ status.NoMemory)
+    either read write = only there.mets stat r before after (ran_whole there) read write
 
 -- seven pieces and a newline that are put one after the other
 pub seven_pieces : (a b c d e f g h : List ℕ) {i : List ℕ} (o p q r s t u : List ℕ) → a ≡ [] → b ≡ a ++ o → c ≡ b ++ p → d ≡ c ++ q → e ≡ d ++ r → f ≡ e ++ s → g ≡ f ++ t → h ≡ g ++ u → i ≡ h ++ 10 ∷ []

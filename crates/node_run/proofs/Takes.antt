@@ -1,30 +1,36 @@
 -- The step of a record: what it came to, and what follows.
 use Rattle.std.proofs.Common.{◌≡◌, ◌∙◌, ◌++◌, ◌≤◌, ℕ, Bool, List, [], ◌∷◌, Option, None, count_by, refl, sym, ap, ap₂, subst}
+use Rattle.cy_outside.specs.Files.{Files}
 use Rattle.tail_frame.specs.declared.logged.Record.{Record}
 use Rattle.node_plan.specs.Bound.{bound_of}
 use Rattle.node_plan.specs.declared.plan.BusPlan.{BusPlan}
 use Rattle.node_plan.specs.declared.plan.Plan.{Plan}
 use Rattle.node_core.specs.Came.{TellsRequest, came_lines, came_request, heard_lines}
-use Rattle.node_core.specs.Keeps.{answered, keeps, reply_by}
+use Rattle.node_core.specs.Files.{IsServed}
+use Rattle.node_core.specs.Keeps.{IsServedBy, answered, keeps, reply_by}
 use Rattle.node_core.specs.LineSinks.{BeginsList, put_behind}
 use Rattle.node_core.specs.Queues.{fulls}
 use Rattle.node_core.specs.Stands.{Gives, Holds, IsWithinBound, Stands, Takes, TellsBadCrc}
-use Rattle.node_core.specs.Steps.{Step, Heard, Kept, got, held_at, is_bad_at, is_nosession, is_rx, kept, lines_at, one_if, pushed, records, request_on, sends}
+use Rattle.node_core.specs.Steps.{Step, Heard, IsServedAt, Kept, got, held_at, is_bad_at, is_nosession, is_rx, kept, lines_at, one_if, pushed, records, request_on, sends}
 use Rattle.node_core.specs.Text.{text}
 use Rattle.node_core.specs.declared.came.Came.{Came}
+use Rattle.node_core.specs.declared.file_reply.FileReply.{FileReply}
 use Rattle.node_core.specs.declared.line.Line.{Line}
 use Rattle.node_core.specs.declared.node.Node.{Node}
 use Rattle.node_core.specs.declared.numbers.Numbers.{Numbers}
 use Rattle.node_core.specs.declared.request.Request.{Request}
-use Rattle.node_run.specs.Follows.{Follows, following}
+use Rattle.node_run.specs.Follows.{BrokeFollowing, Follows, asked, following}
+use Rattle.node_run.specs.Failures.{Failures}
 use Rattle.node_run.specs.Goes.{Broke, IsFew, Runs, State, report_of, state}
 use Rattle.node_run.specs.Hears.{counted}
 use Rattle.node_run.specs.Leaves.{IsSameNode}
+use Rattle.node_run.specs.Listens.{BreaksAt}
 use Rattle.node_run.specs.Tells.{HasTold}
 use Rattle.node_run.specs.declared.log.tally.Seen.{Seen}
+use Rattle.node_core.proofs.Served.{something_served}
 use Rattle.node_run.proofs.Counts.{numbers_heard}
-use Rattle.node_run.proofs.Goes.{all_lines_are, broke_in, kept_next, runs_next, sent_is, step_told}
-use Rattle.node_run.proofs.Tells.{begins_later}
+use Rattle.node_run.proofs.Goes.{all_lines_are, broke_in, broke_none, kept_next, runs_next, sent_is, step_told}
+use Rattle.node_run.proofs.Tells.{begins_later, begins_none}
 
 -- a node has come to these lines and this request by a record
 pub record CameTo (rec : Record) (old new : Node) (told : List Line) (request : Option Request) (bad : Bool) : Type 0 where
@@ -65,17 +71,28 @@ came_to rec old new came told request same keep stands gives bad asks lines r =
       is_bad = bad;
     }
 
+-- What the tree did for the request that it came to is what it may do for the record.
+pub served_by : (told : Option Files) (rec : Record) (old node : Node) (ls : List Line) (request : Option Request) (bad : Bool) (file : FileReply)
+    → CameTo rec old node ls request bad → IsServed told node.plan request file → IsServedBy told old (Heard rec file)
+served_by told rec old node ls request bad file c s past stands =
+    subst (λ (r : Option Request). IsServed told old.plan r file) (c.asks (records past) stands)
+    (subst (λ (p : Plan). IsServed told p request file) c.same s)
+
+-- It broke off before it told of the record.
+pub broke_untold : (files : Option Files) (plan : Plan) (before : Option (List Line)) (rec : Record) (past : List Step) (old new : State) → Runs plan before old past → new.told ≡ old.told → new.numbers ≡ old.numbers
+    → BreaksAt files plan rec past (report_of before new)
+broke_untold files plan before rec past old new h told counted =
+    let some = something_served files plan rec past in record {
+      file = some.0;
+      served = some.1;
+      broke = broke_none plan before (Heard rec some.0 ∷ []) past old new h told counted;
+    }
+
 -- What follows.
 
 module _ (plan : Plan) (before : Option (List Line)) (rec : Record) (past : List Step) (old : State) (h : Runs plan before old past) (node : Node) (told : List Line) (request : Option Request) (bad : Bool) (c : CameTo rec old.node node told request bad) where
-  abbrev s : Step
-  s = Heard rec
-
   abbrev k : Kept
   k = keeps node
-
-  abbrev full : List Line
-  full = fulls rec.moment (reply_by node.plan request k) k.queues
 
   plan_is : node.plan ≡ plan
   plan_is = c.same ∙ h.same
@@ -86,42 +103,78 @@ module _ (plan : Plan) (before : Option (List Line)) (rec : Record) (past : List
   lines_are : told ≡ got plan rec (records past)
   lines_are = c.gives (records past) h.stands ∙ ap (λ (p : Plan). got p rec (records past)) h.same
 
-  asked : request ≡ request_on plan rec (got plan rec (records past))
-  asked = c.asks (records past) h.stands ∙ ap (λ (p : Plan). request_on p rec (got p rec (records past))) h.same
+  asked_is : request ≡ request_on plan rec (got plan rec (records past))
+  asked_is = c.asks (records past) h.stands ∙ ap (λ (p : Plan). request_on p rec (got p rec (records past))) h.same
 
-  em : answered node.plan request k ≡ pushed plan s past k
-  em = ap₂ (λ (p : Plan) (r : Option Request). answered p r k) plan_is asked
+  module _ (file : FileReply) where
+    abbrev s : Step
+    s = Heard rec file
 
-  ef : full ≡ fulls rec.moment (sends plan s past k) k.queues
-  ef = ap₂ (λ (p : Plan) (r : Option Request). fulls rec.moment (reply_by p r k) k.queues) plan_is asked
+    abbrev full : List Line
+    full = fulls rec.moment (reply_by node.plan request file k) k.queues
 
-  -- it broke off when its own lines were told, and the first of those that follow
-  pub broke_behind : (new : State) (o : Option (List Line)) → o ≡ put_behind old.told told → BeginsList (following node.plan rec.moment request k) o new.told → new.numbers ≡ old.numbers → Broke plan (report_of before new) (s ∷ past)
-  broke_behind new o put b same =
-      broke_in plan before s past old new _ h (all_lines_are plan before s past old h k (answered node.plan request k) ek em told full lines_are ef) (begins_later told _ old.told o new.told put b) same
+    abbrev due : List Line
+    due = following node.plan rec.moment (asked request file) k
 
-  module _ (buses : List BusPlan) (o : Option (List Line)) (t now after : List ℕ) (names : buses ≡ old.buses) (first : HasTold old.buses told t now old.told o) (fin : State) (same : IsSameNode node fin.node) (behind : fin.buses ≡ buses) (f : Follows request rec.moment (state node buses o old.numbers) fin now after) where
-    stands : Stands fin.node (rec ∷ records past)
-    stands = same.stands (rec ∷ records past) (c.stands (records past) h.stands)
+    em : answered node.plan request file k ≡ pushed plan s past k
+    em = ap₂ (λ (p : Plan) (r : Option Request). answered p r file k) plan_is asked_is
 
-    next : HasTold old.buses (following node.plan rec.moment request k) now after o fin.told
-    next = subst (λ b. HasTold b (following node.plan rec.moment request k) now after o fin.told) names f.told
+    ef : full ≡ fulls rec.moment (sends plan s past k) k.queues
+    ef = ap₂ (λ (p : Plan) (r : Option Request). fulls rec.moment (reply_by p r file k) k.queues) plan_is asked_is
 
-    all : HasTold plan.buses (lines_at plan s past) t after old.told fin.told
-    all = step_told plan before s past old h k (answered node.plan request k) ek em told full lines_are ef t now after o fin.told first next
+    served_at : (files : Option Files) → IsServed files node.plan request file → IsServedAt files plan s past
+    served_at files d = subst (λ (r : Option Request). IsServed files plan r file) asked_is (subst (λ (p : Plan). IsServed files p request file) plan_is d)
 
-    pub text_behind : after ≡ t ++ text plan.buses (lines_at plan s past)
-    text_behind = all.gathered
+    served_there : (files : Option Files) → IsServedAt files plan s past → IsServed files node.plan request file
+    served_there files d = subst (λ (p : Plan). IsServed files p request file) (sym plan_is) (subst (λ (r : Option Request). IsServed files plan r file) (sym asked_is) d)
 
-    -- it goes on, once the record is counted
-    pub runs_behind : IsFew (s ∷ past) → (seen : Seen) (held : ℕ) (numbers : Numbers) → seen.delivered ≡ count_by is_rx told → seen.badcrc ≡ one_if bad → seen.nosession ≡ count_by is_nosession told → Holds fin.node held → IsWithinBound fin.node held
-        → numbers ≡ counted fin.numbers seen held → Runs plan before (record fin { numbers = numbers }) (s ∷ past)
-    runs_behind few seen held numbers d b r holds within e =
-        let plan_fin = same.plan ∙ plan_is in
-        let more = sent_is plan before s past old h k (answered node.plan request k) ek em _ refl in
-        let bad_is = c.is_bad (records past) h.stands ∙ ap (λ (p : Plan). is_bad_at p rec (records past)) h.same in
-        let held_is = holds (rec ∷ records past) stands ∙ ap (λ (p : Plan). held_at p (rec ∷ records past)) plan_fin in
-        let counted_is =
-        e ∙ numbers_heard plan past h.is rec few old.numbers fin.numbers h.at.counted _ more f.counted seen held (d ∙ ap (count_by is_rx) lines_are) (b ∙ ap one_if bad_is) (r ∙ ap (count_by is_nosession) lines_are) held_is in
-        let low = subst (λ (n : Numbers). n.held ≤ bound_of plan) (sym e) (subst (λ (p : Plan). held ≤ bound_of p) plan_fin (within (rec ∷ records past) stands)) in
-        runs_next plan before s past old (record fin { numbers = numbers }) h (same.plan ∙ c.same) stands (kept_next plan s past k (answered node.plan request k) (keeps fin.node) ek em f.keeps_are) (behind ∙ names) all.put counted_is low
+    -- it broke off when its own lines were told, and the first of those that follow
+    broke_behind : (new : State) (o : Option (List Line)) → o ≡ put_behind old.told told → BeginsList due o new.told → new.numbers ≡ old.numbers → Broke plan (report_of before new) (s ∷ past)
+    broke_behind new o put b same =
+        broke_in plan before s past old new _ h (all_lines_are plan before s past old h k (answered node.plan request file k) ek em told full lines_are ef) (begins_later told _ old.told o new.told put b) same
+
+    module _ (buses : List BusPlan) (o : Option (List Line)) (t now after : List ℕ) (names : buses ≡ old.buses) (first : HasTold old.buses told t now old.told o) (fin : State) (same : IsSameNode node fin.node) (behind : fin.buses ≡ buses) (f : Follows (asked request file) rec.moment (state node buses o old.numbers) fin now after) where
+      stands : Stands fin.node (rec ∷ records past)
+      stands = same.stands (rec ∷ records past) (c.stands (records past) h.stands)
+
+      next : HasTold old.buses due now after o fin.told
+      next = subst (λ b. HasTold b due now after o fin.told) names f.told
+
+      all : HasTold plan.buses (lines_at plan s past) t after old.told fin.told
+      all = step_told plan before s past old h k (answered node.plan request file k) ek em told full lines_are ef t now after o fin.told first next
+
+      pub text_behind : after ≡ t ++ text plan.buses (lines_at plan s past)
+      text_behind = all.gathered
+
+      -- it goes on, once the record is counted
+      pub runs_behind : IsFew (s ∷ past) → (seen : Seen) (held : ℕ) (numbers : Numbers) → seen.delivered ≡ count_by is_rx told → seen.badcrc ≡ one_if bad → seen.nosession ≡ count_by is_nosession told → Holds fin.node held → IsWithinBound fin.node held
+          → numbers ≡ counted fin.numbers seen held → Runs plan before (record fin { numbers = numbers }) (s ∷ past)
+      runs_behind few seen held numbers d b r holds within e =
+          let plan_fin = same.plan ∙ plan_is in
+          let more = sent_is plan before s past old h k (answered node.plan request file k) ek em _ refl in
+          let bad_is = c.is_bad (records past) h.stands ∙ ap (λ (p : Plan). is_bad_at p rec (records past)) h.same in
+          let held_is = holds (rec ∷ records past) stands ∙ ap (λ (p : Plan). held_at p (rec ∷ records past)) plan_fin in
+          let counted_is =
+          e ∙ numbers_heard plan past h.is rec file few old.numbers fin.numbers h.at.counted _ more f.counted seen held (d ∙ ap (count_by is_rx) lines_are) (b ∙ ap one_if bad_is) (r ∙ ap (count_by is_nosession) lines_are) held_is in
+          let low = subst (λ (n : Numbers). n.held ≤ bound_of plan) (sym e) (subst (λ (p : Plan). held ≤ bound_of p) plan_fin (within (rec ∷ records past) stands)) in
+          runs_next plan before s past old (record fin { numbers = numbers }) h (same.plan ∙ c.same) stands (kept_next plan s past k (answered node.plan request file k) (keeps fin.node) ek em f.keeps_are) (behind ∙ names) all.put counted_is low
+
+  -- it broke off in a step of which nothing is told, or the lines on what was received
+  pub broke_received : (files : Option Files) (new : State) → new.told ≡ put_behind old.told told → new.numbers ≡ old.numbers → BreaksAt files plan rec past (report_of before new)
+  broke_received files new put same =
+      let some = something_served files plan rec past in record {
+        file = some.0;
+        served = some.1;
+        broke = broke_behind some.0 new new.told put (begins_none (due some.0) new.told new.told refl) same;
+      }
+
+  -- or in what follows
+  pub broke_following : (files : Option Files) (buses : List BusPlan) (o : Option (List Line)) (new : State) (f : Failures) → o ≡ put_behind old.told told
+      → BrokeFollowing files rec request (state node buses o old.numbers) new f → BreaksAt files plan rec past (report_of before new)
+  broke_following files buses o new f put b =
+      let some = something_served files plan rec past in
+      let x = b.part some.0 (served_there some.0 files some.1) in record {
+        file = x.file;
+        served = served_at x.file files x.served;
+        broke = broke_behind x.file new o put x.part.told x.part.uncounted;
+      }

@@ -15,11 +15,11 @@ pub text_append : (buses : List BusPlan) (a b : List Line) → text buses (a ++ 
 text_append buses [] b = refl
 text_append buses (l ∷ a) b = ap (λ t. line_text buses l ++ t) (text_append buses a b) ∙ sym (append_assoc (line_text buses l) (text buses a) (text buses b))
 
-pub put_none : (o : Option (List Line)) → o ≡ put_behind o []
+pub put_none : {A : Type 0} (o : Option (List A)) → o ≡ put_behind o []
 put_none None = refl
 put_none (Some l) = ap Some (sym (append-nil l))
 
-pub put_more : (o : Option (List Line)) (a b : List Line) → put_behind (put_behind o a) b ≡ put_behind o (a ++ b)
+pub put_more : {A : Type 0} (o : Option (List A)) (a b : List A) → put_behind (put_behind o a) b ≡ put_behind o (a ++ b)
 put_more None a b = refl
 put_more (Some l) a b = ap Some (append_assoc l a b)
 

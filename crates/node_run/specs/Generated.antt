@@ -1,5 +1,5 @@
 -- What is written of a generated log.
-use Rattle.std.specs.Prelude.{◌≡◌, ℕ, true, List, [], ◌∷◌, Option, codes, decimal}
+use Rattle.std.specs.Prelude.{◌≡◌, ℕ, true, List, [], ◌∷◌, Option, None, codes, decimal}
 use Rattle.cy_outside.specs.Written.{behind, Begins}
 use Rattle.line_text.specs.Text.{line_of}
 use Rattle.log_gen.specs.Rules.{transfers}
@@ -9,7 +9,7 @@ use Rattle.node_plan.specs.declared.plan.BusPlan.{BusPlan}
 use Rattle.node_plan.specs.declared.plan.Plan.{Plan}
 use Rattle.node_plan.specs.declared.plan.SubShape.TheVariants.{Raw}
 use Rattle.node_core.specs.declared.numbers.Numbers.{Numbers}
-use Rattle.node_core.specs.Steps.{steps, numbers}
+use Rattle.node_core.specs.Steps.{steps, numbers, without_files}
 use Rattle.node_run.specs.declared.status.Status.{Status}
 use Rattle.node_run.specs.declared.status.Status.TheVariants as status
 
@@ -27,6 +27,7 @@ generated_plan = record {
   silent = true;
   subs = record { port = 100; sources = 4; shape = Raw 64 } ∷ [];
   registers = [];
+  serve = None;
   clients = 4;
   status = record { health = 0; mode = 0; code = 0 };
   info = blank_info;
@@ -35,7 +36,7 @@ generated_plan = record {
 
 -- the numbers of a report on the log of a number
 abbrev pub generated_numbers : ℕ → Numbers
-generated_numbers number = numbers generated_plan (steps generated_plan (records_by number))
+generated_numbers number = numbers generated_plan (steps generated_plan (without_files (records_by number)))
 
 -- the line with these numbers
 abbrev pub summary_line : ℕ → Numbers → List ℕ

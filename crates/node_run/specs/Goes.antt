@@ -32,7 +32,7 @@ abbrev pub state : Node → List BusPlan → Option (List Line) → Numbers → 
 state node buses told numbers = record { node = node; buses = buses; told = told; numbers = numbers }
 
 -- what a run that listens has come to, by what its sink tells of the lines that were put
-abbrev pub state_in : {K : Type 0} → (K → Option (List Line)) → Running K → State
+abbrev pub state_in : {K T : Type 0} → (K → Option (List Line)) → Running K T → State
 state_in put run =
     state run.node.now (writes_for run.writer.now) (put run.lines.now) run.tally.numbers
 

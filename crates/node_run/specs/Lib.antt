@@ -6,10 +6,13 @@ pub mod Hears
 pub mod Compared
 pub mod Layouts
 pub mod Leaves
+pub mod Listens
 pub mod Loaded
 pub mod NamedTypes
+pub mod Failures
 pub mod Ran
 pub mod Streamed
 pub mod Taken
 pub mod Tells
 pub mod ValueLines
+pub mod HasRun

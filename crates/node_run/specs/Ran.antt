@@ -1,23 +1,22 @@
 -- What a run over a log has reported and written.
 use Rattle.std.specs.Prelude.{◌≡◌, ◌++◌, ℕ, List, [], ◌∷◌, Option, Some, None, IfSome, map}
-use mathlib.Core.List.{reverse_aux}
-use Rattle.tail_frame.specs.declared.logged.Record.{Record}
 use Rattle.cy_outside.specs.Written.{behind, Begins}
 use Rattle.node_plan.specs.declared.plan.BusPlan.{BusPlan}
 use Rattle.node_plan.specs.declared.plan.Plan.{Plan}
-use Rattle.frame_log.specs.Log.{Log, log_of}
 pub use Rattle.frame_log.specs.Refusals.{refusal_of}
 use Rattle.frame_log.specs.declared.error.LogError.{LogError}
 use Rattle.frame_log.specs.declared.error.LogError.TheVariants as error
 use Rattle.frame_log.specs.declared.error.LogWhy.TheVariants as why
+use Rattle.log_loop.specs.Gone.{FirstOf}
 pub use Rattle.log_loop.specs.Voice.{newest_first}
 use Rattle.node_core.specs.declared.line.Line.{Line}
 use Rattle.node_core.specs.declared.numbers.Numbers.{Numbers}
 use Rattle.node_core.specs.LineSinks.{put_behind}
-use Rattle.node_core.specs.Steps.{Step, steps, lines, lines_at, emptying, all_lines, numbers, end_numbers}
+use Rattle.node_core.specs.Steps.{Met, Step, steps, lines, lines_at, emptying, all_lines, numbers, end_numbers, failed_lines}
 use Rattle.node_core.specs.Text.{text, end_text}
 use Rattle.log_loop.specs.declared.ended.Ended.{Ended}
 use Rattle.log_loop.specs.declared.ended.Ended.TheVariants as end
+use Rattle.node_run.specs.Failures.{Failures, AreFailures, TellsFailures, failures}
 use Rattle.node_run.specs.declared.report.Report.{Report}
 use Rattle.node_run.specs.declared.status.Status.{Status}
 use Rattle.node_run.specs.declared.status.Status.TheVariants as status
@@ -25,10 +24,6 @@ use Rattle.node_run.specs.declared.status.Status.TheVariants as status
 -- the names of a plan's buses
 abbrev pub names_of : Plan → List (List ℕ)
 names_of plan = map (λ (bus : BusPlan). bus.name) plan.buses
-
--- the steps of a plan over a log, the newest first
-abbrev pub steps_of : Plan → Log → List Step
-steps_of plan log = steps plan (newest_first log)
 
 -- what was reported: the lines that a sink of lines told before, those that it tells now, and the
 -- numbers
@@ -46,6 +41,10 @@ numbers_of r = record { records = r.records; delivered = r.delivered; badcrc = r
 -- what was reported where nothing was before
 abbrev pub of_report : Report → Reported
 of_report r = reported (Some []) (Some r.lines) (numbers_of r)
+
+-- the requests in which the tree failed that a report has, where it had none before
+abbrev pub of_failed : Report → ℕ → ℕ → Failures
+of_failed r faults faults_new = failures (Some []) (Some r.failed) faults faults_new
 
 -- the numbers of nothing
 abbrev pub no_numbers : Numbers
@@ -127,34 +126,45 @@ pub record Begun (plan : Plan) (all : List Step) (refusal : Option LogError) (r 
   pub written : Begins (whole_text plan all refusal) before after
 
 -- exactly the first records are reported and written, each of them whole
-pub record Upto (plan : Plan) (log : Log) (r : Reported) (before after : Option (List ℕ)) : Type 0 where
-  pub came : List Record
-  pub left : List Record
-  pub parts : log.records ≡ reverse_aux came left
+pub record Upto (plan : Plan) (mets : List Met) (r : Reported) (before after : Option (List ℕ)) : Type 0 where
+  pub came : List Met
+  pub first : FirstOf mets came
   pub settled : Settled plan (steps plan came) (Some error.Failed) r before after
 
--- what a run over a log has done, by its status
-abbrev pub Ran : Plan → Log → Status → Reported → Option (List ℕ) → Option (List ℕ) → Type 0
-Ran plan log status.Ok r before after = (log.refusal ≡ None) × Settled plan (steps_of plan log) log.refusal r before after
-Ran plan log status.Usage r before after = ⊥
-Ran plan log (status.Dsdl file line why) r before after = ⊥
-Ran plan log (status.Plan line why) r before after = ⊥
-Ran plan log (status.Log line why) r before after = (log.refusal ≡ Some (refusal_of line why)) × Settled plan (steps_of plan log) log.refusal r before after
-Ran plan log (status.Text line) r before after = ⊥
-Ran plan log (status.Unreadable line path why) r before after = ⊥
-Ran plan log (status.NotNewer path why) r before after = ⊥
-Ran plan log status.LogLong r before after = (log.refusal ≡ Some error.LogLong) × Settled plan (steps_of plan log) log.refusal r before after
-Ran plan log (status.NoFile path) r before after = ⊥
-Ran plan log status.ReadFault r before after = Upto plan log r before after
-Ran plan log status.WriteFault r before after = Begun plan (steps_of plan log) log.refusal r before after
-Ran plan log status.NoMemory r before after = Begun plan (steps_of plan log) log.refusal r before after
+-- what a run has done over a log with these records that ends so, by its status
+abbrev pub Ran : Plan → List Met → Option LogError → Status → Reported → Option (List ℕ) → Option (List ℕ) → Type 0
+Ran plan mets refusal status.Ok r before after =
+    (refusal ≡ None) × Settled plan (steps plan mets) refusal r before after
+Ran plan mets refusal (status.Log line why) r before after =
+    (refusal ≡ Some (refusal_of line why)) × Settled plan (steps plan mets) refusal r before after
+Ran plan mets refusal status.LogLong r before after =
+    (refusal ≡ Some error.LogLong) × Settled plan (steps plan mets) refusal r before after
+Ran plan mets refusal status.ReadFault r before after = Upto plan mets r before after
+Ran plan mets refusal status.WriteFault r before after = Begun plan (steps plan mets) refusal r before after
+Ran plan mets refusal status.NoMemory r before after = Begun plan (steps plan mets) refusal r before after
+Ran plan mets refusal other r before after = ⊥
 
--- what a run has done over the log of an input, which is the told one where the input tells its
--- bytes
-pub record HasRun (plan : Plan) (told : Option (List ℕ)) (status : Status) (r : Reported) (before after : Option (List ℕ)) : Type 0 where
-  pub bytes : List ℕ
-  pub is : IfSome told (λ (left : List ℕ). bytes ≡ left)
-  pub ran : Ran plan (log_of (names_of plan) bytes) status r before after
+-- the requests in which the tree failed among the first of these records
+pub record FailedUpto (plan : Plan) (mets : List Met) (f : Failures) : Type 0 where
+  pub came : List Met
+  pub first : FirstOf mets came
+  pub are : AreFailures (failed_lines (steps plan came)) f
+
+-- those among the first of these steps, behind which one broke off
+pub record FailedBefore (all : List Step) (f : Failures) : Type 0 where
+  pub past : List Step
+  pub first : FirstOf all past
+  pub tells : TellsFailures (failed_lines past) f
+
+-- the requests in which the tree failed in a run, by its status
+abbrev pub Failed : Plan → List Met → Status → Failures → Type 0
+Failed plan mets status.Ok f = AreFailures (failed_lines (steps plan mets)) f
+Failed plan mets (status.Log line why) f = AreFailures (failed_lines (steps plan mets)) f
+Failed plan mets status.LogLong f = AreFailures (failed_lines (steps plan mets)) f
+Failed plan mets status.ReadFault f = FailedUpto plan mets f
+Failed plan mets status.WriteFault f = FailedUpto plan mets f
+Failed plan mets status.NoMemory f = FailedBefore (steps plan mets) f
+Failed plan mets other f = ⊥
 
 -- the status of a run that the log ended
 abbrev pub refused : LogError → Status

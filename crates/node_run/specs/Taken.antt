@@ -1,14 +1,23 @@
 -- What the input gave whole before it failed.
-use Rattle.std.specs.Prelude.{ℕ, List, Option, Some}
+use Rattle.std.specs.Prelude.{◌≡◌, ℕ, List, Some}
 use Rattle.frame_log.specs.Input.{Took}
 use Rattle.frame_log.specs.declared.error.LogError.TheVariants as error
+use Rattle.log_loop.specs.Gone.{FirstOf}
 use Rattle.log_loop.specs.Taken.{whole_records}
 use Rattle.node_plan.specs.declared.plan.Plan.{Plan}
-use Rattle.node_core.specs.Steps.{steps}
+use Rattle.node_core.specs.Steps.{Met, met_records, steps}
 use Rattle.node_run.specs.Ran.{Reported, Settled, names_of}
+use Rattle.node_run.specs.ValueLines.{Flow}
+
+-- the first of these records are those whose line ends among these bytes
+pub record AreOfBytes (plan : Plan) (mets : List Met) (bytes : List ℕ) (came : List Met) : Type 0 where
+  pub first : FirstOf mets came
+  pub records_are : met_records came ≡ whole_records (names_of plan) bytes
 
 -- what is reported and written are the records whose line and newline were taken, each of them whole, and no other
-pub record IsOfTaken (plan : Plan) (left new : Option (List ℕ)) (r : Reported) (before after : Option (List ℕ)) : Type 0 where
+pub record IsOfTaken (plan : Plan) (mets : List Met) (flow : Flow) (r : Reported) : Type 0 where
   pub taken : List ℕ
-  pub took : Took left new taken
-  pub settled : Settled plan (steps plan (whole_records (names_of plan) taken)) (Some error.Failed) r before after
+  pub took : Took flow.left flow.new taken
+  pub came : List Met
+  pub are : AreOfBytes plan mets taken came
+  pub settled : Settled plan (steps plan came) (Some error.Failed) r flow.before flow.after

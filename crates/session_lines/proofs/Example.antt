@@ -34,6 +34,7 @@ use Rattle.node_core.specs.Heard.{table_port}
 use Rattle.node_plan.specs.Ports.{port_of_sub}
 use Rattle.std_types.specs.declared.node.NodeInfo.{NodeInfo}
 use Rattle.node_core.specs.Steps.{Step, Heard, Tick, records}
+use Rattle.node_core.specs.declared.file_reply.FileReply.TheVariants.{NoFile}
 use Rattle.session_lines.specs.Example.{ValuesExample}
 use Rattle.session_lines.specs.Values.{IsSentTo}
 
@@ -94,6 +95,7 @@ plan = record {
   status = record { health = 0; mode = 0; code = 0 };
   info = info;
   registers = [];
+  serve = None;
   queue = 64;
 }
 
@@ -105,7 +107,7 @@ abbrev key : SessionKey
 key = record { kind = Message; port = 100; source = 1 }
 
 abbrev steps : List Step
-steps = Heard (record { line = 1; moment = 1000000; bus = 0; ident = 0x10606401; bytes = 7 ∷ 1 ∷ 0xE0 ∷ [] }) ∷ Tick 0 1000000 ∷ []
+steps = Heard (record { line = 1; moment = 1000000; bus = 0; ident = 0x10606401; bytes = 7 ∷ 1 ∷ 0xE0 ∷ [] }) NoFile ∷ Tick 0 1000000 ∷ []
 
 abbrev r : KeyRecord
 r = record { line = 1; moment = 1000000; bus = 0; priority = 4; start = true; end = true; toggle = true; tid = 0; body = 7 ∷ 1 ∷ [] }

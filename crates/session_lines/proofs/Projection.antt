@@ -262,9 +262,9 @@ module _ (step : DeliveredStep) (quiet : Quiet) (plan : Plan) (p : Port) (source
 
   all : (steps : List Step) → rxs me (lines plan steps) ≡ seen (frames plan.node (records steps))
   all [] = cond_both (has_session p source []) (map (rx_of p.extent) (reverse [])) [] (λ (v : List RxOf). [] ≡ v) (λ _. refl) (λ _. refl)
-  all (Heard rec ∷ past) =
-      rxs_append me (lines plan past) (lines_at plan (Heard rec) past)
-      ∙ (ap (λ t. rxs me (lines plan past) ++ t) (rxs_at me plan (Heard rec) past)
+  all (Heard rec file ∷ past) =
+      rxs_append me (lines plan past) (lines_at plan (Heard rec file) past)
+      ∙ (ap (λ t. rxs me (lines plan past) ++ t) (rxs_at me plan (Heard rec file) past)
       ∙ frame_step (frame_for plan.node rec) (frames plan.node (records past)) (rxs me (lines plan past)) (all past))
   all (Tick number moment ∷ past) =
       rxs_append me (lines plan past) (lines_at plan (Tick number moment) past)

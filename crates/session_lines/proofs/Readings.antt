@@ -60,9 +60,9 @@ module _ (plan : Plan) where
 
   all : (steps : List Step) → Have (lines plan steps)
   all [] = All-nil (HasReading plan)
-  all (Heard rec ∷ past) =
-      All-append (HasReading plan) (lines plan past) (lines_at plan (Heard rec) past) (all past)
-      (at_step (Heard rec) past (from_frame (frames plan.node (records past)) (frame_for plan.node rec)))
+  all (Heard rec file ∷ past) =
+      All-append (HasReading plan) (lines plan past) (lines_at plan (Heard rec file) past) (all past)
+      (at_step (Heard rec file) past (from_frame (frames plan.node (records past)) (frame_for plan.node rec)))
   all (Tick number moment ∷ past) =
       All-append (HasReading plan) (lines plan past) (lines_at plan (Tick number moment) past) (all past)
       (at_step (Tick number moment) past (All-nil (HasReading plan)))

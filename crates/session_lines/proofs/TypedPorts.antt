@@ -1,5 +1,5 @@
 -- A port has the extent of its type, which keeps the rules.
-use Rattle.std.proofs.Common.{◌≡◌, ◌∙◌, ℕ, ◌/◌, true, ◌&&◌, ◌++◌, eqb, List, [], ◌∷◌, map, Some, refl, sym, subst, inl, inr}
+use Rattle.std.proofs.Common.{◌≡◌, ◌∙◌, ℕ, ◌/◌, true, ◌&&◌, ◌++◌, eqb, List, [], ◌∷◌, map, Option, Some, None, option_map, refl, sym, subst, inl, inr}
 use Rattle.std.proofs.lemmas.Bool.{cond-true, cond-false, cases_Bool}
 use Rattle.std.specs.List.{AllByRecursion}
 use Rattle.can_id.specs.declared.key.Kind.{Kind}
@@ -13,7 +13,7 @@ use Rattle.rx_session.specs.Extents.{bytes_of}
 use Rattle.rx_table.specs.Keys.{same_kind}
 use Rattle.rx_table.specs.Ports.{Port, port_at}
 use Rattle.node_plan.specs.IsPlan.{IsShape}
-use Rattle.node_plan.specs.Ports.{PlanPort, extent_of, type_in, port_of_sub, port_of_service, services, ports}
+use Rattle.node_plan.specs.Ports.{PlanPort, extent_of, type_in, port_of_sub, port_of_service, request_extent, services, ports}
 use Rattle.node_plan.specs.declared.plan.Plan.{Plan}
 use Rattle.node_plan.specs.declared.plan.Sub.{Sub}
 use Rattle.node_plan.specs.declared.plan.SubShape.{SubShape}
@@ -39,11 +39,14 @@ of_shape (shape.Raw n) s e h = cc
 of_shape (shape.Named id t) s e h = let is : sch t ≡ s = cc in subst (HasType (S.extent_of (sch t) / 8)) is (record { extent_is = refl; rules = h.0; composite = h.1 })
 
 module _ (rules : (name : StdName) → IsSchema (schema_of name)) (composite : (name : StdName) → is_composite (schema_of name) ≡ true) where
+  request_typed : (request : Option StdName) (s : Sch) → option_map schema_of request ≡ Some s → HasType (request_extent request) s
+  request_typed None s e = cc
+  request_typed (Some name) s e =
+      let is : schema_of name ≡ s = cc in
+      subst (HasType (S.extent_of (schema_of name) / 8)) is (record { extent_is = refl; rules = rules name; composite = composite name })
+
   service_typed : (service : Service) → IsTyped (port_of_service service)
-  service_typed service s e =
-      let is : schema_of service.request ≡ s = cc in
-      subst (HasType (S.extent_of (schema_of service.request) / 8)) is
-      (record { extent_is = refl; rules = rules service.request; composite = composite service.request })
+  service_typed service s e = request_typed service.request s e
 
   services_typed : (ss : List Service) → AreTyped (map port_of_service ss)
   services_typed [] = tt

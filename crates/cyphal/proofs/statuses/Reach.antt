@@ -1,9 +1,11 @@
 -- The status of a command that hears a log without a plan is that of the log's end.
 use Rattle.std.proofs.Common.{◌≡◌, ◌∙◌, inr, ℕ, true, false, List, Option, Some, None, refl, sym, ap}
 use Rattle.cy_outside.specs.Outside.{Rose}
-use Rattle.frame_log.specs.Log.{Log, log_of}
+use Rattle.frame_log.specs.Log.{log_of}
+use Rattle.frame_log.specs.declared.error.LogError.{LogError}
 use Rattle.tail_frame.specs.declared.logged.Record.{Record}
-use Rattle.log_loop.specs.Gone.{Gone, HasGone}
+use Rattle.log_loop.specs.Gone.{Gone, any_stages}
+use Rattle.log_loop.specs.Listened.{HasListened as Listened}
 use Rattle.log_loop.specs.Voice.{Voice}
 use Rattle.log_loop.specs.declared.ended.Ended.{Ended}
 use Rattle.log_loop.specs.declared.ended.Ended.TheVariants as end
@@ -14,35 +16,32 @@ use Rattle.node_run.specs.declared.status.Status.TheVariants as status
 use Rattle.cyphal.specs.Cause.{Outside, is_refused, HasCauseOver}
 use Rattle.cyphal.specs.Job.{is_fault}
 use Rattle.cyphal.specs.LogEnds.{ending, EndsAsLog}
-use Rattle.cyphal.specs.declared.jobs.reach.Hearing.{Hearing}
-use Rattle.cyphal.specs.declared.jobs.reach.Hearing.TheVariants as hearing
-use Rattle.cyphal.specs.jobs.Reach.{voice_of, reach_job}
+use Rattle.cyphal.specs.jobs.Reach.{reach_job}
 use Rattle.cyphal.proofs.LogEnds.{named, one_log_end}
 use Rattle.cyphal.proofs.statuses.Single.{IsSingle}
 
-pub single : (said : Voice) → IsSingle (reach_job said)
+pub single : (said : Voice Record) → IsSingle (reach_job said)
 single said told s t h a b = one_log_end bus_names told.input h s t a b
 
--- every voice is of the same buses
-pub voice_names : (hears : Hearing) (own : ℕ) → (voice_of hears own).names ≡ bus_names
-voice_names hearing.Monitor own = refl
-voice_names hearing.Allocate own = refl
-
-module _ (said : Voice) (heard ended broke cut_short : List Record → Type 0) where
+module _ (said : Voice Record) where
   -- an end that is no fault is that of the log
-  ended_so : (log : Log) (how : Ended) (before after : Option (List ℕ)) → is_fault (status_of how) ≡ false → Gone said heard ended broke cut_short log how before after → status_of how ≡ ending log.refusal
-  ended_so log end.Ok before after h g = ap ending (sym g.0)
-  ended_so log (end.Log line w) before after h g = sym (ap ending g.0 ∙ named line w)
-  ended_so log end.LogLong before after h g = ap ending (sym g.0)
-  ended_so log end.ReadFault before after h g = absurd cc
-  ended_so log end.WriteFault before after h g = absurd cc
-  ended_so log end.NoMemory before after h g = absurd cc
+  ended_so : (events : List Record) (refusal : Option LogError) (how : Ended) (before after : Option (List ℕ)) → is_fault (status_of how) ≡ false
+      → Gone said (any_stages Record) events refusal how before after → status_of how ≡ ending refusal
+  ended_so events refusal end.Ok before after h g = ap ending (sym g.0)
+  ended_so events refusal (end.Log line w) before after h g = sym (ap ending g.0 ∙ named line w)
+  ended_so events refusal end.LogLong before after h g = ap ending (sym g.0)
+  ended_so events refusal end.ReadFault before after h g = absurd cc
+  ended_so events refusal end.WriteFault before after h g = absurd cc
+  ended_so events refusal end.NoMemory before after h g = absurd cc
 
   -- of the log that the input has, where it is told
-  pub ends_as_log : (input : Option (List ℕ)) (how : Ended) (before after : Option (List ℕ)) (stat : Status) → stat ≡ status_of how → is_fault stat ≡ false → HasGone said heard ended broke cut_short input how before after → EndsAsLog said.names input stat
-  ends_as_log None how before after stat e h g = tt
-  ends_as_log (Some bytes) how before after stat e h g =
-      e ∙ ended_so (log_of said.names g.bytes) how before after (sym (ap is_fault e) ∙ h) g.gone ∙ ap (λ (b : List ℕ). ending (log_of said.names b).refusal) g.is
+  pub ends_as_log : (input left : Option (List ℕ)) (how : Ended) (before after : Option (List ℕ)) (stat : Status) → stat ≡ status_of how → is_fault stat ≡ false
+      → Listened bus_names said (any_stages Record) input left how before after → EndsAsLog bus_names input stat
+  ends_as_log None left how before after stat e h g = tt
+  ends_as_log (Some bytes) left how before after stat e h g =
+      e
+      ∙ (ended_so g.events (log_of bus_names g.bytes).refusal how before after (sym (ap is_fault e) ∙ h) g.gone
+      ∙ ap (λ (b : List ℕ). ending (log_of bus_names b).refusal) g.is)
 
 -- no end of a log is a refusal before it
 no_refusal : (ended : Ended) → is_refused (status_of ended) ≡ true → ⊥
@@ -83,11 +82,12 @@ no_usage ended stat e u = no_refusal ended (sym (ap is_refused e) ∙ ap is_refu
 
 -- the cause of a command that is given no tree
 pub cause_of : {L : Type 0} (ended : Ended) (stat : Status) → stat ≡ status_of ended → (old new : Outside L) → new.tree ≡ old.tree → (ended ≡ end.ReadFault → Rose old.input new.input)
-    → (ended ≡ end.WriteFault → Rose old.out new.out) → (ended ≡ end.Ok → (new.input ≡ old.input) × (new.out ≡ old.out)) → HasCauseOver true stat old new
+    → (ended ≡ end.WriteFault → Rose old.out new.out) → (ended ≡ end.Ok → (new.input ≡ old.input) × (new.out ≡ old.out)) → HasCauseOver true false stat old new
 cause_of ended stat e old new tree read write kept = record {
   read = λ s. inr (read (read_end ended (sym e ∙ s)));
   unread = λ s. absurd cc;
   refused = λ s. absurd (no_refusal ended (sym (ap is_refused e) ∙ s));
   write = λ s. write (write_end ended (sym e ∙ s));
-  kept = λ s. (tree, (kept (whole_end ended (sym e ∙ s))).0, (kept (whole_end ended (sym e ∙ s))).1);
+  kept = λ s. kept (whole_end ended (sym e ∙ s));
+  unserved = λ _ s. tree;
 }

@@ -22,8 +22,9 @@ abbrev pub bound_job : List ℕ → List ℕ → Job
 bound_job root path = record {
   calls_tree = true;
   takes_input = false;
+  serves = false;
   is_told = λ told. is_some told.files;
   expects = λ told stat. EndsAt bounded root path told.files stat;
   did = λ told came.
-      HasBoundAt root path told.files (print_of told came) × ReportsNothing came.reported;
+      HasBoundAt root path told.files (print_of told came) × ReportsNothing came;
 }

@@ -29,8 +29,9 @@ abbrev pub compat_job : List ℕ → List ℕ → List ℕ → Job
 compat_job root new old = record {
   calls_tree = true;
   takes_input = false;
+  serves = false;
   is_told = λ told. is_none root || is_some told.files;
   expects = λ told stat. Compares root new old told.files stat;
   did = λ told came.
-      HasComparedAt root new old told.files (print_of told came) × ReportsNothing came.reported;
+      HasComparedAt root new old told.files (print_of told came) × ReportsNothing came;
 }

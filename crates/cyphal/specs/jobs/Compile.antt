@@ -26,8 +26,9 @@ abbrev pub compile_job : List ℕ → Job
 compile_job root = record {
   calls_tree = true;
   takes_input = false;
+  serves = false;
   is_told = λ told. is_none root || is_some told.files;
   expects = λ told stat. Compiles root told.files stat;
   did = λ told came.
-      HasCompiledAt root told.files (print_of told came) × ReportsNothing came.reported;
+      HasCompiledAt root told.files (print_of told came) × ReportsNothing came;
 }

@@ -18,5 +18,5 @@ pub record HasFetched (client : Client) (stat : Status) (told : Flow) : Type 0 w
 abbrev pub fetch_job : Client → Job
 fetch_job client = record (reach_job (fetch_voice client)) {
   did = λ told came.
-      HasFetched client came.status (flow_of told came) × ReportsNothing came.reported;
+      HasFetched client came.status (flow_of told came) × ReportsNothing came;
 }

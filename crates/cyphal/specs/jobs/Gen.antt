@@ -12,7 +12,8 @@ abbrev pub gen_job : ℕ → Job
 gen_job number = record {
   calls_tree = false;
   takes_input = false;
+  serves = false;
   is_told = λ told. true;
   expects = λ told stat. stat ≡ status.Ok;
-  did = λ told came. HasGeneratedAt number (print_of told came) × ReportsNothing came.reported;
+  did = λ told came. HasGeneratedAt number (print_of told came) × ReportsNothing came;
 }

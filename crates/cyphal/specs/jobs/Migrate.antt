@@ -40,5 +40,5 @@ pub record HasMigratedAt (root path : List ℕ) (files : Option Files)
 abbrev pub migrate_job : List ℕ → List ℕ → Job
 migrate_job root path = record (bound_job root path) {
   did = λ told came.
-      HasMigratedAt root path told.files (print_of told came) × ReportsNothing came.reported;
+      HasMigratedAt root path told.files (print_of told came) × ReportsNothing came;
 }

@@ -1,14 +1,12 @@
 -- `monitor NODE` and `allocate NODE`: what hears the log of the input, of fixed buses and without a
 -- plan, and what it says.
 use Rattle.std.specs.Prelude.{◌≡◌, ℕ, true, false, is_some}
-use Rattle.log_loop.specs.Gone.{HasGone}
-use Rattle.log_loop.specs.Streamed.{IsStreamed}
-use Rattle.log_loop.specs.Taken.{IsOfTaken}
+use Rattle.tail_frame.specs.declared.logged.Record.{Record}
+use Rattle.log_loop.specs.Gone.{any_stages}
+use Rattle.log_loop.specs.Listened.{HasListened as Listened}
 use Rattle.log_loop.specs.Voice.{Voice}
 use Rattle.log_loop.specs.declared.ended.Ended.{Ended}
-use Rattle.log_loop.specs.declared.ended.Ended.TheVariants as end
 use Rattle.node_reach.specs.Allocated.{allocate_voice}
-use Rattle.node_reach.specs.Anything.{Anything}
 use Rattle.node_reach.specs.Buses.{bus_names}
 use Rattle.node_reach.specs.Monitored.{monitor_voice}
 use Rattle.node_run.specs.Ran.{status_of}
@@ -20,7 +18,7 @@ use Rattle.cyphal.specs.declared.jobs.reach.Hearing.{Hearing}
 use Rattle.cyphal.specs.declared.jobs.reach.Hearing.TheVariants as hearing
 
 -- what the node with this node-ID says of a log
-abbrev pub voice_of : Hearing → ℕ → Voice
+abbrev pub voice_of : Hearing → ℕ → Voice Record
 voice_of hearing.Monitor own = monitor_voice own
 voice_of hearing.Allocate own = allocate_voice own
 
@@ -28,21 +26,20 @@ voice_of hearing.Allocate own = allocate_voice own
 -- records: all of it, or the beginning that the end says; where the input failed, exactly what it
 -- says of the lines that were taken whole; and however it ended, it was written before much more
 -- was taken.
-pub record HasListened (said : Voice) (stat : Status) (told : Flow) : Type 0 where
+pub record HasListened (said : Voice Record) (stat : Status) (told : Flow) : Type 0 where
   pub ended : Ended
   pub is : stat ≡ status_of ended
-  pub gone : HasGone said Anything Anything Anything Anything told.left ended told.before told.after
-  pub taken : ended ≡ end.ReadFault
-      → IsOfTaken said Anything told.left told.new told.before told.after
-  pub streamed : IsStreamed said Anything Anything told.left told.new ended told.before told.after
+  pub listened : Listened bus_names said (any_stages Record)
+      told.left told.new ended told.before told.after
 
 -- it ends as the log does
-abbrev pub reach_job : Voice → Job
+abbrev pub reach_job : Voice Record → Job
 reach_job said = record {
   calls_tree = false;
   takes_input = true;
+  serves = false;
   is_told = λ told. is_some told.input;
   expects = λ told stat. EndsAsLog bus_names told.input stat;
   did = λ told came.
-      HasListened said came.status (flow_of told came) × ReportsNothing came.reported;
+      HasListened said came.status (flow_of told came) × ReportsNothing came;
 }

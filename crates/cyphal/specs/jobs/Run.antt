@@ -2,11 +2,9 @@
 use Rattle.std.specs.Prelude.{◌≡◌, ℕ, true, ◌&&◌, List, Option, is_some}
 use Rattle.node_plan.specs.Bound.{bound_of}
 use Rattle.node_plan.specs.declared.plan.Plan.{Plan}
-use Rattle.node_run.specs.Ran.{HasRun, names_of}
-use Rattle.node_run.specs.Streamed.{IsStreamed}
-use Rattle.node_run.specs.Taken.{IsOfTaken}
-use Rattle.node_run.specs.declared.status.Status.TheVariants as status
-use Rattle.cyphal.specs.Job.{Told, Outcome, Job}
+use Rattle.node_run.specs.HasRun.{HasRun}
+use Rattle.node_run.specs.Ran.{names_of}
+use Rattle.cyphal.specs.Job.{Told, Outcome, Job, flow_of}
 use Rattle.cyphal.specs.LogEnds.{EndsAsLog}
 use Rattle.cyphal.specs.Plans.{PlanEnds, EndsAt, PlanAt}
 
@@ -14,22 +12,19 @@ use Rattle.cyphal.specs.Plans.{PlanEnds, EndsAt, PlanAt}
 abbrev pub over : Option (List ℕ) → PlanEnds
 over input plan stat = EndsAsLog (names_of plan) input stat
 
--- the plan at a path was run over the input: what was written while it was taken, and what where it failed; the memory
--- bound is the plan's however the run ended
+-- the plan at a path was run over the input and the files of the tree; the memory bound is the plan's however the run
+-- ended
 pub record HasRunAt (root path : List ℕ) (told : Told) (came : Outcome) : Type 0 where
   pub plan : Plan
   pub is : PlanAt root path told.files plan
-  pub run : HasRun plan told.input came.status came.reported told.written came.written
+  pub run : HasRun plan told.files (flow_of told came) came.status came.reported came.failures
   pub bound : came.reported.numbers.bound ≡ bound_of plan
-  pub taken : came.status ≡ status.ReadFault
-      → IsOfTaken plan told.input came.left came.reported told.written came.written
-  pub streamed :
-      IsStreamed plan told.input came.left came.status came.reported told.written came.written
 
 abbrev pub run_job : List ℕ → List ℕ → Job
 run_job root path = record {
   calls_tree = true;
   takes_input = true;
+  serves = true;
   is_told = λ told. is_some told.files && is_some told.input;
   expects = λ told stat. EndsAt (over told.input) root path told.files stat;
   did = λ told came. HasRunAt root path told came;

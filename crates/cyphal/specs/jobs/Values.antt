@@ -36,9 +36,10 @@ abbrev pub values_job : Answering → List ℕ → List ℕ → Job
 values_job answers root name = record {
   calls_tree = true;
   takes_input = true;
+  serves = false;
   is_told = λ told. (is_none root || is_some told.files) && is_some told.input;
   expects = λ told stat. AnswersLines answers root name told stat;
   did = λ told came.
       HasAnsweredAt answers root name told.files came.status (flow_of told came)
-      × ReportsNothing came.reported;
+      × ReportsNothing came;
 }

@@ -25,7 +25,7 @@ pub fn decode_lines<T: Tree, L: Source, O: Sink>(
     ensures cause { let job = values_job Decodes root.now name.now in
         let old = outside (T.faults tree.old) (L.faults input.old) (O.faults out.old) input.old in
         let new = outside (T.faults tree.new) (L.faults input.new) (O.faults out.new) input.new in
-        HasCauseOver job.takes_input result old new }
+        HasCauseOver job.takes_input job.serves result old new }
     ensures ran { let print = printed result (O.written out.old) (O.written out.new) in
         let old = outside (T.faults tree.old) (L.faults input.old) (O.faults out.old) input.old in
         let new = outside (T.faults tree.new) (L.faults input.new) (O.faults out.new) input.new in

@@ -27,7 +27,7 @@ pub fn fetch_file<L: Source, O: Sink>(
     ensures cause { (tree : ℕ)
         → (let old = outside tree (L.faults input.old) (O.faults out.old) input.old in
         let new = outside tree (L.faults input.new) (O.faults out.new) input.new in
-        HasCauseOver true result old new) }
+        HasCauseOver true false result old new) }
     ensures ran { let asked = file.entry in
         let told = flow (L.left input.old) (L.left input.new)
         (O.written out.old) (O.written out.new) in

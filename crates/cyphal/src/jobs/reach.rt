@@ -2,10 +2,9 @@
 //! without a plan.
 ghost use Rattle.std.specs.Prelude.{◌≡◌, ℕ, true, false};
 ghost use Rattle.cy_outside.specs.Outside.{Rose};
-ghost use Rattle.log_loop.specs.Gone.{HasGone};
-ghost use Rattle.log_loop.specs.Streamed.{IsStreamed};
-ghost use Rattle.log_loop.specs.Taken.{IsOfTaken};
-ghost use Rattle.node_reach.specs.Anything.{Anything};
+ghost use Rattle.tail_frame.specs.declared.logged.Record.{Record};
+ghost use Rattle.log_loop.specs.Gone.{any_stages};
+ghost use Rattle.log_loop.specs.Listened.{HasListened as Listened};
 ghost use Rattle.node_reach.specs.Buses.{bus_names};
 ghost use Rattle.node_run.specs.ValueLines.{flow};
 ghost use Rattle.cyphal.specs.Cause.{outside, HasCauseOver};
@@ -42,7 +41,7 @@ pub fn hear_log<L: Source, O: Sink>(
     ensures cause { (tree : ℕ)
         → (let old = outside tree (L.faults input.old) (O.faults out.old) input.old in
         let new = outside tree (L.faults input.new) (O.faults out.new) input.new in
-        HasCauseOver true result old new) }
+        HasCauseOver true false result old new) }
     ensures ran { let told = flow (L.left input.old) (L.left input.new)
         (O.written out.old) (O.written out.new) in
         HasListened (voice_of hearing own.number) result told }
@@ -58,13 +57,7 @@ fn heard<L: Source, O: Sink>(
     input: &mut L,
     out: &mut O,
 ) -> Ended
-    ensures gone { let voice = voice_of hearing own.number in
-        HasGone voice Anything Anything Anything Anything
-        (L.left input.old) result (O.written out.old) (O.written out.new) }
-    ensures taken { let voice = voice_of hearing own.number in
-        result ≡ Ended.ReadFault → IsOfTaken voice Anything
-        (L.left input.old) (L.left input.new) (O.written out.old) (O.written out.new) }
-    ensures streamed { IsStreamed (voice_of hearing own.number) Anything Anything
+    ensures listened { Listened bus_names (voice_of hearing own.number) (any_stages Record)
         (L.left input.old) (L.left input.new) result (O.written out.old) (O.written out.new) }
     ensures read { result ≡ Ended.ReadFault → Rose (L.faults input.old) (L.faults input.new) }
     ensures write { result ≡ Ended.WriteFault → Rose (O.faults out.old) (O.faults out.new) }

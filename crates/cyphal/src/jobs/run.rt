@@ -1,5 +1,6 @@
 //! `run ROOT PLAN`: a plan over the log of the input.
 ghost use Rattle.std.specs.Prelude.{◌≡◌, ◌⊎◌, ◌≤◌, false};
+ghost use Rattle.node_run.specs.Failures.{failures};
 ghost use Rattle.node_run.specs.Ran.{reported, no_numbers};
 ghost use Rattle.cyphal.specs.Job.{outcome, told_by, is_fault, NotDone};
 ghost use Rattle.cyphal.specs.Cause.{outside, HasCauseOver};
@@ -11,8 +12,8 @@ use node_core::{LineSink, Numbers};
 use node_run::{Status, run_over};
 use std::alloc::Global;
 
-/// Runs the plan at a path, which is read in the namespace of a root, over the input. A sink takes the lines of its report,
-/// and the numbers become those of the run.
+/// Runs the plan at a path, which is read in the namespace of a root, over the input, and serves the files of the tree. A sink
+/// takes the lines of its report, and the numbers become those of the run.
 pub fn run_plan<T: Tree, L: Source, O: Sink, K: LineSink>(
     alloc: Global,
     root: &str,
@@ -30,10 +31,12 @@ pub fn run_plan<T: Tree, L: Source, O: Sink, K: LineSink>(
     ensures cause { let job = run_job root.now path.now in
         let old = outside (T.faults tree.old) (L.faults input.old) (O.faults out.old) input.old in
         let new = outside (T.faults tree.new) (L.faults input.new) (O.faults out.new) input.new in
-        HasCauseOver job.takes_input result old new }
+        HasCauseOver job.takes_input job.serves result old new }
     ensures ran { let told = told_by (T.files tree.old) (L.left input.old) (O.written out.old) in
         let put = reported (K.lines lines.old) (K.lines lines.new) numbers.new in
-        let came = outcome result put (L.left input.new) (O.written out.new) in
+        let failed = failures (K.failed lines.old) (K.failed lines.new)
+        (T.faults tree.old) (T.faults tree.new) in
+        let came = outcome result put failed (L.left input.new) (O.written out.new) in
         let old = outside (T.faults tree.old) (L.faults input.old) (O.faults out.old) input.old in
         let new = outside (T.faults tree.new) (L.faults input.new) (O.faults out.new) input.new in
         NotDone told came old new ⊎ HasRunAt root.now path.now told came }
@@ -43,5 +46,5 @@ pub fn run_plan<T: Tree, L: Source, O: Sink, K: LineSink>(
         Ok(plan) => plan,
         Err(status) => return status,
     };
-    run_over(alloc, plan, input, out, lines, numbers)
+    run_over(alloc, plan, tree, input, out, lines, numbers)
 }

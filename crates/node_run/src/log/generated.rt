@@ -2,18 +2,20 @@
 ghost use Rattle.std.specs.Prelude.{◌≡◌, IfOk};
 ghost use Rattle.cy_outside.specs.Outside.{Rose};
 ghost use Rattle.node_plan.specs.IsPlan.{IsPlan};
-ghost use Rattle.node_run.specs.Generated.{HasGenerated, generated_numbers, generated_plan, summary_line};
+ghost use Rattle.node_run.specs.Generated.{HasGenerated, generated_numbers};
+ghost use Rattle.node_run.specs.Generated.{generated_plan, summary_line};
 
 use crate::log::labelled::push_labelled;
 use crate::log::run::run_over;
 use crate::log::tally::Tally;
 use crate::status::Status;
 use cy_bits::{List, NoMemory};
-use cy_outside::{NeverSink, NeverSource, Sink, put_all};
+use cy_outside::{NeverSink, NeverSource, NeverTree, Sink, put_all};
 use dsdl_types::Namespace;
 use log_gen::laws::explained_and_read;
 use log_gen::transfers::transfers;
 use log_gen::{PLAN, log_bytes};
+use node_core::laws::nothing_served;
 use node_core::{NoLines, Numbers};
 use node_plan::laws::{one_plan, plain_plans};
 use node_plan::{Plan, PlanError, read_plan};
@@ -38,18 +40,21 @@ pub fn run_gen<O: Sink>(alloc: Global, number: u32, out: &mut O) -> Status
     Status::Ok
 }
 
-/// The numbers of the run of a log.
+/// The numbers of the run of a log. Its plan serves no files, so its tree has none.
 fn numbers_of(alloc: Global, number: u32) -> Result<Numbers, NoMemory>
     ensures { IfOk result (λ numbers. numbers ≡ generated_numbers number) }
 {
     explained_and_read(number);
+    nothing_served();
     let plan = plan_of_all(alloc)?;
     let log = log_bytes(alloc, number)?;
     let mut input = NeverSource::new(log.as_slice());
+    let mut tree = NeverTree::new(List::empty(alloc)).unwrap();
     let mut numbers = Tally::new(0, 0).numbers;
     match run_over(
         alloc,
         plan,
+        &mut tree,
         &mut input,
         &mut NeverSink,
         &mut NoLines,

@@ -3,29 +3,32 @@ ghost use Rattle.std.specs.Prelude.{◌≡◌, ◌≤◌, [], map};
 ghost use Rattle.cy_outside.specs.Outside.{Rose};
 ghost use Rattle.node_plan.specs.Bound.{bound_of};
 ghost use Rattle.node_plan.specs.IsPlan.{IsPlan};
-ghost use Rattle.node_run.specs.Ran.{IsEmpty, HasRun, end_sent, reported, of_report, names_of, status_of};
-ghost use Rattle.node_run.specs.Taken.{IsOfTaken};
-ghost use Rattle.node_run.specs.Streamed.{IsStreamed};
+ghost use Rattle.node_run.specs.Failures.{failures};
+ghost use Rattle.node_run.specs.HasRun.{HasRun};
+ghost use Rattle.node_run.specs.Ran.{IsEmpty, end_sent, names_of, of_failed, of_report};
+ghost use Rattle.node_run.specs.Ran.{reported, status_of};
+ghost use Rattle.node_run.specs.ValueLines.{flow};
 
 use crate::log::clock::Clock;
 use crate::log::running::Running;
 use crate::log::tally::Tally;
 use crate::report::Report;
 use crate::status::Status;
-use cy_bits::{BusName, List, ShortList};
-use cy_outside::{Sink, Source};
+use cy_bits::{BusName, ShortList};
+use cy_outside::{Sink, Source, Tree};
 use log_loop::{Ended, listen};
 use node_core::{KeptLines, LineSink, LineWriter, Node, Numbers};
 use node_plan::{BusPlan, Plan, bound};
 use std::alloc::Global;
-use std::mem;
 
 /// Runs the node of a plan over a log: a step for each record, and at the log's end the last line.
-/// A sink takes the lines of the steps, their text is written before the input is read again, and
-/// the numbers become those of the run.
-pub fn run_over<L: Source, O: Sink, K: LineSink>(
+/// The files that it serves are those of a tree. A sink takes the lines of the steps, and the lines
+/// of the log on which requests ended in which the tree failed; the text of the steps is written
+/// before the input is read again, and the numbers become those of the run.
+pub fn run_over<T: Tree, L: Source, O: Sink, K: LineSink>(
     alloc: Global,
     plan: Plan,
+    tree: &mut T,
     input: &mut L,
     out: &mut O,
     lines: &mut K,
@@ -33,12 +36,12 @@ pub fn run_over<L: Source, O: Sink, K: LineSink>(
 ) -> Status
     requires plan { IsPlan plan }
     ensures ran { let r = reported (K.lines lines.old) (K.lines lines.new) numbers.new in
-        HasRun plan (L.left input.old) result r (O.written out.old) (O.written out.new) }
-    ensures taken { let r = reported (K.lines lines.old) (K.lines lines.new) numbers.new in
-        result ≡ Status.ReadFault
-        → IsOfTaken plan (L.left input.old) (L.left input.new) r (O.written out.old) (O.written out.new) }
-    ensures streamed { let r = reported (K.lines lines.old) (K.lines lines.new) numbers.new in
-        IsStreamed plan (L.left input.old) (L.left input.new) result r (O.written out.old) (O.written out.new) }
+        let f = failures (K.failed lines.old) (K.failed lines.new)
+        (T.faults tree.old) (T.faults tree.new) in
+        let flow = flow (L.left input.old) (L.left input.new)
+        (O.written out.old) (O.written out.new) in
+        HasRun plan (T.files tree.old) flow result r f }
+    ensures files { T.files tree.new ≡ T.files tree.old }
     ensures read { result ≡ Status.ReadFault → Rose (L.faults input.old) (L.faults input.new) }
     ensures write { result ≡ Status.WriteFault → Rose (O.faults out.old) (O.faults out.new) }
     ensures kept { result ≡ Status.Ok
@@ -60,41 +63,41 @@ pub fn run_over<L: Source, O: Sink, K: LineSink>(
         node: &mut node,
         writer: &mut writer,
         lines,
+        tree,
     };
     let ended = listen(alloc, &mut run, names, input, out);
     *numbers = numbers_of(ended, &run.tally.numbers, run.sent);
     status_of(ended)
 }
 
-/// The same, whose lines and numbers a report takes.
-pub fn run_log<L: Source, O: Sink>(
+/// The same, whose lines, failed requests and numbers a report takes.
+pub fn run_log<T: Tree, L: Source, O: Sink>(
     alloc: Global,
     plan: Plan,
+    tree: &mut T,
     input: &mut L,
     out: &mut O,
     report: &mut Report,
 ) -> Status
     requires plan { IsPlan plan }
     requires empty { IsEmpty report.old }
-    ensures ran { let r = of_report report.new in
-        HasRun plan (L.left input.old) result r (O.written out.old) (O.written out.new) }
-    ensures taken { let r = of_report report.new in
-        result ≡ Status.ReadFault
-        → IsOfTaken plan (L.left input.old) (L.left input.new) r (O.written out.old) (O.written out.new) }
-    ensures streamed { let r = of_report report.new in
-        IsStreamed plan (L.left input.old) (L.left input.new) result r (O.written out.old) (O.written out.new) }
+    ensures ran { let f = of_failed report.new (T.faults tree.old) (T.faults tree.new) in
+        let flow = flow (L.left input.old) (L.left input.new)
+        (O.written out.old) (O.written out.new) in
+        HasRun plan (T.files tree.old) flow result (of_report report.new) f }
+    ensures files { T.files tree.new ≡ T.files tree.old }
     ensures read { result ≡ Status.ReadFault → Rose (L.faults input.old) (L.faults input.new) }
     ensures write { result ≡ Status.WriteFault → Rose (O.faults out.old) (O.faults out.new) }
     ensures kept { result ≡ Status.Ok
         → (L.faults input.new ≡ L.faults input.old) × (O.faults out.new ≡ O.faults out.old) }
     ensures bound { report.new.bound ≡ bound_of plan }
     ensures held { report.new.held ≤ report.new.bound }
-    ensures failed { report.new.failed ≡ [] }
 {
-    let mut kept = KeptLines::new(alloc, mem::replace(&mut report.lines, List::empty(alloc)));
+    let mut kept = KeptLines::new(alloc);
     let mut numbers = Tally::new(0, 0).numbers;
-    let status = run_over(alloc, plan, input, out, &mut kept, &mut numbers);
-    report.lines = kept.into_list();
+    let status = run_over(alloc, plan, tree, input, out, &mut kept, &mut numbers);
+    report.lines = kept.lines;
+    report.failed = kept.failed;
     report.count(&numbers);
     status
 }

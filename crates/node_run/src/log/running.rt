@@ -1,36 +1,35 @@
 //! A node that runs: the listener that reports what it hears and what it sends.
-ghost use Rattle.std.specs.Prelude.{◌≡◌, ◌≤◌, ◌<◌, ◌+◌, ◌*◌, ◌^◌, ◌∷◌, [], ℕ, List, map};
-ghost use Rattle.std.specs.Prelude.{IfOk, OnErr, OnOk};
+ghost use Rattle.std.specs.Prelude.{◌≡◌, ◌≤◌, ◌<◌, ◌+◌, ◌*◌, ◌^◌, ◌∷◌, [], ℕ};
+ghost use Rattle.std.specs.Prelude.{OnErr, OnOk, None, Some};
 ghost use Rattle.std.specs.Option.{ForSome};
-ghost use Rattle.tail_frame.specs.declared.logged.Record.{Record};
 ghost use Rattle.line_text.specs.Buffer.{text_of};
-ghost use Rattle.node_core.specs.Keeps.{answered, keeps, reply_by};
-ghost use Rattle.node_core.specs.Queues.{fulls};
+ghost use Rattle.node_core.specs.Keeps.{keeps};
 ghost use Rattle.node_core.specs.Sending.{IsRequestTo};
-ghost use Rattle.node_core.specs.Steps.{Heard, Tick, steps, ticks_from};
-ghost use Rattle.node_core.specs.Writer.{writes_for};
-ghost use Rattle.node_core.specs.declared.line.Line.TheVariants.{Full};
+ghost use Rattle.node_core.specs.Steps.{Met, Tick, ticks_from};
 ghost use Rattle.node_run.specs.Goes.{BreaksOff, GoesOn, IsFrom, IsLast};
 ghost use Rattle.node_run.specs.Goes.{begun_next, last_tick, latest_of, next_behind, state_in};
-ghost use Rattle.node_run.specs.Goes.{ticks_due, ticks_left, unbroken};
-ghost use Rattle.node_run.specs.Follows.{Follows, FollowsInPart};
-ghost use Rattle.node_run.specs.Hears.{BrokeOff, CutShort, HasEnded, Hears, last_text, step_text};
-ghost use Rattle.node_run.specs.Leaves.{IsSameNode};
-ghost use Rattle.node_run.specs.Ran.{reported};
+ghost use Rattle.node_run.specs.Goes.{ticks_due, ticks_left};
+ghost use Rattle.node_run.specs.Follows.{BrokeFollowing, HasFollowed, IsSameRun};
+ghost use Rattle.node_run.specs.Hears.{run_voice};
+ghost use Rattle.node_run.specs.Listens.{AsksNone, BreaksOn, HasTaken, IsOver, failures_in, views};
+ghost use Rattle.node_run.specs.Listens.{HasBrokenOff, HasEndedBehind, HasHeardAll, IsCutShort};
+ghost use Rattle.node_run.specs.Listens.{some_met, unbroken_off};
+ghost use Rattle.node_core.proofs.Served.{something_served};
 
 use crate::log::clock::Clock;
 use crate::log::sending::{empty, send};
 use crate::log::tally::{Seen, Tally};
-use crate::log::telling::tell;
+use crate::log::telling::{tell, tell_failed};
 use cy_bits::{NoMemory, ShortList};
+use cy_outside::Tree;
 use line_text::TextBuffer;
 use log_loop::Listener;
-use node_core::{FullLine, LineSink, LineWriter, Node, Numbers, Request};
+use node_core::{LineSink, LineWriter, Node, Numbers, Request};
 use tail_frame::Record;
 
 /// A node, the numbers of its run, and where its lines go.
 #[derive(Drop)]
-pub struct Running<'a, K> {
+pub struct Running<'a, K, T> {
     /// The node.
     pub node: &'a mut Node,
     /// When it ticks.
@@ -43,30 +42,26 @@ pub struct Running<'a, K> {
     pub sent: u64,
     /// Where the lines go.
     pub lines: &'a mut K,
+    /// The tree whose files are served.
+    pub tree: &'a mut T,
 }
 
-impl<'a, K: LineSink> Listener for Running<'a, K> {
+impl<'a, K: LineSink, T: Tree> Listener for Running<'a, K, T> {
+    ghost event = { Met };
+
+    ghost voice = { λ first. run_voice (T.files first.tree.now) first.node.now.plan };
+
     ghost heard = { λ first now past.
-        let s = state_in K.lines now in
-        (now.lines.ghost_name ≡ first.lines.ghost_name)
-        × Hears first.node.now.plan (K.lines first.lines.now) s now.clock past };
+        HasHeardAll (views K.lines K.failed T.files T.faults) first now past };
 
     ghost ended = { λ first now past.
-        let r = reported (K.lines first.lines.now) (K.lines now.lines.now) now.tally.numbers in
-        (now.lines.ghost_name ≡ first.lines.ghost_name)
-        × HasEnded first.node.now.plan r now.sent past };
+        HasEndedBehind (views K.lines K.failed T.files T.faults) first now past };
 
     ghost broke = { λ first now past.
-        let r = reported (K.lines first.lines.now) (K.lines now.lines.now) now.tally.numbers in
-        (now.lines.ghost_name ≡ first.lines.ghost_name) × BrokeOff first.node.now.plan r past };
+        HasBrokenOff (views K.lines K.failed T.files T.faults) first now past };
 
     ghost cut_short = { λ first now past.
-        let r = reported (K.lines first.lines.now) (K.lines now.lines.now) now.tally.numbers in
-        (now.lines.ghost_name ≡ first.lines.ghost_name) × CutShort first.node.now.plan r past };
-
-    ghost step_text = { λ first rec past. step_text first.node.now.plan rec past };
-
-    ghost last_text = { λ first past. last_text first.node.now.plan past };
+        IsCutShort (views K.lines K.failed T.files T.faults) first now past };
 
     ghost latest = { λ run. latest_of run.node.now run.clock };
 
@@ -100,38 +95,37 @@ impl<'a, K: LineSink> Listener for Running<'a, K> {
     }
 
     ghost heard_broke = { λ first now past h.
-        let s = state_in K.lines now in (
-          h.0,
-          unbroken first.node.now.plan (K.lines first.lines.now) s
-              (steps first.node.now.plan past) h.1.runs,
-        ) };
+        unbroken_off (views K.lines K.failed T.files T.faults) first now past h };
+
+    ghost comes = { λ first rec past.
+        some_met something_served (T.files first.tree.now) first.node.now.plan rec past };
 }
 
-impl<'a, K: LineSink> Running<'a, K> {
+impl<'a, K: LineSink, T: Tree> Running<'a, K, T> {
     /// The step of a record.
     #[inline(always)]
     fn take(&mut self, rec: &Record, gathered: &mut TextBuffer) -> Result<(), NoMemory>
         requires moment { self.old.node.now.latest ≤ rec.now.moment }
         requires few { self.old.tally.numbers.records < 2 ^ 28 }
-        ensures same_reference { self.new.lines.ghost_name ≡ self.old.lines.ghost_name }
+        ensures over { IsOver T.files self.old self.new }
         ensures latest { self.new.node.now.latest ≤ rec.now.moment }
         ensures count { self.new.tally.numbers.records ≤ self.old.tally.numbers.records + 1 }
         ensures number { self.new.clock.number ≡ self.old.clock.number }
         ensures next { self.new.clock.next ≡ self.old.clock.next }
         ensures last { let qs = (keeps self.new.node.now).queues in
             OnOk result (IsLast rec.now.moment qs self.new.clock.last) }
-        ensures ok { let old = state_in K.lines self.old in
-            let new = state_in K.lines self.new in
-            OnOk result (GoesOn (Heard rec.now ∷ []) old new
-            (text_of gathered.old) (text_of gathered.new)) }
-        ensures err { let old = state_in K.lines self.old in
-            let new = state_in K.lines self.new in
-            OnErr result (BreaksOff (Heard rec.now ∷ []) old new) }
+        ensures ok { let f = failures_in K.failed T.faults self.old self.new in
+            OnOk result (HasTaken (T.files self.old.tree.now) rec.now
+            (state_in K.lines self.old) (state_in K.lines self.new)
+            (text_of gathered.old) (text_of gathered.new) f) }
+        ensures err { let f = failures_in K.failed T.faults self.old self.new in
+            OnErr result (BreaksOn (T.files self.old.tree.now) rec.now
+            (state_in K.lines self.old) (state_in K.lines self.new) f) }
     {
         let came = self.node.step(rec)?;
         if came.heard.is_none() {
             let seen = Seen::of(None, came.badcrc);
-            self.follow(rec.moment, None, gathered)?;
+            self.leave(rec, gathered)?;
             self.tally.count(seen, self.node.held());
             return Ok(());
         }
@@ -139,71 +133,119 @@ impl<'a, K: LineSink> Running<'a, K> {
         tell(self.writer, self.lines, gathered, told)?;
         let seen = Seen::of(told, came.badcrc);
         let request = self.node.request(came, told)?;
-        self.follow(rec.moment, request, gathered)?;
+        self.follow(rec, request, gathered)?;
         self.tally.count(seen, self.node.held());
         Ok(())
     }
 
-    /// Answers a request, if there is one, and lets frames leave behind the step of a record. A
-    /// node that has nothing to send does nothing.
+    /// Answers the request of a record, if there is one, and lets frames leave behind it.
     #[inline(always)]
     fn follow(
         &mut self,
-        moment: u64,
+        rec: &Record,
         request: Option<Request>,
         gathered: &mut TextBuffer,
     ) -> Result<(), NoMemory>
         requires { ForSome request (IsRequestTo self.old.node.now.plan.node) }
-        ensures same_reference { self.new.lines.ghost_name ≡ self.old.lines.ghost_name }
-        ensures same { IsSameNode self.old.node.now self.new.node.now }
-        ensures buses { writes_for self.new.writer.now ≡ writes_for self.old.writer.now }
-        ensures number { self.new.clock.number ≡ self.old.clock.number }
-        ensures next { self.new.clock.next ≡ self.old.clock.next }
+        ensures same { IsSameRun T.files self.old self.new }
         ensures last { let qs = (keeps self.new.node.now).queues in
-            OnOk result (IsLast moment qs self.new.clock.last) }
-        ensures ok { let old = state_in K.lines self.old in
-            let new = state_in K.lines self.new in
-            OnOk result (Follows request moment old new
-            (text_of gathered.old) (text_of gathered.new)) }
-        ensures err { let old = state_in K.lines self.old in
-            let new = state_in K.lines self.new in
-            OnErr result (FollowsInPart request moment old new) }
+            OnOk result (IsLast rec.now.moment qs self.new.clock.last) }
+        ensures ok { let f = failures_in K.failed T.faults self.old self.new in
+            OnOk result (HasFollowed (T.files self.old.tree.now) rec.now request
+            (state_in K.lines self.old) (state_in K.lines self.new)
+            (text_of gathered.old) (text_of gathered.new) f) }
+        ensures err { let f = failures_in K.failed T.faults self.old self.new in
+            OnErr result (BrokeFollowing (T.files self.old.tree.now) rec.now request
+            (state_in K.lines self.old) (state_in K.lines self.new) f) }
+    {
+        let Some(request) = request else {
+            return self.leave(rec, gathered);
+        };
+        self.answer(rec, request, gathered)
+    }
+
+    /// Lets frames leave behind a record that asked nothing. Where none wait, nothing is done.
+    #[inline(always)]
+    fn leave(&mut self, rec: &Record, gathered: &mut TextBuffer) -> Result<(), NoMemory>
+        ensures same { IsSameRun T.files self.old self.new }
+        ensures last { let qs = (keeps self.new.node.now).queues in
+            OnOk result (IsLast rec.now.moment qs self.new.clock.last) }
+        ensures ok { let f = failures_in K.failed T.faults self.old self.new in
+            OnOk result (HasFollowed (T.files self.old.tree.now) rec.now None
+            (state_in K.lines self.old) (state_in K.lines self.new)
+            (text_of gathered.old) (text_of gathered.new) f) }
+        ensures err { let f = failures_in K.failed T.faults self.old self.new in
+            OnErr result (BrokeFollowing (T.files self.old.tree.now) rec.now None
+            (state_in K.lines self.old) (state_in K.lines self.new) f) }
     {
         // The number of frames that were sent is one of 64 bits.
         let _sent = self.tally.numbers.sent;
-        if request.is_none() && self.node.waiting() == 0 {
+        if self.node.waiting() == 0 {
             return Ok(());
         }
-        self.answer(moment, request, gathered)
+        self.leave_some(rec, gathered)
     }
 
-    /// The same, where there is something to send.
+    /// The same, where some wait.
+    #[inline(never)]
+    fn leave_some(&mut self, rec: &Record, gathered: &mut TextBuffer) -> Result<(), NoMemory>
+        ensures same { IsSameRun T.files self.old self.new }
+        ensures last { OnOk result (self.new.clock.last ≡ rec.now.moment) }
+        ensures ok { let f = failures_in K.failed T.faults self.old self.new in
+            OnOk result (HasFollowed (T.files self.old.tree.now) rec.now None
+            (state_in K.lines self.old) (state_in K.lines self.new)
+            (text_of gathered.old) (text_of gathered.new) f) }
+        ensures err { let f = failures_in K.failed T.faults self.old self.new in
+            OnErr result (BrokeFollowing (T.files self.old.tree.now) rec.now None
+            (state_in K.lines self.old) (state_in K.lines self.new) f) }
+    {
+        let full = ShortList::new();
+        let sent = send(
+            self.node,
+            rec.moment,
+            &full,
+            self.writer,
+            self.lines,
+            gathered,
+        )?;
+        self.tally.send(sent);
+        self.clock.last = rec.moment;
+        Ok(())
+    }
+
+    /// Answers the request of a record, and lets frames leave behind it. Where the tree failed, the
+    /// record's line is told.
     #[inline(never)]
     fn answer(
         &mut self,
-        moment: u64,
-        request: Option<Request>,
+        rec: &Record,
+        request: Request,
         gathered: &mut TextBuffer,
     ) -> Result<(), NoMemory>
-        requires { ForSome request (IsRequestTo self.old.node.now.plan.node) }
-        ensures same_reference { self.new.lines.ghost_name ≡ self.old.lines.ghost_name }
-        ensures same { IsSameNode self.old.node.now self.new.node.now }
-        ensures buses { writes_for self.new.writer.now ≡ writes_for self.old.writer.now }
-        ensures number { self.new.clock.number ≡ self.old.clock.number }
-        ensures next { self.new.clock.next ≡ self.old.clock.next }
-        ensures last { OnOk result (self.new.clock.last ≡ moment) }
-        ensures ok { let old = state_in K.lines self.old in
-            let new = state_in K.lines self.new in
-            OnOk result (Follows request moment old new
-            (text_of gathered.old) (text_of gathered.new)) }
-        ensures err { let old = state_in K.lines self.old in
-            let new = state_in K.lines self.new in
-            OnErr result (FollowsInPart request moment old new) }
+        requires { IsRequestTo self.old.node.now.plan.node request }
+        ensures same { IsSameRun T.files self.old self.new }
+        ensures last { OnOk result (self.new.clock.last ≡ rec.now.moment) }
+        ensures ok { let f = failures_in K.failed T.faults self.old self.new in
+            OnOk result (HasFollowed (T.files self.old.tree.now) rec.now (Some request)
+            (state_in K.lines self.old) (state_in K.lines self.new)
+            (text_of gathered.old) (text_of gathered.new) f) }
+        ensures err { let f = failures_in K.failed T.faults self.old self.new in
+            OnErr result (BrokeFollowing (T.files self.old.tree.now) rec.now (Some request)
+            (state_in K.lines self.old) (state_in K.lines self.new) f) }
     {
-        let full = put_reply(self.node, moment, request)?;
-        let sent = send(self.node, moment, &full, self.writer, self.lines, gathered)?;
+        let file = self.node.serve(&request, self.tree)?;
+        let full = self.node.reply(rec.moment, request, &file)?;
+        let sent = send(
+            self.node,
+            rec.moment,
+            &full,
+            self.writer,
+            self.lines,
+            gathered,
+        )?;
+        tell_failed(self.lines, file.is_failed(), rec.line)?;
         self.tally.send(sent);
-        self.clock.last = moment;
+        self.clock.last = rec.moment;
         Ok(())
     }
 
@@ -212,7 +254,7 @@ impl<'a, K: LineSink> Running<'a, K> {
     fn tick_up_to(&mut self, moment: u64, gathered: &mut TextBuffer) -> Result<(), NoMemory>
         requires low { moment < 10 ^ 18 }
         requires last { last_tick self.old.clock.number self.old.clock.next ≤ moment }
-        ensures same_reference { self.new.lines.ghost_name ≡ self.old.lines.ghost_name }
+        ensures asks { AsksNone K.failed self.old self.new }
         ensures latest { self.new.node.now.latest ≡ self.old.node.now.latest }
         ensures records { self.new.tally.numbers.records ≡ self.old.tally.numbers.records }
         ensures last { last_tick self.new.clock.number self.new.clock.next ≤ moment }
@@ -245,7 +287,7 @@ impl<'a, K: LineSink> Running<'a, K> {
     fn ticks(&mut self, moment: u64, gathered: &mut TextBuffer) -> Result<(), NoMemory>
         requires due { self.old.clock.next ≤ moment }
         requires low { moment < 10 ^ 18 }
-        ensures same_reference { self.new.lines.ghost_name ≡ self.old.lines.ghost_name }
+        ensures asks { AsksNone K.failed self.old self.new }
         ensures latest { self.new.node.now.latest ≡ self.old.node.now.latest }
         ensures records { self.new.tally.numbers.records ≡ self.old.tally.numbers.records }
         ensures last { last_tick self.new.clock.number self.new.clock.next ≤ moment }
@@ -277,7 +319,7 @@ impl<'a, K: LineSink> Running<'a, K> {
     /// The step of the next tick.
     fn tick(&mut self, gathered: &mut TextBuffer) -> Result<(), NoMemory>
         requires low { self.old.clock.next < 10 ^ 18 }
-        ensures same_reference { self.new.lines.ghost_name ≡ self.old.lines.ghost_name }
+        ensures asks { AsksNone K.failed self.old self.new }
         ensures latest { self.new.node.now.latest ≡ self.old.node.now.latest }
         ensures records { self.new.tally.numbers.records ≡ self.old.tally.numbers.records }
         ensures number { OnOk result (self.new.clock.number ≡ self.old.clock.number + 1) }
@@ -299,25 +341,5 @@ impl<'a, K: LineSink> Running<'a, K> {
         self.tally.send(sent);
         self.clock.tick();
         Ok(())
-    }
-}
-
-/// Puts the reply to a request, if there is one, behind the frames that wait; tells on which buses
-/// there was no room.
-fn put_reply(
-    node: &mut Node,
-    moment: u64,
-    request: Option<Request>,
-) -> Result<ShortList<FullLine, 3>, NoMemory>
-    requires { ForSome request (IsRequestTo node.old.plan.node) }
-    ensures same { IsSameNode node.old node.new }
-    ensures keeps { OnOk result (keeps node.new ≡ answered node.old.plan request (keeps node.old)) }
-    ensures full { let old = keeps node.old in
-        let reply = reply_by node.old.plan request old in
-        IfOk result (λ full. map Full full ≡ fulls moment reply old.queues) }
-{
-    match request {
-        Some(request) => node.reply(moment, request),
-        None => Ok(ShortList::new()),
     }
 }

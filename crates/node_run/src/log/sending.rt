@@ -35,6 +35,7 @@ pub(crate) fn send<K: LineSink>(
     ensures sent { IfOk result (λ n. n ≡ length (leaving moment (keeps node.old).queues)) }
     ensures err { let told = map Full fulls.now ++ leaving moment (keeps node.old).queues in
         OnErr result (BeginsList told (K.lines lines.old) (K.lines lines.new)) }
+    ensures untold { K.failed lines.new ≡ K.failed lines.old }
 {
     tell_fulls(writer, lines, gathered, fulls)?;
     drain(node, moment, writer, lines, gathered)
@@ -59,6 +60,7 @@ fn drain<K: LineSink>(
     ensures sent { IfOk result (λ n. n ≡ length (leaving moment (keeps node.old).queues)) }
     ensures err { let told = leaving moment (keeps node.old).queues in
         OnErr result (BeginsList told (K.lines lines.old) (K.lines lines.new)) }
+    ensures untold { K.failed lines.new ≡ K.failed lines.old }
 {
     let before = node.waiting();
     drain_buses(node, moment, writer, lines, gathered)?;
@@ -81,6 +83,7 @@ fn drain_buses<K: LineSink>(
         (text_of gathered.old) (text_of gathered.new) (K.lines lines.old) (K.lines lines.new)) }
     ensures err { let told = leaving moment (keeps node.old).queues in
         OnErr result (BeginsList told (K.lines lines.old) (K.lines lines.new)) }
+    ensures untold { K.failed lines.new ≡ K.failed lines.old }
 {
     let buses = node.buses();
     for bus in 0..buses {
@@ -107,6 +110,7 @@ fn drain_bus<K: LineSink>(
         (text_of gathered.old) (text_of gathered.new) (K.lines lines.old) (K.lines lines.new)) }
     ensures err { let q = queue_at (keeps node.old).queues bus in
         OnErr result (BeginsList (bus_lines moment bus q) (K.lines lines.old) (K.lines lines.new)) }
+    ensures untold { K.failed lines.new ≡ K.failed lines.old }
 {
     let rate = node.rate(bus);
     for turn in 0..rate {
@@ -140,6 +144,7 @@ pub(crate) fn empty<K: LineSink>(
     ensures err { let qs = (keeps node.old).queues in
         OnErr result (BeginsList (rounds (waiting qs) moment qs)
         (K.lines lines.old) (K.lines lines.new)) }
+    ensures untold { K.failed lines.new ≡ K.failed lines.old }
 {
     let most = node.waiting();
     for round in 0..most {

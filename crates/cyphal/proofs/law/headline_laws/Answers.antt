@@ -3,6 +3,8 @@ use Rattle.cyphal.proofs.law.headline_laws.Goals as goal
 pub returns : goal.returns
 returns c = record {
   records = c.steps_follow.ensures.records;
+  plain = c.nothing_served.ensures;
+  served = c.something_served.ensures;
   sessions = c.reported.ensures;
   all = c.emptying.ensures.reported;
   fields = c.wire_explains_fields.ensures;

@@ -15,11 +15,12 @@ returns-clause-exact g c stat told asked settled =
     one_status (c.one_answer.ensures, c.one_plan.ensures) c.one_status.ensures.encode c.one_status.ensures.decode command outside c.work-status.result stat told (c.work-status.ensures.answer settled) asked
 
 pub returns-clause-complete : goal.returns-clause-complete
-returns-clause-complete g c due told asked x y z =
+returns-clause-complete g c due told asked x y =
     let command = command_of (map string_bytes c.args.words.now) in
     let outside = told_by (g.T.Tree.files c.args.tree.now) (g.L.Source.left c.args.input.now) (g.O.Sink.written c.args.out.now) in
-    let cause = c.work-status.ensures.cause in
-    completed due c.work-status.result _ _ _ _ (λ h. one_status (c.one_answer.ensures, c.one_plan.ensures) c.one_status.ensures.encode c.one_status.ensures.decode command outside c.work-status.result due told (c.work-status.ensures.answer h) asked) cause.read cause.write x y z
+    completed due _ _ _ _ c.work-status.result
+    (λ h. one_status (c.one_answer.ensures, c.one_plan.ensures) c.one_status.ensures.encode c.one_status.ensures.decode command outside c.work-status.result due told (c.work-status.ensures.answer h) asked)
+    c.work-status.ensures.cause x y
 
 pub returns-clause-line : goal.returns-clause-line
 returns-clause-line g c = begins_either c.put_error.result _ _ _ c.put_error.ensures.written c.put_error.ensures.begins
@@ -28,27 +29,19 @@ pub returns-clause-headline : goal.returns-clause-headline
 returns-clause-headline g c = headline_of (c.one_answer.ensures, c.one_plan.ensures) _ _ _ _ _ c.work-status.ensures.ran c.headline_laws.ensures
 
 pub returns-clause-once : goal.returns-clause-once
-returns-clause-once g c =
-    once_of (c.one_answer.ensures, c.one_plan.ensures) _ _ _ _ _ c.work-status.ensures.ran
-    (headline_of (c.one_answer.ensures, c.one_plan.ensures) _ _ _ _ _ c.work-status.ensures.ran c.headline_laws.ensures)
+returns-clause-once g c = once_of (c.one_answer.ensures, c.one_plan.ensures) _ _ _ _ _ c.work-status.ensures.ran c.headline_laws.ensures
 
 pub returns-clause-due : goal.returns-clause-due
-returns-clause-due g c =
-    due_of (c.one_answer.ensures, c.one_plan.ensures) _ _ _ _ _ c.work-status.ensures.ran
-    (headline_of (c.one_answer.ensures, c.one_plan.ensures) _ _ _ _ _ c.work-status.ensures.ran c.headline_laws.ensures)
+returns-clause-due g c = due_of (c.one_answer.ensures, c.one_plan.ensures) _ _ _ _ _ c.work-status.ensures.ran c.headline_laws.ensures
 
 pub returns-clause-values : goal.returns-clause-values
-returns-clause-values g c =
-    values_of (c.one_answer.ensures, c.one_plan.ensures) _ _ _ _ _ c.work-status.ensures.ran
-    (headline_of (c.one_answer.ensures, c.one_plan.ensures) _ _ _ _ _ c.work-status.ensures.ran c.headline_laws.ensures)
+returns-clause-values g c = values_of (c.one_answer.ensures, c.one_plan.ensures) _ _ _ _ _ c.work-status.ensures.ran c.headline_laws.ensures
 
 pub returns-clause-due_values : goal.returns-clause-due_values
-returns-clause-due_values g c =
-    due_values_of (c.one_answer.ensures, c.one_plan.ensures) _ _ _ _ _ c.work-status.ensures.ran
-    (headline_of (c.one_answer.ensures, c.one_plan.ensures) _ _ _ _ _ c.work-status.ensures.ran c.headline_laws.ensures)
+returns-clause-due_values g c = due_values_of (c.one_answer.ensures, c.one_plan.ensures) _ _ _ _ _ c.work-status.ensures.ran c.headline_laws.ensures
 
 pub returns-clause-taken : goal.returns-clause-taken
 returns-clause-taken g c = taken_of (c.one_answer.ensures, c.one_plan.ensures) _ _ _ _ _ c.work-status.ensures.ran
 
 pub returns-clause-streamed : goal.returns-clause-streamed
-returns-clause-streamed g c = streamed_of (c.one_answer.ensures, c.one_plan.ensures) _ _ _ _ _ c.work-status.ensures.ran
+returns-clause-streamed g c = streamed_of (c.one_answer.ensures, c.one_plan.ensures) _ _ _ _ _ c.headline_laws.ensures c.work-status.ensures.ran

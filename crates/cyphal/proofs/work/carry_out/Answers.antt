@@ -10,5 +10,6 @@ returns-in-Gen-clause-cause g c =
       unread = λ _. refl;
       refused = λ _. refl;
       write = h.write;
-      kept = λ e. (refl, refl, (h.kept e).1);
+      kept = λ e. (refl, (h.kept e).1);
+      unserved = λ _ _. refl;
     }

@@ -24,5 +24,6 @@ returns-clause-cause g c =
       unread = λ e. absurd cc;
       refused = λ e. c.decode.ensures.unread (refused_none Decodes (message_named names name) name told c.decode.result e c.decode.ensures.did);
       write = c.decode.ensures.write;
-      kept = λ e. (c.in-Ok.ensures.cause, (c.decode.ensures.kept e).0, (c.decode.ensures.kept e).1);
+      kept = c.decode.ensures.kept;
+      unserved = λ _ e. c.in-Ok.ensures.cause;
     }

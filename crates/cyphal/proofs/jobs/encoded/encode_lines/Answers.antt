@@ -24,5 +24,6 @@ returns-clause-cause g c =
       unread = λ e. absurd cc;
       refused = λ e. c.encode.ensures.unread (refused_none Encodes (message_named names name) name told c.encode.result e c.encode.ensures.did);
       write = c.encode.ensures.write;
-      kept = λ e. (c.in-Ok.ensures.cause, (c.encode.ensures.kept e).0, (c.encode.ensures.kept e).1);
+      kept = c.encode.ensures.kept;
+      unserved = λ _ e. c.in-Ok.ensures.cause;
     }

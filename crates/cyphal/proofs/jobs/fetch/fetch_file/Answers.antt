@@ -1,5 +1,4 @@
 use Rattle.std.proofs.Common.{List, ℕ, refl, subst}
-use Rattle.node_reach.specs.Anything.{Anything}
 use Rattle.node_reach.specs.Fetched.{client_of, fetch_voice}
 use Rattle.node_run.specs.ValueLines.{flow}
 use Rattle.cyphal.specs.jobs.Fetch.{HasFetched}
@@ -9,7 +8,7 @@ use Rattle.cyphal.proofs.jobs.fetch.fetch_file.Goals as goal
 pub returns-clause-answer : goal.returns-clause-answer
 returns-clause-answer g c h =
     let client = client_of c.args.file.own.number c.args.file.server.number c.as_bytes-path.result.now in
-    ends_as_log (fetch_voice client) Anything Anything Anything Anything (g.L.Source.left c.args.input.now) c.fetch.result (g.O.Sink.written c.args.out.now) (g.O.Sink.written c.fetch.new.out) c.status_of.result c.status_of.ensures h c.fetch.ensures.gone
+    ends_as_log (fetch_voice client) _ _ c.fetch.result _ _ c.status_of.result c.status_of.ensures h c.fetch.ensures.listened
 
 pub returns-clause-usage : goal.returns-clause-usage
 returns-clause-usage g c = no_usage c.fetch.result c.status_of.result c.status_of.ensures
@@ -26,9 +25,7 @@ returns-clause-ran g c =
       listened = record {
         ended = c.fetch.result;
         is = c.status_of.ensures;
-        gone = c.fetch.ensures.gone;
-        taken = c.fetch.ensures.taken;
-        streamed = c.fetch.ensures.streamed;
+        listened = c.fetch.ensures.listened;
       };
       fetched = c.fetch.ensures.fetched;
     })

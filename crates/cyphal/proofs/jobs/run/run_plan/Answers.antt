@@ -1,5 +1,4 @@
 use Rattle.std.proofs.Common.{inr}
-use Rattle.node_run.specs.Ran.{reported}
 use Rattle.cyphal.specs.jobs.Run.{over}
 use Rattle.cyphal.proofs.Plans.{refused_at, good_at}
 use Rattle.cyphal.proofs.statuses.Run.{plan_answer, run_not_refused}
@@ -11,16 +10,15 @@ returns-in-Err-clause-answer g c h =
 
 pub returns-clause-answer : goal.returns-clause-answer
 returns-clause-answer g c h =
-    let input = g.L.Source.left c.args.input.now in
-    good_at (over input) c.args.root.now c.args.path.now (g.T.Tree.files c.args.tree.now) c.run_over.result c.in-Ok.plan c.in-Ok.ensures.plan
-    (plan_answer c.in-Ok.plan input c.run_over.result (reported (g.K.LineSink.lines c.args.lines.now) (g.K.LineSink.lines c.run_over.new.lines) c.run_over.new.numbers) (g.O.Sink.written c.args.out.now) (g.O.Sink.written c.run_over.new.out) h c.run_over.ensures.ran)
-    h
+    good_at (over (g.L.Source.left c.args.input.now)) c.args.root.now c.args.path.now (g.T.Tree.files c.args.tree.now) c.run_over.result c.in-Ok.plan c.in-Ok.ensures.plan
+    (plan_answer c.in-Ok.plan _ _ c.run_over.result _ _ c.run_over.ensures.ran h) h
 
 pub returns-clause-cause : goal.returns-clause-cause
 returns-clause-cause g c = record {
   read = λ e. inr (c.run_over.ensures.read e);
   unread = λ e. absurd cc;
-  refused = λ e. absurd (run_not_refused c.in-Ok.plan (g.L.Source.left c.args.input.now) c.run_over.result (reported (g.K.LineSink.lines c.args.lines.now) (g.K.LineSink.lines c.run_over.new.lines) c.run_over.new.numbers) (g.O.Sink.written c.args.out.now) (g.O.Sink.written c.run_over.new.out) e c.run_over.ensures.ran);
+  refused = λ e. absurd (run_not_refused c.in-Ok.plan _ _ c.run_over.result _ _ c.run_over.ensures.ran e);
   write = c.run_over.ensures.write;
-  kept = λ e. (c.in-Ok.ensures.kept, (c.run_over.ensures.kept e).0, (c.run_over.ensures.kept e).1);
+  kept = c.run_over.ensures.kept;
+  unserved = λ e. absurd cc;
 }

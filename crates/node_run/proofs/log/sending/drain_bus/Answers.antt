@@ -23,6 +23,7 @@ loop-turn-init g c =
       done = [];
       same = still c.args.node.now;
       buses = refl;
+      untold = refl;
       keeps_are = ap (λ (qs : List Queue). record old { queues = qs }) (sym (set_same old.queues c.args.bus));
       rate = c.rate-rate.ensures;
       told = told_none (writes_for c.args.writer.now) (text_of c.args.gathered.now) (g.K.LineSink.lines c.args.lines.now);
@@ -44,6 +45,7 @@ loop-turn-preserved g c =
       done = i.done ++ tx c.in-Some.frame ∷ [];
       same = same_then i.same (same_by c.pop_out.ensures.plan c.pop_out.ensures.latest c.pop_out.ensures.stands);
       buses = c.tell.ensures.buses ∙ i.buses;
+      untold = c.tell.ensures.untold ∙ i.untold;
       keeps_are = v.keeps;
       rate = i.rate;
       told = told_next (writes_for c.args.writer.now) (writes_for c.loop-turn.writer) i.done (tx c.in-Some.frame ∷ []) (text_of c.args.gathered.now) (text_of c.loop-turn.gathered) (text_of c.tell.new.gathered) (lines c.args.lines.now) (lines c.loop-turn.lines) (lines c.tell.new.lines) i.buses i.told c.in_ok-tell.ensures.text c.in_ok-tell.ensures.adds;

@@ -16,6 +16,7 @@ invariant-loop-turn g l = let K = g.K.LineSink in let old = keeps l.fn.node in l
   done : List Line;
   same : IsSameNode l.fn.node l.node;
   buses : writes_for l.writer ≡ writes_for l.fn.writer;
+  untold : K.failed l.lines ≡ K.failed l.fn.lines;
   keeps_are : keeps l.node ≡ record old { queues = with_waiting old.queues l.bus waits };
   rate : l.rate ≡ q.rate;
   told : HasTold (writes_for l.fn.writer) done (text_of l.fn.gathered) (text_of l.gathered) (K.lines l.fn.lines) (K.lines l.lines);

@@ -1,4 +1,4 @@
-use Rattle.std.proofs.Common.{◌≡◌, ◌∙◌, ◌+◌, ◌<◌, ◌++◌, List, drop, sym, ap, subst}
+use Rattle.std.proofs.Common.{◌≡◌, ◌∙◌, ◌+◌, ◌<◌, ◌++◌, List, [], drop, refl, sym, ap, subst}
 use Rattle.line_text.specs.Buffer.{text_of}
 use Rattle.node_core.specs.declared.line.Line.{Line}
 use Rattle.node_core.specs.Keeps.{keeps}
@@ -11,14 +11,25 @@ use Rattle.node_core.proofs.Steps.{on_err}
 use Rattle.node_run.specs.Leaves.{bus_left}
 use Rattle.node_run.specs.Tells.{HasTold}
 use Rattle.node_run.proofs.Drains.{at_bus, in_done, line_more, next_done, next_lines}
-use Rattle.node_run.proofs.Tells.{begins_later, begins_more, told_more}
-use Rattle.node_run.proofs.SameNodes.{same_then}
+use Rattle.node_run.proofs.Tells.{begins_later, begins_more, told_more, told_none}
+use Rattle.node_run.proofs.SameNodes.{same_then, still}
 use Rattle.node_run.proofs.log.sending.drain_buses.Goals as goal
 
 pub drain_bus-requires : goal.drain_bus-requires
 drain_bus-requires g c =
     let old = keeps c.args.node.now in
     in_done old.queues c.loop-bus.bus old (keeps c.loop-bus.node) (subst (λ n. c.loop-bus.bus < n) c.buses-buses.ensures c.loop-bus-test.true) c.loop-bus.invariant.keeps_are
+
+pub loop-bus-init : goal.loop-bus-init
+loop-bus-init g c = record {
+  done = [];
+  same = still c.args.node.now;
+  buses = refl;
+  untold = refl;
+  keeps_are = refl;
+  told = told_none (writes_for c.args.writer.now) (text_of c.args.gathered.now) (g.K.LineSink.lines c.args.lines.now);
+  leaves = refl;
+}
 
 pub loop-bus-preserved : goal.loop-bus-preserved
 loop-bus-preserved g c =
@@ -37,6 +48,7 @@ loop-bus-preserved g c =
       done = i.done ++ more;
       same = same_then i.same c.drain_bus.ensures.same;
       buses = c.drain_bus.ensures.buses ∙ i.buses;
+      untold = c.drain_bus.ensures.untold ∙ i.untold;
       keeps_are = c.in_ok-drain_bus.ensures.keeps ∙ (ap (λ (k : Kept). bus_left k bus) i.keeps_are ∙ next_done old.queues bus within old);
       told = told_more buses i.done more (text_of c.args.gathered.now) (text_of c.loop-bus.gathered) (text_of c.drain_bus.new.gathered) (lines c.args.lines.now) (lines c.loop-bus.lines) (lines c.drain_bus.new.lines) i.told told;
       leaves = line_more (leaving moment old.queues) i.done (leaving_from moment bus (drop bus old.queues)) more (leaving_from moment (bus + 1) (drop (bus + 1) old.queues)) i.leaves (next_lines old.queues bus within moment);

@@ -13,6 +13,7 @@ invariant-loop-bus g l = let K = g.K.LineSink in let old = keeps l.fn.node in re
   done : List Line;
   same : IsSameNode l.fn.node l.node;
   buses : writes_for l.writer ≡ writes_for l.fn.writer;
+  untold : K.failed l.lines ≡ K.failed l.fn.lines;
   keeps_are : keeps l.node ≡ record old { queues = map drained (take l.bus old.queues) ++ drop l.bus old.queues };
   told : HasTold (writes_for l.fn.writer) done (text_of l.fn.gathered) (text_of l.gathered) (K.lines l.fn.lines) (K.lines l.lines);
   leaves : leaving l.moment old.queues ≡ done ++ leaving_from l.moment l.bus (drop l.bus old.queues);

@@ -12,6 +12,7 @@ invariant-loop-round g l = let K = g.K.LineSink in let qs = (keeps l.fn.node).qu
   done : List Line;
   most : l.most ≡ waiting qs;
   buses : writes_for l.writer ≡ writes_for l.fn.writer;
+  untold : K.failed l.lines ≡ K.failed l.fn.lines;
   told : HasTold (writes_for l.fn.writer) done (text_of l.fn.gathered) (text_of l.gathered) (K.lines l.fn.lines) (K.lines l.lines);
   leaves : rounds (waiting qs) l.moment qs ≡ done ++ rounds (l.most - l.round) l.moment (keeps l.node).queues;
   left : length done + waiting (keeps l.node).queues ≡ waiting qs;

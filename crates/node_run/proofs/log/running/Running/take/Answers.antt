@@ -1,11 +1,12 @@
-use Rattle.std.proofs.Common.{◌≡◌, Option, None, Some, false, [], ◌∷◌, refl, sym, subst}
+use Rattle.std.proofs.Common.{◌≡◌, ◌∙◌, Option, None, Some, false, [], ◌∷◌, refl, sym, ap, subst, arith}
 use Rattle.std.specs.Prelude.{is_some}
 use Rattle.std.specs.Option.{ForSome}
 use Rattle.line_text.specs.Buffer.{text_of}
 use Rattle.node_plan.specs.declared.plan.Plan.{Plan}
 use Rattle.node_core.specs.Came.{came_request}
+use Rattle.node_core.specs.LineSinks.{put_behind}
 use Rattle.node_core.specs.Sending.{IsRequestTo}
-use Rattle.node_core.specs.Steps.{Heard}
+use Rattle.node_core.specs.Steps.{Heard, failed_at}
 use Rattle.node_core.specs.Told.{told_lines}
 use Rattle.node_core.specs.Writer.{writes_for}
 use Rattle.node_core.specs.declared.came.Heard.{Heard as HeardFrame}
@@ -13,9 +14,8 @@ use Rattle.node_core.specs.declared.request.Request.{Request}
 use Rattle.node_core.proofs.Steps.{on_err}
 use Rattle.node_run.specs.Goes.{state, state_in}
 use Rattle.node_run.specs.Tells.{HasTold}
-use Rattle.node_run.proofs.Goes.{broke_none}
-use Rattle.node_run.proofs.Takes.{broke_behind, came_to, came_to_none, runs_behind, text_behind}
-use Rattle.node_run.proofs.Tells.{begins_none, put_none, told_none}
+use Rattle.node_run.proofs.Takes.{broke_following, broke_received, broke_untold, came_to, came_to_none, runs_behind, served_by, text_behind}
+use Rattle.node_run.proofs.Tells.{put_none, told_none}
 use Rattle.node_run.proofs.log.running.Running.take.Goals as goal
 
 is_none_so : (o : Option HeardFrame) → is_some o ≡ false → o ≡ None
@@ -26,30 +26,43 @@ pub returns-in_err-came-clause-err : goal.returns-in_err-came-clause-err
 returns-in_err-came-clause-err g c =
     let lines = g.K.LineSink.lines in
     let self = c.args.self.now in
+    let files = g.T.Tree.files self.tree.now in
     let old = state_in lines self in
     let new = state c.step.new.self (writes_for self.writer.now) (lines self.lines.now) self.tally.numbers in
-    on_err _ c.from_residual.result (λ plan before past few h. broke_none plan before (Heard c.args.rec.now ∷ []) past old new h refl refl)
+    on_err _ c.from_residual.result (record {
+      breaks = λ plan before past h. broke_untold files plan before c.args.rec.now past old new h refl refl;
+      untold = record { told = refl; count = omega arith };
+    })
 
 -- it is no frame for the node
 
-pub returns-in_err-follow-clause-err : goal.returns-in_err-follow-clause-err
-returns-in_err-follow-clause-err g c =
+pub returns-in_err-leave-clause-count : goal.returns-in_err-leave-clause-count
+returns-in_err-leave-clause-count g c = let same = c.leave.ensures.same.records in omega arith
+
+pub returns-in_err-leave-clause-err : goal.returns-in_err-leave-clause-err
+returns-in_err-leave-clause-err g c =
     let lines = g.K.LineSink.lines in
     let self = c.args.self.now in
+    let files = g.T.Tree.files self.tree.now in
     let rec = c.args.rec.now in
     let node = c.step.new.self in
     let step = c.in_ok-came.ensures in
     let came = c.in_ok-came.came in
     let none = is_none_so came.heard (c.if-is_none.ensures {u = tt}) in
     let to = came_to_none rec self.node.now node came c.step.ensures.plan c.step.ensures.keeps step.stands step.lines step.badcrc none in
-    let part = c.in_err-follow.ensures.err in
-    on_err _ c.from_residual-in_err-follow.result (λ plan before past few h.
-    broke_behind plan before rec past (state_in lines self) h node [] None came.badcrc to (state_in lines c.follow.new.self) (lines self.lines.now) (put_none (lines self.lines.now)) part.told part.uncounted)
+    let part = c.in_err-leave.ensures.err in
+    let put = lines self.lines.now in
+    on_err _ c.from_residual-in_err-leave.result (record {
+      breaks = λ plan before past h.
+          broke_following plan before rec past (state_in lines self) h node [] None came.badcrc to files (writes_for self.writer.now) put (state_in lines c.leave.new.self) _ (put_none put) part;
+      untold = part.untold;
+    })
 
 pub returns-then-is_none-clause-ok : goal.returns-then-is_none-clause-ok
-returns-then-is_none-clause-ok g c plan before past few h =
+returns-then-is_none-clause-ok g c =
     let lines = g.K.LineSink.lines in
     let self = c.args.self.now in
+    let files = g.T.Tree.files self.tree.now in
     let rec = c.args.rec.now in
     let node = c.step.new.self in
     let step = c.in_ok-came.ensures in
@@ -59,13 +72,20 @@ returns-then-is_none-clause-ok g c plan before past few h =
     let buses = writes_for self.writer.now in
     let put = lines self.lines.now in
     let text = text_of c.args.gathered.now in
-    let after = text_of c.follow.new.gathered in
-    let fin = state_in lines c.follow.new.self in
-    let first = told_none buses text put in (
-      runs_behind plan before rec past (state_in lines self) h node [] None came.badcrc to buses put text text after refl first fin c.follow.ensures.same c.follow.ensures.buses c.in_ok-follow.ensures.ok few c.of-seen.result c.held.result _
-          c.of-seen.ensures.delivered c.of-seen.ensures.badcrc c.of-seen.ensures.nosession c.held.ensures.held c.held.ensures.bound c.count.ensures,
-      text_behind plan before rec past (state_in lines self) h node [] None came.badcrc to buses put text text after refl first fin c.follow.ensures.same c.follow.ensures.buses c.in_ok-follow.ensures.ok,
-    )
+    let after = text_of c.leave.new.gathered in
+    let fin = state_in lines c.leave.new.self in
+    let same = c.leave.ensures.same in
+    let first = told_none buses text put in
+    let x = c.in_ok-leave.ensures.ok in record {
+      file = x.file;
+      served = served_by files rec self.node.now node [] None came.badcrc x.file to x.served;
+      goes = λ plan before past few h. (
+        runs_behind plan before rec past (state_in lines self) h node [] None came.badcrc to x.file buses put text text after refl first fin same.node same.buses x.follows few c.of-seen.result c.held.result _
+            c.of-seen.ensures.delivered c.of-seen.ensures.badcrc c.of-seen.ensures.nosession c.held.ensures.held c.held.ensures.bound c.count.ensures,
+        text_behind plan before rec past (state_in lines self) h node [] None came.badcrc to x.file buses put text text after refl first fin same.node same.buses x.follows,
+      );
+      fails = record { told = x.fails.told; cause = x.fails.cause };
+    }
 
 -- it is one
 
@@ -73,36 +93,46 @@ pub returns-in_err-tell-clause-err : goal.returns-in_err-tell-clause-err
 returns-in_err-tell-clause-err g c =
     let lines = g.K.LineSink.lines in
     let self = c.args.self.now in
+    let files = g.T.Tree.files self.tree.now in
     let new = state c.step.new.self (writes_for c.tell.new.writer) (lines c.tell.new.lines) self.tally.numbers in
-    on_err _ c.from_residual-in_err-tell.result (λ plan before past few h. broke_none plan before (Heard c.args.rec.now ∷ []) past (state_in lines self) new h c.in_err-tell.ensures.err refl)
+    on_err _ c.from_residual-in_err-tell.result (record {
+      breaks = λ plan before past h. broke_untold files plan before c.args.rec.now past (state_in lines self) new h c.in_err-tell.ensures.err refl;
+      untold = record { told = c.tell.ensures.untold; count = omega arith };
+    })
 
 pub returns-in_err-request-clause-err : goal.returns-in_err-request-clause-err
 returns-in_err-request-clause-err g c =
     let lines = g.K.LineSink.lines in
     let self = c.args.self.now in
+    let files = g.T.Tree.files self.tree.now in
     let rec = c.args.rec.now in
     let node = c.step.new.self in
     let step = c.in_ok-came.ensures in
     let came = c.in_ok-came.came in
     let told = told_lines c.told-told.result in
     let to = came_to rec self.node.now node came told (came_request came told) c.step.ensures.plan c.step.ensures.keeps step.stands step.lines step.badcrc step.request c.told-told.ensures refl in
-    let put = lines c.tell.new.lines in
-    let new = state node (writes_for c.tell.new.writer) put self.tally.numbers in
-    on_err _ c.from_residual-in_err-request.result (λ plan before past few h.
-    broke_behind plan before rec past (state_in lines self) h node told (came_request came told) came.badcrc to new put c.in_ok-tell.ensures.adds (begins_none _ put put refl) refl)
+    let new = state node (writes_for c.tell.new.writer) (lines c.tell.new.lines) self.tally.numbers in
+    on_err _ c.from_residual-in_err-request.result (record {
+      breaks = λ plan before past h. broke_received plan before rec past (state_in lines self) h node told (came_request came told) came.badcrc to files new c.in_ok-tell.ensures.adds refl;
+      untold = record { told = c.tell.ensures.untold; count = omega arith };
+    })
 
-pub follow-requires-2 : goal.follow-requires-2
-follow-requires-2 g c =
+pub follow-requires : goal.follow-requires
+follow-requires g c =
     let node = c.step.new.self in
     let came = c.in_ok-came.came in
     let told = told_lines c.told-told.result in
     let asks = subst (λ (p : Plan). ForSome (came_request came told) (IsRequestTo p.node)) (sym c.step.ensures.plan) (c.in_ok-came.ensures.asks told) in
     subst (λ (r : Option Request). ForSome r (IsRequestTo node.plan.node)) (sym c.in_ok-request.ensures) asks
 
-pub returns-in_err-follow-2-clause-err : goal.returns-in_err-follow-2-clause-err
-returns-in_err-follow-2-clause-err g c =
+pub returns-in_err-follow-clause-count : goal.returns-in_err-follow-clause-count
+returns-in_err-follow-clause-count g c = let same = c.follow.ensures.same.records in omega arith
+
+pub returns-in_err-follow-clause-err : goal.returns-in_err-follow-clause-err
+returns-in_err-follow-clause-err g c =
     let lines = g.K.LineSink.lines in
     let self = c.args.self.now in
+    let files = g.T.Tree.files self.tree.now in
     let rec = c.args.rec.now in
     let node = c.step.new.self in
     let step = c.in_ok-came.ensures in
@@ -110,14 +140,18 @@ returns-in_err-follow-2-clause-err g c =
     let told = told_lines c.told-told.result in
     let request = c.in_ok-request.request in
     let to = came_to rec self.node.now node came told request c.step.ensures.plan c.step.ensures.keeps step.stands step.lines step.badcrc step.request c.told-told.ensures c.in_ok-request.ensures in
-    let part = c.in_err-follow-2.ensures.err in
-    on_err _ c.from_residual-in_err-follow-2.result (λ plan before past few h.
-    broke_behind plan before rec past (state_in lines self) h node told request came.badcrc to (state_in lines c.follow-2.new.self) (lines c.tell.new.lines) c.in_ok-tell.ensures.adds part.told part.uncounted)
+    let part = c.in_err-follow.ensures.err in
+    on_err _ c.from_residual-in_err-follow.result (record {
+      breaks = λ plan before past h.
+          broke_following plan before rec past (state_in lines self) h node told request came.badcrc to files (writes_for c.tell.new.writer) (lines c.tell.new.lines) (state_in lines c.follow.new.self) _ c.in_ok-tell.ensures.adds part;
+      untold = record { told = part.untold.told ∙ c.tell.ensures.untold; count = part.untold.count };
+    })
 
 pub returns-clause-ok : goal.returns-clause-ok
-returns-clause-ok g c plan before past few h =
+returns-clause-ok g c =
     let lines = g.K.LineSink.lines in
     let self = c.args.self.now in
+    let files = g.T.Tree.files self.tree.now in
     let rec = c.args.rec.now in
     let node = c.step.new.self in
     let step = c.in_ok-came.ensures in
@@ -129,10 +163,17 @@ returns-clause-ok g c plan before past few h =
     let put = lines c.tell.new.lines in
     let text = text_of c.args.gathered.now in
     let now = text_of c.tell.new.gathered in
-    let after = text_of c.follow-2.new.gathered in
-    let fin = state_in lines c.follow-2.new.self in
-    let first : HasTold (writes_for self.writer.now) told text now (lines self.lines.now) put = record { gathered = c.in_ok-tell.ensures.text; put = c.in_ok-tell.ensures.adds } in (
-      runs_behind plan before rec past (state_in lines self) h node told request came.badcrc to buses put text now after c.tell.ensures.buses first fin c.follow-2.ensures.same c.follow-2.ensures.buses c.in_ok-follow-2.ensures.ok few c.of-seen-2.result c.held-2.result _
-          c.of-seen-2.ensures.delivered c.of-seen-2.ensures.badcrc c.of-seen-2.ensures.nosession c.held-2.ensures.held c.held-2.ensures.bound c.count-2.ensures,
-      text_behind plan before rec past (state_in lines self) h node told request came.badcrc to buses put text now after c.tell.ensures.buses first fin c.follow-2.ensures.same c.follow-2.ensures.buses c.in_ok-follow-2.ensures.ok,
-    )
+    let after = text_of c.follow.new.gathered in
+    let fin = state_in lines c.follow.new.self in
+    let same = c.follow.ensures.same in
+    let first : HasTold (writes_for self.writer.now) told text now (lines self.lines.now) put = record { gathered = c.in_ok-tell.ensures.text; put = c.in_ok-tell.ensures.adds } in
+    let x = c.in_ok-follow.ensures.ok in record {
+      file = x.file;
+      served = served_by files rec self.node.now node told request came.badcrc x.file to x.served;
+      goes = λ plan before past few h. (
+        runs_behind plan before rec past (state_in lines self) h node told request came.badcrc to x.file buses put text now after c.tell.ensures.buses first fin same.node same.buses x.follows few c.of-seen-2.result c.held-2.result _
+            c.of-seen-2.ensures.delivered c.of-seen-2.ensures.badcrc c.of-seen-2.ensures.nosession c.held-2.ensures.held c.held-2.ensures.bound c.count-2.ensures,
+        text_behind plan before rec past (state_in lines self) h node told request came.badcrc to x.file buses put text now after c.tell.ensures.buses first fin same.node same.buses x.follows,
+      );
+      fails = record { told = x.fails.told ∙ ap (λ o. put_behind o (failed_at (Heard rec x.file))) c.tell.ensures.untold; cause = x.fails.cause };
+    }

@@ -4,6 +4,7 @@ use Rattle.node_core.specs.Steps.{Step, Tick, ticks_from}
 use Rattle.node_core.proofs.Steps.{on_err}
 use Rattle.node_run.specs.Goes.{GoesOn, begun_next, state_in, ticks_due}
 use Rattle.node_run.proofs.Goes.{goes_more, ticks_broke}
+use Rattle.node_run.proofs.Listens.{asks_then}
 use Rattle.node_run.proofs.Steps.{tick_more}
 use Rattle.node_run.proofs.log.running.Running.ticks.Goals as goal
 
@@ -22,7 +23,7 @@ loop-tick-preserved g c =
     let new = state_in lines after in
     let text = text_of c.args.gathered.now in
     let tick = c.in_ok-tick.ensures in record {
-      same_reference = c.tick.ensures.same_reference ∙ i.same_reference;
+      asks = asks_then i.asks c.tick.ensures.asks;
       latest = c.tick.ensures.latest ∙ i.latest;
       records = c.tick.ensures.records ∙ i.records;
       due = i.due;

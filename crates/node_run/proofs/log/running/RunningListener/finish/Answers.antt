@@ -5,11 +5,12 @@ use Rattle.node_core.specs.declared.line.Line.{Line}
 use Rattle.node_core.specs.declared.numbers.Numbers.{Numbers}
 use Rattle.node_core.specs.LineSinks.{BeginsList, put_behind}
 use Rattle.node_core.specs.Queues.{rounds, waiting}
-use Rattle.node_core.specs.Steps.{Kept, emptying, end_numbers, lines, steps}
+use Rattle.node_core.specs.Steps.{Kept, emptying, end_numbers, failed_lines, lines, steps}
 use Rattle.node_core.specs.Text.{end_text, text}
 use Rattle.node_core.proofs.Steps.{on_err}
 use Rattle.node_run.specs.Ran.{reported}
 use Rattle.node_run.proofs.Counts.{sent_at_end}
+use Rattle.node_run.proofs.Fails.{failed_stay}
 use Rattle.node_run.proofs.Goes.{first_cut}
 use Rattle.node_run.proofs.Tells.{put_more}
 use Rattle.node_run.proofs.log.running.RunningListener.finish.Goals as goal
@@ -19,59 +20,62 @@ returns-in_err-emptied-clause-cut_short g c =
     let K = g.K.LineSink.lines in
     let self = c.args.self.now in
     on_err _ c.from_residual.result (λ first past hh.
-    let h = hh.1 in
+    let h = hh.hears in
     let plan = first.node.now.plan in
     let all = steps plan past in
-    let same : _ ≡ emptying plan all = ap (λ (k : Kept). rounds (waiting k.queues) self.clock.last k.queues) h.runs.keeps_are ∙ h.clock_is.last in (
-      hh.0,
-      record {
+    let same : _ ≡ emptying plan all = ap (λ (k : Kept). rounds (waiting k.queues) self.clock.last k.queues) h.runs.keeps_are ∙ h.clock_is.last in record {
+      over = record { lines = hh.over.lines; tree = hh.over.tree; told = hh.over.told };
+      failed = failed_stay (failed_lines all) (g.K.LineSink.failed first.lines.now) (g.K.LineSink.failed self.lines.now) (g.K.LineSink.failed c.empty.new.lines) (g.T.Tree.faults first.tree.now) (g.T.Tree.faults self.tree.now) c.empty.ensures.untold hh.failed;
+      cut = record {
         first = first_cut plan all (reported (K first.lines.now) (K c.empty.new.lines) self.tally.numbers) (K self.lines.now) h.runs.at.reported
             (subst (λ (ls : List Line). BeginsList ls (K self.lines.now) (K c.empty.new.lines)) same c.in_err-emptied.ensures.err) h.runs.at.counted;
         within = h.runs.within;
-      },
-    ))
+      };
+    })
 
 pub returns-in_err-push_end-clause-cut_short : goal.returns-in_err-push_end-clause-cut_short
 returns-in_err-push_end-clause-cut_short g c =
     let K = g.K.LineSink.lines in
     let self = c.args.self.now in
     on_err _ c.from_residual-in_err-push_end.result (λ first past hh.
-    let h = hh.1 in
+    let h = hh.hears in
     let plan = first.node.now.plan in
     let all = steps plan past in
-    let same : _ ≡ emptying plan all = ap (λ (k : Kept). rounds (waiting k.queues) self.clock.last k.queues) h.runs.keeps_are ∙ h.clock_is.last in (
-      hh.0,
-      record {
+    let same : _ ≡ emptying plan all = ap (λ (k : Kept). rounds (waiting k.queues) self.clock.last k.queues) h.runs.keeps_are ∙ h.clock_is.last in record {
+      over = record { lines = hh.over.lines; tree = hh.over.tree; told = hh.over.told };
+      failed = failed_stay (failed_lines all) (g.K.LineSink.failed first.lines.now) (g.K.LineSink.failed self.lines.now) (g.K.LineSink.failed c.empty.new.lines) (g.T.Tree.faults first.tree.now) (g.T.Tree.faults self.tree.now) c.empty.ensures.untold hh.failed;
+      cut = record {
         first = first_cut plan all (reported (K first.lines.now) (K c.empty.new.lines) self.tally.numbers) (K self.lines.now) h.runs.at.reported
             (record { front = emptying plan all; rest = []; whole = sym (append-nil (emptying plan all)); put = c.in_ok-emptied.ensures.told.put ∙ ap (put_behind (K self.lines.now)) same }) h.runs.at.counted;
         within = h.runs.within;
-      },
-    ))
+      };
+    })
 
 pub returns-clause-ended : goal.returns-clause-ended
 returns-clause-ended g c first past hh =
     let K = g.K.LineSink.lines in
     let self = c.args.self.now in
-    let h = hh.1 in
+    let h = hh.hears in
     let plan = first.node.now.plan in
     let all = steps plan past in
     let same : _ ≡ emptying plan all = ap (λ (k : Kept). rounds (waiting k.queues) self.clock.last k.queues) h.runs.keeps_are ∙ h.clock_is.last in
     let put = c.in_ok-emptied.ensures.told.put ∙ ap (put_behind (K self.lines.now)) same in
     let few : length all ≤ 2 ^ 50 = omega (arith, h.few, h.few_records, h.few_ticks) in
-    let sent = sent_at_end plan all h.runs.is few self.tally.numbers.sent (ap (λ (n : Numbers). n.sent) h.runs.at.counted) c.in_ok-emptied.emptied (c.in_ok-emptied.ensures.sent ∙ ap length same) in (
-      hh.0,
-      record {
+    let sent = sent_at_end plan all h.runs.is few self.tally.numbers.sent (ap (λ (n : Numbers). n.sent) h.runs.at.counted) c.in_ok-emptied.emptied (c.in_ok-emptied.ensures.sent ∙ ap length same) in record {
+      over = record { lines = hh.over.lines; tree = hh.over.tree; told = hh.over.told };
+      failed = failed_stay (failed_lines all) (g.K.LineSink.failed first.lines.now) (g.K.LineSink.failed self.lines.now) (g.K.LineSink.failed c.empty.new.lines) (g.T.Tree.faults first.tree.now) (g.T.Tree.faults self.tree.now) c.empty.ensures.untold hh.failed;
+      ended = record {
         at = record { reported = put ∙ (ap (λ o. put_behind o (emptying plan all)) h.runs.at.reported ∙ put_more (K first.lines.now) (lines plan all) (emptying plan all)); counted = h.runs.at.counted };
         sent_is = c.saturating_add-sent.ensures ∙ sent;
         within = h.runs.within;
-      },
-    )
+      };
+    }
 
 pub returns-clause-text : goal.returns-clause-text
 returns-clause-text g c first past hh =
     let K = g.K.LineSink.lines in
     let self = c.args.self.now in
-    let h = hh.1 in
+    let h = hh.hears in
     let plan = first.node.now.plan in
     let all = steps plan past in
     let old = text_of c.args.gathered.now in

@@ -1,0 +1,77 @@
+-- In which requests of files the tree failed, by the command.
+use Rattle.std.proofs.Common.{◌≡◌, ◌∙◌, ◌⊎◌, inl, inr, ℕ, false, List, [], ◌∷◌, Option, Some, None, refl, sym, ap, subst}
+use Rattle.node_core.specs.LineSinks.{put_behind}
+use Rattle.node_core.specs.Steps.{failed_lines, steps}
+use Rattle.node_run.specs.Failures.{AreFailures, Failures}
+use Rattle.node_run.specs.Ran.{Failed}
+use Rattle.node_run.specs.declared.status.Status.{Status}
+use Rattle.node_run.specs.declared.status.Status.TheVariants as status
+use Rattle.cyphal.specs.Words.{Command, Compile, Compat, Encode, Decode, Run, Bound, Migrate, Gen, Monitor, Allocate, Fetch, command_of}
+use Rattle.cyphal.specs.Cause.{Outside}
+use Rattle.cyphal.specs.Job.{Told, Outcome, is_settled, ReportsNothing}
+use Rattle.cyphal.specs.jobs.Run.{HasRunAt}
+use Rattle.cyphal.specs.Expected.{job_asked, job_for, WasDone}
+
+-- from nothing on, some requests are told in which the tree failed, or its count stays
+abbrev pub StaysOrFails : Failures → Type 0
+StaysOrFails f = (f.faults_new ≡ f.faults) ⊎ (f.new ≡ Some [] → ⊥)
+
+none_told : (line : ℕ) (lines : List ℕ) (new : Option (List ℕ)) → new ≡ Some (line ∷ lines) → new ≡ Some [] → ⊥
+none_told line lines new a b = let bad : Some (line ∷ lines) ≡ Some [] = sym a ∙ b in cc
+
+stays_or_fails : (lines : List ℕ) (f : Failures) → f.old ≡ Some [] → AreFailures lines f → StaysOrFails f
+stays_or_fails [] f old a = inl (a.kept refl)
+stays_or_fails (line ∷ lines) f old a = inr (none_told line lines f.new (a.tells.told ∙ ap (λ o. put_behind o (line ∷ lines)) old))
+
+module _ (told : Told) (came : Outcome) where
+  run_done : (root path : List ℕ) → came.failures.old ≡ Some [] → came.status ≡ status.Ok → HasRunAt root path told came → StaysOrFails came.failures
+  run_done root path old ok r =
+      stays_or_fails (failed_lines (steps r.plan r.run.mets)) came.failures old
+      (subst (λ (s : Status). Failed r.plan r.run.mets s came.failures) ok r.run.failed)
+
+  did_asked : (command : Option Command) → ((job_asked command).serves ≡ false → came.failures.faults_new ≡ came.failures.faults) → came.failures.old ≡ Some [] → came.status ≡ status.Ok
+      → (job_asked command).did told came → StaysOrFails came.failures
+  did_asked None kept old ok d = absurd d
+  did_asked (Some (Compile root)) kept old ok d = inl (kept refl)
+  did_asked (Some (Compat root newer older)) kept old ok d = inl (kept refl)
+  did_asked (Some (Encode root name)) kept old ok d = inl (kept refl)
+  did_asked (Some (Decode root name)) kept old ok d = inl (kept refl)
+  did_asked (Some (Run root path)) kept old ok d = run_done root path old ok d
+  did_asked (Some (Bound root path)) kept old ok d = inl (kept refl)
+  did_asked (Some (Migrate root path)) kept old ok d = inl (kept refl)
+  did_asked (Some (Gen number)) kept old ok d = inl (kept refl)
+  did_asked (Some (Monitor own)) kept old ok d = inl (kept refl)
+  did_asked (Some (Allocate own)) kept old ok d = inl (kept refl)
+  did_asked (Some (Fetch own server path)) kept old ok d = inl (kept refl)
+
+  -- a command that serves no files reports none
+  nothing_by : (command : Option Command) → (job_asked command).serves ≡ false → (job_asked command).did told came → ReportsNothing came
+  nothing_by None h d = absurd d
+  nothing_by (Some (Compile root)) h d = d.1
+  nothing_by (Some (Compat root newer older)) h d = d.1
+  nothing_by (Some (Encode root name)) h d = d.1
+  nothing_by (Some (Decode root name)) h d = d.1
+  nothing_by (Some (Run root path)) h d = absurd cc
+  nothing_by (Some (Bound root path)) h d = d.1
+  nothing_by (Some (Migrate root path)) h d = d.1
+  nothing_by (Some (Gen number)) h d = d.1
+  nothing_by (Some (Monitor own)) h d = d.1
+  nothing_by (Some (Allocate own)) h d = d.1
+  nothing_by (Some (Fetch own server path)) h d = d.1
+
+module _ {L : Type 0} (words : List (List ℕ)) (told : Told) (came : Outcome) (old new : Outside L) (done : WasDone words told came old new) where
+  -- where all was done, the tree's count stays, or requests are told in which it failed
+  pub stays_or_told : ((job_for words).serves ≡ false → came.failures.faults_new ≡ came.failures.faults) → came.failures.old ≡ Some [] → came.status ≡ status.Ok → StaysOrFails came.failures
+  stays_or_told kept none ok = by_work done
+    where
+      by_work : WasDone words told came old new → StaysOrFails came.failures
+      by_work (inl n) = let bad : is_settled came.status ≡ false = n.not_settled in absurd (let ends = ap is_settled ok in cc)
+      by_work (inr d) = did_asked told came (command_of words) kept none ok d
+
+  -- a command that serves no files tells none
+  pub none_failed : (job_for words).serves ≡ false → came.failures.new ≡ came.failures.old
+  none_failed h = by_work done
+    where
+      by_work : WasDone words told came old new → came.failures.new ≡ came.failures.old
+      by_work (inl n) = n.empty.failed
+      by_work (inr d) = (nothing_by told came (command_of words) h d).failed
