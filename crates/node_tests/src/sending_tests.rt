@@ -10,6 +10,7 @@ use node_plan::{Plan, read_plan};
 use std::alloc::Global;
 use std::process::Abort;
 use std::str::from_utf8;
+use tail_frame::Record;
 
 /// A plan of node 42 with a register of numbers from 0 to 100.
 const REGISTERS: &str =
@@ -82,6 +83,27 @@ fn push_told(
     }
 }
 
+/// Puts the text of the lines on a record behind others: on what is received, and on the buses that
+/// have no room for the reply.
+fn hear(
+    rt: &impl Abort,
+    node: &mut Node,
+    writer: &mut LineWriter,
+    text: &mut TextBuffer,
+    rec: &Record,
+) -> Result<(), NoMemory> {
+    assert!(rt; node.latest <= rec.moment);
+    let came = node.step(rec)?;
+    let told = node.told(rec, came);
+    let request = node.request(came, told)?;
+    push_told(writer, text, told)?;
+    if let Some(request) = request {
+        let fulls = node.reply(rec.moment, request, &FileReply::NoFile)?;
+        push_fulls(writer, text, &fulls)?;
+    }
+    Ok(())
+}
+
 /// The text of a tick at 5 seconds and of a request for information on the node at the same moment.
 fn asked_text(rt: &impl Abort, alloc: Global, lines: &str) -> Result<String, NoMemory> {
     let plan = plan_of(rt, alloc, lines)?;
@@ -91,15 +113,7 @@ fn asked_text(rt: &impl Abort, alloc: Global, lines: &str) -> Result<String, NoM
     let rec = record(rt, 1, (5_000_000, 0, 0x136B_957B, &[0xE1]));
     push_fulls(&mut writer, &mut text, &node.tick(rec.moment, 0))?;
     leave(&mut node, &mut writer, &mut text, rec.moment)?;
-    assert!(rt; node.latest <= rec.moment);
-    let came = node.step(&rec)?;
-    let told = node.told(&rec, came);
-    let request = node.request(came, told)?;
-    push_told(&mut writer, &mut text, told)?;
-    if let Some(request) = request {
-        let fulls = node.reply(rec.moment, request, &FileReply::NoFile)?;
-        push_fulls(&mut writer, &mut text, &fulls)?;
-    }
+    hear(rt, &mut node, &mut writer, &mut text, &rec)?;
     leave(&mut node, &mut writer, &mut text, rec.moment)?;
     String::from_str(alloc, from_utf8(text.as_slice()).unwrap_or("no text")).map_err(|_| NoMemory)
 }
