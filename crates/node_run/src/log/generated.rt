@@ -2,7 +2,8 @@
 ghost use Rattle.std.specs.Prelude.{◌≡◌, IfOk};
 ghost use Rattle.cy_outside.specs.Outside.{Rose};
 ghost use Rattle.node_plan.specs.IsPlan.{IsPlan};
-ghost use Rattle.node_run.specs.Generated.{HasGenerated, generated_numbers, generated_plan, summary_line};
+ghost use Rattle.node_run.specs.Generated.{HasGenerated, generated_numbers};
+ghost use Rattle.node_run.specs.Generated.{generated_plan, summary_line};
 
 use crate::log::labelled::push_labelled;
 use crate::log::run::run_over;

@@ -5,7 +5,8 @@ ghost use Rattle.node_plan.specs.Bound.{bound_of};
 ghost use Rattle.node_plan.specs.IsPlan.{IsPlan};
 ghost use Rattle.node_run.specs.Failures.{failures};
 ghost use Rattle.node_run.specs.HasRun.{HasRun};
-ghost use Rattle.node_run.specs.Ran.{IsEmpty, end_sent, reported, of_failed, of_report, names_of, status_of};
+ghost use Rattle.node_run.specs.Ran.{IsEmpty, end_sent, names_of, of_failed, of_report};
+ghost use Rattle.node_run.specs.Ran.{reported, status_of};
 ghost use Rattle.node_run.specs.ValueLines.{flow};
 
 use crate::log::clock::Clock;

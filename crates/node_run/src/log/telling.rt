@@ -21,8 +21,8 @@ pub(crate) fn tell<K: LineSink>(
     told: Option<LineRef<'_>>,
 ) -> Result<(), NoMemory>
     ensures buses { writes_for writer.new ≡ writes_for writer.old }
-    ensures text { let told = told_lines told.entry in
-        OnOk result (text_of gathered.new ≡ text_of gathered.old ++ text (writes_for writer.old) told) }
+    ensures text { let said = text (writes_for writer.old) (told_lines told.entry) in
+        OnOk result (text_of gathered.new ≡ text_of gathered.old ++ said) }
     ensures adds { OnOk result
         (K.lines lines.new ≡ put_behind (K.lines lines.old) (told_lines told.entry)) }
     ensures err { OnErr result (K.lines lines.new ≡ K.lines lines.old) }
