@@ -1,7 +1,15 @@
 -- What a run over a generated log came to.
-use Rattle.std.proofs.Common.{◌≡◌, ℕ, ◌⊎◌, List, Option, Some, None, reverse, [], ◌∷◌, ◌++◌, append_assoc, refl, ap, ◌∙◌, subst, inl, inr, arith}
-use Rattle.std.proofs.lemmas.List.{reverse-reverse}
-use Rattle.cy_outside.specs.Files.{Files}
+use Rattle.std.proofs.Common.{◌≡◌, ℕ, ◌⊎◌, List, Option, Some, None, true, false, map, reverse, [], ◌∷◌, ◌++◌, append_assoc, refl, sym, ap, ◌∙◌, subst, inl, inr, arith}
+use Rattle.std.proofs.lemmas.List.{nil_from_length, reverse-reverse}
+use Rattle.std.specs.Prelude.{MatchOption, IsSome}
+use Rattle.std.specs.List.{list_any}
+use Rattle.std.specs.Ordering.{nat_cmp}
+use Rattle.std.specs.Cmp.Lexicographic.{slice_cmp}
+use Rattle.std.specs.FinMap.{empty, entries, len-empty, len-entries}
+use Rattle.cy_outside.specs.Files.{Files, has_clash, is_folder}
+use Rattle.cy_outside.specs.Memory.{files_of}
+use Rattle.cy_outside.specs.declared.file.File.{File}
+use Rattle.cy_outside.specs.declared.never_tree.NeverTree.{NeverTree}
 use Rattle.cy_outside.specs.Outside.{Rose}
 use Rattle.frame_log.specs.Log.{Log, log_of}
 use Rattle.frame_log.specs.declared.error.LogError.{LogError}
@@ -100,6 +108,19 @@ module _ (number : ℕ) (reads : IsRead number) (told : Option Files) (bytes : L
     -- and that, or want of memory, is all that can come
     pub either : (stat ≡ status.ReadFault → ⊥) → (stat ≡ status.WriteFault → ⊥) → (stat ≡ status.Ok) ⊎ (stat ≡ status.NoMemory)
     either read write = only there.mets stat r before after (ran_whole there) read write
+
+no_entries : entries (empty {X = List ℕ} {R = slice_cmp nat_cmp}) ≡ []
+no_entries = nil_from_length _ (sym (len-entries _) ∙ len-empty (slice_cmp nat_cmp) (List ℕ))
+
+no_clash : false ≡ true → ⊥
+no_clash e = cc
+
+-- a tree of no files has no path that is a folder and a file
+pub some_tree : (tree : Option NeverTree) (files : List File) → files ≡ [] → MatchOption tree (has_clash (files_of files) ≡ true) (λ (t : NeverTree). t.files ≡ files) → IsSome tree
+some_tree None files e h =
+    let none : has_clash (files_of []) ≡ false = ap (λ es. list_any (is_folder (files_of [])) (map (λ e. e.0) es)) no_entries in
+    let clash : has_clash (files_of []) ≡ true = subst (λ (fs : List File). has_clash (files_of fs) ≡ true) e h in absurd (no_clash (sym none ∙ clash))
+some_tree (Some t) files e h = refl
 
 -- seven pieces and a newline that are put one after the other
 pub seven_pieces : (a b c d e f g h : List ℕ) {i : List ℕ} (o p q r s t u : List ℕ) → a ≡ [] → b ≡ a ++ o → c ≡ b ++ p → d ≡ c ++ q → e ≡ d ++ r → f ≡ e ++ s → g ≡ f ++ t → h ≡ g ++ u → i ≡ h ++ 10 ∷ []

@@ -1,5 +1,5 @@
 use Rattle.std.proofs.Common.{◌∙◌, inl, inr}
-use Rattle.node_run.proofs.Summaries.{all_run, either, never}
+use Rattle.node_run.proofs.Summaries.{all_run, either, never, some_tree}
 use Rattle.node_run.proofs.log.generated.numbers_of.Goals as goal
 
 pub returns-in-Ok : goal.returns-in-Ok
@@ -12,3 +12,6 @@ unreachable-requires c =
       | inl e ↦ c.in_default.not-Ok e
       | inr e ↦ c.in_default.not-NoMemory e
     ]
+
+pub unwrap-tree-requires : goal.unwrap-tree-requires
+unwrap-tree-requires c = some_tree c.new.result c.empty.result c.empty.ensures c.new.ensures
