@@ -22,3 +22,4 @@ pub mod Paths
 pub mod Stored
 pub mod Finding
 pub mod Definitions
+pub mod formers

@@ -8,6 +8,7 @@ mod path;
 mod read_why;
 mod schema;
 mod shape;
+mod shared;
 mod value;
 mod zero;
 
@@ -17,5 +18,6 @@ pub use path::{Step, path_text};
 pub use read_why::ReadWhy;
 pub use schema::{Body, Cast, Field, Schema};
 pub use shape::Shape;
+pub use shared::Shared;
 pub use value::Value;
 pub use zero::zero_of;

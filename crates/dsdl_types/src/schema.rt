@@ -3,6 +3,7 @@ ghost use Rattle.dsdl_types.specs.Schemas.{extent_of};
 ghost use Rattle.dsdl_types.specs.Rules.{IsSchema};
 ghost use Rattle.dsdl_types.specs.Views.{kind_of, is_padding, sch};
 
+use crate::shared::Shared;
 use cy_bits::{Boxed, List, NoMemory, Text, TryCopy};
 use std::alloc::Global;
 
@@ -70,7 +71,7 @@ pub enum Schema {
 #[cycle(schema)]
 pub struct Body {
     /// The fields or variants, in order.
-    pub fields: List<Field>,
+    pub fields: Shared<List<Field>>,
     /// The extent in bits: of a sealed composite its greatest length.
     pub extent: u64,
     /// Whether it is sealed. One that isn't is delimited.
@@ -146,20 +147,12 @@ fn copy_item(alloc: Global, item: &Boxed<Schema>) -> Result<Boxed<Schema>, NoMem
     Boxed::new(alloc, item)
 }
 
-/// An equal body.
-#[cycle(copy_schema)]
+/// An equal body, which has its fields in common with this one.
 fn copy_body(alloc: Global, body: &Body) -> Result<Body, NoMemory>
     ensures { IfOk result (λ r. r ≡ body.now) }
 {
-    let mut fields = Vec::new(alloc);
-    for field in body.fields.as_slice() {
-        fields.push(Field {
-            name: field.name.copy(alloc)?,
-            schema: field.schema.copy(alloc)?,
-        })?;
-    }
     Ok(Body {
-        fields: List::new(fields),
+        fields: body.fields.copy(alloc)?,
         extent: body.extent,
         sealed: body.sealed,
     })
