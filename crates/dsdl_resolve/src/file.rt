@@ -99,7 +99,7 @@ impl OpenFile {
         let standing = self.section.before.standing.with(statement);
         let next = OpenSection::begin(alloc, standing, behind);
         let closed = replace(&mut self.section, next);
-        self.request = Some(closed.close());
+        self.request = Some(closed.close(alloc)?);
         scope.constants = List::empty(alloc);
         Ok(())
     }
@@ -160,7 +160,7 @@ impl OpenFile {
             request,
             prints,
         } = self;
-        let Half { schema, types } = section.close();
+        let Half { schema, types } = section.close(alloc)?;
         let constants = replace(&mut scope.constants, List::empty(alloc));
         let id = name.id.copy(alloc)?;
         let port = name.port;

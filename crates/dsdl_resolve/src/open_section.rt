@@ -39,7 +39,7 @@ use bit_length::LengthSet;
 use const_expr::{ExprError, NamedConst, Scope};
 use cy_bits::{List, NoMemory, Text, TryCopy};
 use dsdl_parse::Statement;
-use dsdl_types::{Body, Field, Schema};
+use dsdl_types::{Body, Field, Schema, Shared};
 use std::alloc::Global;
 
 /// A section of a file so far. Its constants stand in the scope of its expressions.
@@ -311,11 +311,11 @@ impl OpenSection {
     }
 
     /// The section at its end.
-    pub fn close(self) -> Half
+    pub fn close(self, alloc: Global) -> Result<Half, NoMemory>
         requires ready { IsReady self }
-        ensures schema { (constants : ListOf NamedConstOf) →
-            result.schema ≡ composite_of (said_of self constants) }
-        ensures types { result.types ≡ self.types }
+        ensures schema { IfOk result (λ half. (constants : ListOf NamedConstOf) →
+            half.schema ≡ composite_of (said_of self constants)) }
+        ensures types { IfOk result (λ half. half.types ≡ self.types) }
     {
         let OpenSection {
             before,
@@ -326,31 +326,37 @@ impl OpenSection {
             offsets: _offsets,
         } = self;
         let totals = before.totals;
-        let body = body_of(fields, extent, totals.greatest());
-        Half {
+        let body = body_of(alloc, fields, extent, totals.greatest())?;
+        Ok(Half {
             schema: composite(totals.union, body),
             types,
-        }
+        })
     }
 }
 
 /// The body of a composite: delimited where it has an extent, else sealed.
-fn body_of(fields: List<Field>, extent: Option<u64>, greatest: u64) -> Body
+fn body_of(
+    alloc: Global,
+    fields: List<Field>,
+    extent: Option<u64>,
+    greatest: u64,
+) -> Result<Body, NoMemory>
     ensures { (said : SaidOf) → said.fields ≡ fields →
         greatest ≡ greatest_of said.union said.fields →
-        result ≡ body_of said extent }
+        IfOk result (λ body. body ≡ body_of said extent) }
 {
+    let fields = Shared::new(alloc, fields)?;
     match extent {
-        Some(extent) => Body {
+        Some(extent) => Ok(Body {
             fields,
             extent,
             sealed: false,
-        },
-        None => Body {
+        }),
+        None => Ok(Body {
             fields,
             extent: greatest,
             sealed: true,
-        },
+        }),
     }
 }
 

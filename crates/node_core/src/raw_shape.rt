@@ -6,7 +6,7 @@ ghost use Rattle.dsdl_types.specs.OneWay.{schema_prop};
 ghost use Rattle.node_core.specs.Raw.{raw_fields, raw_schema};
 
 use cy_bits::{Boxed, List, NoMemory, Text};
-use dsdl_types::{Body, Cast, Field, Schema, Shape};
+use dsdl_types::{Body, Cast, Field, Schema, Shape, Shared};
 use std::alloc::Global;
 
 /// Bytes, as a data type.
@@ -26,7 +26,7 @@ impl RawShape {
     {
         let fields = raw_fields(alloc, extent)?;
         Ok(RawShape {
-            schema: structure(fields, extent),
+            schema: structure(alloc, fields, extent)?,
         })
     }
 }
@@ -44,14 +44,15 @@ impl Shape for RawShape {
 }
 
 /// A sealed structure, with an extent in bytes.
-fn structure(fields: List<Field>, extent: u32) -> Schema
-    ensures { kind_of result ≡ Typed (Struct (flds fields) (record { extent = 8 * extent; sealed = true })) }
+fn structure(alloc: Global, fields: List<Field>, extent: u32) -> Result<Schema, NoMemory>
+    ensures { IfOk result (λ s. kind_of s ≡ Typed
+        (Struct (flds fields) (record { extent = 8 * extent; sealed = true }))) }
 {
-    Schema::Struct(Body {
-        fields,
+    Ok(Schema::Struct(Body {
+        fields: Shared::new(alloc, fields)?,
         extent: 8 * extent as u64,
         sealed: true,
-    })
+    }))
 }
 
 /// One array of so many bytes, or nothing for none.

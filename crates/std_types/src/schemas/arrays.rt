@@ -10,8 +10,8 @@ use dsdl_types::Schema;
 use std::alloc::Global;
 
 /// `uavcan.primitive.Empty.1.0`.
-pub fn empty(alloc: Global) -> Schema
-    ensures { kind_of result ≡ Typed empty }
+pub fn empty(alloc: Global) -> Result<Schema, NoMemory>
+    ensures { IfOk result (λ s. kind_of s ≡ Typed empty) }
 {
     Fields::new(alloc).sealed(0)
 }

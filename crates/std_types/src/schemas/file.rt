@@ -28,7 +28,7 @@ pub fn info_request(alloc: Global) -> Result<Schema, NoMemory>
     ensures { IfOk result (λ s. kind_of s ≡ Typed info_request) }
 {
     let fields = Fields::new(alloc).with("path", path(alloc)?)?;
-    Ok(fields.of_extent(2400))
+    fields.of_extent(2400)
 }
 
 /// Its reply.
@@ -44,7 +44,7 @@ pub fn info_reply(alloc: Global) -> Result<Schema, NoMemory>
         .with("is_readable", Schema::Bool)?
         .with("is_writeable", Schema::Bool)?
         .padded(4)?;
-    Ok(fields.of_extent(384))
+    fields.of_extent(384)
 }
 
 /// `uavcan.file.List.1.0`, with the port 406.
@@ -55,7 +55,7 @@ pub fn file_list_request(alloc: Global) -> Result<Schema, NoMemory>
         .with("entry_index", uint(32))?
         .padded(32)?
         .with("directory_path", path(alloc)?)?;
-    Ok(fields.of_extent(2400))
+    fields.of_extent(2400)
 }
 
 /// Its reply.
@@ -65,7 +65,7 @@ pub fn file_list_reply(alloc: Global) -> Result<Schema, NoMemory>
     let fields = Fields::new(alloc)
         .padded(32)?
         .with("entry_base_name", path(alloc)?)?;
-    Ok(fields.of_extent(2400))
+    fields.of_extent(2400)
 }
 
 /// `uavcan.file.Read.1.0`, with the port 408.
@@ -75,7 +75,7 @@ pub fn read_request(alloc: Global) -> Result<Schema, NoMemory>
     let fields = Fields::new(alloc)
         .with("offset", truncated(40))?
         .with("path", path(alloc)?)?;
-    Ok(fields.of_extent(2400))
+    fields.of_extent(2400)
 }
 
 /// Its reply.
@@ -85,5 +85,5 @@ pub fn read_reply(alloc: Global) -> Result<Schema, NoMemory>
     let fields = Fields::new(alloc)
         .with("error", file_error(alloc)?)?
         .with("data", unstructured(alloc)?)?;
-    Ok(fields.of_extent(2400))
+    fields.of_extent(2400)
 }

@@ -29,7 +29,7 @@ pub fn version(alloc: Global) -> Result<Schema, NoMemory>
     let fields = Fields::new(alloc)
         .with("major", uint(8))?
         .with("minor", uint(8))?;
-    Ok(fields.sealed(16))
+    fields.sealed(16)
 }
 
 /// `uavcan.node.Heartbeat.1.0`, with the port 7509.
@@ -41,12 +41,12 @@ pub fn heartbeat(alloc: Global) -> Result<Schema, NoMemory>
         .with("health", health(alloc)?)?
         .with("mode", mode(alloc)?)?
         .with("vendor_specific_status_code", uint(8))?;
-    Ok(fields.of_extent(96))
+    fields.of_extent(96)
 }
 
 /// `uavcan.node.GetInfo.1.0, with the port 430`.
-pub fn node_info_request(alloc: Global) -> Schema
-    ensures { kind_of result ≡ Typed node_info_request }
+pub fn node_info_request(alloc: Global) -> Result<Schema, NoMemory>
+    ensures { IfOk result (λ s. kind_of s ≡ Typed node_info_request) }
 {
     Fields::new(alloc).sealed(0)
 }
@@ -64,7 +64,7 @@ pub fn node_info(alloc: Global) -> Result<Schema, NoMemory>
         .with("name", bytes(alloc, 50)?)?
         .with("software_image_crc", array(alloc, uint(64), 1)?)?
         .with("certificate_of_authenticity", bytes(alloc, 222)?)?;
-    Ok(fields.of_extent(3584))
+    fields.of_extent(3584)
 }
 
 /// `uavcan.node.ID.1.0`.
@@ -81,7 +81,7 @@ pub fn node_id_allocation(alloc: Global) -> Result<Schema, NoMemory>
     let fields = Fields::new(alloc)
         .with("unique_id_hash", truncated(48))?
         .with("allocated_node_id", array(alloc, node_id(alloc)?, 1)?)?;
-    Ok(fields.of_extent(384))
+    fields.of_extent(384)
 }
 
 /// `uavcan.time.SynchronizedTimestamp.1.0`.

@@ -25,7 +25,7 @@ pub fn register_value(alloc: Global) -> Result<Schema, NoMemory>
     ensures { IfOk result (λ s. kind_of s ≡ Typed register_value) }
 {
     let fields = Fields::new(alloc)
-        .with("empty", empty(alloc))?
+        .with("empty", empty(alloc)?)?
         .with("string", string(alloc)?)?
         .with("unstructured", unstructured(alloc)?)?
         .with("bit", bit(alloc)?)?
@@ -40,7 +40,7 @@ pub fn register_value(alloc: Global) -> Result<Schema, NoMemory>
         .with("real64", real64(alloc)?)?
         .with("real32", real32(alloc)?)?
         .with("real16", real16(alloc)?)?;
-    Ok(fields.sealed_union(2072))
+    fields.sealed_union(2072)
 }
 
 /// `uavcan.register.Access.1.0`, with the port 384.
@@ -50,7 +50,7 @@ pub fn access_request(alloc: Global) -> Result<Schema, NoMemory>
     let fields = Fields::new(alloc)
         .with("name", register_name(alloc)?)?
         .with("value", register_value(alloc)?)?;
-    Ok(fields.of_extent(4120))
+    fields.of_extent(4120)
 }
 
 /// Its reply.
@@ -63,7 +63,7 @@ pub fn access_reply(alloc: Global) -> Result<Schema, NoMemory>
         .with("persistent", Schema::Bool)?
         .padded(6)?
         .with("value", register_value(alloc)?)?;
-    Ok(fields.of_extent(2136))
+    fields.of_extent(2136)
 }
 
 /// `uavcan.register.List.1.0`, with the port 385.

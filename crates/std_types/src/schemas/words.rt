@@ -6,7 +6,7 @@ ghost use Rattle.std_types.specs.FieldRows.{and_field};
 ghost use Rattle.std_types.specs.Schemas.{bytes, float, sint, truncated, uint};
 
 use cy_bits::{Boxed, List, NoMemory, Text};
-use dsdl_types::{Body, Cast, Field, Schema};
+use dsdl_types::{Body, Cast, Field, Schema, Shared};
 use std::alloc::Global;
 
 /// A saturated unsigned integer.
@@ -79,7 +79,7 @@ pub fn single(alloc: Global, name: &str, schema: Schema, extent: u64) -> Result<
         (Struct (with_field name.now (kind_of schema) End)
         (record { extent = extent; sealed = true }))) }
 {
-    Ok(Fields::new(alloc).with(name, schema)?.sealed(extent))
+    Fields::new(alloc).with(name, schema)?.sealed(extent)
 }
 
 /// The fields of a structure or the variants of a union, in order.
@@ -120,38 +120,38 @@ impl Fields {
     }
 
     /// A sealed structure of these fields, with an extent in bits.
-    pub fn sealed(self, extent: u64) -> Schema
-        ensures { kind_of result ≡ Typed
-            (Struct (flds self.fields) (record { extent = extent; sealed = true })) }
+    pub fn sealed(self, extent: u64) -> Result<Schema, NoMemory>
+        ensures { IfOk result (λ s. kind_of s ≡ Typed
+            (Struct (flds self.fields) (record { extent = extent; sealed = true }))) }
     {
-        Schema::Struct(Body {
-            fields: self.fields,
+        Ok(Schema::Struct(Body {
+            fields: Shared::new(self.alloc, self.fields)?,
             extent,
             sealed: true,
-        })
+        }))
     }
 
     /// A sealed union of these variants, with an extent in bits.
-    pub fn sealed_union(self, extent: u64) -> Schema
-        ensures { kind_of result ≡ Typed
-            (Union (flds self.fields) (record { extent = extent; sealed = true })) }
+    pub fn sealed_union(self, extent: u64) -> Result<Schema, NoMemory>
+        ensures { IfOk result (λ s. kind_of s ≡ Typed
+            (Union (flds self.fields) (record { extent = extent; sealed = true }))) }
     {
-        Schema::Union(Body {
-            fields: self.fields,
+        Ok(Schema::Union(Body {
+            fields: Shared::new(self.alloc, self.fields)?,
             extent,
             sealed: true,
-        })
+        }))
     }
 
     /// A delimited structure of these fields, with an extent in bits.
-    pub fn of_extent(self, extent: u64) -> Schema
-        ensures { kind_of result ≡ Typed
-            (Struct (flds self.fields) (record { extent = extent; sealed = false })) }
+    pub fn of_extent(self, extent: u64) -> Result<Schema, NoMemory>
+        ensures { IfOk result (λ s. kind_of s ≡ Typed
+            (Struct (flds self.fields) (record { extent = extent; sealed = false }))) }
     {
-        Schema::Struct(Body {
-            fields: self.fields,
+        Ok(Schema::Struct(Body {
+            fields: Shared::new(self.alloc, self.fields)?,
             extent,
             sealed: false,
-        })
+        }))
     }
 }
