@@ -44,7 +44,8 @@ pub fn make(ident: Ident) -> u32
 pub fn parse(bits: u32) -> Option<Ident>
     requires { bits < 2 ^ 29 }
     ensures value { result ≡ ident_of bits }
-    ensures meaning { MatchOption result ((ident : Ident) → ¬ IsIdentifierOf bits ident) (IsIdentifierOf bits) }
+    ensures meaning { MatchOption result ((ident : Ident) → ¬ IsIdentifierOf bits ident)
+        (IsIdentifierOf bits) }
 {
     let low = (bits % 0x80) as u8;
     let middle = bits / 0x80;

@@ -58,7 +58,8 @@ fn item_difference(
     old: &Schema,
     as_long: bool,
 ) -> Result<Option<Difference>, NoMemory>
-    ensures { IfOk result (λ d. found_of d ≡ unless as_long Kind (below Item (difference (sch new.now) (sch old.now)))) }
+    ensures { IfOk result (λ d. found_of d
+        ≡ unless as_long Kind (below Item (difference (sch new.now) (sch old.now)))) }
 {
     if !as_long {
         return Ok(Difference::here(alloc, CompatWhy::Kind));
@@ -96,7 +97,8 @@ fn body_difference(
 /// The first difference of fields in order. Further fields of the new type are none.
 #[cycle(difference)]
 fn fields_difference(alloc: Global, new: &Body, old: &Body) -> Result<Option<Difference>, NoMemory>
-    ensures { IfOk result (λ d. found_of d ≡ difference_fields (body_of new.now).0 (body_of old.now).0) }
+    ensures { IfOk result (λ d. found_of d
+        ≡ difference_fields (body_of new.now).0 (body_of old.now).0) }
 {
     for (field, older) in new.fields.as_slice().iter().zip(old.fields.as_slice()) {
         let found = field_difference(alloc, field, older)?;

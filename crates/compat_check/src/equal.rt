@@ -42,7 +42,8 @@ fn same(a: &Schema, b: &Schema) -> bool
 /// Whether two composites of one kind are equal, names aside.
 #[cycle(same)]
 fn same_body(a: &Body, b: &Body) -> bool
-    ensures { result ≡ same_outline (body_of a.now).1 (body_of b.now).1 && same_fields (body_of a.now).0 (body_of b.now).0 }
+    ensures { result ≡ same_outline (body_of a.now).1 (body_of b.now).1
+        && same_fields (body_of a.now).0 (body_of b.now).0 }
 {
     a.extent == b.extent && a.sealed == b.sealed && same_fields(a, b)
 }

@@ -40,7 +40,8 @@ fn turn_text(turn: &Turn) -> &str
 
 /// Appends a turn.
 fn push_turn(text: &mut String, turn: &Turn) -> Result<(), NoMemory>
-    ensures { OnOk result (string_bytes text.new ≡ string_bytes text.old ++ further_text (turn_of turn.now)) }
+    ensures { OnOk result (string_bytes text.new ≡ string_bytes text.old
+        ++ further_text (turn_of turn.now)) }
 {
     if matches!(turn, Turn::Named(_)) {
         text.push_str(".")?;

@@ -31,7 +31,8 @@ fn digit_value(b: u8) -> u8
 
 /// The number that a digit writes behind those of another number, where 128 bits hold it.
 fn with_digit(base: u32, number: u128, digit: u8) -> Option<u128>
-    ensures { SomeIff result (number * base + digit_value digit < 2 ^ 128) (number * base + digit_value digit) }
+    ensures { SomeIff result (number * base + digit_value digit < 2 ^ 128)
+        (number * base + digit_value digit) }
 {
     match number.checked_mul(u128::from(base)) {
         Some(shifted) => shifted.checked_add(u128::from(digit_value(digit))),
@@ -42,7 +43,8 @@ fn with_digit(base: u32, number: u128, digit: u8) -> Option<u128>
 /// The number that digits write behind those of another number, where 128 bits hold it. `_` is no digit.
 fn more_digits(base: u32, number: u128, text: &[u8]) -> Option<u128>
     requires { 1 ≤ base }
-    ensures { SomeIff result (digits_value_after base number (digits text.now) < 2 ^ 128) (digits_value_after base number (digits text.now)) }
+    ensures { SomeIff result (digits_value_after base number (digits text.now) < 2 ^ 128)
+        (digits_value_after base number (digits text.now)) }
 {
     let mut sum = number;
     for b in text {
@@ -131,7 +133,8 @@ fn cut(text: &[u8], place: usize) -> (&[u8], &[u8])
 /// An exponent, unless it is far outside the range.
 #[tactic(auto, unfolding(crate::specs::Literal::exponent_of))]
 fn exponent_of(text: &[u8]) -> Option<i128>
-    ensures { MatchOption result (2 ^ 100 ≤ unsigned_abs (exponent_of text.now)) (λ z. (z ≡ exponent_of text.now) × (unsigned_abs z < 2 ^ 100)) }
+    ensures { MatchOption result (2 ^ 100 ≤ unsigned_abs (exponent_of text.now))
+        (λ z. (z ≡ exponent_of text.now) × (unsigned_abs z < 2 ^ 100)) }
 {
     match text {
         [b'-', text @ ..] => size_of(text).map(|size| -size),
@@ -142,7 +145,9 @@ fn exponent_of(text: &[u8]) -> Option<i128>
 
 /// The number of decimal digits, unless it is far outside the range.
 fn size_of(text: &[u8]) -> Option<i128>
-    ensures { MatchOption result (2 ^ 100 ≤ digits_value 10 (digits text.now)) (λ z. (z ≡ pos (digits_value 10 (digits text.now))) × (digits_value 10 (digits text.now) < 2 ^ 100)) }
+    ensures { MatchOption result (2 ^ 100 ≤ digits_value 10 (digits text.now))
+        (λ z. (z ≡ pos (digits_value 10 (digits text.now)))
+        × (digits_value 10 (digits text.now) < 2 ^ 100)) }
 {
     match more_digits(10, 0, text) {
         Some(size) => if size < FAR { Some(size as i128) } else { None },
@@ -153,7 +158,8 @@ fn size_of(text: &[u8]) -> Option<i128>
 /// The digits before and behind a point as one number, where 128 bits hold it.
 #[tactic(auto, using(crate::proofs::LiteralLemmas::behind_others, crate::proofs::LiteralLemmas::front_too_great))]
 fn mantissa_of(front: &[u8], back: &[u8]) -> Option<u128>
-    ensures { SomeIff result (digits_value 10 (digits front.now ++ digits back.now) < 2 ^ 128) (digits_value 10 (digits front.now ++ digits back.now)) }
+    ensures { SomeIff result (digits_value 10 (digits front.now ++ digits back.now) < 2 ^ 128)
+        (digits_value 10 (digits front.now ++ digits back.now)) }
 {
     match more_digits(10, 0, front) {
         Some(number) => more_digits(10, number, back),

@@ -75,7 +75,8 @@ fn push_id(alloc: Global, text: &mut String, id: &TypeId) -> Result<(), NoMemory
 /// Appends a member of a set.
 #[tactic(auto, using(crate::proofs::Layers::layers))]
 fn push_member(text: &mut String, member: &Const) -> Result<(), NoMemory>
-    ensures { OnOk result (string_bytes text.new ≡ string_bytes text.old ++ member_text (out-Const member.now)) }
+    ensures { OnOk result (string_bytes text.new ≡ string_bytes text.old
+        ++ member_text (out-Const member.now)) }
 {
     match member {
         Const::Number(x) => push_number(text, *x),
@@ -87,7 +88,8 @@ fn push_member(text: &mut String, member: &Const) -> Result<(), NoMemory>
 
 /// Appends the members of a set, with `, ` between each two.
 fn push_members(text: &mut String, members: &[Const]) -> Result<(), NoMemory>
-    ensures { OnOk result (string_bytes text.new ≡ string_bytes text.old ++ members_text members.now) }
+    ensures { OnOk result (string_bytes text.new ≡ string_bytes text.old
+        ++ members_text members.now) }
 {
     match members {
         [] => Ok(()),
@@ -100,7 +102,8 @@ fn push_members(text: &mut String, members: &[Const]) -> Result<(), NoMemory>
 
 /// Appends members, each behind `, `.
 fn push_behind(text: &mut String, members: &[Const]) -> Result<(), NoMemory>
-    ensures { OnOk result (string_bytes text.new ≡ string_bytes text.old ++ members_behind members.now) }
+    ensures { OnOk result (string_bytes text.new ≡ string_bytes text.old
+        ++ members_behind members.now) }
 {
     for member in members {
         push(text, ", ")?;
@@ -112,7 +115,8 @@ fn push_behind(text: &mut String, members: &[Const]) -> Result<(), NoMemory>
 /// Appends a constant whose lengths are listed.
 #[tactic(auto, using(crate::proofs::Layers::layers))]
 fn push_constant(alloc: Global, text: &mut String, constant: &Const) -> Result<(), NoMemory>
-    ensures { OnOk result (string_bytes text.new ≡ string_bytes text.old ++ layer_text (out-Const constant.now)) }
+    ensures { OnOk result (string_bytes text.new ≡ string_bytes text.old
+        ++ layer_text (out-Const constant.now)) }
 {
     match constant {
         Const::Number(x) => push_number(text, *x),

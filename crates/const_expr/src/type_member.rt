@@ -36,7 +36,9 @@ fn extent(schema: &Schema) -> u64
 /// leaves no room for the delimiter header.
 fn is_long(schema: &Schema) -> bool
     requires { IsType schema.now }
-    ensures { result ≡ nat_lt (2 ^ 32) (as_part (is_delimited (sch schema.now)) (extent_of (sch schema.now)) (longest (sch schema.now))) }
+    ensures { result ≡ nat_lt (2 ^ 32)
+        (as_part (is_delimited (sch schema.now)) (extent_of (sch schema.now))
+        (longest (sch schema.now))) }
 {
     match schema {
         Schema::Struct(body) | Schema::Union(body) => { !body.sealed && body.extent > LONGEST - 32 }
@@ -105,7 +107,9 @@ fn message_member(
 /// What a name behind a type means that the scope may have. A service has no members.
 pub fn type_member(alloc: Global, scope: &Scope, id: &TypeId, name: &str) -> Result<Const, Why>
     requires { IsScope scope.now }
-    ensures value { Gives result (of_definition scope.now id.now (definition_of scope.now.namespace.definitions id.now) name.now) }
+    ensures value { Gives result
+        (of_definition scope.now id.now
+        (definition_of scope.now.namespace.definitions id.now) name.now) }
     ensures kept { IfOk result IsConst }
 {
     match scope.namespace.find(id) {

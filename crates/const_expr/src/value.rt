@@ -118,7 +118,8 @@ fn with_left(alloc: Global, expr: &Expr, left: Const, scope: &Scope) -> Result<C
 #[cycle(eval)]
 fn eval_all(alloc: Global, exprs: &[Expr], scope: &Scope) -> Result<List<Const>, ExprError>
     requires { IsScope scope.now }
-    ensures { result ≢ Err ExprError.NoMemory → result ≡ all_values (map (value_of scope.now) exprs.now) }
+    ensures { result ≢ Err ExprError.NoMemory
+        → result ≡ all_values (map (value_of scope.now) exprs.now) }
 {
     let mut values = List::empty(alloc);
     for expr in exprs {

@@ -41,7 +41,8 @@ impl<'a> Calls<'a> {
         ensures value { result ≡ is_failing self.old.failing.now self.old.next }
         ensures failing { self.new.failing.now ≡ self.old.failing.now }
         ensures next { self.new.next ≡ one_more self.old.next }
-        ensures faults { self.new.faults ≡ (if result then one_more self.old.faults else self.old.faults) }
+        ensures faults { self.new.faults
+            ≡ (if result then one_more self.old.faults else self.old.faults) }
         ensures grows { self.old.faults ≤ self.new.faults }
     {
         let call = self.next;

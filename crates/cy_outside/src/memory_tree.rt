@@ -19,7 +19,8 @@ impl<'a> MemTree<'a> {
     /// A tree of these files, or `None` where some file's path is a folder. The calls with these
     /// numbers, counted from 0, are to fail.
     pub fn new(files: List<File>, failing: &'a [u64]) -> Option<MemTree<'a>>
-        ensures files { MatchOption result (has_clash (files_of files) ≡ true) (λ mem. mem.tree.files ≡ files) }
+        ensures files { MatchOption result (has_clash (files_of files) ≡ true)
+            (λ mem. mem.tree.files ≡ files) }
         ensures failing { IfSome result (λ mem. mem.calls.failing.now ≡ failing.now) }
         ensures next { IfSome result (λ mem. mem.calls.next ≡ 0) }
         ensures faults { IfSome result (λ mem. mem.calls.faults ≡ 0) }

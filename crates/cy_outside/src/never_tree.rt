@@ -20,7 +20,8 @@ pub struct NeverTree {
 impl NeverTree {
     /// A tree of these files, or `None` where some file's path is a folder.
     pub fn new(files: List<File>) -> Option<NeverTree>
-        ensures { MatchOption result (has_clash (files_of files) ≡ true) (λ tree. tree.files ≡ files) }
+        ensures { MatchOption result (has_clash (files_of files) ≡ true)
+            (λ tree. tree.files ≡ files) }
     {
         if has_clash(files.as_slice()) {
             None

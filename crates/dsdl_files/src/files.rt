@@ -20,8 +20,10 @@ pub fn read_files<T: Tree>(
     limits: Limits,
 ) -> Result<List<DsdlFile>, FolderError>
     ensures files { T.files tree.new ≡ T.files tree.old }
-    ensures read { IfSome (T.files tree.old) (λ files. ReadsAll files root.now limits paths.now result) }
-    ensures names { IfOk result (λ files. map (λ file. file.path) files ≡ map (name_below root.now) paths.now) }
+    ensures read { IfSome (T.files tree.old)
+        (λ files. ReadsAll files root.now limits paths.now result) }
+    ensures names { IfOk result
+        (λ files. map (λ file. file.path) files ≡ map (name_below root.now) paths.now) }
     ensures count_limit { IfOk result (λ files. length files ≤ limits.files) }
     ensures size_limit { IfOk result (All (λ file. length file.text ≤ limits.bytes)) }
     ensures cause { HasFolderCause (T.faults tree.old) (T.faults tree.new) result }

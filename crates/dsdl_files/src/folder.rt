@@ -31,8 +31,11 @@ pub fn read_folder<T: Tree>(
     root: &str,
 ) -> Result<List<DsdlFile>, FolderError>
     ensures files { T.files tree.new ≡ T.files tree.old }
-    ensures answer { IfSome (T.files tree.old) (λ files. IsAnswer (files_of_folder files root.now) result) }
-    ensures complete { ¬ Rose (T.faults tree.old) (T.faults tree.new) → IfSome (T.files tree.old) (λ files. (result ≡ files_of_folder files root.now) ⊎ (result ≡ Err FolderError.NoMemory)) }
+    ensures answer { IfSome (T.files tree.old)
+        (λ files. IsAnswer (files_of_folder files root.now) result) }
+    ensures complete { ¬ Rose (T.faults tree.old) (T.faults tree.new)
+        → IfSome (T.files tree.old)
+        (λ files. (result ≡ files_of_folder files root.now) ⊎ (result ≡ Err FolderError.NoMemory)) }
     ensures ascending { IfOk result (λ files. IsAscending (map (λ file. file.path) files)) }
     ensures count_limit { IfOk result (λ files. length files ≤ MAX_FILES) }
     ensures size_limit { IfOk result (All (λ file. length file.text ≤ MAX_FILE)) }
@@ -50,7 +53,8 @@ pub fn read_within<T: Tree>(
     limits: Limits,
 ) -> Result<List<DsdlFile>, FolderError>
     ensures files { T.files tree.new ≡ T.files tree.old }
-    ensures answer { IfSome (T.files tree.old) (λ files. IsAnswer (files_within limits files root.now) result) }
+    ensures answer { IfSome (T.files tree.old)
+        (λ files. IsAnswer (files_within limits files root.now) result) }
     ensures ascending { IfOk result (λ files. IsAscending (map (λ file. file.path) files)) }
     ensures count_limit { IfOk result (λ files. length files ≤ limits.files) }
     ensures size_limit { IfOk result (All (λ file. length file.text ≤ limits.bytes)) }

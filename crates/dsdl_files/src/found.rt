@@ -34,9 +34,12 @@ impl Found {
         members: List<Entry>,
     ) -> Result<(), FolderError>
         ensures room { OnOk result (self.new.room + length members ≡ self.old.room) }
-        ensures folders { OnOk result (Adds (is_subfolder folder.now) members self.old.folders self.new.folders) }
-        ensures files { OnOk result (Adds (is_dsdl_member folder.now) members self.old.files self.new.files) }
-        ensures len { OnOk result (length self.new.folders ≤ length self.old.folders + length members) }
+        ensures folders { OnOk result
+            (Adds (is_subfolder folder.now) members self.old.folders self.new.folders) }
+        ensures files { OnOk result
+            (Adds (is_dsdl_member folder.now) members self.old.files self.new.files) }
+        ensures len { OnOk result
+            (length self.new.folders ≤ length self.old.folders + length members) }
         ensures refused { IfErr result (IsRefused root.now folder.now self.old.room members) }
     {
         if members.len() > self.room {
@@ -51,9 +54,12 @@ impl Found {
     /// Adds the direct members of a folder.
     fn add(&mut self, alloc: Global, folder: &str, members: List<Entry>) -> Result<(), NoMemory>
         ensures room { OnOk result (self.new.room ≡ self.old.room) }
-        ensures folders { OnOk result (Adds (is_subfolder folder.now) members self.old.folders self.new.folders) }
-        ensures files { OnOk result (Adds (is_dsdl_member folder.now) members self.old.files self.new.files) }
-        ensures len { OnOk result (length self.new.folders ≤ length self.old.folders + length members) }
+        ensures folders { OnOk result
+            (Adds (is_subfolder folder.now) members self.old.folders self.new.folders) }
+        ensures files { OnOk result
+            (Adds (is_dsdl_member folder.now) members self.old.files self.new.files) }
+        ensures len { OnOk result
+            (length self.new.folders ≤ length self.old.folders + length members) }
     {
         for member in members.as_slice() {
             let path = inside(alloc, folder, member.name.as_str())?;

@@ -34,8 +34,11 @@ impl Paths {
 
     /// Adds a path, and answers whether it is new.
     pub fn insert(&mut self, path: String) -> Result<bool, NoMemory>
-        ensures added { IfOk result (λ added. added ≡ not (list_any (bytes_eq (string_bytes path)) self.old)) }
-        ensures paths { OnOk result ((p : List ℕ) → list_any (bytes_eq p) self.new ≡ (bytes_eq (string_bytes path) p || list_any (bytes_eq p) self.old)) }
+        ensures added { IfOk result
+            (λ added. added ≡ not (list_any (bytes_eq (string_bytes path)) self.old)) }
+        ensures paths { OnOk result
+            ((p : List ℕ) → list_any (bytes_eq p) self.new
+            ≡ (bytes_eq (string_bytes path) p || list_any (bytes_eq p) self.old)) }
         ensures len { OnOk result (length self.new ≤ length self.old + 1) }
     {
         Ok(self.set.insert(path)?)
@@ -43,7 +46,8 @@ impl Paths {
 
     /// Takes the first path out.
     pub fn pop_first(&mut self) -> Option<String>
-        ensures first { MatchOption result (self.old ≡ []) (λ path. self.old ≡ string_bytes path ∷ self.new) }
+        ensures first { MatchOption result (self.old ≡ [])
+            (λ path. self.old ≡ string_bytes path ∷ self.new) }
         ensures ascending { IsAscending self.old }
     {
         self.set.pop_first()

@@ -18,5 +18,6 @@ pub fn one_reading()
 /// Each byte of a token is printable ASCII, from 0x20 to 0x7E.
 pub fn ascii()
     ensures ascii { (kind : TokenKind) (text : List ℕ) → IsKind kind text → IsAscii text }
-    ensures printable { (kind : TokenKind) (text : List ℕ) → IsKind kind text → list_all is_printable text ≡ true }
+    ensures printable { (kind : TokenKind) (text : List ℕ) → IsKind kind text
+        → list_all is_printable text ≡ true }
 {}

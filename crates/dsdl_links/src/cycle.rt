@@ -9,7 +9,8 @@ use std::alloc::Global;
 
 /// The first file in path order that reaches itself, where one does.
 pub fn first_cycle(alloc: Global, links: &Links) -> Result<Option<usize>, NoMemory>
-    ensures { IfOk result (λ found. MatchOption found ((i : ℕ) → Reaches links.now i i → ⊥) (IsCycle links.now)) }
+    ensures { IfOk result (λ found.
+        MatchOption found ((i : ℕ) → Reaches links.now i i → ⊥) (IsCycle links.now)) }
 {
     for file in 0..links.len() {
         if reaches_itself(alloc, links, file)? {
@@ -22,7 +23,8 @@ pub fn first_cycle(alloc: Global, links: &Links) -> Result<Option<usize>, NoMemo
 /// Whether a file reaches itself through references.
 fn reaches_itself(alloc: Global, links: &Links, file: usize) -> Result<bool, NoMemory>
     requires { file < length links.now }
-    ensures { IfOk result (λ reaches. MatchBool reaches (Reaches links.now file file) (Reaches links.now file file → ⊥)) }
+    ensures { IfOk result (λ reaches.
+        MatchBool reaches (Reaches links.now file file) (Reaches links.now file file → ⊥)) }
 {
     let mut reached = vec![in alloc; false; links.len()]?;
     let mut waiting = Vec::new(alloc);
@@ -36,7 +38,8 @@ fn reaches_itself(alloc: Global, links: &Links, file: usize) -> Result<bool, NoM
 /// Marks files, and puts those on a stack that weren't marked yet.
 fn mark(files: &[usize], marks: &mut [bool], waiting: &mut Vec<usize>) -> Result<(), NoMemory>
     requires { (j : ℕ) → is_among files.now j ≡ true → j < length marks.old }
-    ensures { OnOk result (Marks files.now marks.old marks.new waiting.old.items waiting.new.items) }
+    ensures { OnOk result (Marks files.now marks.old marks.new waiting.old.items
+        waiting.new.items) }
 {
     for file in files {
         if !marks[*file] {

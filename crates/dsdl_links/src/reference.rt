@@ -44,7 +44,8 @@ fn add_form<'a>(
     form: &'a Form,
     found: &mut Vec<&'a Reference>,
 ) -> Result<(), NoMemory>
-    ensures { OnOk result (map (λ r. r.now) found.new.items ≡ map (λ r. r.now) found.old.items ++ (in_scalar form.now.scalar ++ in_bound form.now.array)) }
+    ensures { OnOk result (map (λ r. r.now) found.new.items ≡ map (λ r. r.now) found.old.items
+        ++ (in_scalar form.now.scalar ++ in_bound form.now.array)) }
 {
     if let Scalar::Reference(reference) = &form.scalar {
         found.push(reference)?;
@@ -61,7 +62,8 @@ fn add_value<'a>(
     expr: &'a Expr,
     found: &mut Vec<&'a Reference>,
 ) -> Result<(), NoMemory>
-    ensures { OnOk result (map (λ r. r.now) found.new.items ≡ map (λ r. r.now) found.old.items ++ references_of expr.now) }
+    ensures { OnOk result (map (λ r. r.now) found.new.items ≡ map (λ r. r.now) found.old.items
+        ++ references_of expr.now) }
 {
     let leaves = leaves(alloc, expr)?;
     for leaf in &leaves {

@@ -53,7 +53,8 @@ fn note(
     references: &[&Reference],
     found: &mut List<Mention>,
 ) -> Result<(), NoMemory>
-    ensures { OnOk result (found.new ≡ found.old ++ noted own.now line (map (λ r. r.now) references.now)) }
+    ensures { OnOk result (found.new ≡ found.old
+        ++ noted own.now line (map (λ r. r.now) references.now)) }
 {
     for reference in references {
         if let Some(id) = type_of(alloc, own, reference)? {

@@ -7,7 +7,8 @@ const LARGE: u32 = 10_000;
 
 /// The number of decimal digits; one that is large may come as any large number.
 fn value_of_digits(digits: &[u8]) -> Option<u32>
-    ensures { (most : ℕ) → most < LARGE → at_most most result ≡ at_most most (decimal_from 0 digits.now) }
+    ensures { (most : ℕ) → most < LARGE
+        → at_most most result ≡ at_most most (decimal_from 0 digits.now) }
 {
     let mut n = 0u32;
     for b in digits {

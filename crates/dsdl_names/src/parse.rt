@@ -52,7 +52,8 @@ pub fn parse_type_id(alloc: Global, text: &str) -> Result<TypeId, NameError>
 
 /// The type of a file in folders with `/` between each two.
 fn file_of(alloc: Global, folders: &[u8], file: &[u8]) -> Result<FileName, NameError>
-    ensures { result ≢ Err NameError.NoMemory → result ≡ file_of (parts_of 47 folders.now) (parts_of 46 file.now) }
+    ensures { result ≢ Err NameError.NoMemory
+        → result ≡ file_of (parts_of 47 folders.now) (parts_of 46 file.now) }
 {
     let Some((a, rest)) = cut(b'.', file) else {
         return Err(NameError::BadName);
@@ -81,7 +82,8 @@ fn ended(
     port: Option<Option<u16>>,
     end: &[u8],
 ) -> Result<FileName, NameError>
-    ensures { result ≢ Err NameError.NoMemory → result ≡ ended (parts_of 47 folders.now ++ short.now ∷ []) version port end.now }
+    ensures { result ≢ Err NameError.NoMemory
+        → result ≡ ended (parts_of 47 folders.now ++ short.now ∷ []) version port end.now }
 {
     if end == b"dsdl".as_slice() {
         type_file(alloc, b'/', folders, short, version, port)
@@ -128,7 +130,8 @@ fn type_file(
     version: Option<(u8, u8)>,
     port: Option<Option<u16>>,
 ) -> Result<FileName, NameError>
-    ensures { result ≢ Err NameError.NoMemory → result ≡ type_file (parts_of b folders.now ++ short.now ∷ []) version port }
+    ensures { result ≢ Err NameError.NoMemory
+        → result ≡ type_file (parts_of b folders.now ++ short.now ∷ []) version port }
 {
     if !all_names(b, folders) || !is_name(short) {
         return Err(NameError::BadName);
@@ -154,7 +157,8 @@ fn named(
     version: (u8, u8),
     port: Option<u16>,
 ) -> Result<FileName, NameError>
-    ensures { result ≢ Err NameError.NoMemory → result ≡ with_name (dotted (parts_of b folders.now ++ short.now ∷ [])) version port }
+    ensures { result ≢ Err NameError.NoMemory
+        → result ≡ with_name (dotted (parts_of b folders.now ++ short.now ∷ [])) version port }
 {
     if folders.len() + 1 + short.len() > 255 {
         return Err(NameError::TooLong);

@@ -8,8 +8,10 @@ use std::alloc::{AllocError, Global};
 
 /// What stands before the first byte `b`, and behind it.
 pub fn cut(b: u8, text: &[u8]) -> Option<(&[u8], &[u8])>
-    ensures parts { MatchOption result (parts_of b text.now ≡ text.now ∷ []) (λ p. parts_of b text.now ≡ p.0.now ∷ parts_of b p.1.now) }
-    ensures shorter { MatchOption result (0 ≤ length text.now) (λ p. length p.1.now < length text.now) }
+    ensures parts { MatchOption result (parts_of b text.now ≡ text.now ∷ [])
+        (λ p. parts_of b text.now ≡ p.0.now ∷ parts_of b p.1.now) }
+    ensures shorter { MatchOption result (0 ≤ length text.now)
+        (λ p. length p.1.now < length text.now) }
 {
     for i in 0..text.len() {
         if text[i] == b {
@@ -21,7 +23,8 @@ pub fn cut(b: u8, text: &[u8]) -> Option<(&[u8], &[u8])>
 
 /// What stands before the last byte `b`, and behind it.
 pub fn cut_last(b: u8, text: &[u8]) -> Option<(&[u8], &[u8])>
-    ensures { MatchOption result (cut_last b text.now ≡ None) (λ p. cut_last b text.now ≡ Some (p.0.now, p.1.now)) }
+    ensures { MatchOption result (cut_last b text.now ≡ None)
+        (λ p. cut_last b text.now ≡ Some (p.0.now, p.1.now)) }
 {
     let mut i = text.len();
     while i > 0 {

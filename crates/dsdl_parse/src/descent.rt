@@ -201,7 +201,8 @@ fn braces(
 /// One member of a set or more, with commas between them.
 #[cycle(descent)]
 fn set_members(alloc: Global, words: &mut Words<'_>, depth: u32) -> Result<List<Expr>, ReadError>
-    ensures value { Gives (r.read_items (r.expression_of (r.within depth)) words.old) result words.new }
+    ensures value { Gives (r.read_items (r.expression_of (r.within depth)) words.old) result
+        words.new }
     ensures shorter { length words.new ≤ length words.old }
 {
     let mut members = List::empty(alloc);

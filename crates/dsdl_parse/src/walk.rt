@@ -39,7 +39,8 @@ fn is_leaf(node: &ExprNode) -> bool
 
 /// Puts the expressions right in an expression on a stack, the first on top.
 fn stack_parts<'a>(expr: &'a Expr, stack: &mut Vec<&'a Expr>) -> Result<(), NoMemory>
-    ensures { OnOk result (map (λ x. x.now) stack.new.items ≡ map (λ x. x.now) stack.old.items ++ reverse (parts_of expr.now)) }
+    ensures { OnOk result (map (λ x. x.now) stack.new.items ≡ map (λ x. x.now) stack.old.items
+        ++ reverse (parts_of expr.now)) }
 {
     match &expr.node {
         ExprNode::Set(members) => stack_all(members.as_slice(), stack)?,
@@ -56,7 +57,8 @@ fn stack_parts<'a>(expr: &'a Expr, stack: &mut Vec<&'a Expr>) -> Result<(), NoMe
 
 /// Puts expressions on a stack, the first on top.
 fn stack_all<'a>(exprs: &'a [Expr], stack: &mut Vec<&'a Expr>) -> Result<(), NoMemory>
-    ensures { OnOk result (map (λ x. x.now) stack.new.items ≡ map (λ x. x.now) stack.old.items ++ reverse exprs.now) }
+    ensures { OnOk result (map (λ x. x.now) stack.new.items ≡ map (λ x. x.now) stack.old.items
+        ++ reverse exprs.now) }
 {
     let mut i = exprs.len();
     while i > 0 {

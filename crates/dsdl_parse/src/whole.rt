@@ -16,7 +16,8 @@ use std::alloc::Global;
 pub fn parse_expression(alloc: Global, line: &[u8], tokens: &[Token]) -> Result<Expr, ReadError>
     requires { Lexes line.now 0 tokens.now }
     ensures value { IfOk result (λ x. IsExpression 64 (words line.now tokens.now) x) }
-    ensures refused { result ≡ Err Syntax → (x : Expr) → IsExpression 64 (words line.now tokens.now) x → ⊥ }
+    ensures refused { result ≡ Err Syntax → (x : Expr)
+        → IsExpression 64 (words line.now tokens.now) x → ⊥ }
 {
     let mut words = Words::new(line, tokens);
     let x = expression(alloc, &mut words)?;

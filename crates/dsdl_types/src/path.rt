@@ -31,7 +31,8 @@ pub fn path_text(alloc: Global, steps: &[Step]) -> Result<Text, NoMemory>
 
 /// Appends a step at the top.
 fn push_step(text: &mut String, step: &Step) -> Result<(), NoMemory>
-    ensures { OnOk result (string_bytes text.new ≡ string_bytes text.old ++ step_text (step_of step.now)) }
+    ensures { OnOk result (string_bytes text.new ≡ string_bytes text.old
+        ++ step_text (step_of step.now)) }
 {
     match step {
         Step::Name(name) => text.push_str(name.as_str())?,
@@ -46,7 +47,8 @@ fn push_step(text: &mut String, step: &Step) -> Result<(), NoMemory>
 
 /// Appends a step behind others.
 fn push_further(text: &mut String, step: &Step) -> Result<(), NoMemory>
-    ensures { OnOk result (string_bytes text.new ≡ string_bytes text.old ++ further_text (step_of step.now)) }
+    ensures { OnOk result (string_bytes text.new ≡ string_bytes text.old
+        ++ further_text (step_of step.now)) }
 {
     if matches!(step, Step::Name(_)) {
         text.push_str(".")?;

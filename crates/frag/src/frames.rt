@@ -28,7 +28,8 @@ impl<'a> Model for Frames<'a> {
 
     ghost Value = { List (List ℕ) };
 
-    ghost view = { λ f. cut f.room f.tid (f.payload.now ++ drop f.place f.trailer) f.start f.toggle f.left };
+    ghost view = { λ f. cut f.room f.tid
+        (f.payload.now ++ drop f.place f.trailer) f.start f.toggle f.left };
 
     ghost invariant = { λ f. (f.room ≤ 63) × (f.tid < 32) × (f.place ≤ length f.trailer) };
 }
@@ -95,7 +96,8 @@ fn trailer(payload: &[u8], mtu: u8) -> ShortList<u8, 64>
     requires len { length payload.now ≤ 2 ^ 40 }
     ensures value { let size = length payload.now in
         let zeros = replicate (padding mtu size) 0 in
-        result ≡ (if is_single mtu size then zeros else zeros ++ crc_bytes (padded mtu payload.now)) }
+        result ≡ (if is_single mtu size then zeros else zeros
+        ++ crc_bytes (padded mtu payload.now)) }
     ensures range { length result ≤ 17 }
 {
     let mut bytes = zeros(size::padding(payload.len() as u64, mtu));

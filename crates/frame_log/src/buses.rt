@@ -66,7 +66,8 @@ impl Model for Buses {
 
     ghost view = { λ b. b.names };
 
-    ghost invariant = { λ b. IsName b.names 0 b.first × IsName b.names 1 b.second × IsName b.names 2 b.third };
+    ghost invariant = { λ b. IsName b.names 0 b.first × IsName b.names 1 b.second
+        × IsName b.names 2 b.third };
 }
 
 impl Buses {

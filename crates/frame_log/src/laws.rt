@@ -8,12 +8,16 @@ ghost use Rattle.frame_log.specs.Order.{IsAhead, IsFit};
 /// The records of a log are in order: their moments never fall and their lines rise, from 1 on.
 /// Each has one of the buses, an identifier of 29 bits, at most 64 bytes and a moment below 10^18.
 pub fn ordered()
-    ensures order { (buses : List (List ℕ)) (bytes : List ℕ) → IsAhead 0 0 (log_of buses bytes).records }
-    ensures fit { (buses : List (List ℕ)) (bytes : List ℕ) → All (IsFit buses) (log_of buses bytes).records }
+    ensures order { (buses : List (List ℕ)) (bytes : List ℕ)
+        → IsAhead 0 0 (log_of buses bytes).records }
+    ensures fit { (buses : List (List ℕ)) (bytes : List ℕ)
+        → All (IsFit buses) (log_of buses bytes).records }
 
     // The same from any place between two lines.
-    ensures order_from { (buses : List (List ℕ)) (room : ℕ) (bytes : List ℕ) (at : Place) → IsAhead at.last at.lines (log_from buses room bytes at).records }
-    ensures fit_from { (buses : List (List ℕ)) (room : ℕ) (bytes : List ℕ) (at : Place) → All (IsFit buses) (log_from buses room bytes at).records }
+    ensures order_from { (buses : List (List ℕ)) (room : ℕ) (bytes : List ℕ) (at : Place)
+        → IsAhead at.last at.lines (log_from buses room bytes at).records }
+    ensures fit_from { (buses : List (List ℕ)) (room : ℕ) (bytes : List ℕ) (at : Place)
+        → All (IsFit buses) (log_from buses room bytes at).records }
 {}
 
 /// The bytes of pairs of hex digits, as the definitions of a line say them, are those that the crate

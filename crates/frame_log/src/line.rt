@@ -120,7 +120,8 @@ pub fn bus_at(buses: &[BusName], name: &[u8]) -> Option<usize>
 #[inline(always)]
 fn frame(buses: &[BusName], moment: u64, name: &[u8], ident: u32, has: bool) -> Found
     requires { length buses.now ≤ 3 }
-    ensures { (bytes : List ℕ) → said_by result bytes ≡ frame_of buses.now moment name.now ident (bytes_if has bytes) }
+    ensures { (bytes : List ℕ)
+        → said_by result bytes ≡ frame_of buses.now moment name.now ident (bytes_if has bytes) }
 {
     if !has {
         return Found::Nothing;
@@ -149,7 +150,8 @@ fn behind_bus(
 ) -> Option<Found>
     requires few { length buses.now ≤ 3 }
     requires empty { bytes.old ≡ [] }
-    ensures { option_map (λ f. said_by f bytes.new) result ≡ behind_bus buses.now moment name.now s.now }
+    ensures { option_map (λ f. said_by f bytes.new) result
+        ≡ behind_bus buses.now moment name.now s.now }
 {
     match ident(8, s) {
         Some((ident, rest)) => {

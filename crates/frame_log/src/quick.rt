@@ -123,7 +123,8 @@ pub fn quick(front: &Front, buses: &Buses, window: &[u8], bytes: &mut FrameData)
     requires wide { length window.now ≡ 256 }
     requires empty { bytes.old ≡ [] }
     ensures line { IfSome result (λ q. IsLine window.now q.len) }
-    ensures said { IfSome result (λ q. said_of buses.now (take q.len window.now) ≡ Frame q.moment q.bus q.ident bytes.new) }
+    ensures said { IfSome result
+        (λ q. said_of buses.now (take q.len window.now) ≡ Frame q.moment q.bus q.ident bytes.new) }
     ensures near { IfSome result (λ q. q.len < 256) }
 {
     if !front.is_at(window) {

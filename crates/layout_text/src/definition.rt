@@ -21,7 +21,8 @@ pub fn push_definition(
     definition: &Definition,
 ) -> Result<(), NoMemory>
     requires { IsDefinition definition.now }
-    ensures { OnOk result (Appends (IsDefinitionText definition.now) text.old.items text.new.items) }
+    ensures { OnOk result (Appends
+        (IsDefinitionText definition.now) text.old.items text.new.items) }
 {
     let Definition {
         id,
@@ -57,7 +58,8 @@ fn push_composite(
 ) -> Result<(), NoMemory>
     requires layout { IsLayout (sch schema.now) layout.now.rows layout.now.lengths }
     requires texts { length types.now ≡ length layout.now.rows }
-    ensures { OnOk result (Appends (IsTypeText role id.now port (sch schema.now) types.now) text.old.items text.new.items) }
+    ensures { OnOk result (Appends
+        (IsTypeText role id.now port (sch schema.now) types.now) text.old.items text.new.items) }
 {
     push_named(text, role, id, port)?;
     push_outline(text, schema, &layout.lengths)?;

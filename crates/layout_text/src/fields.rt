@@ -23,7 +23,9 @@ pub fn push_fields(
 ) -> Result<(), NoMemory>
     requires rows { AreRows (sch schema.now) 0 (fields_of (sch schema.now)) rows.now }
     requires texts { length types.now ≡ length rows.now }
-    ensures { OnOk result (Appends (AreFieldLines (sch schema.now) 0 (fields_of (sch schema.now)) types.now) text.old.items text.new.items) }
+    ensures { OnOk result (Appends
+        (AreFieldLines (sch schema.now) 0 (fields_of (sch schema.now)) types.now) text.old.items
+        text.new.items) }
 {
     let union = is_union(schema);
     for i in 0..rows.len() {
@@ -47,7 +49,10 @@ fn push_field(
     row: &Row,
     of_type: &Text,
 ) -> Result<(), NoMemory>
-    ensures text { OnOk result (text.new.items ≡ text.old.items ++ field_line union tag row.now.name of_type.now (set_text row.now.offsets) (set_text row.now.lengths)) }
+    ensures text { OnOk result
+        (text.new.items ≡ text.old.items
+        ++ field_line union tag row.now.name of_type.now (set_text row.now.offsets)
+        (set_text row.now.lengths)) }
     ensures offsets { OnOk result (Ascend row.now.offsets) }
     ensures lengths { OnOk result (Ascend row.now.lengths) }
 {
@@ -62,7 +67,8 @@ fn push_field(
 
 /// Appends the name of a field, or the name and the tag of a variant.
 fn push_name(text: &mut Vec<u8>, union: bool, tag: usize, name: &str) -> Result<(), NoMemory>
-    ensures { OnOk result (text.new.items ≡ text.old.items ++ spaced (name_words union tag name.now)) }
+    ensures { OnOk result (text.new.items ≡ text.old.items
+        ++ spaced (name_words union tag name.now)) }
 {
     push_bytes(text, if union { b"variant " } else { b"field " })?;
     push_bytes(text, name.as_bytes())?;

@@ -32,7 +32,8 @@ pub fn push_named(
     id: &TypeId,
     port: Option<u16>,
 ) -> Result<(), NoMemory>
-    ensures { OnOk result (text.new.items ≡ text.old.items ++ spaced (named_words role id.now port)) }
+    ensures { OnOk result (text.new.items ≡ text.old.items
+        ++ spaced (named_words role id.now port)) }
 {
     push_bytes(text, b"type ")?;
     push_id(text, id)?;
@@ -79,7 +80,9 @@ pub fn push_outline(
     schema: &Schema,
     lengths: &LengthSet,
 ) -> Result<(), NoMemory>
-    ensures text { OnOk result (text.new.items ≡ text.old.items ++ line_of (outline_words (sch schema.now) (set_text lengths.now))) }
+    ensures text { OnOk result
+        (text.new.items ≡ text.old.items
+        ++ line_of (outline_words (sch schema.now) (set_text lengths.now))) }
     ensures ascending { OnOk result (Ascend lengths.now) }
 {
     push_bytes(text, b"extent ")?;

@@ -5,5 +5,6 @@ ghost use Rattle.layout_text.specs.Namespaces.{IsNamespaceText};
 
 /// A namespace has one text.
 pub fn one_text()
-    ensures { (names : Namespace) (a b : List ℕ) → IsNamespaceText names a → IsNamespaceText names b → a ≡ b }
+    ensures { (names : Namespace) (a b : List ℕ) → IsNamespaceText names a → IsNamespaceText names b
+        → a ≡ b }
 {}

@@ -58,7 +58,8 @@ fn push_definitions(
     definitions: &[&Definition],
 ) -> Result<(), NoMemory>
     requires { All IsDefinition (map (λ d. d.now) definitions.now) }
-    ensures { OnOk result (Appends (AreDefinitionTexts (map (λ d. d.now) definitions.now)) text.old.items text.new.items) }
+    ensures { OnOk result (Appends
+        (AreDefinitionTexts (map (λ d. d.now) definitions.now)) text.old.items text.new.items) }
 {
     for definition in definitions {
         push_definition(alloc, text, definition)?;

@@ -12,9 +12,11 @@ const MUCH: usize = 1 << 16;
 
 /// Writes what is gathered at once, and gathers anew.
 pub fn flush<O: Sink>(out: &mut O, gathered: &mut TextBuffer) -> Result<(), Failed>
-    ensures written { OnOk result (O.written out.new ≡ behind (O.written out.old) (text_of gathered.old)) }
+    ensures written { OnOk result
+        (O.written out.new ≡ behind (O.written out.old) (text_of gathered.old)) }
     ensures none { OnOk result (text_of gathered.new ≡ []) }
-    ensures begins { OnErr result (Begins (text_of gathered.old) (O.written out.old) (O.written out.new)) }
+    ensures begins { OnErr result
+        (Begins (text_of gathered.old) (O.written out.old) (O.written out.new)) }
     ensures fault { OnErr result (Rose (O.faults out.old) (O.faults out.new)) }
     ensures kept { OnOk result (O.faults out.new ≡ O.faults out.old) }
 {
@@ -27,9 +29,11 @@ pub fn flush<O: Sink>(out: &mut O, gathered: &mut TextBuffer) -> Result<(), Fail
 #[inline(always)]
 pub fn flush_much<O: Sink>(out: &mut O, gathered: &mut TextBuffer) -> Result<(), Failed>
     ensures text { OnOk result
-        (Gathered (text_of gathered.old) (text_of gathered.new) (O.written out.old) (O.written out.new)) }
+        (Gathered (text_of gathered.old) (text_of gathered.new) (O.written out.old)
+        (O.written out.new)) }
     ensures few { OnOk result (length (text_of gathered.new) ≤ 65536) }
-    ensures begins { OnErr result (Begins (text_of gathered.old) (O.written out.old) (O.written out.new)) }
+    ensures begins { OnErr result
+        (Begins (text_of gathered.old) (O.written out.old) (O.written out.new)) }
     ensures fault { OnErr result (Rose (O.faults out.old) (O.faults out.new)) }
     ensures kept { OnOk result (O.faults out.new ≡ O.faults out.old) }
 {

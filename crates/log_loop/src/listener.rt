@@ -57,8 +57,10 @@ pub trait Listener {
             → text_of gathered.new ≡ text_of gathered.old ++ (voice first).last past) };
 
     /// Whoever heard all may break off there.
-    ghost heard_broke: { (first now : Self) (past : List event) → heard first now past → broke first now past };
+    ghost heard_broke: { (first now : Self) (past : List event) → heard first now past
+        → broke first now past };
 
     /// Each record may come behind any events.
-    ghost comes: { (first : Self) (rec : Record) (past : List event) → Comes (voice first) rec past };
+    ghost comes: { (first : Self) (rec : Record) (past : List event)
+        → Comes (voice first) rec past };
 }

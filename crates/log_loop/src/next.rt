@@ -40,7 +40,8 @@ pub fn next<L: Source, O: Sink>(
         (text_of gathered.new) (handed written.new result) }
     ensures reader { ReadsOn reader.old reader.new (handed written.new result) }
     ensures buses { buses_of reader.new ≡ buses_of reader.old }
-    ensures end { saw_end reader.old ≡ false → saw_end reader.new ≡ true → IsAtEnd (L.left input.new) }
+    ensures end { saw_end reader.old ≡ false → saw_end reader.new ≡ true
+        → IsAtEnd (L.left input.new) }
     ensures text { Writes (text_of gathered.old) (text_of gathered.new)
         (O.written out.old) (O.written out.new) (handed written.new result) }
     ensures few { OnOk result (length (text_of gathered.new) ≤ 65536) }
@@ -81,7 +82,8 @@ fn next_read<L: Source, O: Sink>(
         (text_of waiting.new) (handed written.new result) }
     ensures reader { ReadsOn reader.old reader.new (handed written.new result) }
     ensures buses { buses_of reader.new ≡ buses_of reader.old }
-    ensures end { saw_end reader.old ≡ false → saw_end reader.new ≡ true → IsAtEnd (L.left input.new) }
+    ensures end { saw_end reader.old ≡ false → saw_end reader.new ≡ true
+        → IsAtEnd (L.left input.new) }
     ensures text { Writes (text_of waiting.old) (text_of waiting.new)
         (O.written out.old) (O.written out.new) (handed written.new result) }
     ensures few { OnOk result (length (text_of waiting.new) ≤ 65536) }

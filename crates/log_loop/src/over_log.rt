@@ -29,7 +29,8 @@ pub fn listen<M: Listener, L: Source, O: Sink>(
 ) -> Ended
     requires heard { M.heard listener.old listener.old [] }
     requires fresh { (M.latest listener.old ≡ 0) × (M.count listener.old ≡ 0) }
-    ensures listened { let s = stages (M.heard listener.old listener.new) (M.ended listener.old listener.new)
+    ensures listened { let s = stages (M.heard listener.old listener.new)
+        (M.ended listener.old listener.new)
         (M.broke listener.old listener.new) (M.cut_short listener.old listener.new) in
         HasListened buses (M.voice listener.old) s
         (L.left input.old) (L.left input.new) result (O.written out.old) (O.written out.new) }
@@ -52,14 +53,16 @@ fn hear_all<M: Listener, L: Source, O: Sink>(
     input: &mut L,
     out: &mut O,
 ) -> Ended
-    requires log { (rest : List ℕ) → log_behind reader.old rest ≡ log_of (buses_of reader.old) rest }
+    requires log { (rest : List ℕ)
+        → log_behind reader.old rest ≡ log_of (buses_of reader.old) rest }
     requires reading { answer_of reader.old ≡ None }
     requires open { saw_end reader.old ≡ false }
     requires start { (place_of reader.old ≡ start) × (held_of reader.old ≡ []) }
     requires room { bytes_left reader.old ≤ 2 ^ 28 }
     requires heard { M.heard listener.old listener.old [] }
     requires fresh { (M.latest listener.old ≡ 0) × (M.count listener.old ≡ 0) }
-    ensures listened { let s = stages (M.heard listener.old listener.new) (M.ended listener.old listener.new)
+    ensures listened { let s = stages (M.heard listener.old listener.new)
+        (M.ended listener.old listener.new)
         (M.broke listener.old listener.new) (M.cut_short listener.old listener.new) in
         HasListened (buses_of reader.old) (M.voice listener.old) s
         (L.left input.old) (L.left input.new) result (O.written out.old) (O.written out.new) }
@@ -94,17 +97,21 @@ fn hear_all<M: Listener, L: Source, O: Sink>(
 fn end<M: Listener, O: Sink>(listener: &mut M, out: &mut O, gathered: &mut TextBuffer) -> Ended
     ensures ok { result ≡ Ended.Ok
         → (first : M) (past : List M.event) → M.heard first listener.old past
-        → O.written out.new ≡ behind (O.written out.old) (text_of gathered.old ++ (M.voice first).last past) }
+        → O.written out.new ≡ behind (O.written out.old)
+        (text_of gathered.old ++ (M.voice first).last past) }
     ensures kept { result ≡ Ended.Ok → O.faults out.new ≡ O.faults out.old }
     ensures begins { result ≡ Ended.WriteFault
         → (first : M) (past : List M.event) → M.heard first listener.old past
-        → Begins (text_of gathered.old ++ (M.voice first).last past) (O.written out.old) (O.written out.new) }
+        → Begins (text_of gathered.old ++ (M.voice first).last past) (O.written out.old)
+        (O.written out.new) }
     ensures write { result ≡ Ended.WriteFault → Rose (O.faults out.old) (O.faults out.new) }
     ensures memory { result ≡ Ended.NoMemory → O.written out.new ≡ O.written out.old }
     ensures ended { result ≢ Ended.NoMemory
-        → (first : M) (past : List M.event) → M.heard first listener.old past → M.ended first listener.new past }
+        → (first : M) (past : List M.event) → M.heard first listener.old past
+        → M.ended first listener.new past }
     ensures cut_short { result ≡ Ended.NoMemory
-        → (first : M) (past : List M.event) → M.heard first listener.old past → M.cut_short first listener.new past }
+        → (first : M) (past : List M.event) → M.heard first listener.old past
+        → M.cut_short first listener.new past }
     ensures only { IsFinish result }
 {
     let Ok(()) = listener.finish(gathered) else {

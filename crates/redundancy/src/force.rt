@@ -47,7 +47,8 @@ impl Force {
     /// silence before it was longer than the timeout. A frame elsewhere changes nothing.
     pub fn hear(&mut self, bus: u8, moment: u64, start: bool, timeout: u64) -> Heard
         requires { self.old.heard ≤ moment }
-        ensures answer { answer_of result ≡ hear timeout self.old.bus self.old.heard bus moment start }
+        ensures answer { answer_of result
+            ≡ hear timeout self.old.bus self.old.heard bus moment start }
         ensures state { self.new ≡ force_then self.old bus moment (answer_of result) }
         ensures stands { (past : List KeyRecord) (r : KeyRecord) → IsFrameOf bus moment start r
             → ForceStands timeout past self.old → ForceStands timeout (r ∷ past) self.new }
@@ -61,7 +62,8 @@ impl Force {
     /// The step of `hear`.
     fn step(&mut self, bus: u8, moment: u64, start: bool, timeout: u64) -> Heard
         requires { self.old.heard ≤ moment }
-        ensures answer { answer_of result ≡ hear timeout self.old.bus self.old.heard bus moment start }
+        ensures answer { answer_of result
+            ≡ hear timeout self.old.bus self.old.heard bus moment start }
         ensures state { self.new ≡ force_then self.old bus moment (answer_of result) }
     {
         match self.bus {

@@ -72,7 +72,8 @@ impl<S: Shape> Session<S> {
     pub fn accept(&mut self, frame: &Frame, timeout: u64) -> Outcome<'_>
         requires { self.old.force.heard ≤ frame.now.moment }
         ensures* after { sem 𝓛 (Rests (the_row S.row) self.entry (λ new.
-            (kept new ≡ (accepted timeout (kept self.old) frame.now).0) × (length new.buffer ≡ length self.old.buffer))) }
+            (kept new ≡ (accepted timeout (kept self.old) frame.now).0)
+            × (length new.buffer ≡ length self.old.buffer))) }
         ensures outcome { answer_of result ≡ (accepted timeout (kept self.old) frame.now).1 }
     {
         let step = self.step(frame, timeout);
@@ -84,7 +85,8 @@ impl<S: Shape> Session<S> {
         requires { self.old.force.heard ≤ frame.now.moment }
         ensures state { kept self.new ≡ (accepted timeout (kept self.old) frame.now).0 }
         ensures size { length self.new.buffer ≡ length self.old.buffer }
-        ensures outcome { step_answer self.new.buffer result ≡ (accepted timeout (kept self.old) frame.now).1 }
+        ensures outcome { step_answer self.new.buffer result
+            ≡ (accepted timeout (kept self.old) frame.now).1 }
     {
         let heard = self
             .force
@@ -121,9 +123,11 @@ impl<S: Shape> Session<S> {
 
     /// Begins a transfer at a start frame that is heard.
     fn begin(&mut self, frame: &Frame) -> Step
-        ensures state { kept self.new ≡ (begin crc_more 0xFFFF 0 (kept self.old) (record_of frame.now)).0 }
+        ensures state { kept self.new
+            ≡ (begin crc_more 0xFFFF 0 (kept self.old) (record_of frame.now)).0 }
         ensures size { length self.new.buffer ≡ length self.old.buffer }
-        ensures outcome { step_answer self.new.buffer result ≡ (begin crc_more 0xFFFF 0 (kept self.old) (record_of frame.now)).1 }
+        ensures outcome { step_answer self.new.buffer result
+            ≡ (begin crc_more 0xFFFF 0 (kept self.old) (record_of frame.now)).1 }
     {
         self.buffer.put_at(0, frame.body);
         let taken = frame.body.len() as u64;
@@ -155,9 +159,11 @@ impl<S: Shape> Session<S> {
 
     /// Takes the frame that the running transfer expects.
     fn take_in(&mut self, part: Part, frame: &Frame) -> Step
-        ensures state { kept self.new ≡ (take_in crc_more 0xFFFF 0 (kept self.old) (part_of part) (record_of frame.now)).0 }
+        ensures state { kept self.new
+            ≡ (take_in crc_more 0xFFFF 0 (kept self.old) (part_of part) (record_of frame.now)).0 }
         ensures size { length self.new.buffer ≡ length self.old.buffer }
-        ensures outcome { step_answer self.new.buffer result ≡ (take_in crc_more 0xFFFF 0 (kept self.old) (part_of part) (record_of frame.now)).1 }
+        ensures outcome { step_answer self.new.buffer result
+            ≡ (take_in crc_more 0xFFFF 0 (kept self.old) (part_of part) (record_of frame.now)).1 }
     {
         self.buffer.put_at(part.taken as usize, frame.body);
         let mut crc = part.crc;

@@ -146,7 +146,8 @@ fn read_item(
     requires rules { HasRules (sch item.now) }
     requires whole { IsWhole (is_aligned (sch item.now)) at.old }
     requires near { IsNear at.old (part_reach (sch item.now)) }
-    ensures goes { ReadsItem (sch item.now) index result values.old.items at.old values.new.items at.new }
+    ensures goes { ReadsItem (sch item.now) index result values.old.items at.old values.new.items
+        at.new }
     ensures same { at.new.bytes.now ≡ at.old.bytes.now }
     ensures whole { StaysWhole (is_aligned (sch item.now)) result at.new }
     ensures near { StaysNear (part_reach (sch item.now)) result at.old at.new }

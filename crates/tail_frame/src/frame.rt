@@ -29,8 +29,10 @@ pub struct Frame<'a> {
 #[inline(always)]
 pub fn frame_of(rec: &Record) -> Option<Frame<'_>>
     ensures value { option_map seen result ≡ frame_of rec.now }
-    ensures place { IfSome result (λ f. (f.line ≡ rec.now.line) × (f.moment ≡ rec.now.moment) × (f.bus ≡ rec.now.bus)) }
-    ensures ranges { IfSome result (λ f. (f.tail.tid < 32) × (length f.body.now ≤ 63) × IsIdent f.ident) }
+    ensures place { IfSome result
+        (λ f. (f.line ≡ rec.now.line) × (f.moment ≡ rec.now.moment) × (f.bus ≡ rec.now.bus)) }
+    ensures ranges { IfSome result
+        (λ f. (f.tail.tid < 32) × (length f.body.now ≤ 63) × IsIdent f.ident) }
 {
     let ident = ident_of(rec.ident)?;
     let bytes = rec.bytes.as_slice();

@@ -8,5 +8,6 @@ ghost use Rattle.value_text.specs.Texts.{value_text};
 
 /// No two values of a schema have one text.
 pub fn one_value()
-    ensures { (s : Sch) → IsSchema s → (v w : Val) → Fits s v → Fits s w → value_text s v ≡ value_text s w → v ≡ w }
+    ensures { (s : Sch) → IsSchema s → (v w : Val) → Fits s v → Fits s w
+        → value_text s v ≡ value_text s w → v ≡ w }
 {}

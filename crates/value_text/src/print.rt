@@ -28,7 +28,8 @@ pub fn print_value(alloc: Global, schema: &Schema, value: &Value) -> Result<Text
 #[cycle(print)]
 fn push_value(text: &mut String, schema: &Schema, value: &Value) -> Result<(), NoMemory>
     requires { Fits (sch schema.now) (val value.now) }
-    ensures { OnOk result (string_bytes text.new ≡ string_bytes text.old ++ value_text (sch schema.now) (val value.now)) }
+    ensures { OnOk result (string_bytes text.new ≡ string_bytes text.old
+        ++ value_text (sch schema.now) (val value.now)) }
 {
     match schema {
         Schema::Fixed { item, .. } | Schema::Var { item, .. } => {
@@ -48,7 +49,9 @@ fn push_value(text: &mut String, schema: &Schema, value: &Value) -> Result<(), N
 #[cycle(print)]
 fn push_array(text: &mut String, item: &Schema, items: &[Value]) -> Result<(), NoMemory>
     requires { AllOf (λ x. Fits (sch item.now) x) (vals items.now) }
-    ensures { OnOk result (string_bytes text.new ≡ string_bytes text.old ++ array_text (is_uint8 (sch item.now)) (λ x. value_text (sch item.now) x) (vals items.now)) }
+    ensures { OnOk result (string_bytes text.new ≡ string_bytes text.old
+        ++ array_text (is_uint8 (sch item.now)) (λ x. value_text (sch item.now) x)
+        (vals items.now)) }
 {
     if is_uint8(item) && are_bytes(items) {
         push_str(text, "#")?;
@@ -84,7 +87,8 @@ fn is_byte(value: &Value) -> bool
 /// Appends two hex digits for each number.
 fn push_bytes(text: &mut String, values: &[Value]) -> Result<(), NoMemory>
     requires { are_bytes (vals values.now) ≡ true }
-    ensures { OnOk result (string_bytes text.new ≡ string_bytes text.old ++ in_a_row byte_text (vals values.now)) }
+    ensures { OnOk result (string_bytes text.new ≡ string_bytes text.old
+        ++ in_a_row byte_text (vals values.now)) }
 {
     for value in values {
         push_byte(text, value)?;
@@ -95,7 +99,8 @@ fn push_bytes(text: &mut String, values: &[Value]) -> Result<(), NoMemory>
 /// Appends two hex digits for a number from 0 to 255.
 fn push_byte(text: &mut String, value: &Value) -> Result<(), NoMemory>
     requires { is_byte (val value.now) ≡ true }
-    ensures { OnOk result (string_bytes text.new ≡ string_bytes text.old ++ byte_text (val value.now)) }
+    ensures { OnOk result (string_bytes text.new ≡ string_bytes text.old
+        ++ byte_text (val value.now)) }
 {
     match value {
         Value::Num(number) => push_hex(text, 2, *number as u64),
@@ -107,7 +112,8 @@ fn push_byte(text: &mut String, value: &Value) -> Result<(), NoMemory>
 #[cycle(print)]
 fn push_items(text: &mut String, item: &Schema, items: &[Value]) -> Result<(), NoMemory>
     requires { AllOf (λ x. Fits (sch item.now) x) (vals items.now) }
-    ensures { OnOk result (string_bytes text.new ≡ string_bytes text.old ++ separated (texts (λ x. value_text (sch item.now) x) (vals items.now))) }
+    ensures { OnOk result (string_bytes text.new ≡ string_bytes text.old
+        ++ separated (texts (λ x. value_text (sch item.now) x) (vals items.now))) }
 {
     for i in 0..items.len() {
         push_lead(text, i == 0)?;
@@ -127,7 +133,8 @@ fn push_lead(text: &mut String, first: bool) -> Result<(), NoMemory>
 #[cycle(print)]
 fn push_struct(text: &mut String, body: &Body, values: &[Value]) -> Result<(), NoMemory>
     requires { FitFields (body_of body.now).0 (vals values.now) }
-    ensures { OnOk result (string_bytes text.new ≡ string_bytes text.old ++ in_braces (separated (field_texts (body_of body.now).0 (vals values.now)))) }
+    ensures { OnOk result (string_bytes text.new ≡ string_bytes text.old
+        ++ in_braces (separated (field_texts (body_of body.now).0 (vals values.now)))) }
 {
     push_str(text, "{")?;
     push_fields(text, body, values)?;
@@ -138,7 +145,8 @@ fn push_struct(text: &mut String, body: &Body, values: &[Value]) -> Result<(), N
 #[cycle(print)]
 fn push_fields(text: &mut String, body: &Body, values: &[Value]) -> Result<(), NoMemory>
     requires { FitFields (body_of body.now).0 (vals values.now) }
-    ensures { OnOk result (string_bytes text.new ≡ string_bytes text.old ++ separated (field_texts (body_of body.now).0 (vals values.now))) }
+    ensures { OnOk result (string_bytes text.new ≡ string_bytes text.old
+        ++ separated (field_texts (body_of body.now).0 (vals values.now))) }
 {
     let mut next = 0;
     for field in body.fields.as_slice() {
@@ -155,7 +163,8 @@ fn push_fields(text: &mut String, body: &Body, values: &[Value]) -> Result<(), N
 #[cycle(print)]
 fn push_entry(text: &mut String, field: &Field, value: &Value) -> Result<(), NoMemory>
     requires { Fits (type_of (named field.now).1) (val value.now) }
-    ensures { OnOk result (string_bytes text.new ≡ string_bytes text.old ++ entry (named field.now).0 (value_text (type_of (named field.now).1) (val value.now))) }
+    ensures { OnOk result (string_bytes text.new ≡ string_bytes text.old
+        ++ entry (named field.now).0 (value_text (type_of (named field.now).1) (val value.now))) }
 {
     push_str(text, field.name.as_str())?;
     push_str(text, ": ")?;
@@ -166,7 +175,8 @@ fn push_entry(text: &mut String, field: &Field, value: &Value) -> Result<(), NoM
 #[cycle(print)]
 fn push_union(text: &mut String, body: &Body, tag: u32, value: &Value) -> Result<(), NoMemory>
     requires { FitsVariant (body_of body.now).0 tag (val value.now) }
-    ensures { OnOk result (string_bytes text.new ≡ string_bytes text.old ++ in_braces (variant_text (body_of body.now).0 tag (val value.now))) }
+    ensures { OnOk result (string_bytes text.new ≡ string_bytes text.old
+        ++ in_braces (variant_text (body_of body.now).0 tag (val value.now))) }
 {
     push_str(text, "{")?;
     push_variant(text, body, tag, value)?;
@@ -177,7 +187,8 @@ fn push_union(text: &mut String, body: &Body, tag: u32, value: &Value) -> Result
 #[cycle(print)]
 fn push_variant(text: &mut String, body: &Body, tag: u32, value: &Value) -> Result<(), NoMemory>
     requires { FitsVariant (body_of body.now).0 tag (val value.now) }
-    ensures { OnOk result (string_bytes text.new ≡ string_bytes text.old ++ variant_text (body_of body.now).0 tag (val value.now)) }
+    ensures { OnOk result (string_bytes text.new ≡ string_bytes text.old
+        ++ variant_text (body_of body.now).0 tag (val value.now)) }
 {
     let mut left = tag;
     for field in body.fields.as_slice() {
@@ -193,7 +204,8 @@ fn push_variant(text: &mut String, body: &Body, tag: u32, value: &Value) -> Resu
 
 /// Appends the text of a value that has no parts, for a type of so many bits.
 fn push_simple(text: &mut String, width: u8, value: &Value) -> Result<(), NoMemory>
-    ensures { OnOk result (string_bytes text.new ≡ string_bytes text.old ++ simple_text width (val value.now)) }
+    ensures { OnOk result (string_bytes text.new ≡ string_bytes text.old
+        ++ simple_text width (val value.now)) }
 {
     match value {
         Value::Bool(truth) => push_str(text, if *truth { "true" } else { "false" }),

@@ -40,8 +40,10 @@ pub fn read_value(
     number: u64,
 ) -> Result<Value, TextError>
     requires { IsSchema (sch schema.now) }
-    ensures read { IfOk result (λ v. Fits (sch schema.now) (val v) × (value_text (sch schema.now) (val v) ≡ line.now)) }
-    ensures refused { (n : ℕ) → result ≡ Err (NoText n) → (n ≡ number) × ((v : Val) → Fits (sch schema.now) v → value_text (sch schema.now) v ≡ line.now → ⊥) }
+    ensures read { IfOk result
+        (λ v. Fits (sch schema.now) (val v) × (value_text (sch schema.now) (val v) ≡ line.now)) }
+    ensures refused { (n : ℕ) → result ≡ Err (NoText n) → (n ≡ number)
+        × ((v : Val) → Fits (sch schema.now) v → value_text (sch schema.now) v ≡ line.now → ⊥) }
 {
     let mut at = 0;
     let Ok(value) = value_at(alloc, schema, line, &mut at) else {
@@ -61,7 +63,8 @@ pub fn read_value(
 #[cycle(read)]
 fn value_at(alloc: Global, schema: &Schema, line: &[u8], at: &mut usize) -> Result<Value, NoMemory>
     requires { IsReadable (sch schema.now) }
-    ensures { IfOk result (λ v. GivesValue (sch schema.now) (drop at.old line.now) (drop at.new line.now) (val v)) }
+    ensures { IfOk result (λ v.
+        GivesValue (sch schema.now) (drop at.old line.now) (drop at.new line.now) (val v)) }
 {
     match schema {
         Schema::Bool => Ok(Value::Bool(read_truth(line, at))),
@@ -102,7 +105,9 @@ fn array_at(
     at: &mut usize,
 ) -> Result<List<Value>, NoMemory>
     requires { IsReadable (sch item.now) }
-    ensures { IfOk result (λ vs. GivesArray (sch item.now) exact len (drop at.old line.now) (drop at.new line.now) (vals vs)) }
+    ensures { IfOk result (λ vs.
+        GivesArray (sch item.now) exact len (drop at.old line.now) (drop at.new line.now)
+        (vals vs)) }
 {
     if are_in_hex(item, line, *at) {
         skip(line, at, 1);
@@ -129,7 +134,8 @@ fn bytes_at(
     line: &[u8],
     at: &mut usize,
 ) -> Result<List<Value>, NoMemory>
-    ensures { IfOk result (λ vs. GivesBytes exact len (drop at.old line.now) (drop at.new line.now) (vals vs)) }
+    ensures { IfOk result (λ vs.
+        GivesBytes exact len (drop at.old line.now) (drop at.new line.now) (vals vs)) }
 {
     let mut values = Vec::new(alloc);
     for _ in 0..len {
@@ -144,7 +150,9 @@ fn bytes_at(
 /// The number of two hex digits.
 fn byte_at(line: &[u8], at: &mut usize) -> Value
     ensures byte { is_byte (val result) ≡ true }
-    ensures reads { (n : ℕ) (rest : ListOf ℕ) → n < 256 → drop at.old line.now ≡ hex_digits 2 n ++ rest → (val result ≡ Num (pos n)) × (drop at.new line.now ≡ rest) }
+    ensures reads { (n : ℕ) (rest : ListOf ℕ) → n < 256
+        → drop at.old line.now ≡ hex_digits 2 n ++ rest → (val result ≡ Num (pos n))
+        × (drop at.new line.now ≡ rest) }
 {
     Value::Num(i128::from(read_hex(line, at, 2)))
 }
@@ -167,7 +175,9 @@ fn items_at(
     at: &mut usize,
 ) -> Result<List<Value>, NoMemory>
     requires { IsReadable (sch item.now) }
-    ensures { IfOk result (λ vs. GivesItems (sch item.now) exact len (drop at.old line.now) (drop at.new line.now) (vals vs)) }
+    ensures { IfOk result (λ vs.
+        GivesItems (sch item.now) exact len (drop at.old line.now) (drop at.new line.now)
+        (vals vs)) }
 {
     let mut values = Vec::new(alloc);
     for i in 0..len {
@@ -196,7 +206,8 @@ fn struct_at(
     at: &mut usize,
 ) -> Result<List<Value>, NoMemory>
     requires { AreReadable (body_of body.now).0 }
-    ensures { IfOk result (λ vs. GivesStruct (body_of body.now).0 (drop at.old line.now) (drop at.new line.now) (vals vs)) }
+    ensures { IfOk result (λ vs.
+        GivesStruct (body_of body.now).0 (drop at.old line.now) (drop at.new line.now) (vals vs)) }
 {
     skip(line, at, 1);
     let fields = fields_at(alloc, body, line, at)?;
@@ -213,7 +224,8 @@ fn fields_at(
     at: &mut usize,
 ) -> Result<List<Value>, NoMemory>
     requires { AreReadable (body_of body.now).0 }
-    ensures { IfOk result (λ vs. GivesFields (body_of body.now).0 (drop at.old line.now) (drop at.new line.now) (vals vs)) }
+    ensures { IfOk result (λ vs.
+        GivesFields (body_of body.now).0 (drop at.old line.now) (drop at.new line.now) (vals vs)) }
 {
     let mut values = Vec::new(alloc);
     for field in body.fields.as_slice() {
@@ -230,7 +242,9 @@ fn fields_at(
 #[cycle(read)]
 fn entry_at(alloc: Global, field: &Field, line: &[u8], at: &mut usize) -> Result<Value, NoMemory>
     requires { IsReadable (type_of (named field.now).1) }
-    ensures { IfOk result (λ v. GivesEntry (named field.now).0 (type_of (named field.now).1) (drop at.old line.now) (drop at.new line.now) (val v)) }
+    ensures { IfOk result (λ v.
+        GivesEntry (named field.now).0 (type_of (named field.now).1) (drop at.old line.now)
+        (drop at.new line.now) (val v)) }
 {
     skip(line, at, field.name.as_str().len());
     skip(line, at, 2);
@@ -248,7 +262,10 @@ fn union_at(
     requires rules { AreReadable (body_of body.now).0 }
     requires apart { AreNamed (body_of body.now).0 }
     requires tags { variants (body_of body.now).0 ≤ 2 ^ 20 }
-    ensures { IfOk result (λ o. MatchOption o (HasNoUnion (body_of body.now).0 (drop at.old line.now)) (λ v. GivesUnion (body_of body.now).0 (drop at.old line.now) (drop at.new line.now) (val v))) }
+    ensures { IfOk result (λ o.
+        MatchOption o (HasNoUnion (body_of body.now).0 (drop at.old line.now))
+        (λ v. GivesUnion (body_of body.now).0 (drop at.old line.now) (drop at.new line.now)
+        (val v))) }
 {
     skip(line, at, 1);
     let variant = variant_at(alloc, body, line, at)?;
@@ -267,7 +284,10 @@ fn variant_at(
     requires rules { AreReadable (body_of body.now).0 }
     requires apart { AreNamed (body_of body.now).0 }
     requires tags { variants (body_of body.now).0 ≤ 2 ^ 20 }
-    ensures { IfOk result (λ o. MatchOption o (HasNoVariant (body_of body.now).0 (drop at.old line.now)) (λ v. GivesVariant (body_of body.now).0 (drop at.old line.now) (drop at.new line.now) (val v))) }
+    ensures { IfOk result (λ o.
+        MatchOption o (HasNoVariant (body_of body.now).0 (drop at.old line.now))
+        (λ v. GivesVariant (body_of body.now).0 (drop at.old line.now) (drop at.new line.now)
+        (val v))) }
 {
     let mut tag = 0;
     for field in body.fields.as_slice() {

@@ -33,7 +33,8 @@ pub fn skip_lead(line: &[u8], at: &mut usize, first: bool)
 
 /// A truth value.
 pub fn read_truth(line: &[u8], at: &mut usize) -> bool
-    ensures { (b : Truth) (rest : ListOf ℕ) → drop at.old line.now ≡ truth_text b ++ rest → (result ≡ b) × (drop at.new line.now ≡ rest) }
+    ensures { (b : Truth) (rest : ListOf ℕ) → drop at.old line.now ≡ truth_text b ++ rest
+        → (result ≡ b) × (drop at.new line.now ≡ rest) }
 {
     let truth = peek(line, *at) == b't';
     skip(line, at, if truth { 4 } else { 5 });
@@ -56,7 +57,9 @@ fn digit_value(digit: u8) -> u8
 pub fn read_hex(line: &[u8], at: &mut usize, digits: u8) -> u64
     requires { digits < 17 }
     ensures fits { result < 2 ^ (4 * digits) }
-    ensures reads { (n : ℕ) (rest : ListOf ℕ) → n < 2 ^ (4 * digits) → drop at.old line.now ≡ hex_digits digits n ++ rest → (result ≡ n) × (drop at.new line.now ≡ rest) }
+    ensures reads { (n : ℕ) (rest : ListOf ℕ) → n < 2 ^ (4 * digits)
+        → drop at.old line.now ≡ hex_digits digits n ++ rest → (result ≡ n)
+        × (drop at.new line.now ≡ rest) }
 {
     let mut number = 0;
     for _ in 0..digits {
@@ -104,7 +107,8 @@ fn magnitude(digits: &[u8]) -> u64
 
 /// The bytes in front of a comma, a closing bracket or brace, or the end.
 fn token<'a>(line: &'a [u8], at: usize) -> &'a [u8]
-    ensures { (t rest : ListOf ℕ) → Clear stop t → Halts stop rest → drop at line.now ≡ t ++ rest → result.now ≡ t }
+    ensures { (t rest : ListOf ℕ) → Clear stop t → Halts stop rest → drop at line.now ≡ t ++ rest
+        → result.now ≡ t }
 {
     let rest = behind(line, at);
     for len in 0..rest.len() {
@@ -128,7 +132,8 @@ fn behind<'a>(line: &'a [u8], at: usize) -> &'a [u8]
 /// A whole number.
 pub fn read_number(line: &[u8], at: &mut usize) -> i128
     ensures fits { IsNumber result }
-    ensures reads { Reads IsNumber signed_decimal (drop at.old line.now) (drop at.new line.now) result }
+    ensures reads { Reads IsNumber signed_decimal (drop at.old line.now)
+        (drop at.new line.now) result }
 {
     let token = token(line, *at);
     skip(line, at, token.len());

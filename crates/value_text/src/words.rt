@@ -26,7 +26,8 @@ pub fn push_number(text: &mut String, number: i128) -> Result<(), NoMemory>
 
 /// Appends so many hex digits of a number, the highest first.
 pub fn push_hex(text: &mut String, digits: u8, number: u64) -> Result<(), NoMemory>
-    ensures { OnOk result (string_bytes text.new ≡ string_bytes text.old ++ hex_digits digits number) }
+    ensures { OnOk result (string_bytes text.new ≡ string_bytes text.old
+        ++ hex_digits digits number) }
 {
     for k in (0..digits).rev() {
         push_digit(text, digit_of(number, k))?;
@@ -49,7 +50,8 @@ fn digit_of(number: u64, k: u8) -> u8
 /// Appends a hex digit.
 fn push_digit(text: &mut String, value: u8) -> Result<(), NoMemory>
     requires { value < 16 }
-    ensures { OnOk result (string_bytes text.new ≡ string_bytes text.old ++ slice_index upper_digits value ∷ []) }
+    ensures { OnOk result (string_bytes text.new ≡ string_bytes text.old
+        ++ slice_index upper_digits value ∷ []) }
 {
     text.push(char::from(hex_digit(value)))?;
     Ok(())

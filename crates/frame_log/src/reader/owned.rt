@@ -30,34 +30,51 @@ impl LogReader {
     #[inline(always)]
     pub fn next_record<L: Source>(&mut self, input: &mut L) -> Result<Option<Record>, LogError>
         // What the log gives that is left: the bytes held, those that came in this call, and any rest.
-        ensures next { answer_of self.old ≡ None → (came : List ℕ) × Took (L.left input.old) (L.left input.new) came
-            × ((rest : List ℕ) → (saw_end self.new ≡ true → rest ≡ []) → IsNext (log_behind self.old (came ++ rest)) result (log_behind self.new rest)) }
+        ensures next { answer_of self.old ≡ None → (came : List ℕ)
+            × Took (L.left input.old) (L.left input.new) came
+            × ((rest : List ℕ) → (saw_end self.new ≡ true → rest ≡ [])
+            → IsNext (log_behind self.old (came ++ rest)) result (log_behind self.new rest)) }
 
         // What was held and what came are whole lines that give no record, and behind them at most 8,192 bytes.
-        ensures used { answer_of self.old ≡ None → (came : List ℕ) × Took (L.left input.old) (L.left input.new) came
-            × Uses (buses_of self.old) (place_of self.old) (held_of self.old ++ came) (IsBefore result self.new) }
+        ensures used { answer_of self.old ≡ None → (came : List ℕ)
+            × Took (L.left input.old) (L.left input.new) came
+            × Uses (buses_of self.old) (place_of self.old) (held_of self.old ++ came)
+            (IsBefore result self.new) }
 
         // It has ended only where the input has.
-        ensures end { saw_end self.old ≡ false → saw_end self.new ≡ true → IsAtEnd (L.left input.new) }
+        ensures end { saw_end self.old ≡ false → saw_end self.new ≡ true
+            → IsAtEnd (L.left input.new) }
         ensures whole { answer_of self.old ≡ None → result ≡ Ok None → saw_end self.new ≡ true }
-        ensures ended { answer_of self.old ≡ None → saw_end self.old ≡ true → (input.new ≡ input.old) × (saw_end self.new ≡ true) × IsNext (log_behind self.old []) result (log_behind self.new []) }
+        ensures ended { answer_of self.old ≡ None → saw_end self.old ≡ true
+            → (input.new ≡ input.old) × (saw_end self.new ≡ true)
+            × IsNext (log_behind self.old []) result (log_behind self.new []) }
 
         // The answer stays.
         ensures done { answer_of self.old ≡ None → answer_of self.new ≡ kept result }
-        ensures again { IfSome (answer_of self.old) (λ a. (result ≡ answered a) × (self.new ≡ self.old) × (input.new ≡ input.old)) }
+        ensures again { IfSome (answer_of self.old)
+            (λ a. (result ≡ answered a) × (self.new ≡ self.old) × (input.new ≡ input.old)) }
 
         // The input failed, and no line that was taken is left.
-        ensures failed { answer_of self.old ≡ None → result ≡ Err error.Failed → Rose (L.faults input.old) (L.faults input.new) × (cut 10 (held_of self.new) ≡ None) × (length (held_of self.new) ≤ 4096) }
-        ensures open { answer_of self.old ≡ None → result ≡ Err error.Failed → saw_end self.new ≡ false }
+        ensures failed { answer_of self.old ≡ None → result ≡ Err error.Failed
+            → Rose (L.faults input.old) (L.faults input.new) × (cut 10 (held_of self.new) ≡ None)
+            × (length (held_of self.new) ≤ 4096) }
+        ensures open { answer_of self.old ≡ None → result ≡ Err error.Failed
+            → saw_end self.new ≡ false }
         ensures count { ¬ (result ≡ Err error.Failed) → L.faults input.new ≡ L.faults input.old }
 
         // A record is behind those before it, and has one of the buses.
-        ensures order { IfOk result (λ o. IfSome o (λ r. ((place_of self.old).last ≤ r.moment) × ((place_of self.old).lines < r.line))) }
-        ensures place { IfOk result (λ o. IfSome o (λ r. ((place_of self.new).last ≡ r.moment) × ((place_of self.new).lines ≡ r.line))) }
-        ensures fit { IfOk result (λ o. IfSome o (λ r. IsFit (buses_of self.old) r × (r.line ≤ 2 ^ 28))) }
+        ensures order { IfOk result
+            (λ o. IfSome o (λ r. ((place_of self.old).last ≤ r.moment)
+            × ((place_of self.old).lines < r.line))) }
+        ensures place { IfOk result
+            (λ o. IfSome o (λ r. ((place_of self.new).last ≡ r.moment)
+            × ((place_of self.new).lines ≡ r.line))) }
+        ensures fit { IfOk result
+            (λ o. IfSome o (λ r. IsFit (buses_of self.old) r × (r.line ≤ 2 ^ 28))) }
 
         // Each record leaves fewer bytes, and no more were taken than stand in the buffer.
-        ensures less { IfOk result (λ o. IfSome o (λ _. bytes_left self.new < bytes_left self.old)) }
+        ensures less { IfOk result
+            (λ o. IfSome o (λ _. bytes_left self.new < bytes_left self.old)) }
         ensures within { bytes_left self.new ≤ bytes_left self.old }
         ensures near { length (held_of self.new) ≤ 8192 }
         ensures same { buses_of self.new ≡ buses_of self.old }
@@ -76,23 +93,34 @@ impl LogReader {
     #[inline(always)]
     pub fn next_held(&mut self) -> Result<Option<Record>, LogError>
         // What the log gives that is left, whatever comes behind the bytes held.
-        ensures next { answer_of self.old ≡ None → (rest : List ℕ) → IsNextHeld (log_behind self.old rest) result (log_behind self.new rest) }
-        ensures none { answer_of self.old ≡ None → result ≡ Ok None → cut 10 (held_of self.new) ≡ None }
-        ensures used { answer_of self.old ≡ None → Uses (buses_of self.old) (place_of self.old) (held_of self.old) (IsBeforeHeld result self.new) }
+        ensures next { answer_of self.old ≡ None → (rest : List ℕ)
+            → IsNextHeld (log_behind self.old rest) result (log_behind self.new rest) }
+        ensures none { answer_of self.old ≡ None → result ≡ Ok None
+            → cut 10 (held_of self.new) ≡ None }
+        ensures used { answer_of self.old ≡ None
+            → Uses (buses_of self.old) (place_of self.old) (held_of self.old)
+            (IsBeforeHeld result self.new) }
         ensures input { answer_of self.old ≡ None → ¬ (result ≡ Err error.Failed) }
 
         // A refusal stays.
         ensures done { answer_of self.old ≡ None → answer_of self.new ≡ kept_held result }
-        ensures again { IfSome (answer_of self.old) (λ a. (result ≡ answered a) × (self.new ≡ self.old)) }
+        ensures again { IfSome (answer_of self.old)
+            (λ a. (result ≡ answered a) × (self.new ≡ self.old)) }
         ensures end { saw_end self.new ≡ saw_end self.old }
 
         // A record is behind those before it, and has one of the buses.
-        ensures order { IfOk result (λ o. IfSome o (λ r. ((place_of self.old).last ≤ r.moment) × ((place_of self.old).lines < r.line))) }
-        ensures place { IfOk result (λ o. IfSome o (λ r. ((place_of self.new).last ≡ r.moment) × ((place_of self.new).lines ≡ r.line))) }
-        ensures fit { IfOk result (λ o. IfSome o (λ r. IsFit (buses_of self.old) r × (r.line ≤ 2 ^ 28))) }
+        ensures order { IfOk result
+            (λ o. IfSome o (λ r. ((place_of self.old).last ≤ r.moment)
+            × ((place_of self.old).lines < r.line))) }
+        ensures place { IfOk result
+            (λ o. IfSome o (λ r. ((place_of self.new).last ≡ r.moment)
+            × ((place_of self.new).lines ≡ r.line))) }
+        ensures fit { IfOk result
+            (λ o. IfSome o (λ r. IsFit (buses_of self.old) r × (r.line ≤ 2 ^ 28))) }
 
         // Each record leaves fewer bytes.
-        ensures less { IfOk result (λ o. IfSome o (λ _. bytes_left self.new < bytes_left self.old)) }
+        ensures less { IfOk result
+            (λ o. IfSome o (λ _. bytes_left self.new < bytes_left self.old)) }
         ensures within { bytes_left self.new ≤ bytes_left self.old }
         ensures near { length (held_of self.new) ≤ 8192 }
         ensures same { buses_of self.new ≡ buses_of self.old }

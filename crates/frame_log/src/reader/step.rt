@@ -45,9 +45,13 @@ impl LogReader {
     fn accept(&mut self, found: Found, written: &mut Record) -> Step
         requires { self.old.lines + bytes_left self.old < 268435456 }
         ensures input { ¬ (result ≡ step.Refused error.Failed) }
-        ensures given { IsGiven (given_by (place_of self.old) (self.old.lines + 1) (said_by found written.old.bytes)) result written.new (place_of self.new) }
+        ensures given { IsGiven
+            (given_by (place_of self.old) (self.old.lines + 1) (said_by found written.old.bytes))
+            result written.new (place_of self.new) }
         ensures at { result ≡ step.Record → IsAt written.new (place_of self.new) }
-        ensures same { (self.new.buses ≡ self.old.buses) × (self.new.held ≡ self.old.held) × (self.new.room ≡ self.old.room) × (self.new.is_ended ≡ self.old.is_ended) × (self.new.done ≡ self.old.done) }
+        ensures same { (self.new.buses ≡ self.old.buses) × (self.new.held ≡ self.old.held)
+            × (self.new.room ≡ self.old.room) × (self.new.is_ended ≡ self.old.is_ended)
+            × (self.new.done ≡ self.old.done) }
     {
         let n = self.lines + 1;
         match found {
@@ -81,9 +85,12 @@ impl LogReader {
     #[cold]
     #[inline(never)]
     fn any_line(&mut self, written: &mut Record) -> Option<(usize, Found)>
-        ensures line { MatchOption result (cut 10 self.old.held ≡ None) (λ p. IsFound self.old.buses self.old.held p.0 p.1 written.new.bytes) }
+        ensures line { MatchOption result (cut 10 self.old.held ≡ None)
+            (λ p. IsFound self.old.buses self.old.held p.0 p.1 written.new.bytes) }
         ensures place { place_of self.new ≡ place_of self.old }
-        ensures same { (self.new.buses ≡ self.old.buses) × (self.new.held ≡ self.old.held) × (self.new.room ≡ self.old.room) × (self.new.is_ended ≡ self.old.is_ended) × (self.new.done ≡ self.old.done) }
+        ensures same { (self.new.buses ≡ self.old.buses) × (self.new.held ≡ self.old.held)
+            × (self.new.room ≡ self.old.room) × (self.new.is_ended ≡ self.old.is_ended)
+            × (self.new.done ≡ self.old.done) }
     {
         let i = self.line_end()?;
         written.bytes.clear();
@@ -98,9 +105,12 @@ impl LogReader {
     /// The same, and sooner of a line of the common form.
     #[inline(always)]
     fn first_line(&mut self, written: &mut Record) -> Option<(usize, Found)>
-        ensures line { MatchOption result (cut 10 self.old.held ≡ None) (λ p. IsFound self.old.buses self.old.held p.0 p.1 written.new.bytes) }
+        ensures line { MatchOption result (cut 10 self.old.held ≡ None)
+            (λ p. IsFound self.old.buses self.old.held p.0 p.1 written.new.bytes) }
         ensures place { place_of self.new ≡ place_of self.old }
-        ensures same { (self.new.buses ≡ self.old.buses) × (self.new.held ≡ self.old.held) × (self.new.room ≡ self.old.room) × (self.new.is_ended ≡ self.old.is_ended) × (self.new.done ≡ self.old.done) }
+        ensures same { (self.new.buses ≡ self.old.buses) × (self.new.held ≡ self.old.held)
+            × (self.new.room ≡ self.old.room) × (self.new.is_ended ≡ self.old.is_ended)
+            × (self.new.done ≡ self.old.done) }
     {
         written.bytes.clear();
         if let Some(seen) = quick(
@@ -124,15 +134,19 @@ impl LogReader {
     /// What the first line that is held gives.
     #[inline(always)]
     fn step_line(&mut self, written: &mut Record) -> Step
-        ensures next { (rest : List ℕ) → IsStep (log_behind self.old rest) result written.new (log_behind self.new rest) }
-        ensures used { IsUsed (buses_of self.old) (place_of self.old) self.old.held result written.new (place_of self.new) self.new.held }
-        ensures none { result ≡ step.NoLine → (cut 10 self.new.held ≡ None) × (place_of self.new ≡ place_of self.old) × (self.new.held ≡ self.old.held) }
+        ensures next { (rest : List ℕ)
+            → IsStep (log_behind self.old rest) result written.new (log_behind self.new rest) }
+        ensures used { IsUsed (buses_of self.old)
+            (place_of self.old) self.old.held result written.new (place_of self.new) self.new.held }
+        ensures none { result ≡ step.NoLine → (cut 10 self.new.held ≡ None)
+            × (place_of self.new ≡ place_of self.old) × (self.new.held ≡ self.old.held) }
         ensures less { result ≡ step.Record → length self.new.held < length self.old.held }
         ensures skipped { result ≡ step.Skipped → length self.new.held < length self.old.held }
         ensures within { length self.new.held ≤ length self.old.held }
         ensures input { ¬ (result ≡ step.Refused error.Failed) }
         ensures at { result ≡ step.Record → IsAt written.new (place_of self.new) }
-        ensures same { (self.new.buses ≡ self.old.buses) × (self.new.room ≡ self.old.room) × (self.new.is_ended ≡ self.old.is_ended) × (self.new.done ≡ self.old.done) }
+        ensures same { (self.new.buses ≡ self.old.buses) × (self.new.room ≡ self.old.room)
+            × (self.new.is_ended ≡ self.old.is_ended) × (self.new.done ≡ self.old.done) }
     {
         let Some((i, found)) = self.first_line(written) else {
             return Step::NoLine;
@@ -144,15 +158,18 @@ impl LogReader {
     /// What the lines that are held give.
     #[inline(always)]
     pub fn from_held(&mut self, written: &mut Record) -> Step
-        ensures next { (rest : List ℕ) → IsStep (log_behind self.old rest) result written.new (log_behind self.new rest) }
-        ensures used { Uses (buses_of self.old) (place_of self.old) self.old.held (IsBeforeStep result written.new self.new) }
+        ensures next { (rest : List ℕ)
+            → IsStep (log_behind self.old rest) result written.new (log_behind self.new rest) }
+        ensures used { Uses (buses_of self.old) (place_of self.old) self.old.held
+            (IsBeforeStep result written.new self.new) }
         ensures none { result ≡ step.NoLine → cut 10 self.new.held ≡ None }
         ensures whole { ¬ (result ≡ step.Skipped) }
         ensures less { result ≡ step.Record → length self.new.held < length self.old.held }
         ensures within { length self.new.held ≤ length self.old.held }
         ensures input { ¬ (result ≡ step.Refused error.Failed) }
         ensures at { result ≡ step.Record → IsAt written.new (place_of self.new) }
-        ensures same { (self.new.buses ≡ self.old.buses) × (self.new.room ≡ self.old.room) × (self.new.is_ended ≡ self.old.is_ended) × (self.new.done ≡ self.old.done) }
+        ensures same { (self.new.buses ≡ self.old.buses) × (self.new.room ≡ self.old.room)
+            × (self.new.is_ended ≡ self.old.is_ended) × (self.new.done ≡ self.old.done) }
     {
         loop {
             match self.step_line(written) {
@@ -174,7 +191,8 @@ impl LogReader {
         ensures within { length self.new.held ≤ length self.old.held }
         ensures input { ¬ (result ≡ step.Refused error.Failed) }
         ensures at { result ≡ step.Record → IsAt written.new (place_of self.new) }
-        ensures same { (self.new.buses ≡ self.old.buses) × (self.new.room ≡ self.old.room) × (self.new.is_ended ≡ self.old.is_ended) × (self.new.done ≡ self.old.done) }
+        ensures same { (self.new.buses ≡ self.old.buses) × (self.new.room ≡ self.old.room)
+            × (self.new.is_ended ≡ self.old.is_ended) × (self.new.done ≡ self.old.done) }
     {
         let n = self.held.as_slice().len();
         if n == 0 {

@@ -37,15 +37,23 @@ impl LogReader {
     #[inline(always)]
     fn fill<L: Source>(&mut self, input: &mut L) -> Result<usize, Failed>
         requires short { length self.old.held ≤ 4096 }
-        ensures came { OnOk result (self.new.held ≡ self.old.held ++ drop (length self.old.held) self.new.held) }
-        ensures room { IfOk result (λ n. (self.new.room + n ≡ self.old.room) × (length self.new.held ≡ length self.old.held + n)) }
-        ensures took { OnOk result (Took (L.left input.old) (L.left input.new) (drop (length self.old.held) self.new.held)) }
+        ensures came { OnOk result
+            (self.new.held ≡ self.old.held ++ drop (length self.old.held) self.new.held) }
+        ensures room { IfOk result
+            (λ n. (self.new.room + n ≡ self.old.room)
+            × (length self.new.held ≡ length self.old.held + n)) }
+        ensures took { OnOk result
+            (Took (L.left input.old) (L.left input.new)
+            (drop (length self.old.held) self.new.held)) }
         ensures none { IfOk result (λ n. n ≡ 0 → self.new.held ≡ self.old.held) }
         ensures end { IfOk result (λ n. n ≡ 0 → 0 < self.old.room → IsAtEnd (L.left input.new)) }
-        ensures err { OnErr result ((self.new.held ≡ self.old.held) × (self.new.room ≡ self.old.room) × (L.left input.new ≡ L.left input.old)) }
+        ensures err { OnErr result
+            ((self.new.held ≡ self.old.held) × (self.new.room ≡ self.old.room)
+            × (L.left input.new ≡ L.left input.old)) }
         ensures cause { OnErr result (Rose (L.faults input.old) (L.faults input.new)) }
         ensures count { OnOk result (L.faults input.new ≡ L.faults input.old) }
-        ensures same { (self.new.buses ≡ self.old.buses) × (place_of self.new ≡ place_of self.old) × (self.new.is_ended ≡ self.old.is_ended) × (self.new.done ≡ self.old.done) }
+        ensures same { (self.new.buses ≡ self.old.buses) × (place_of self.new ≡ place_of self.old)
+            × (self.new.is_ended ≡ self.old.is_ended) × (self.new.done ≡ self.old.done) }
     {
         let most = self.room.min(PIECE - self.held.as_slice().len());
         let n = self.held.fill(input, most)?;
@@ -65,7 +73,8 @@ impl LogReader {
         ensures less { result ≡ turn.Record → bytes_left self.new < bytes_left self.old }
         ensures within { bytes_left self.new ≤ bytes_left self.old }
         ensures at { result ≡ turn.Record → IsAt written.new (place_of self.new) }
-        ensures same { (self.new.buses ≡ self.old.buses) × (self.new.is_ended ≡ self.old.is_ended) × (self.new.done ≡ self.old.done) }
+        ensures same { (self.new.buses ≡ self.old.buses) × (self.new.is_ended ≡ self.old.is_ended)
+            × (self.new.done ≡ self.old.done) }
     {
         match self.last_line(written) {
             Step::Record => Turn::Record,
@@ -82,14 +91,19 @@ impl LogReader {
         requires line { cut 10 self.old.held ≡ None }
         requires short { length self.old.held ≤ 4096 }
         ensures next { (came : List ℕ) × Took (L.left input.old) (L.left input.new) came
-            × ((rest : List ℕ) → (self.new.is_ended ≡ true → rest ≡ []) → IsTurn (log_behind self.old (came ++ rest)) result written.new (log_behind self.new rest)) }
+            × ((rest : List ℕ) → (self.new.is_ended ≡ true → rest ≡ [])
+            → IsTurn (log_behind self.old (came ++ rest)) result written.new
+            (log_behind self.new rest)) }
         ensures used { (came : List ℕ) × Took (L.left input.old) (L.left input.new) came
-            × Uses (buses_of self.old) (place_of self.old) (self.old.held ++ came) (IsBeforeTurn result written.new self.new) }
-        ensures again { result ≡ turn.Again → (self.new.room < self.old.room) × (self.new.is_ended ≡ false) }
+            × Uses (buses_of self.old) (place_of self.old) (self.old.held ++ came)
+            (IsBeforeTurn result written.new self.new) }
+        ensures again { result ≡ turn.Again → (self.new.room < self.old.room)
+            × (self.new.is_ended ≡ false) }
         ensures whole { result ≡ turn.Whole → self.new.is_ended ≡ true }
         ensures input { ¬ (result ≡ turn.Refused error.Failed) }
         ensures end { self.new.is_ended ≡ true → IsAtEnd (L.left input.new) }
-        ensures failed { result ≡ turn.Failed → Rose (L.faults input.old) (L.faults input.new) × (self.new.held ≡ self.old.held) }
+        ensures failed { result ≡ turn.Failed → Rose (L.faults input.old) (L.faults input.new)
+            × (self.new.held ≡ self.old.held) }
         ensures open { result ≡ turn.Failed → self.new.is_ended ≡ false }
         ensures count { ¬ (result ≡ turn.Failed) → L.faults input.new ≡ L.faults input.old }
         ensures less { result ≡ turn.Record → bytes_left self.new < bytes_left self.old }
@@ -121,16 +135,24 @@ impl LogReader {
     #[inline(always)]
     pub fn turn<L: Source>(&mut self, input: &mut L, written: &mut Record) -> Turn
         ensures next { (came : List ℕ) × Took (L.left input.old) (L.left input.new) came
-            × ((rest : List ℕ) → (self.new.is_ended ≡ true → rest ≡ []) → IsTurn (log_behind self.old (came ++ rest)) result written.new (log_behind self.new rest)) }
+            × ((rest : List ℕ) → (self.new.is_ended ≡ true → rest ≡ [])
+            → IsTurn (log_behind self.old (came ++ rest)) result written.new
+            (log_behind self.new rest)) }
         ensures used { (came : List ℕ) × Took (L.left input.old) (L.left input.new) came
-            × Uses (buses_of self.old) (place_of self.old) (self.old.held ++ came) (IsBeforeTurn result written.new self.new) }
-        ensures again { result ≡ turn.Again → (self.new.room < self.old.room) × (self.new.is_ended ≡ false) }
+            × Uses (buses_of self.old) (place_of self.old) (self.old.held ++ came)
+            (IsBeforeTurn result written.new self.new) }
+        ensures again { result ≡ turn.Again → (self.new.room < self.old.room)
+            × (self.new.is_ended ≡ false) }
         ensures whole { result ≡ turn.Whole → self.new.is_ended ≡ true }
         ensures input { ¬ (result ≡ turn.Refused error.Failed) }
-        ensures end { self.old.is_ended ≡ false → self.new.is_ended ≡ true → IsAtEnd (L.left input.new) }
-        ensures failed { result ≡ turn.Failed → Rose (L.faults input.old) (L.faults input.new) × (cut 10 self.new.held ≡ None) × (length self.new.held ≤ 4096) }
+        ensures end { self.old.is_ended ≡ false → self.new.is_ended ≡ true
+            → IsAtEnd (L.left input.new) }
+        ensures failed { result ≡ turn.Failed → Rose (L.faults input.old) (L.faults input.new)
+            × (cut 10 self.new.held ≡ None) × (length self.new.held ≤ 4096) }
         ensures open { result ≡ turn.Failed → self.new.is_ended ≡ false }
-        ensures ended { self.old.is_ended ≡ true → (input.new ≡ input.old) × (self.new.is_ended ≡ true) × IsTurn (log_behind self.old []) result written.new (log_behind self.new []) }
+        ensures ended { self.old.is_ended ≡ true → (input.new ≡ input.old)
+            × (self.new.is_ended ≡ true)
+            × IsTurn (log_behind self.old []) result written.new (log_behind self.new []) }
         ensures count { ¬ (result ≡ turn.Failed) → L.faults input.new ≡ L.faults input.old }
         ensures less { result ≡ turn.Record → bytes_left self.new < bytes_left self.old }
         ensures within { bytes_left self.new ≤ bytes_left self.old }
@@ -154,8 +176,10 @@ impl LogReader {
 
 /// Whether the input has one byte more.
 fn has_more<L: Source>(input: &mut L) -> Result<bool, Failed>
-    ensures more { result ≡ Ok true → (came : List ℕ) × (length came ≡ 1) × Took (L.left input.old) (L.left input.new) came }
-    ensures end { result ≡ Ok false → Took (L.left input.old) (L.left input.new) [] × IsAtEnd (L.left input.new) }
+    ensures more { result ≡ Ok true → (came : List ℕ) × (length came ≡ 1)
+        × Took (L.left input.old) (L.left input.new) came }
+    ensures end { result ≡ Ok false → Took (L.left input.old) (L.left input.new) []
+        × IsAtEnd (L.left input.new) }
     ensures err { OnErr result (L.left input.new ≡ L.left input.old) }
     ensures cause { OnErr result (Rose (L.faults input.old) (L.faults input.new)) }
     ensures count { OnOk result (L.faults input.new ≡ L.faults input.old) }
