@@ -4,7 +4,7 @@ use Rattle.std.proofs.lemmas.Bool.{cases_lt}
 use Rattle.std.proofs.lemmas.Nat.{mod-mul-add}
 use Rattle.std.proofs.Math.Nat.{mul-le-mul_left, mul-le-mul_right}
 use Rattle.bit_length.specs.declared.run.Run.{Run}
-use Rattle.bit_length.specs.Lengths.{Same, Only, Sums, IsNext}
+use Rattle.bit_length.specs.Lengths.{Same, Only, Sums, Repeats, IsNext}
 use Rattle.bit_length.specs.Runs.{IsRun, InRun}
 
 -- the sums of two runs, with what is carried over from their residues
@@ -176,3 +176,65 @@ below_single s j w m r x le only e n = (
 
 pub last_bound : (s : ℕ) (r : Run) → IsRun s r → r.last ≤ 2 ^ 32
 last_bound s r (a, b, c) = let m : 1 * r.last ≤ s * r.last = mul-le-mul_right r.last (omega arith) in omega arith
+
+-- ---- the sums of some members of a run
+
+-- a run is the same where as much is moved from the residue to the quotients
+pub carried : (s : ℕ) (a b : Run) (carry : ℕ) →
+    b.residue ≡ a.residue + s * carry → a.first ≡ b.first + carry → a.last ≡ b.last + carry →
+    Same (InRun s a) (InRun s b)
+carried s a b carry e f l n = (
+  λ (q, low, high, is). (
+    q - carry,
+    omega arith,
+    omega arith,
+    let g : s * q ≡ s * (q - carry + carry) = ap (λ t. s * t) (omega arith) in omega arith,
+  ),
+  λ (q, low, high, is). (q + carry, omega arith, omega arith, omega arith),
+)
+
+-- the sums of some members of a run, with nothing carried over
+abbrev pub times : Run → ℕ → Run
+times r n = record { residue = r.residue * n; first = r.first * n; last = r.last * n }
+
+pub times_sums : (s : ℕ) (r : Run) → r.first ≤ r.last → (n : ℕ) →
+    Same (InRun s (times r n)) (Repeats (InRun s r) n)
+times_sums s r le zero k = (
+  λ (q, low, high, e). let z : s * q ≡ s * 0 = ap (λ t. s * t) (omega arith) in omega arith,
+  λ e. (0, omega arith, omega arith, omega arith),
+)
+times_sums s r le (suc n) k = (
+  λ h. let (a, b, x, y, e) = (sum k).0 ((turned k).0 h) in (a, b, x, (times_sums s r le n b).0 y, e),
+  λ (a, b, x, y, e). (turned k).1 ((sum k).1 (a, b, x, (times_sums s r le n b).1 y, e)),
+)
+  where
+    whole : Run
+    whole = record {
+      residue = r.residue + r.residue * n - s * 0;
+      first = r.first + r.first * n + 0;
+      last = r.last + r.last * n + 0;
+    }
+
+    sum : Same (InRun s whole) (Sums (InRun s r) (InRun s (times r n)))
+    sum = sums_of_runs s r (times r n) 0 (omega arith) le (mul-le-mul_right n le)
+
+    turned : Same (InRun s (times r (suc n))) (InRun s whole)
+    turned = carried s (times r (suc n)) whole 0 (omega arith) (omega arith) (omega arith)
+
+-- what is carried over from the residues brings them below the step
+abbrev pub times_carried : ℕ → Run → ℕ → Run
+times_carried s r n = record {
+  residue = r.residue * n % s;
+  first = r.first * n + r.residue * n / s;
+  last = r.last * n + r.residue * n / s;
+}
+
+pub times_repeats : (s : ℕ) (r : Run) (n : ℕ) → IsRun s r →
+    Same (InRun s (times_carried s r n)) (Repeats (InRun s r) n)
+times_repeats s r n (a, b, c) k = (
+  λ h. (times_sums s r b n k).0 ((carry k).0 h),
+  λ h. (carry k).1 ((times_sums s r b n k).1 h),
+)
+  where
+    carry : Same (InRun s (times_carried s r n)) (InRun s (times r n))
+    carry = carried s (times_carried s r n) (times r n) (r.residue * n / s) (omega arith) refl refl

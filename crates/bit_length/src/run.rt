@@ -1,6 +1,6 @@
 ghost use Rattle.std.specs.Prelude.{◌≡◌, ℕ, ◌+◌, ◌*◌, ◌%◌, ◌^◌, ◌<◌, ◌≤◌, IsTrue, ◌↔◌, if◌then◌else◌, IfSome};
 ghost use Rattle.bit_length.specs.Runs.{in_run, starts_by, IsRun, InRun};
-ghost use Rattle.bit_length.specs.Lengths.{Same, Only, Sums, Pads, IsNext, SomeLeaves, padded as padded_of};
+ghost use Rattle.bit_length.specs.Lengths.{Same, Only, Sums, Repeats, Pads, IsNext, SomeLeaves, padded as padded_of};
 
 use crate::LONGEST;
 use crate::steps::common_divisor;
@@ -113,6 +113,23 @@ impl Run {
             residue: residue - step * carry,
             first: self.first + o.first + carry,
             last: self.last + o.last + carry,
+        }
+    }
+
+    /// The run of all sums of `n` members, at a step.
+    pub fn times(&self, step: u64, n: u32) -> Run
+        requires run { IsRun step self.now }
+        requires short { (self.now.residue + step * self.now.last) * n ≤ 2 ^ 32 }
+        ensures run { IsRun step result }
+        ensures repeats { Same (InRun step result) (Repeats (InRun step self.now) n) }
+    {
+        let n = n as u64;
+        let residue = self.residue * n;
+        let carry = residue / step;
+        Run {
+            residue: residue % step,
+            first: self.first * n + carry,
+            last: self.last * n + carry,
         }
     }
 

@@ -450,6 +450,9 @@ impl LengthSet {
         requires { (k : ℕ) → Repeats (Has self.now) n k → k ≤ 2 ^ 32 }
         ensures { IfOk result (λ s. Same (Has s) (Repeats (Has self.now) n)) }
     {
+        if let Some(run) = self.as_run(self.step) {
+            return Ok(LengthSet::one(self.alloc(), self.step, run.times(self.step, n)));
+        }
         if n == 0 {
             return Ok(LengthSet::zero(self.alloc()));
         }

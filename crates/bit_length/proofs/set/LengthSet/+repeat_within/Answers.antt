@@ -1,8 +1,25 @@
-use Rattle.std.proofs.Common.{◌+◌, ◌/◌, ◌↔◌, arith, subst, sym}
+use Rattle.std.proofs.Common.{◌+◌, ◌*◌, ◌/◌, ◌↔◌, arith, subst, sym}
 use Rattle.bit_length.specs.Lengths.{Has, Sums, Repeats}
-use Rattle.bit_length.proofs.SetLemmas.{done, same_join, sums_alike}
-use Rattle.bit_length.proofs.RepeatLemmas.{repeats_sum, repeats_more, short_less}
+use Rattle.bit_length.specs.Runs.{InRun}
+use Rattle.bit_length.proofs.SetLemmas.{done, same_join, sums_alike, repeats_alike, greatest_of}
+use Rattle.bit_length.proofs.RepeatLemmas.{repeats_sum, repeats_more, short_less, greatest_repeat}
 use Rattle.bit_length.proofs.set.LengthSet.+repeat_within.Goals as goal
+
+pub times-requires-clause-short : goal.times-requires-clause-short
+times-requires-clause-short t c =
+    let s = c.self.inside.step in
+    let run = c.in-Some.run' in
+    let greatest = run.residue + s * run.last in
+    let most = greatest_repeat (InRun s run) greatest (greatest_of s run c.in-Some.ensures.run) c.args.n in
+    c.requires (greatest * c.args.n) ((repeats_alike (InRun s run) (Has c.args.self.now) c.in-Some.ensures.members c.args.n (greatest * c.args.n)).0 most.0)
+
+pub returns-in-Some : goal.returns-in-Some
+returns-in-Some t c =
+    let s = c.self.inside.step in
+    let run = c.in-Some.run' in
+    same_join (Has c.one.result) (InRun s c.times.result) (Repeats (Has c.args.self.now) c.args.n) c.one.ensures
+    (same_join (InRun s c.times.result) (Repeats (InRun s run) c.args.n) (Repeats (Has c.args.self.now) c.args.n) c.times.ensures.repeats
+    (repeats_alike (InRun s run) (Has c.args.self.now) c.in-Some.ensures.members c.args.n))
 
 pub returns-then-n-eq0 : goal.returns-then-n-eq0
 returns-then-n-eq0 t c = λ k.
