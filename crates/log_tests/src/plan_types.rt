@@ -6,7 +6,7 @@ ghost use Rattle.dsdl_types.specs.Views.{Typed, kind_of, sch};
 
 use cy_bits::{List, NoMemory};
 use dsdl_names::parse_type_id;
-use dsdl_types::{Body, Definition, Namespace, Parts, Schema};
+use dsdl_types::{Body, Definition, Namespace, Parts, Schema, Shared};
 use std::alloc::Global;
 
 /// The namespace without types.
@@ -20,16 +20,16 @@ pub fn no_types(alloc: Global) -> Namespace
 }
 
 /// A delimited structure without fields, of so many bytes.
-fn structure(alloc: Global, bytes: u32) -> Schema
+fn structure(alloc: Global, bytes: u32) -> Result<Schema, NoMemory>
     requires { bytes ≤ 70000 }
-    ensures is_type { IsType result }
-    ensures count { typed_count (sch result) ≡ 0 }
+    ensures is_type { IfOk result IsType }
+    ensures count { IfOk result (λ s. typed_count (sch s) ≡ 0) }
 {
-    Schema::Struct(Body {
-        fields: List::empty(alloc),
+    Ok(Schema::Struct(Body {
+        fields: Shared::new(alloc, List::empty(alloc))?,
         extent: bytes as u64 * 8,
         sealed: false,
-    })
+    }))
 }
 
 /// A definition of a name.
@@ -54,7 +54,7 @@ fn message(alloc: Global, name: &str, bytes: u32) -> Result<Definition, NoMemory
     requires { bytes ≤ 70000 }
     ensures { IfOk result IsDefinition }
 {
-    named(alloc, name, Parts::Message(structure(alloc, bytes)))
+    named(alloc, name, Parts::Message(structure(alloc, bytes)?))
 }
 
 /// A service.
@@ -62,8 +62,8 @@ fn service(alloc: Global, name: &str) -> Result<Definition, NoMemory>
     ensures { IfOk result IsDefinition }
 {
     let parts = Parts::Service {
-        request: structure(alloc, 8),
-        response: structure(alloc, 8),
+        request: structure(alloc, 8)?,
+        response: structure(alloc, 8)?,
     };
     named(alloc, name, parts)
 }

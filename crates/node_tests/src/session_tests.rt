@@ -6,7 +6,7 @@ ghost use Rattle.dsdl_types.specs.OneWay.{schema_prop};
 
 use can_id::Ident;
 use cy_bits::{List, NoMemory};
-use dsdl_types::{Body, Schema, Shape};
+use dsdl_types::{Body, Schema, Shape, Shared};
 use rx_session::{Outcome, Session};
 use std::alloc::Global;
 use tail_frame::{Frame, Tail};
@@ -21,14 +21,15 @@ struct Empty {
 
 impl Empty {
     /// With an extent in bytes.
-    fn new(alloc: Global, extent: u16) -> Empty {
-        Empty {
+    fn new(alloc: Global, extent: u16) -> Result<Empty, NoMemory> {
+        let fields = Shared::new(alloc, List::empty(alloc))?;
+        Ok(Empty {
             schema: Schema::Struct(Body {
-                fields: List::empty(alloc),
+                fields,
                 extent: 8 * extent as u64,
                 sealed: false,
             }),
-        }
+        })
     }
 }
 
@@ -116,7 +117,7 @@ static ROWS: [Row; 4] = [
 #[test]
 fn puts_frames_together(rt: HostRuntime) -> Result<(), NoMemory> {
     for row in &ROWS {
-        let shape = Empty::new(rt.alloc(), row.extent);
+        let shape = Empty::new(rt.alloc(), row.extent)?;
         let mut session = Session::open(rt.alloc(), &shape)?;
         let mut line = 0u64;
         for data in row.frames {

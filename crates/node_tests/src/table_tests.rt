@@ -1,4 +1,4 @@
-ghost use Rattle.std.specs.Prelude.{◌≡◌, ◌^◌, ◌≤◌, true};
+ghost use Rattle.std.specs.Prelude.{◌≡◌, ◌^◌, ◌≤◌, true, IfOk};
 ghost use Rattle.dsdl_types.specs.Schemas.{is_composite};
 ghost use Rattle.dsdl_types.specs.Rules.{IsSchema};
 ghost use Rattle.dsdl_types.specs.Views.{sch};
@@ -7,7 +7,7 @@ ghost use Rattle.rx_session.specs.Extents.{bytes_of};
 
 use can_id::{Ident, Kind};
 use cy_bits::{List, NoMemory};
-use dsdl_types::{Body, Schema, Shape};
+use dsdl_types::{Body, Schema, Shape, Shared};
 use rx_session::Outcome;
 use rx_table::{Fed, SubscribeError, Table};
 use std::alloc::Global;
@@ -22,16 +22,17 @@ struct Four {
 }
 
 impl Four {
-    fn new(alloc: Global) -> Four
-        ensures { bytes_of (sch result.schema) ≤ 2 ^ 29 }
+    fn new(alloc: Global) -> Result<Four, NoMemory>
+        ensures { IfOk result (λ four. bytes_of (sch four.schema) ≤ 2 ^ 29) }
     {
-        Four {
+        let fields = Shared::new(alloc, List::empty(alloc))?;
+        Ok(Four {
             schema: Schema::Struct(Body {
-                fields: List::empty(alloc),
+                fields,
                 extent: 32,
                 sealed: false,
             }),
-        }
+        })
     }
 }
 
@@ -90,8 +91,8 @@ fn told(fed: Fed<'_>) -> (u8, usize) {
 fn feeds_two_sources(rt: HostRuntime) -> Result<(), NoMemory> {
     let mut table = Table::new(rt.alloc(), 2_000_000)?;
     let four = || Four::new(rt.alloc());
-    assert_eq!(rt; table.subscribe(Kind::Message, 100, 2, four()), Ok(()));
-    let again = table.subscribe(Kind::Message, 100, 2, four());
+    assert_eq!(rt; table.subscribe(Kind::Message, 100, 2, four()?), Ok(()));
+    let again = table.subscribe(Kind::Message, 100, 2, four()?);
     assert_eq!(rt; again, Err(SubscribeError::Taken));
     let rows = [
         (message(100, 1), 0, (b'd', 4)),

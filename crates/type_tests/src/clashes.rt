@@ -2,7 +2,7 @@
 use cy_bits::{List, NoMemory};
 use dsdl_clash::{first_port_clash, first_version_clash};
 use dsdl_names::{NameError, parse_file_name};
-use dsdl_types::{Body, Definition, Parts, Schema};
+use dsdl_types::{Body, Definition, Parts, Schema, Shared};
 use std::alloc::Global;
 
 /// The type of a file, an empty structure of this extent.
@@ -18,7 +18,7 @@ fn definition(
         port: name.port,
         types: List::empty(alloc),
         parts: Parts::Message(Schema::Struct(Body {
-            fields: List::empty(alloc),
+            fields: Shared::new(alloc, List::empty(alloc))?,
             extent,
             sealed,
         })),

@@ -4,7 +4,7 @@ ghost use Rattle.dsdl_types.specs.Schemas.{PUint, Simple, Var};
 ghost use Rattle.dsdl_types.specs.Views.{Typed, kind_of, named};
 
 use cy_bits::{Boxed, List, NoMemory, Text};
-use dsdl_types::{Body, Cast, Field, Schema};
+use dsdl_types::{Body, Cast, Field, Schema, Shared};
 use std::alloc::Global;
 use std::test::Fail;
 
@@ -80,8 +80,9 @@ pub fn schema_of(alloc: Global, text: &str) -> Result<Schema, Fail> {
                 Schema::Bool
             }
             '}' | '|' | '!' => {
+                let fields = open.pop().ok_or("a composite")?;
                 let body = Body {
-                    fields: open.pop().ok_or("a composite")?,
+                    fields: Shared::new(alloc, fields)?,
                     extent: u64::from(number),
                     sealed: sign == '!',
                 };

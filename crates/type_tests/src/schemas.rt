@@ -10,7 +10,7 @@ use cy_bits::{List, NoMemory, Text, TryCopy};
 use dsdl_names::parse_type_id;
 use dsdl_types::laws::shape_laws;
 use dsdl_types::{
-    Body, Definition, Namespace, Parts, Schema, Shape, Step, Value, path_text, zero_of,
+    Body, Definition, Namespace, Parts, Schema, Shape, Shared, Step, Value, path_text, zero_of,
 };
 use std::alloc::Global;
 use std::test::Fail;
@@ -129,7 +129,7 @@ fn sealed(alloc: Global) -> Result<Own, NoMemory> {
     let mut fields = List::empty(alloc);
     fields.push(field(alloc, "value", Schema::Bool)?)?;
     let body = Body {
-        fields,
+        fields: Shared::new(alloc, fields)?,
         extent: 8,
         sealed: true,
     };

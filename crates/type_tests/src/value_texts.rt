@@ -7,7 +7,7 @@ ghost use Rattle.dsdl_types.specs.Views.{Padding, Typed, flds, in_order, in_row,
 
 use crate::samples::{array, field, uint};
 use cy_bits::{Boxed, List, NoMemory, Text};
-use dsdl_types::{Body, Cast, Field, Schema, Value};
+use dsdl_types::{Body, Cast, Field, Schema, Shared, Value};
 use std::alloc::Global;
 use value_text::{TextError, print_value, read_value};
 
@@ -20,7 +20,7 @@ fn body(alloc: Global, first: Field, second: Field) -> Result<Body, NoMemory>
     fields.push(first)?;
     fields.push(second)?;
     Ok(Body {
-        fields,
+        fields: Shared::new(alloc, fields)?,
         extent: 64,
         sealed: false,
     })

@@ -5,7 +5,7 @@ ghost use Rattle.dsdl_types.specs.Views.{Padding, Typed, flds, kind_of, named, s
 ghost use Rattle.value_tests.specs.Samples.{choice, empty, inner, list, newer_inner, newer_outer, numbers, outer, short, simples, uint};
 
 use cy_bits::{Boxed, List, NoMemory, Text};
-use dsdl_types::{Body, Cast, Field, Schema};
+use dsdl_types::{Body, Cast, Field, Schema, Shared};
 use layout::{Layout, layout_of};
 use std::alloc::Global;
 
@@ -64,29 +64,34 @@ fn padding(alloc: Global, bits: u8) -> Result<Field, NoMemory>
 }
 
 /// A structure.
-fn structure(fields: Vec<Field>, extent: u64, sealed: bool) -> Schema
-    ensures { kind_of result ≡ Typed
-        (Struct (flds fields.items) (record { extent = extent; sealed = sealed })) }
+fn structure(
+    alloc: Global,
+    fields: Vec<Field>,
+    extent: u64,
+    sealed: bool,
+) -> Result<Schema, NoMemory>
+    ensures { IfOk result (λ s. kind_of s ≡ Typed
+        (Struct (flds fields.items) (record { extent = extent; sealed = sealed }))) }
 {
-    Schema::Struct(Body {
-        fields: List::new(fields),
+    Ok(Schema::Struct(Body {
+        fields: Shared::new(alloc, List::new(fields))?,
         extent,
         sealed,
-    })
+    }))
 }
 
 fn inner(alloc: Global) -> Result<Schema, NoMemory>
     ensures { IfOk result (λ s. kind_of s ≡ Typed inner) }
 {
     let fields = vec![in alloc; field(alloc, "a", uint(8))?]?;
-    Ok(structure(fields, 64, false))
+    structure(alloc, fields, 64, false)
 }
 
 fn newer_inner(alloc: Global) -> Result<Schema, NoMemory>
     ensures { IfOk result (λ s. kind_of s ≡ Typed newer_inner) }
 {
     let fields = vec![in alloc; field(alloc, "a", uint(8))?, field(alloc, "b", uint(16))?]?;
-    Ok(structure(fields, 64, false))
+    structure(alloc, fields, 64, false)
 }
 
 fn outer(alloc: Global) -> Result<Schema, NoMemory>
@@ -96,7 +101,7 @@ fn outer(alloc: Global) -> Result<Schema, NoMemory>
         field(alloc, "inner", inner(alloc)?)?,
         field(alloc, "z", uint(8))?,
     ]?;
-    Ok(structure(fields, 128, false))
+    structure(alloc, fields, 128, false)
 }
 
 fn newer_outer(alloc: Global) -> Result<Schema, NoMemory>
@@ -106,7 +111,7 @@ fn newer_outer(alloc: Global) -> Result<Schema, NoMemory>
         field(alloc, "inner", newer_inner(alloc)?)?,
         field(alloc, "z", uint(8))?,
     ]?;
-    Ok(structure(fields, 128, false))
+    structure(alloc, fields, 128, false)
 }
 
 fn list(alloc: Global) -> Result<Schema, NoMemory>
@@ -114,7 +119,7 @@ fn list(alloc: Global) -> Result<Schema, NoMemory>
 {
     let items = array(alloc, newer_inner(alloc)?, 2)?;
     let fields = vec![in alloc; field(alloc, "list", items)?]?;
-    Ok(structure(fields, 512, false))
+    structure(alloc, fields, 512, false)
 }
 
 fn choice(alloc: Global) -> Result<Schema, NoMemory>
@@ -125,7 +130,7 @@ fn choice(alloc: Global) -> Result<Schema, NoMemory>
         field(alloc, "b", array(alloc, uint(16), 2)?)?,
     ]?;
     Ok(Schema::Union(Body {
-        fields: List::new(fields),
+        fields: Shared::new(alloc, List::new(fields))?,
         extent: 48,
         sealed: true,
     }))
@@ -135,7 +140,7 @@ fn short(alloc: Global) -> Result<Schema, NoMemory>
     ensures { IfOk result (λ s. kind_of s ≡ Typed short) }
 {
     let fields = vec![in alloc; field(alloc, "x", array(alloc, uint(8), 2)?)?]?;
-    Ok(structure(fields, 24, true))
+    structure(alloc, fields, 24, true)
 }
 
 fn numbers(alloc: Global) -> Result<Schema, NoMemory>
@@ -146,7 +151,7 @@ fn numbers(alloc: Global) -> Result<Schema, NoMemory>
         cast: Cast::Truncated,
     };
     let fields = vec![in alloc; field(alloc, "a", uint(8))?, field(alloc, "b", truncated)?]?;
-    Ok(structure(fields, 16, true))
+    structure(alloc, fields, 16, true)
 }
 
 fn simples(alloc: Global) -> Result<Schema, NoMemory>
@@ -165,13 +170,13 @@ fn simples(alloc: Global) -> Result<Schema, NoMemory>
         field(alloc, "i", Schema::Int { bits: 64 })?,
         field(alloc, "n", uint(64))?,
     ]?;
-    Ok(structure(fields, 152, true))
+    structure(alloc, fields, 152, true)
 }
 
-fn empty(alloc: Global) -> Schema
-    ensures { kind_of result ≡ Typed empty }
+fn empty(alloc: Global) -> Result<Schema, NoMemory>
+    ensures { IfOk result (λ s. kind_of s ≡ Typed empty) }
 {
-    structure(Vec::new(alloc), 0, true)
+    structure(alloc, Vec::new(alloc), 0, true)
 }
 
 fn outer_layout(alloc: Global) -> Result<Layout, NoMemory> {
@@ -203,7 +208,7 @@ fn simples_layout(alloc: Global) -> Result<Layout, NoMemory> {
 }
 
 fn empty_layout(alloc: Global) -> Result<Layout, NoMemory> {
-    layout_of(alloc, &empty(alloc))
+    layout_of(alloc, &empty(alloc)?)
 }
 
 /// The layouts of all types, in the order of their places.

@@ -17,9 +17,10 @@ one = Field (codes "value") (Simple PBool) End
 
 pub invariant_of-result : goal.invariant_of-result
 invariant_of-result c =
-    let fields : flds c.push.new.self ≡ one = search (rules, kind_bool) in
-    let e : sch (S.Struct (roll-Body (record { fields = c.push.new.self; extent = 8; sealed = true }))) ≡ truth one =
-    ap type_of (kind_struct c.push.new.self 8 true) ∙ ap truth fields
+    let pushed : flds c.push.new.self ≡ one = search (rules, kind_bool) in
+    let fields : flds c.in_ok-new.field-0 ≡ one = ap flds c.in_ok-new.ensures ∙ pushed in
+    let e : sch (S.Struct (roll-Body (record { fields = c.in_ok-new.field-0; extent = 8; sealed = true }))) ≡ truth one =
+    ap type_of (kind_struct c.in_ok-new.field-0 8 true) ∙ ap truth fields
     in
     record {
       rules = subst IsSchema (sym e) (rules_kept (truth one) refl);
