@@ -1,32 +1,22 @@
 -- The way through the fields of a structure
-use Rattle.std.proofs.Common.{◌≡◌, ◌↔◌, ℕ, suc, ◌+◌, ◌^◌, ◌<◌, ◌≤◌, Bool, true, false, List, [], ◌∷◌, ◌++◌, length, refl, sym, ap, ◌∙◌, subst, arith, append_assoc, length-append, le_refl, drop, get_or}
+use Rattle.std.proofs.Common.{◌≡◌, ◌↔◌, ℕ, suc, ◌+◌, ◌^◌, ◌<◌, ◌≤◌, Bool, false, List, [], ◌∷◌, ◌++◌, length, refl, sym, ap, ◌∙◌, subst, arith, append_assoc, length-append, drop, get_or}
 use Rattle.bit_length.specs.Lengths.{Numbers, Has, Same, Only, Sums, Pads}
 use Rattle.dsdl_types.specs.Schemas.{Sch, Flds, Outline, Struct, End, Pad, Field, is_aligned, is_delimited, extent_of}
-use Rattle.dsdl_types.specs.Greatest.{up, from_lead, longest, longest_fields, as_part}
+use Rattle.dsdl_types.specs.Greatest.{from_lead, longest, as_part}
 use Rattle.dsdl_types.specs.Lengths.{EndsAt, StandsAt, Size}
 use Rattle.dsdl_types.specs.Rules.{IsFormed}
 use Rattle.dsdl_types.proofs.Cuts.{lead_mono}
-use Rattle.dsdl_types.proofs.Lengths.{up_most}
 use Rattle.layout.specs.declared.row.Row.{Row}
 use Rattle.layout.specs.Layouts.{typed_fields, IsRow, AreRows, IsLayout, cast_of}
 use Rattle.layout.specs.Sets.{Leads, IsShort}
-use Rattle.layout.proofs.Walks.{Walks}
-use Rattle.layout.proofs.Sets.{padded_is_up, size_most}
+use Rattle.layout.proofs.Walks.{Walks, Passes}
+use Rattle.layout.proofs.Passing as passing
+use Rattle.layout.proofs.Passing.{fields_from}
+use Rattle.layout.proofs.Sets.{size_most, same_trans}
 use Rattle.layout.proofs.Types.{flds_next, flds_end, field_typed}
 use Rattle.dsdl_types.specs.Views.{Padding, kind_of, type_of, is_padding, with_field, named, flds}
 use Rattle.dsdl_types.specs.declared.schema.Field as C
 use Rattle.dsdl_types.specs.declared.schema.Field.{out-Field}
-
-lead_more : (d : Bool) (p : ℕ) → p ≤ from_lead d p
-lead_more false p = le_refl p
-lead_more true p = omega arith
-
-fields_from : (fs : Flds) (p : ℕ) → p ≤ longest_fields fs p
-fields_from End p = le_refl p
-fields_from (Pad n fs) p = omega (arith, fields_from fs (p + n))
-fields_from (Field name s fs) p =
-    let m = as_part (is_delimited s) (extent_of s) (longest s) in
-    omega (arith, lead_more (is_aligned s) p, fields_from fs (from_lead (is_aligned s) p + m))
 
 -- one more field and its row
 pub rows_push : (s : Sch) (k : ℕ) (fields : List (List ℕ × Sch)) (rows : List Row) (f : List ℕ × Sch) (row : Row) → AreRows s k fields rows → IsRow s (k + length rows) f row →
@@ -180,8 +170,18 @@ walks_field fs o name s rest rows ends row new w row_name casts lead len sum = r
         let e : length rows ≡ 0 + length rows = omega arith in
         subst (λ j. IsRow (Struct fs o) j (name, s) row) e (record { name = row_name; offsets = here; lengths = len; cast = casts })
 
+-- the way with rows, without them
+passes : {fs rest : Flds} {o : Outline} {rows : List Row} {ends : List ℕ} → Walks fs o rest rows ends → Passes fs rest ends
+passes w = record {
+  arrives = w.arrives;
+  farthest = w.farthest;
+  within = w.within;
+  short = w.short;
+  formed = w.formed;
+}
+
 pub end_short : (fs : Flds) (o : Outline) (rows : List Row) (ends : List ℕ) → Walks fs o End rows ends → IsShort (Pads (Has ends) 8)
-end_short fs o rows ends w n (p, x, e) = omega (arith, e, padded_is_up p, up_most p w.farthest (w.within p x), w.short)
+end_short fs o rows ends w = passing.end_short fs ends (passes w)
 
 pub append_none : (l : List (List ℕ × Sch)) → l ++ [] ≡ l
 append_none [] = refl
@@ -190,12 +190,7 @@ append_none (x ∷ l) = ap (λ m. x ∷ m) (append_none l)
 pub walks_layout : (fs : Flds) (o : Outline) (rows : List Row) (ends lengths : List ℕ) → Walks fs o End rows ends → Same (Has lengths) (Pads (Has ends) 8) → IsLayout (Struct fs o) rows lengths
 walks_layout fs o rows ends lengths w pad = record {
   each = subst (λ d. AreRows (Struct fs o) 0 d rows) (sym (w.split ∙ append_none w.done)) w.each;
-  whole = λ n. (
-    λ h. let (p, x, e) = (pad n).0 h in (p, (w.arrives p).1 (p, x, refl), e ∙ padded_is_up p),
-    λ (m, h, e).
-        let (p, x, m_is) = (w.arrives m).0 h in
-        (pad n).1 (p, x, e ∙ ap up m_is ∙ sym (padded_is_up p)),
-  );
+  whole = same_trans pad (passing.end_lengths fs o ends (passes w));
 }
 
 -- ---- the next field of the code

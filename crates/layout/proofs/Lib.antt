@@ -1,6 +1,7 @@
 pub mod Walks
 pub mod Sets
 pub mod Types
+pub mod Passing
 pub mod Fields
 pub mod Variants
 pub mod OneMore

@@ -12,8 +12,9 @@ use Rattle.layout.specs.Sets.{HasIn, IsShort}
 use Rattle.layout.proofs.Walks.{Joins}
 use Rattle.layout.proofs.Sets.{padded_is_up}
 use Rattle.layout.proofs.Fields.{rows_push, append_none}
-use Rattle.layout.proofs.Types.{flds_next, flds_end, variant_typed}
-use Rattle.dsdl_types.specs.Views.{type_of, named, flds}
+use Rattle.layout.proofs.Types.{flds_next, flds_end, variant_typed, body_count}
+use Rattle.dsdl_types.specs.Views.{type_of, named, flds, body_of}
+use Rattle.dsdl_types.specs.declared.schema.Body.{Body, out-Body}
 use Rattle.dsdl_types.specs.declared.schema.Field as C
 
 pub joins_start : (fs : Flds) (o : Outline) (rest : Flds) (rows : List Row) → IsFormed (Union fs o) → longest (Union fs o) ≤ 2 ^ 32 → fs ≡ rest → rows ≡ [] → Joins fs o rest rows None
@@ -32,8 +33,11 @@ joins_start fs o rest rows formed short e none =
       no_padding = formed.2;
     }
 
-pub tag_is : (fs : Flds) (tag : List ℕ) (p n : ℕ) → Same (Has tag) (Only p) → p ≡ prefix (n - 1) → variants fs ≡ n → Same (Has tag) (Only (prefix (variants fs - 1)))
-tag_is fs tag p n h e k = subst (λ q. Same (Has tag) (Only q)) (e ∙ ap (λ m. prefix (m - 1)) (sym k)) h
+pub tag_of_body : (b : Body) (tag : List ℕ) (p n : ℕ) → Same (Has tag) (Only p) → p ≡ prefix (n - 1) → n ≡ length (out-Body b).fields → IsFormed (Union (body_of b).0 (body_of b).1) →
+    Same (Has tag) (Only (prefix (variants (body_of b).0 - 1)))
+tag_of_body b tag p n h e l formed =
+    let count : variants (body_of b).0 ≡ n = body_count b n l formed.2 in
+    subst (λ q. Same (Has tag) (Only q)) (e ∙ ap (λ m. prefix (m - 1)) (sym count)) h
 
 pub variant_formed : (fs : Flds) (o : Outline) (name : List ℕ) (s : Sch) (rest : Flds) (rows : List Row) (lengths : Option (List ℕ)) → Joins fs o (Field name s rest) rows lengths →
     IsFormed s × (as_part (is_delimited s) (extent_of s) (longest s) ≤ 2 ^ 32)

@@ -31,3 +31,11 @@ pub record Joins (fs : Flds) (o : Outline) (rest : Flds) (rows : List Row) (leng
   pub short : prefix (variants fs - 1) + longest_variant rest ≤ 2 ^ 32
   pub formed : AreFormed rest
   pub no_padding : NoPadding rest
+
+-- Of a structure's fields some are passed, behind which the rest begin at some places.
+pub record Passes (fs rest : Flds) (ends : List ℕ) : Type 0 where
+  pub arrives : (n : ℕ) → EndsAt fs 0 n ↔ ((p : ℕ) × Has ends p × EndsAt rest p n)
+  pub farthest : ℕ
+  pub within : (p : ℕ) → Has ends p → p ≤ farthest
+  pub short : longest_fields rest farthest ≤ 2 ^ 32
+  pub formed : AreFormed rest

@@ -41,7 +41,6 @@ pub fn rows_of(alloc: Global, schema: &Schema) -> Result<Composite, NoMemory>
 }
 
 /// The rows and lengths of a structure. Its fields stand in order, and zeros bring its end to a multiple of 8 bits.
-#[cycle(lengths)]
 pub fn struct_rows(alloc: Global, body: &Body) -> Result<Composite, NoMemory>
     requires formed { IsFormed (struct_of body.now) }
     requires short { longest (struct_of body.now) ≤ 2 ^ 32 }
@@ -54,7 +53,7 @@ pub fn struct_rows(alloc: Global, body: &Body) -> Result<Composite, NoMemory>
             ends = sum(&ends, &only(alloc, bits)?)?;
             continue;
         }
-        let offsets = leads(&ends, is_aligned(&field.schema))?;
+        let offsets = leads(ends, is_aligned(&field.schema))?;
         let row = row_of(alloc, field, offsets)?;
         ends = sum(&row.offsets, &row.lengths)?;
         rows.push(row)?;
@@ -66,7 +65,6 @@ pub fn struct_rows(alloc: Global, body: &Body) -> Result<Composite, NoMemory>
 }
 
 /// The rows and lengths of a union. Each variant stands behind the tag, and zeros bring its end to a multiple of 8 bits.
-#[cycle(lengths)]
 pub fn union_rows(alloc: Global, body: &Body) -> Result<Composite, NoMemory>
     requires formed { IsFormed (union_of body.now) }
     requires short { longest (union_of body.now) ≤ 2 ^ 32 }
@@ -90,15 +88,14 @@ pub fn union_rows(alloc: Global, body: &Body) -> Result<Composite, NoMemory>
 }
 
 /// Where a part begins behind one of these places: a part that has to, at a multiple of 8 bits.
-pub fn leads(places: &LengthSet, aligned: bool) -> Result<LengthSet, NoMemory>
-    requires { IsShort (Leads aligned (Has places.now)) }
-    ensures { IfOk result (λ s. Same (Has s) (Leads aligned (Has places.now))) }
+fn leads(places: LengthSet, aligned: bool) -> Result<LengthSet, NoMemory>
+    requires { IsShort (Leads aligned (Has places)) }
+    ensures { IfOk result (λ s. Same (Has s) (Leads aligned (Has places))) }
 {
-    if aligned { pad(places) } else { copy(places) }
+    if aligned { pad(&places) } else { Ok(places) }
 }
 
 /// The row of a field that can stand at these places.
-#[cycle(lengths)]
 fn row_of(alloc: Global, field: &Field, offsets: LengthSet) -> Result<Row, NoMemory>
     requires formed { IsFormed (type_of (named field.now).1) }
     requires short { IsShortPart (type_of (named field.now).1) }

@@ -5,9 +5,8 @@ ghost use Rattle.dsdl_types.specs.Rules.{AreFormed};
 ghost use Rattle.dsdl_types.specs.Views.{named};
 ghost use Rattle.layout.specs.Ends.{alone, EndsBehind};
 
-use crate::composite::leads;
 use crate::lengths::{is_aligned, padding, part_lengths};
-use crate::within::{only, sum};
+use crate::within::{only, pad, sum};
 use bit_length::LengthSet;
 use cy_bits::NoMemory;
 use dsdl_types::Field;
@@ -15,6 +14,7 @@ use std::alloc::Global;
 
 /// Where the fields of a structure can end that has one field more, from the places where those before it can end:
 /// no padding at the structure's own end is counted.
+#[cycle(lengths)]
 pub fn ends_after(alloc: Global, places: &LengthSet, field: &Field) -> Result<LengthSet, NoMemory>
     requires formed { AreFormed (alone (named field.now)) }
     requires small { longest_fields (alone (named field.now)) 0 ≤ 2 ^ 32 }
@@ -24,8 +24,12 @@ pub fn ends_after(alloc: Global, places: &LengthSet, field: &Field) -> Result<Le
     match padding(&field.schema) {
         Some(bits) => sum(places, &only(alloc, bits)?),
         None => {
-            let begins = leads(places, is_aligned(&field.schema))?;
-            sum(&begins, &part_lengths(alloc, &field.schema)?)
+            let lengths = part_lengths(alloc, &field.schema)?;
+            if is_aligned(&field.schema) {
+                sum(&pad(places)?, &lengths)
+            } else {
+                sum(places, &lengths)
+            }
         }
     }
 }

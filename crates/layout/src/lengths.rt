@@ -7,7 +7,7 @@ ghost use Rattle.dsdl_types.specs.Rules.{IsFormed};
 ghost use Rattle.layout.specs.Sets.{IsShortPart};
 ghost use Rattle.dsdl_types.specs.Views.{Padding, is_padding, kind_of, sch};
 
-use crate::composite::{Composite, struct_rows, union_rows};
+use crate::bodies::{lengths_of_struct, lengths_of_union};
 use crate::within::{delimited, only, repeat, sum, up_to};
 use bit_length::LengthSet;
 use cy_bits::NoMemory;
@@ -32,20 +32,8 @@ pub fn own_lengths(alloc: Global, schema: &Schema) -> Result<LengthSet, NoMemory
             let items = up_to(&part_lengths(alloc, item.get())?, *cap)?;
             sum(&only(alloc, prefix(u64::from(*cap)))?, &items)
         }
-        Schema::Struct(body) => {
-            let Composite {
-                lengths,
-                rows: _rows,
-            } = struct_rows(alloc, body)?;
-            Ok(lengths)
-        }
-        Schema::Union(body) => {
-            let Composite {
-                lengths,
-                rows: _rows,
-            } = union_rows(alloc, body)?;
-            Ok(lengths)
-        }
+        Schema::Struct(body) => lengths_of_struct(alloc, body),
+        Schema::Union(body) => lengths_of_union(alloc, body),
     }
 }
 

@@ -1,6 +1,7 @@
 //! The layout of a data type: where its fields can stand and which lengths they can have.
 #![tactic(auto)]
 
+mod bodies;
 mod composite;
 mod ends;
 mod layout;

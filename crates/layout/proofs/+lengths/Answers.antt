@@ -1,132 +1,19 @@
-use Rattle.std.proofs.Common.{refl, inl, inr, rules, ◌≡◌, ◌++◌, ◌∷◌, [], sym, ap, ◌∙◌, subst, Some, ◌+◌, ◌-◌, drop}
-use Rattle.bit_length.specs.Lengths.{Has, Same, Only, Delimited, Sums, Repeats}
-use Rattle.dsdl_types.specs.Schemas.{Struct, Union, Simple, PBool, prefix, variants}
+use Rattle.std.proofs.Common.{refl, inl, inr, rules, ◌∷◌, ◌++◌, [], sym, ap, ◌∙◌, subst, true, false, ◌+◌, drop}
+use Rattle.std.proofs.lemmas.Result.{IfOk-weaker}
+use Rattle.bit_length.specs.Lengths.{Has, Same, Only, Delimited, Sums, Repeats, Pads}
+use Rattle.dsdl_types.specs.Schemas.{Struct, Simple, PBool, prefix}
 use Rattle.dsdl_types.specs.Lengths.{Length}
-use Rattle.dsdl_types.specs.Views.{body_of, sch, flds}
+use Rattle.dsdl_types.specs.Views.{body_of, named, type_of, sch, flds}
 use Rattle.dsdl_types.specs.declared.schema.Schema.TheFolds.{the_lemmas}
-use Rattle.layout.specs.Layouts.{IsLayout}
-use Rattle.layout.specs.Sets.{Leads, IsShort}
-use Rattle.layout.proofs.Walks.{Walks, Joins}
+use Rattle.layout.specs.declared.row.Row.{Row}
+use Rattle.layout.specs.Layouts.{cast_of}
+use Rattle.layout.proofs.Walks.{Joins}
+use Rattle.layout.proofs.OneMore as one
 use Rattle.layout.proofs.Sets as sets
 use Rattle.layout.proofs.Types as types
-use Rattle.layout.proofs.Fields as fields
+use Rattle.layout.proofs.Passing as passing
 use Rattle.layout.proofs.Variants as variant
 use Rattle.layout.proofs.+lengths.Goals as goal
-
--- ---- a structure
-
-pub composite::struct_rows-loop-field-init : goal.composite::struct_rows-loop-field-init
-composite::struct_rows-loop-field-init t c =
-    let b = c.args.body.now in
-    fields.walks_start (body_of b).0 (body_of b).1 _ _ _ c.requires.formed c.requires.short c.in_ok-ends.ensures (types.body_fields b _ c.as_slice-field-items.ensures) c.new-rows.ensures.items
-
-pub composite::struct_rows-sum-requires : goal.composite::struct_rows-sum-requires
-composite::struct_rows-sum-requires t c =
-    let w = fields.at_pad _ _ _ _ c.as_slice-field-items.result.now c.loop-field.field-index c.field-item.result _ c.loop-field.invariant c.loop-field-test.true c.field-item.is c.in-Some.ensures in
-    fields.pad_short _ _ _ _ _ _ _ w c.in_ok-only.ensures
-
-pub composite::struct_rows-loop-field-preserved-in-Some : goal.composite::struct_rows-loop-field-preserved-in-Some
-composite::struct_rows-loop-field-preserved-in-Some t c =
-    let w = fields.at_pad _ _ _ _ c.as_slice-field-items.result.now c.loop-field.field-index c.field-item.result _ c.loop-field.invariant c.loop-field-test.true c.field-item.is c.in-Some.ensures in
-    fields.walks_pad _ _ _ _ _ _ _ _ w c.in_ok-only.ensures c.in_ok-ends-2.ensures
-
-pub composite::struct_rows-leads-requires : goal.composite::struct_rows-leads-requires
-composite::struct_rows-leads-requires t c =
-    let w = fields.at_field _ _ _ _ c.as_slice-field-items.result.now c.loop-field.field-index c.field-item.result c.loop-field.invariant c.loop-field-test.true c.field-item.is c.in_default.ensures in
-    subst (λ d. IsShort (Leads d (Has c.loop-field.ends))) (sym c.is_aligned.ensures) (fields.lead_short _ _ _ _ _ _ _ w)
-
-pub composite::struct_rows-row_of-requires : goal.composite::struct_rows-row_of-requires
-composite::struct_rows-row_of-requires t c =
-    let w = fields.at_field _ _ _ _ c.as_slice-field-items.result.now c.loop-field.field-index c.field-item.result c.loop-field.invariant c.loop-field-test.true c.field-item.is c.in_default.ensures in
-    let f = fields.field_formed _ _ _ _ _ _ _ w in
-    (search (rules, the_lemmas), (f.0, f.1))
-
-pub composite::struct_rows-sum-requires-in-loop-field : goal.composite::struct_rows-sum-requires-in-loop-field
-composite::struct_rows-sum-requires-in-loop-field t c =
-    let w = fields.at_field _ _ _ _ c.as_slice-field-items.result.now c.loop-field.field-index c.field-item.result c.loop-field.invariant c.loop-field-test.true c.field-item.is c.in_default.ensures in
-    fields.field_short _ _ _ _ _ _ _ _ _ w
-    (sets.leads_along _ _ _ _ _ c.in_ok-row.ensures.offsets c.is_aligned.ensures c.in_ok-offsets.ensures) c.in_ok-row.ensures.lengths
-
-pub composite::struct_rows-loop-field-preserved : goal.composite::struct_rows-loop-field-preserved
-composite::struct_rows-loop-field-preserved t c =
-    let w = fields.at_field _ _ _ _ c.as_slice-field-items.result.now c.loop-field.field-index c.field-item.result c.loop-field.invariant c.loop-field-test.true c.field-item.is c.in_default.ensures in
-    let lead = sets.leads_along _ _ _ _ _ c.in_ok-row.ensures.offsets c.is_aligned.ensures c.in_ok-offsets.ensures in
-    let row = c.in_ok-row.ensures in
-    let pushed : c.push.new.self.items ≡ c.loop-field.rows.items ++ c.in_ok-row.row ∷ [] = search rules in
-    subst (λ r. Walks (body_of c.args.body.now).0 (body_of c.args.body.now).1 (flds (drop (c.loop-field.field-index + 1) c.as_slice-field-items.result.now)) r c.in_ok-ends-3.ends) (sym pushed)
-    (fields.walks_field _ _ _ _ _ _ _ c.in_ok-row.row _ w row.name row.cast lead row.lengths c.in_ok-ends-3.ensures)
-
-pub composite::struct_rows-pad-requires : goal.composite::struct_rows-pad-requires
-composite::struct_rows-pad-requires t c =
-    fields.end_short _ _ _ _ (fields.at_end _ _ _ _ c.as_slice-field-items.result.now c.loop-field.field-index c.loop-field.invariant c.loop-field-test.false)
-
-pub composite::struct_rows-returns : goal.composite::struct_rows-returns
-composite::struct_rows-returns t c =
-    let w = fields.at_end _ _ _ _ c.as_slice-field-items.result.now c.loop-field.field-index c.loop-field.invariant c.loop-field-test.false in
-    subst (λ r. IsLayout (Struct (body_of c.args.body.now).0 (body_of c.args.body.now).1) r c.in_ok-pad.field-0) (sym c.new.ensures)
-    (fields.walks_layout _ _ _ _ c.in_ok-pad.field-0 w c.in_ok-pad.ensures)
-
--- ---- a union
-
-pub composite::union_rows-loop-field-init : goal.composite::union_rows-loop-field-init
-composite::union_rows-loop-field-init t c =
-    let b = c.args.body.now in
-    variant.joins_start (body_of b).0 (body_of b).1 _ _ c.requires.formed c.requires.short (types.body_fields b _ c.as_slice-field-items.ensures) c.new-rows.ensures.items
-
-pub composite::union_rows-loop-field-preserved : goal.composite::union_rows-loop-field-preserved
-composite::union_rows-loop-field-preserved t c =
-    let b = c.args.body.now in
-    let j = variant.at_variant _ _ _ _ c.as_slice-field-items.result.now c.loop-field.field-index c.field-item.result c.loop-field.invariant c.loop-field-test.true c.field-item.is in
-    let tag : Same (Has c.in_ok-tag.tag) (Only (prefix (variants (body_of b).0 - 1))) =
-    variant.tag_is (body_of b).0 c.in_ok-tag.tag _ _ c.in_ok-tag.ensures c.prefix.ensures (types.body_count b c.len.result c.len.ensures c.requires.formed.2)
-    in
-    let row = c.in_ok-row.ensures in
-    let offsets = subst (λ l. Same (Has l) (Only (prefix (variants (body_of b).0 - 1)))) (sym (row.offsets ∙ c.in_ok-copy.ensures)) tag in
-    let pushed : c.push.new.self.items ≡ c.loop-field.rows.items ++ c.in_ok-row.row ∷ [] = search rules in
-    subst (λ r. Joins (body_of b).0 (body_of b).1 (flds (drop (c.loop-field.field-index + 1) c.as_slice-field-items.result.now)) r (Some c.in_ok-join.field-0)) (sym pushed)
-    (variant.joins_field _ _ _ _ _ _ _ c.in_ok-row.row _ j row.name row.cast offsets row.lengths c.in_ok-join.ensures)
-
-pub composite::union_rows-sum-requires : goal.composite::union_rows-sum-requires
-composite::union_rows-sum-requires t c =
-    let b = c.args.body.now in
-    let tag : Same (Has c.in_ok-tag.tag) (Only (prefix (variants (body_of b).0 - 1))) =
-    variant.tag_is (body_of b).0 c.in_ok-tag.tag _ _ c.in_ok-tag.ensures c.prefix.ensures (types.body_count b c.len.result c.len.ensures c.requires.formed.2)
-    in
-    let j = variant.at_end (body_of b).0 (body_of b).1 c.loop-field.rows.items _ c.as_slice-field-items.result.now c.loop-field.field-index
-    (subst (λ l. Joins (body_of b).0 (body_of b).1 (flds (drop c.loop-field.field-index c.as_slice-field-items.result.now)) c.loop-field.rows.items l) c.in-Some.is c.loop-field.invariant) c.loop-field-test.false
-    in
-    variant.union_short _ _ _ c.in_ok-tag.tag c.in-Some.lengths j tag c.requires.short
-
-pub composite::union_rows-pad-requires : goal.composite::union_rows-pad-requires
-composite::union_rows-pad-requires t c =
-    let b = c.args.body.now in
-    let tag : Same (Has c.in_ok-tag.tag) (Only (prefix (variants (body_of b).0 - 1))) =
-    variant.tag_is (body_of b).0 c.in_ok-tag.tag _ _ c.in_ok-tag.ensures c.prefix.ensures (types.body_count b c.len.result c.len.ensures c.requires.formed.2)
-    in
-    let j = variant.at_end (body_of b).0 (body_of b).1 c.loop-field.rows.items _ c.as_slice-field-items.result.now c.loop-field.field-index
-    (subst (λ l. Joins (body_of b).0 (body_of b).1 (flds (drop c.loop-field.field-index c.as_slice-field-items.result.now)) c.loop-field.rows.items l) c.in-Some.is c.loop-field.invariant) c.loop-field-test.false
-    in
-    variant.union_pad_short _ _ _ c.in_ok-tag.tag c.in-Some.lengths c.in_ok-sum-in-Some.field-0 j tag c.in_ok-sum-in-Some.ensures c.requires.short
-
-pub composite::union_rows-unreachable-requires : goal.composite::union_rows-unreachable-requires
-composite::union_rows-unreachable-requires t c =
-    let b = c.args.body.now in
-    let j = variant.at_end (body_of b).0 (body_of b).1 c.loop-field.rows.items _ c.as_slice-field-items.result.now c.loop-field.field-index
-    (subst (λ l. Joins (body_of b).0 (body_of b).1 (flds (drop c.loop-field.field-index c.as_slice-field-items.result.now)) c.loop-field.rows.items l) c.in-None.is c.loop-field.invariant) c.loop-field-test.false
-    in
-    variant.some_lengths _ _ _ j c.requires.formed
-
-pub composite::union_rows-returns : goal.composite::union_rows-returns
-composite::union_rows-returns t c =
-    let b = c.args.body.now in
-    let tag : Same (Has c.in_ok-tag.tag) (Only (prefix (variants (body_of b).0 - 1))) =
-    variant.tag_is (body_of b).0 c.in_ok-tag.tag _ _ c.in_ok-tag.ensures c.prefix.ensures (types.body_count b c.len.result c.len.ensures c.requires.formed.2)
-    in
-    let j = variant.at_end (body_of b).0 (body_of b).1 c.loop-field.rows.items _ c.as_slice-field-items.result.now c.loop-field.field-index
-    (subst (λ l. Joins (body_of b).0 (body_of b).1 (flds (drop c.loop-field.field-index c.as_slice-field-items.result.now)) c.loop-field.rows.items l) c.in-Some.is c.loop-field.invariant) c.loop-field-test.false
-    in
-    subst (λ r. IsLayout (Union (body_of b).0 (body_of b).1) r c.in_ok-pad-in-Some.field-0) (sym c.new.ensures)
-    (variant.joins_layout _ _ _ c.in_ok-tag.tag c.in-Some.lengths c.in_ok-sum-in-Some.field-0 c.in_ok-pad-in-Some.field-0 j tag c.in_ok-sum-in-Some.ensures c.in_ok-pad-in-Some.ensures)
 
 -- ---- a type by itself
 
@@ -184,17 +71,15 @@ lengths::own_lengths-returns-in-Uint t c =
     in
     sets.lengths_are c.only-in-Uint.result (Only c.from-in-Uint.result) (sch c.args.schema.now) (sch c.args.schema.now) c.only-in-Uint.ensures (sets.same_trans same whole) refl
 
-pub lengths::own_lengths-returns-in_ok-_rows-in-Struct :
-    goal.lengths::own_lengths-returns-in_ok-_rows-in-Struct
-lengths::own_lengths-returns-in_ok-_rows-in-Struct t c =
+pub lengths::own_lengths-returns-in-Struct : goal.lengths::own_lengths-returns-in-Struct
+lengths::own_lengths-returns-in-Struct t c =
     let e = types.struct_is c.args.schema.now c.in-Struct.body c.in-Struct.is in
-    sets.whole_along _ _ _ _ e c.in_ok-_rows-in-Struct.ensures
+    sets.lengths_are c.lengths_of_struct.result _ _ _ c.lengths_of_struct.ensures (λ n. (λ h. h, λ h. h)) e
 
-pub lengths::own_lengths-returns-in_ok-_rows-in-Union :
-    goal.lengths::own_lengths-returns-in_ok-_rows-in-Union
-lengths::own_lengths-returns-in_ok-_rows-in-Union t c =
+pub lengths::own_lengths-returns-in-Union : goal.lengths::own_lengths-returns-in-Union
+lengths::own_lengths-returns-in-Union t c =
     let e = types.union_is c.args.schema.now c.in-Union.body c.in-Union.is in
-    sets.whole_along _ _ _ _ e c.in_ok-_rows-in-Union.ensures
+    sets.lengths_are c.lengths_of_union.result _ _ _ c.lengths_of_union.ensures (λ n. (λ h. h, λ h. h)) e
 
 -- ---- a type as a part
 
@@ -202,3 +87,167 @@ pub lengths::part_lengths-returns-in-Some : goal.lengths::part_lengths-returns-i
 lengths::part_lengths-returns-in-Some t c =
     sets.sizes_are c.delimited.result (Delimited c.in-Some.extent) (sch c.args.schema.now) c.delimited.ensures
     (sets.delimited_sizes (sch c.args.schema.now) c.in-Some.extent c.in-Some.ensures.0 c.in-Some.ensures.1)
+
+-- ---- one field more
+
+pub ends::ends_after-sum-requires : goal.ends::ends_after-sum-requires
+ends::ends_after-sum-requires t c =
+    let f = named c.args.field.now in
+    one.pad_short f.0 f.1 c.in-Some.bits c.in-Some.ensures (Has c.args.places.now) (Has c.in_ok-only-in-Some.field-0) c.in_ok-only-in-Some.ensures c.requires.short
+
+pub ends::ends_after-returns-in-Some : goal.ends::ends_after-returns-in-Some
+ends::ends_after-returns-in-Some t c =
+    let f = named c.args.field.now in
+    IfOk-weaker c.sum-in-Some.result _ _
+    (λ s sum. one.pad_ends f.0 f.1 c.in-Some.bits c.in-Some.ensures (Has c.args.places.now) (Has c.in_ok-only-in-Some.field-0) (Has s) c.in_ok-only-in-Some.ensures sum)
+    c.sum-in-Some.ensures
+
+pub ends::ends_after-pad-requires : goal.ends::ends_after-pad-requires
+ends::ends_after-pad-requires t c = λ n h.
+    let f = named c.args.field.now in
+    let places = Has c.args.places.now in
+    one.typed_leads f.0 f.1 c.in-None.ensures places true (sym c.if-is_aligned.true ∙ c.is_aligned.ensures) c.requires.short n ((sets.pads_lead places n).0 h)
+
+pub ends::ends_after-sum-requires-then-is_aligned :
+    goal.ends::ends_after-sum-requires-then-is_aligned
+ends::ends_after-sum-requires-then-is_aligned t c =
+    let f = named c.args.field.now in
+    let places = Has c.args.places.now in
+    let lead = sets.same_trans c.in_ok-pad-in-None.ensures (sets.pads_lead places) in
+    one.typed_sums f.0 f.1 c.in-None.ensures places (Has c.in_ok-pad-in-None.field-0) (Has c.in_ok-lengths-in-None.lengths) true (sym c.if-is_aligned.true ∙ c.is_aligned.ensures) lead c.in_ok-lengths-in-None.ensures c.requires.short
+
+pub ends::ends_after-returns-then-is_aligned : goal.ends::ends_after-returns-then-is_aligned
+ends::ends_after-returns-then-is_aligned t c =
+    let f = named c.args.field.now in
+    let places = Has c.args.places.now in
+    let lead = sets.same_trans c.in_ok-pad-in-None.ensures (sets.pads_lead places) in
+    IfOk-weaker c.sum-then-is_aligned-2.result _ _
+    (λ s sum.
+    one.typed_ends f.0 f.1 c.in-None.ensures places (Has c.in_ok-pad-in-None.field-0) (Has c.in_ok-lengths-in-None.lengths) (Has s) true (sym c.if-is_aligned.true ∙ c.is_aligned.ensures) lead c.in_ok-lengths-in-None.ensures sum)
+    c.sum-then-is_aligned-2.ensures
+
+pub ends::ends_after-sum-requires-else-is_aligned :
+    goal.ends::ends_after-sum-requires-else-is_aligned
+ends::ends_after-sum-requires-else-is_aligned t c =
+    let f = named c.args.field.now in
+    let places = Has c.args.places.now in
+    one.typed_sums f.0 f.1 c.in-None.ensures places places (Has c.in_ok-lengths-in-None.lengths) false (sym c.if-is_aligned.false ∙ c.is_aligned.ensures)
+    (sets.stays_lead places) c.in_ok-lengths-in-None.ensures c.requires.short
+
+pub ends::ends_after-returns : goal.ends::ends_after-returns
+ends::ends_after-returns t c =
+    let f = named c.args.field.now in
+    let places = Has c.args.places.now in
+    IfOk-weaker c.sum-else-is_aligned.result _ _
+    (λ s sum.
+    one.typed_ends f.0 f.1 c.in-None.ensures places places (Has c.in_ok-lengths-in-None.lengths) (Has s) false (sym c.if-is_aligned.false ∙ c.is_aligned.ensures) (sets.stays_lead places) c.in_ok-lengths-in-None.ensures sum)
+    c.sum-else-is_aligned.ensures
+
+-- ---- a structure
+
+pub bodies::lengths_of_struct-loop-field-init : goal.bodies::lengths_of_struct-loop-field-init
+bodies::lengths_of_struct-loop-field-init t c =
+    let b = c.args.body.now in
+    passing.passes_start (body_of b).0 (body_of b).1 _ _ c.requires.formed c.requires.short c.in_ok-ends.ensures (types.body_fields b _ c.as_slice-field-items.ensures)
+
+pub bodies::lengths_of_struct-ends_after-requires : goal.bodies::lengths_of_struct-ends_after-requires
+bodies::lengths_of_struct-ends_after-requires t c =
+    let items = c.as_slice-field-items.result.now in
+    let i = c.loop-field.field-index in
+    let f = named c.field-item.result in
+    let w = passing.at_field _ _ items i c.field-item.result c.loop-field.invariant c.loop-field-test.true c.field-item.is in
+    let rest = flds (drop (i + 1) items) in (
+      search (rules, the_lemmas),
+      (
+        passing.alone_formed _ f.0 f.1 rest _ w,
+        (passing.alone_small _ f.0 f.1 rest _ w, passing.alone_short _ f.0 f.1 rest _ w),
+      ),
+    )
+
+pub bodies::lengths_of_struct-loop-field-preserved :
+    goal.bodies::lengths_of_struct-loop-field-preserved
+bodies::lengths_of_struct-loop-field-preserved t c =
+    let items = c.as_slice-field-items.result.now in
+    let i = c.loop-field.field-index in
+    let f = named c.field-item.result in
+    let w = passing.at_field _ _ items i c.field-item.result c.loop-field.invariant c.loop-field-test.true c.field-item.is in
+    passing.passes_field _ f.0 f.1 (flds (drop (i + 1) items)) _ w _ c.in_ok-ends-2.ensures
+
+pub bodies::lengths_of_struct-pad-requires : goal.bodies::lengths_of_struct-pad-requires
+bodies::lengths_of_struct-pad-requires t c =
+    passing.end_short _ _ (passing.at_end _ _ c.as_slice-field-items.result.now c.loop-field.field-index c.loop-field.invariant c.loop-field-test.false)
+
+pub bodies::lengths_of_struct-returns : goal.bodies::lengths_of_struct-returns
+bodies::lengths_of_struct-returns t c =
+    let b = c.args.body.now in
+    let w = passing.at_end _ _ c.as_slice-field-items.result.now c.loop-field.field-index c.loop-field.invariant c.loop-field-test.false in
+    let s = Struct (body_of b).0 (body_of b).1 in
+    sets.lengths_are c.pad.result (Pads (Has c.loop-field.ends) 8) s s c.pad.ensures (passing.end_lengths (body_of b).0 (body_of b).1 _ w) refl
+
+-- ---- a union
+
+pub bodies::lengths_of_union-loop-field-init : goal.bodies::lengths_of_union-loop-field-init
+bodies::lengths_of_union-loop-field-init t c =
+    let b = c.args.body.now in
+    ([], variant.joins_start (body_of b).0 (body_of b).1 _ _ c.requires.formed c.requires.short (types.body_fields b _ c.as_slice-field-items.ensures) refl)
+
+pub bodies::lengths_of_union-loop-field-preserved :
+    goal.bodies::lengths_of_union-loop-field-preserved
+bodies::lengths_of_union-loop-field-preserved t c =
+    let f = named c.field-item.result in
+    let (rows, joins) = c.loop-field.invariant in
+    let j = variant.at_variant _ _ rows _ c.as_slice-field-items.result.now c.loop-field.field-index c.field-item.result joins c.loop-field-test.true c.field-item.is in
+    let tag = variant.tag_of_body c.args.body.now c.in_ok-tag.tag _ _ c.in_ok-tag.ensures c.prefix.ensures c.len.ensures c.requires.formed in
+    let row : Row = record {
+      name = f.0;
+      offsets = c.in_ok-tag.tag;
+      lengths = c.in_ok-variant.variant;
+      cast = cast_of (type_of f.1);
+    } in
+    (rows ++ row ∷ [], variant.joins_field _ _ _ _ _ _ _ row _ j refl refl tag c.in_ok-variant.ensures c.in_ok-join.ensures)
+
+pub bodies::lengths_of_union-sum-requires : goal.bodies::lengths_of_union-sum-requires
+bodies::lengths_of_union-sum-requires t c =
+    let b = c.args.body.now in
+    let items = c.as_slice-field-items.result.now in
+    let (rows, joins) = c.loop-field.invariant in
+    let tag = variant.tag_of_body b c.in_ok-tag.tag _ _ c.in_ok-tag.ensures c.prefix.ensures c.len.ensures c.requires.formed in
+    let j = variant.at_end (body_of b).0 (body_of b).1 rows _ items c.loop-field.field-index
+    (subst (λ l. Joins (body_of b).0 (body_of b).1 (flds (drop c.loop-field.field-index items)) rows l) c.in-Some.is joins) c.loop-field-test.false
+    in
+    variant.union_short _ _ _ c.in_ok-tag.tag c.in-Some.lengths j tag c.requires.short
+
+pub bodies::lengths_of_union-pad-requires : goal.bodies::lengths_of_union-pad-requires
+bodies::lengths_of_union-pad-requires t c =
+    let b = c.args.body.now in
+    let items = c.as_slice-field-items.result.now in
+    let (rows, joins) = c.loop-field.invariant in
+    let tag = variant.tag_of_body b c.in_ok-tag.tag _ _ c.in_ok-tag.ensures c.prefix.ensures c.len.ensures c.requires.formed in
+    let j = variant.at_end (body_of b).0 (body_of b).1 rows _ items c.loop-field.field-index
+    (subst (λ l. Joins (body_of b).0 (body_of b).1 (flds (drop c.loop-field.field-index items)) rows l) c.in-Some.is joins) c.loop-field-test.false
+    in
+    variant.union_pad_short _ _ _ c.in_ok-tag.tag c.in-Some.lengths c.in_ok-sum-in-Some.field-0 j tag c.in_ok-sum-in-Some.ensures c.requires.short
+
+pub bodies::lengths_of_union-unreachable-requires :
+    goal.bodies::lengths_of_union-unreachable-requires
+bodies::lengths_of_union-unreachable-requires t c =
+    let b = c.args.body.now in
+    let items = c.as_slice-field-items.result.now in
+    let (rows, joins) = c.loop-field.invariant in
+    let j = variant.at_end (body_of b).0 (body_of b).1 rows _ items c.loop-field.field-index
+    (subst (λ l. Joins (body_of b).0 (body_of b).1 (flds (drop c.loop-field.field-index items)) rows l) c.in-None.is joins) c.loop-field-test.false
+    in
+    variant.some_lengths _ _ _ j c.requires.formed
+
+pub bodies::lengths_of_union-returns : goal.bodies::lengths_of_union-returns
+bodies::lengths_of_union-returns t c =
+    let b = c.args.body.now in
+    let items = c.as_slice-field-items.result.now in
+    let (rows, joins) = c.loop-field.invariant in
+    let tag = variant.tag_of_body b c.in_ok-tag.tag _ _ c.in_ok-tag.ensures c.prefix.ensures c.len.ensures c.requires.formed in
+    let j = variant.at_end (body_of b).0 (body_of b).1 rows _ items c.loop-field.field-index
+    (subst (λ l. Joins (body_of b).0 (body_of b).1 (flds (drop c.loop-field.field-index items)) rows l) c.in-Some.is joins) c.loop-field-test.false
+    in
+    IfOk-weaker c.pad-in-Some.result _ _
+    (λ s pad. (variant.joins_layout _ (body_of b).1 _ c.in_ok-tag.tag c.in-Some.lengths c.in_ok-sum-in-Some.field-0 s j tag c.in_ok-sum-in-Some.ensures pad).whole)
+    c.pad-in-Some.ensures

@@ -7,9 +7,9 @@ use Rattle.layout.proofs.composite.leads.Goals as goal
 
 pub pad-requires : goal.pad-requires
 pad-requires c = λ n h.
-    c.requires n (subst (λ d. Leads d (Has c.args.places.now) n) (sym c.if-aligned.true) ((pads_lead (Has c.args.places.now) n).0 h))
+    c.requires n (subst (λ d. Leads d (Has c.args.places) n) (sym c.if-aligned.true) ((pads_lead (Has c.args.places) n).0 h))
 
 pub returns-then-aligned : goal.returns-then-aligned
 returns-then-aligned c =
-    subst (λ d. IfOk c.pad.result (λ s. Same (Has s) (Leads d (Has c.args.places.now)))) (sym c.if-aligned.true)
-    (IfOk-weaker c.pad.result (λ s. Same (Has s) (Pads (Has c.args.places.now) 8)) (λ s. Same (Has s) (Leads true (Has c.args.places.now))) (λ s a. same_trans a (pads_lead (Has c.args.places.now))) c.pad.ensures)
+    subst (λ d. IfOk c.pad.result (λ s. Same (Has s) (Leads d (Has c.args.places)))) (sym c.if-aligned.true)
+    (IfOk-weaker c.pad.result (λ s. Same (Has s) (Pads (Has c.args.places) 8)) (λ s. Same (Has s) (Leads true (Has c.args.places))) (λ s a. same_trans a (pads_lead (Has c.args.places))) c.pad.ensures)
