@@ -62,6 +62,10 @@ heard_request (Some heard) payload = request_with heard.tail.tid heard.ident pay
 abbrev pub came_request : Came → List Line → Option Request
 came_request came lines = option_and_then (heard_request came.heard) (payload_in lines)
 
+-- it ended none, whatever lines it gave
+abbrev pub AsksNothing : Came → Type 0
+AsksNothing came = (lines : List Line) → came_request came lines ≡ None
+
 -- it is the one that the log says
 abbrev pub TellsRequest : Node → Record → Came → Type 0
 TellsRequest node rec came = (past : List Record) → Stands node past
