@@ -29,13 +29,13 @@ pub struct Heard {
 
 impl Came {
     ghost use Rattle.std.specs.Bool.{OnFalse};
-    ghost use Rattle.node_core.specs.Came.{AsksNothing};
+    ghost use Rattle.node_core.specs.Came.{EndsNoRequest};
 
     /// Whether the record may be a request: it is a frame of a service's request. Any other asks
     /// nothing.
     #[inline(always)]
     pub fn may_ask(&self) -> bool
-        ensures { OnFalse result (AsksNothing self.now) }
+        ensures { OnFalse result (EndsNoRequest self.now) }
     {
         matches!(
             self.heard,

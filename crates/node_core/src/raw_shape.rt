@@ -45,7 +45,8 @@ impl Shape for RawShape {
 
 /// A sealed structure, with an extent in bytes.
 fn structure(fields: List<Field>, extent: u32) -> Schema
-    ensures { kind_of result ≡ Typed (Struct (flds fields) (record { extent = 8 * extent; sealed = true })) }
+    ensures { let body = record { extent = 8 * extent; sealed = true } in
+        kind_of result ≡ Typed (Struct (flds fields) body) }
 {
     Schema::Struct(Body {
         fields,
