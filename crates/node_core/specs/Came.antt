@@ -39,7 +39,8 @@ answer_in node body met = table_answer (states shape_extent node.table.ports.ite
 
 -- the lines on what a frame met
 abbrev pub met_lines : Node → FrameOf → Met → List Line
-met_lines node f met = answer_lines (type_at node.table (key_of f.ident)) f (answer_in node f.body met)
+met_lines node f met =
+    answer_lines (type_at node.table (key_of f.ident)) f (answer_in node f.body met)
 
 abbrev pub heard_lines : Node → Record → Option Heard → List Line
 heard_lines node rec None = []
@@ -47,7 +48,8 @@ heard_lines node rec (Some heard) = met_lines node (frame_with rec heard.ident h
 
 -- whether a frame that was heard ends a transfer whose bytes don't fit their CRC
 abbrev pub heard_is_bad : Node → Record → Heard → Bool
-heard_is_bad node rec heard = answer_is_bad (answer_in node (frame_with rec heard.ident heard.tail).body heard.met)
+heard_is_bad node rec heard =
+    answer_is_bad (answer_in node (frame_with rec heard.ident heard.tail).body heard.met)
 
 -- the lines on what a record came to
 unfoldable pub came_lines : Node → Record → Came → List Line
@@ -61,6 +63,10 @@ heard_request (Some heard) payload = request_with heard.tail.tid heard.ident pay
 -- the request that a record ended, where it gave these lines
 abbrev pub came_request : Came → List Line → Option Request
 came_request came lines = option_and_then (heard_request came.heard) (payload_in lines)
+
+-- it ended none, whatever lines it gave
+abbrev pub EndsNoRequest : Came → Type 0
+EndsNoRequest came = (lines : List Line) → came_request came lines ≡ None
 
 -- it is the one that the log says
 abbrev pub TellsRequest : Node → Record → Came → Type 0

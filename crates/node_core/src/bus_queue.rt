@@ -44,8 +44,8 @@ impl BusQueue {
         })
     }
 
-    /// Puts the frames of a transfer behind those that wait: all of them, or none where fewer places
-    /// are free. Then it tells so, with a moment and the number of the bus. Takes no memory.
+    /// Puts the frames of a transfer behind those that wait: all of them, or none where fewer
+    /// places are free. Then it tells so, with a moment and the number of the bus. Takes no memory.
     pub(crate) fn push(&mut self, moment: u64, bus: u8, transfer: &Transfer<'_>) -> Option<FullLine>
         requires tid { transfer.now.tid < 32 }
         requires len { length transfer.now.payload.now ≤ 2 ^ 40 }

@@ -83,7 +83,8 @@ impl BusQueues {
     }
 }
 
-/// Puts the frames of a transfer at the end of each of these lists. Tells in which there is no room.
+/// Puts the frames of a transfer at the end of each of these lists. Tells in which there is no
+/// room.
 fn push_on_each(
     buses: &mut [BusQueue],
     moment: u64,

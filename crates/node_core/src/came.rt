@@ -27,6 +27,26 @@ pub struct Heard {
     pub met: Met,
 }
 
+impl Came {
+    ghost use Rattle.std.specs.Bool.{OnFalse};
+    ghost use Rattle.node_core.specs.Came.{EndsNoRequest};
+
+    /// Whether the record may be a request: it is a frame of a service's request. Any other asks
+    /// nothing.
+    #[inline(always)]
+    pub fn may_ask(&self) -> bool
+        ensures { OnFalse result (EndsNoRequest self.now) }
+    {
+        matches!(
+            self.heard,
+            Some(Heard {
+                ident: Ident::Service { request: true, .. },
+                ..
+            })
+        )
+    }
+}
+
 impl Heard {
     /// The frame, whose data is lent from its record.
     #[inline(always)]

@@ -38,8 +38,8 @@ impl Shape for CompiledShape {
 }
 
 impl CompiledShape {
-    /// What a payload says, of which the bytes up to the extent are read (Cyphal Specification, section 3.7). The one
-    /// error is want of memory.
+    /// What a payload says, of which the bytes up to the extent are read (Cyphal Specification,
+    /// section 3.7). The one error is want of memory.
     pub fn reading(&self, alloc: Global, payload: &[u8]) -> Result<Reading, NoMemory>
         ensures { IfOk result (λ reading.
             reading ≡ reading_of (Some (sch self.now.schema)) payload.now) }

@@ -40,7 +40,8 @@ pub fn line_on<'a>(table: &'a Table<PortShape>, frame: &Frame, fed: Fed<'a>) -> 
 /// The line of a transfer that was received.
 #[inline(always)]
 fn received<'a>(table: &'a Table<PortShape>, key: Key, delivery: Delivery<'a>) -> LineRef<'a>
-    ensures { let d = delivery.entry in owned result ∷ [] ≡ outcome_lines (type_at table.now key) key
+    ensures { let d = delivery.entry in
+        owned result ∷ [] ≡ outcome_lines (type_at table.now key) key
         (Delivered d.bus d.priority d.tid d.first d.last d.moment d.payload.now) }
 {
     LineRef::Rx(RxRef {

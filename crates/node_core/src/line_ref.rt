@@ -34,7 +34,8 @@ pub struct TxRef<'a> {
     pub bytes: &'a ShortList<u8, 64>,
 }
 
-/// A transfer that was received, with its payload lent. What that says isn't read before it is asked for.
+/// A transfer that was received, with its payload lent. What that says isn't read before it is
+/// asked for.
 #[derive(Clone, Copy)]
 pub struct RxRef<'a> {
     /// When its first frame was received, in microseconds.

@@ -21,7 +21,8 @@ use std::alloc::Global;
 
 /// Puts the lines of a report together. It keeps the words that lines have in common.
 ///
-/// What isn't inlined takes its part of a line by value: then a line of bytes isn't put into memory for it.
+/// What isn't inlined takes its part of a line by value: then a line of bytes isn't put into memory
+/// for it.
 #[derive(Drop)]
 pub struct LineWriter {
     /// Where the memory for a reading comes from.
@@ -50,8 +51,8 @@ impl LineWriter {
         }
     }
 
-    /// Appends the text of a line. Memory is taken for the text, and for what the payload says where the port has a
-    /// type; want of it leaves the text as it was.
+    /// Appends the text of a line. Memory is taken for the text, and for what the payload says
+    /// where the port has a type; want of it leaves the text as it was.
     #[inline(always)]
     pub fn push(&mut self, text: &mut TextBuffer, line: &LineRef<'_>) -> Result<(), NoMemory>
         ensures buses { writes_for self.new ≡ writes_for self.old }
@@ -66,7 +67,8 @@ impl LineWriter {
         }
     }
 
-    /// Appends the last line of a report that was read to its end. Want of memory leaves the text as it was.
+    /// Appends the last line of a report that was read to its end. Want of memory leaves the text
+    /// as it was.
     pub fn push_end(text: &mut TextBuffer, numbers: &Numbers) -> Result<(), NoMemory>
         ensures ok { OnOk result (Puts (end_text numbers.now) text.old text.new) }
         ensures err { OnErr result (text_of text.new ≡ text_of text.old) }

@@ -1,9 +1,7 @@
 ghost use Rattle.std.specs.Prelude.{◌≡◌, ◌<◌, ◌≤◌};
 ghost use Rattle.node_status.specs.Status.{info_payload};
 ghost use Rattle.register_service.specs.Within.{limits_of};
-ghost use Rattle.rx_table.specs.Table.{states, HeardBy};
-ghost use Rattle.node_core.specs.InTime.{HeardBy-prop};
-ghost use Rattle.node_core.specs.Shapes.{shape_extent};
+ghost use Rattle.node_core.specs.InTime.{IsInTime, IsInTime-prop};
 
 use crate::bus_queues::BusQueues;
 use crate::came::{Came, Heard};
@@ -49,7 +47,7 @@ pub struct Node {
     pub ghost few_ids: { tid < 32 },
     pub ghost tells: { info ≡ info_payload plan.info },
     pub ghost limits: { limits_of registers ≡ limits_of plan.registers },
-    ghost in_time: { HeardBy latest (states shape_extent table.ports.items) } by { HeardBy-prop latest (states shape_extent table.ports.items) },
+    ghost in_time: { IsInTime latest table } by { IsInTime-prop latest table },
 }
 
 /// What a step gave besides its lines.

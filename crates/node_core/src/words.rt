@@ -21,8 +21,8 @@ use dsdl_types::ReadWhy;
 use line_text::TextBuffer;
 use value_text::{read_why_number, read_why_word};
 
-/// The most bytes of a line besides those of its payload and of what that says, and of those behind them that are
-/// written too.
+/// The most bytes of a line besides those of its payload and of what that says, and of those behind
+/// them that are written too.
 pub const LINE: usize = 512;
 
 /// Takes memory for a line with this payload.
@@ -70,7 +70,8 @@ fn long_part(reading: &Reading) -> &[u8]
     }
 }
 
-/// Appends on which bus, at which port and from whom, with a space in front and one behind each word.
+/// Appends on which bus, at which port and from whom, with a space in front and one behind each
+/// word.
 #[inline(always)]
 pub fn put_key(names: &BusWords, port: &mut PortWord, text: &mut TextBuffer, bus: u8, key: &Key)
     requires { 160 ≤ room_of text.old }
@@ -95,7 +96,8 @@ pub fn put_place(names: &BusWords, text: &mut TextBuffer, moment: u64, bus: u8)
     text.put_slice(b" ");
 }
 
-/// Appends priority, transfer-ID and the lines of the first and the last frame, each with a space behind.
+/// Appends priority, transfer-ID and the lines of the first and the last frame, each with a space
+/// behind.
 #[inline(always)]
 pub fn put_transfer(text: &mut TextBuffer, rx: &RxRef<'_>)
     requires { 100 ≤ room_of text.old }

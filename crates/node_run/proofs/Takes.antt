@@ -30,7 +30,7 @@ use Rattle.node_run.specs.declared.log.tally.Seen.{Seen}
 use Rattle.node_core.proofs.Served.{something_served}
 use Rattle.node_run.proofs.Counts.{numbers_heard}
 use Rattle.node_run.proofs.Goes.{all_lines_are, broke_in, broke_none, kept_next, runs_next, sent_is, step_told}
-use Rattle.node_run.proofs.Tells.{begins_later, begins_none}
+use Rattle.node_run.proofs.Tells.{begins_later}
 
 -- a node has come to these lines and this request by a record
 pub record CameTo (rec : Record) (old new : Node) (told : List Line) (request : Option Request) (bad : Bool) : Type 0 where
@@ -159,16 +159,7 @@ module _ (plan : Plan) (before : Option (List Line)) (rec : Record) (past : List
           let low = subst (λ (n : Numbers). n.held ≤ bound_of plan) (sym e) (subst (λ (p : Plan). held ≤ bound_of p) plan_fin (within (rec ∷ records past) stands)) in
           runs_next plan before s past old (record fin { numbers = numbers }) h (same.plan ∙ c.same) stands (kept_next plan s past k (answered node.plan request file k) (keeps fin.node) ek em f.keeps_are) (behind ∙ names) all.put counted_is low
 
-  -- it broke off in a step of which nothing is told, or the lines on what was received
-  pub broke_received : (files : Option Files) (new : State) → new.told ≡ put_behind old.told told → new.numbers ≡ old.numbers → BreaksAt files plan rec past (report_of before new)
-  broke_received files new put same =
-      let some = something_served files plan rec past in record {
-        file = some.0;
-        served = some.1;
-        broke = broke_behind some.0 new new.told put (begins_none (due some.0) new.told new.told refl) same;
-      }
-
-  -- or in what follows
+  -- it broke off in what follows
   pub broke_following : (files : Option Files) (buses : List BusPlan) (o : Option (List Line)) (new : State) (f : Failures) → o ≡ put_behind old.told told
       → BrokeFollowing files rec request (state node buses o old.numbers) new f → BreaksAt files plan rec past (report_of before new)
   broke_following files buses o new f put b =

@@ -1,21 +1,24 @@
 -- What follows a record: the reply to the request that it ended, and the frames that leave.
-use Rattle.std.specs.Prelude.{◌≡◌, ◌++◌, ℕ, List, Option, length}
+use Rattle.std.specs.Prelude.{◌≡◌, ◌++◌, ℕ, List, Option, OnErr, OnOk, Result, length}
 use Rattle.cy_outside.specs.Files.{Files}
 use Rattle.tail_frame.specs.declared.logged.Record.{Record}
 use Rattle.node_plan.specs.declared.plan.Plan.{Plan}
+use Rattle.node_core.specs.Came.{came_lines, came_request}
 use Rattle.node_core.specs.Files.{IsServed}
 use Rattle.node_core.specs.Keeps.{answered, keeps, reply_by}
 use Rattle.node_core.specs.LineSinks.{BeginsList}
 use Rattle.node_core.specs.Queues.{fulls, leaving}
 use Rattle.node_core.specs.Steps.{Heard, Kept, left}
+use Rattle.node_core.specs.declared.came.Came.{Came}
 use Rattle.node_core.specs.declared.file_reply.FileReply.{FileReply}
 use Rattle.node_core.specs.declared.line.Line.{Line}
+use Rattle.node_core.specs.declared.node.Node.{Node}
 use Rattle.node_core.specs.declared.request.Request.{Request}
 use Rattle.node_core.specs.Writer.{writes_for}
 use Rattle.node_run.specs.Failures.{Failures, FailsAs, FailsUntold}
-use Rattle.node_run.specs.Goes.{State, with_sent}
+use Rattle.node_run.specs.Goes.{State, state_in, with_sent}
 use Rattle.node_run.specs.Leaves.{IsSameNode}
-use Rattle.node_run.specs.Listens.{IsOver}
+use Rattle.node_run.specs.Listens.{IsOver, Views, failures_in}
 use Rattle.node_run.specs.Tells.{HasTold}
 use Rattle.node_run.specs.declared.log.running.Running.{Running}
 
@@ -37,11 +40,12 @@ following plan moment asked k =
     fulls moment (reply_by plan asked.request asked.file k) k.queues
     ++ frames_behind plan moment asked k
 
--- a request, if there is one, was answered at a moment, and frames left behind it: the lines on that
--- are told, and the frames are counted
+-- a request, if there is one, was answered at a moment, and frames left behind it: the lines on
+-- that are told, and the frames are counted
 pub record Follows (asked : Asked) (moment : ℕ) (old new : State)
     (before after : List ℕ) : Type 0 where
-  pub keeps_are : keeps new.node ≡ left (answered old.node.plan asked.request asked.file (keeps old.node))
+  pub keeps_are : let k = keeps old.node in
+      keeps new.node ≡ left (answered old.node.plan asked.request asked.file k)
   pub told : let due = following old.node.plan moment asked (keeps old.node) in
       HasTold old.buses due before after old.told new.told
   pub counted : let sent = frames_behind old.node.plan moment asked (keeps old.node) in
@@ -53,9 +57,10 @@ pub record FollowsInPart (asked : Asked) (moment : ℕ) (old new : State) : Type
       BeginsList due old.told new.told
   pub uncounted : new.numbers ≡ old.numbers
 
--- a request of a record, if there is one, was answered by what the tree told of a file, and frames left behind it
-pub record HasFollowed (told : Option Files) (rec : Record) (request : Option Request) (old new : State)
-    (before after : List ℕ) (f : Failures) : Type 0 where
+-- a request of a record, if there is one, was answered by what the tree told of a file, and frames
+-- left behind it
+pub record HasFollowed (told : Option Files) (rec : Record) (request : Option Request)
+    (old new : State) (before after : List ℕ) (f : Failures) : Type 0 where
   pub file : FileReply
   pub served : IsServed told old.node.plan request file
   pub follows : Follows (asked request file) rec.moment old new before after
@@ -76,10 +81,27 @@ pub record BrokeFollowing (told : Option Files) (rec : Record) (request : Option
   pub untold : FailsUntold f
 
 -- a run stays what it was, but for what it keeps, tells and counts
-pub record IsSameRun {K T : Type 0} (files : T → Option Files) (old new : Running K T) : Type 0 where
+pub record IsSameRun {K T : Type 0} (files : T → Option Files)
+    (old new : Running K T) : Type 0 where
   pub over : IsOver files old new
   pub node : IsSameNode old.node.now new.node.now
   pub buses : writes_for new.writer.now ≡ writes_for old.writer.now
   pub records : new.tally.numbers.records ≡ old.tally.numbers.records
   pub number : new.clock.number ≡ old.clock.number
   pub next : new.clock.next ≡ old.clock.next
+
+-- the request that a record ended which came to this at a node
+abbrev pub request_ended : Node → Record → Came → Option Request
+request_ended node rec came = came_request came (came_lines node rec came)
+
+-- what follows a record of a run: a request, if there is one, is answered and frames leave, or for
+-- want of memory the run breaks off in that
+pub record IsFollowed {K T E : Type 0} (v : Views K T) (rec : Record) (request : Option Request)
+    (old new : Running K T) (before after : List ℕ) (result : Result (Unit {0}) E) : Type 0 where
+  pub same : IsSameRun v.files old new
+  pub ok : let f = failures_in v.failed v.faults old new in
+      OnOk result (HasFollowed (v.files old.tree.now) rec request
+      (state_in v.lines old) (state_in v.lines new) before after f)
+  pub err : let f = failures_in v.failed v.faults old new in
+      OnErr result (BrokeFollowing (v.files old.tree.now) rec request
+      (state_in v.lines old) (state_in v.lines new) f)

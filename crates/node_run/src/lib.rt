@@ -1,5 +1,5 @@
-//! Three parts: `log`, what a plan's node does over a log, `types`, what is written of a folder's types, and `values`, what
-//! is written of values of a type.
+//! Three parts: `log`, what a plan's node does over a log, `types`, what is written of a folder's
+//! types, and `values`, what is written of values of a type.
 #![tactic(auto)]
 
 pub mod log;

@@ -31,23 +31,26 @@ pub enum Status {
         line: u64,
         why: LogWhy,
     },
-    /// A line of the input, counted from 1, is the text of no value of the type, or no hex, or too long.
+    /// A line of the input, counted from 1, is the text of no value of the type, or no hex, or too
+    /// long.
     Text {
         line: u64,
     },
-    /// A line of the input, counted from 1, is the hex of bytes that can't be read as a value of the type.
+    /// A line of the input, counted from 1, is the hex of bytes that can't be read as a value of
+    /// the type.
     Unreadable {
         line: u64,
-        /// The first part that can't be read: names of fields with `.` between them, `[i]` for an item of an array; `.`
-        /// alone for the whole.
+        /// The first part that can't be read: names of fields with `.` between them, `[i]` for an
+        /// item of an array; `.` alone for the whole.
         path: Text,
         /// The cause, with the number that was read.
         why: ReadWhy,
     },
     /// The new type isn't newer than the old one.
     NotNewer {
-        /// The first place of the new type where it isn't newer: names of fields with `.` between them, `[]` for the
-        /// items of an array, in a service `request` or `response` in front; `.` alone for the whole.
+        /// The first place of the new type where it isn't newer: names of fields with `.` between
+        /// them, `[]` for the items of an array, in a service `request` or `response` in front; `.`
+        /// alone for the whole.
         path: Text,
         /// The cause.
         why: CompatWhy,

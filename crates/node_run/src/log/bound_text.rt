@@ -87,7 +87,8 @@ fn push_port(
     sources: u16,
     extent: u32,
 ) -> Result<(), NoMemory>
-    ensures { OnOk result (text.new.items ≡ text.old.items ++ (label.now ++ port_numbers port sources extent)) }
+    ensures { let said = label.now ++ port_numbers port sources extent in
+        OnOk result (text.new.items ≡ text.old.items ++ said) }
 {
     let bytes = sources as u64 * extent as u64;
     push_labelled(text, label, port as u64)?;

@@ -9,7 +9,7 @@ ghost use Rattle.node_core.specs.Steps.{Met, Tick, ticks_from};
 ghost use Rattle.node_run.specs.Goes.{BreaksOff, GoesOn, IsFrom, IsLast};
 ghost use Rattle.node_run.specs.Goes.{begun_next, last_tick, latest_of, next_behind, state_in};
 ghost use Rattle.node_run.specs.Goes.{ticks_due, ticks_left};
-ghost use Rattle.node_run.specs.Follows.{BrokeFollowing, HasFollowed, IsSameRun};
+ghost use Rattle.node_run.specs.Follows.{IsFollowed, request_ended};
 ghost use Rattle.node_run.specs.Hears.{run_voice};
 ghost use Rattle.node_run.specs.Listens.{AsksNone, BreaksOn, HasTaken, IsOver, failures_in, views};
 ghost use Rattle.node_run.specs.Listens.{HasBrokenOff, HasEndedBehind, HasHeardAll, IsCutShort};
@@ -24,7 +24,7 @@ use cy_bits::{NoMemory, ShortList};
 use cy_outside::Tree;
 use line_text::TextBuffer;
 use log_loop::Listener;
-use node_core::{LineSink, LineWriter, Node, Numbers, Request};
+use node_core::{Came, LineSink, LineWriter, Node, Numbers, Request};
 use tail_frame::Record;
 
 /// A node, the numbers of its run, and where its lines go.
@@ -132,51 +132,59 @@ impl<'a, K: LineSink, T: Tree> Running<'a, K, T> {
         let told = self.node.told(rec, came);
         tell(self.writer, self.lines, gathered, told)?;
         let seen = Seen::of(told, came.badcrc);
-        let request = self.node.request(came, told)?;
-        self.follow(rec, request, gathered)?;
+        self.follow(rec, came, gathered)?;
         self.tally.count(seen, self.node.held());
         Ok(())
     }
 
-    /// Answers the request of a record, if there is one, and lets frames leave behind it.
+    /// Answers the request that a record ended, if there is one, and lets frames leave behind it.
     #[inline(always)]
     fn follow(
         &mut self,
         rec: &Record,
-        request: Option<Request>,
+        came: Came,
         gathered: &mut TextBuffer,
     ) -> Result<(), NoMemory>
-        requires { ForSome request (IsRequestTo self.old.node.now.plan.node) }
-        ensures same { IsSameRun T.files self.old self.new }
+        requires { let request = request_ended self.old.node.now rec.now came in
+            ForSome request (IsRequestTo self.old.node.now.plan.node) }
+        ensures followed { let request = request_ended self.old.node.now rec.now came in
+            IsFollowed (views K.lines K.failed T.files T.faults) rec.now request
+            self.old self.new (text_of gathered.old) (text_of gathered.new) result }
         ensures last { let qs = (keeps self.new.node.now).queues in
             OnOk result (IsLast rec.now.moment qs self.new.clock.last) }
-        ensures ok { let f = failures_in K.failed T.faults self.old self.new in
-            OnOk result (HasFollowed (T.files self.old.tree.now) rec.now request
-            (state_in K.lines self.old) (state_in K.lines self.new)
-            (text_of gathered.old) (text_of gathered.new) f) }
-        ensures err { let f = failures_in K.failed T.faults self.old self.new in
-            OnErr result (BrokeFollowing (T.files self.old.tree.now) rec.now request
-            (state_in K.lines self.old) (state_in K.lines self.new) f) }
     {
-        let Some(request) = request else {
-            return self.leave(rec, gathered);
-        };
-        self.answer(rec, request, gathered)
+        if came.may_ask() {
+            self.ask(rec, came, gathered)
+        } else {
+            self.leave(rec, gathered)
+        }
+    }
+
+    /// The same where the record is a frame of a request. What it asks is read only here.
+    #[inline(never)]
+    fn ask(&mut self, rec: &Record, came: Came, gathered: &mut TextBuffer) -> Result<(), NoMemory>
+        requires { let request = request_ended self.old.node.now rec.now came in
+            ForSome request (IsRequestTo self.old.node.now.plan.node) }
+        ensures followed { let request = request_ended self.old.node.now rec.now came in
+            IsFollowed (views K.lines K.failed T.files T.faults) rec.now request
+            self.old self.new (text_of gathered.old) (text_of gathered.new) result }
+        ensures last { let qs = (keeps self.new.node.now).queues in
+            OnOk result (IsLast rec.now.moment qs self.new.clock.last) }
+    {
+        let told = self.node.told(rec, came);
+        match self.node.request(came, told)? {
+            Some(request) => self.answer(rec, request, gathered),
+            None => self.leave(rec, gathered),
+        }
     }
 
     /// Lets frames leave behind a record that asked nothing. Where none wait, nothing is done.
     #[inline(always)]
     fn leave(&mut self, rec: &Record, gathered: &mut TextBuffer) -> Result<(), NoMemory>
-        ensures same { IsSameRun T.files self.old self.new }
+        ensures followed { IsFollowed (views K.lines K.failed T.files T.faults) rec.now None
+            self.old self.new (text_of gathered.old) (text_of gathered.new) result }
         ensures last { let qs = (keeps self.new.node.now).queues in
             OnOk result (IsLast rec.now.moment qs self.new.clock.last) }
-        ensures ok { let f = failures_in K.failed T.faults self.old self.new in
-            OnOk result (HasFollowed (T.files self.old.tree.now) rec.now None
-            (state_in K.lines self.old) (state_in K.lines self.new)
-            (text_of gathered.old) (text_of gathered.new) f) }
-        ensures err { let f = failures_in K.failed T.faults self.old self.new in
-            OnErr result (BrokeFollowing (T.files self.old.tree.now) rec.now None
-            (state_in K.lines self.old) (state_in K.lines self.new) f) }
     {
         // The number of frames that were sent is one of 64 bits.
         let _sent = self.tally.numbers.sent;
@@ -189,15 +197,9 @@ impl<'a, K: LineSink, T: Tree> Running<'a, K, T> {
     /// The same, where some wait.
     #[inline(never)]
     fn leave_some(&mut self, rec: &Record, gathered: &mut TextBuffer) -> Result<(), NoMemory>
-        ensures same { IsSameRun T.files self.old self.new }
+        ensures followed { IsFollowed (views K.lines K.failed T.files T.faults) rec.now None
+            self.old self.new (text_of gathered.old) (text_of gathered.new) result }
         ensures last { OnOk result (self.new.clock.last ≡ rec.now.moment) }
-        ensures ok { let f = failures_in K.failed T.faults self.old self.new in
-            OnOk result (HasFollowed (T.files self.old.tree.now) rec.now None
-            (state_in K.lines self.old) (state_in K.lines self.new)
-            (text_of gathered.old) (text_of gathered.new) f) }
-        ensures err { let f = failures_in K.failed T.faults self.old self.new in
-            OnErr result (BrokeFollowing (T.files self.old.tree.now) rec.now None
-            (state_in K.lines self.old) (state_in K.lines self.new) f) }
     {
         let full = ShortList::new();
         let sent = send(
@@ -223,15 +225,10 @@ impl<'a, K: LineSink, T: Tree> Running<'a, K, T> {
         gathered: &mut TextBuffer,
     ) -> Result<(), NoMemory>
         requires { IsRequestTo self.old.node.now.plan.node request }
-        ensures same { IsSameRun T.files self.old self.new }
+        ensures followed { let asked = Some request in
+            IsFollowed (views K.lines K.failed T.files T.faults) rec.now asked
+            self.old self.new (text_of gathered.old) (text_of gathered.new) result }
         ensures last { OnOk result (self.new.clock.last ≡ rec.now.moment) }
-        ensures ok { let f = failures_in K.failed T.faults self.old self.new in
-            OnOk result (HasFollowed (T.files self.old.tree.now) rec.now (Some request)
-            (state_in K.lines self.old) (state_in K.lines self.new)
-            (text_of gathered.old) (text_of gathered.new) f) }
-        ensures err { let f = failures_in K.failed T.faults self.old self.new in
-            OnErr result (BrokeFollowing (T.files self.old.tree.now) rec.now (Some request)
-            (state_in K.lines self.old) (state_in K.lines self.new) f) }
     {
         let file = self.node.serve(&request, self.tree)?;
         let full = self.node.reply(rec.moment, request, &file)?;

@@ -16,12 +16,12 @@ use cy_outside::{Sink, put_all};
 use dsdl_types::{Namespace, Schema};
 use std::alloc::Global;
 
-/// Writes `newer` where what the name `new` stands for in a namespace is newer than what `old` does: each is a message,
-/// a service, or a half of a service, which counts as a message. Of services the requests are compared, and then the
-/// responses. Else nothing is written.
+/// Writes `newer` where what the name `new` stands for in a namespace is newer than what `old`
+/// does: each is a message, a service, or a half of a service, which counts as a message. Of
+/// services the requests are compared, and then the responses. Else nothing is written.
 ///
-/// `NoFile` comes exactly where the namespace hasn't got one of the names, the new one before the old one, and
-/// `NotNewer` exactly where the one isn't newer, with the first difference.
+/// `NoFile` comes exactly where the namespace hasn't got one of the names, the new one before the
+/// old one, and `NotNewer` exactly where the one isn't newer, with the first difference.
 pub fn compat<O: Sink>(
     alloc: Global,
     names: &Namespace,
@@ -30,7 +30,8 @@ pub fn compat<O: Sink>(
     out: &mut O,
 ) -> Status
     requires { IsNamespace names.now }
-    ensures compared { HasCompared names.now new.now old.now result (O.written out.old) (O.written out.new) }
+    ensures compared { HasCompared names.now new.now old.now result
+        (O.written out.old) (O.written out.new) }
     ensures write { result ≡ Status.WriteFault → Rose (O.faults out.old) (O.faults out.new) }
     ensures kept { result ≡ Status.Ok → O.faults out.new ≡ O.faults out.old }
 {
@@ -55,7 +56,8 @@ pub fn compat<O: Sink>(
 
 /// Whether what a name stands for is newer than what another does.
 fn verdict(alloc: Global, new: NamedParts<'_>, old: NamedParts<'_>) -> Result<Verdict, NoMemory>
-    ensures { IfOk result (λ verdict. verdict ≡ parts_verdict (parts_of new.entry) (parts_of old.entry)) }
+    ensures { IfOk result (λ verdict.
+        verdict ≡ parts_verdict (parts_of new.entry) (parts_of old.entry)) }
 {
     match new {
         NamedParts::Message(schema) => match old {
@@ -90,7 +92,8 @@ fn other_kind(alloc: Global) -> Result<Verdict, NoMemory>
 
 /// Whether a half of a service is newer than that of another.
 fn half_verdict(alloc: Global, half: &str, new: &Schema, old: &Schema) -> Result<Verdict, NoMemory>
-    ensures { IfOk result (λ verdict. verdict ≡ in_half half.now (verdict_of (difference (sch new.now) (sch old.now)))) }
+    ensures { IfOk result (λ verdict.
+        verdict ≡ in_half half.now (verdict_of (difference (sch new.now) (sch old.now)))) }
 {
     match newer(alloc, new, old)? {
         Verdict::Yes => Ok(Verdict::Yes),

@@ -10,8 +10,8 @@ use dsdl_types::Namespace;
 use layout_text::namespace_text;
 use std::alloc::Global;
 
-/// Writes the layouts of a namespace: what was printed, and then of each type its lengths and its fields, by name and
-/// version. Where memory is wanting, nothing is written.
+/// Writes the layouts of a namespace: what was printed, and then of each type its lengths and its
+/// fields, by name and version. Where memory is wanting, nothing is written.
 pub fn compile<O: Sink>(alloc: Global, names: &Namespace, out: &mut O) -> Status
     requires { IsNamespace names.now }
     ensures written { HasLayouts names.now result (O.written out.old) (O.written out.new) }

@@ -24,8 +24,8 @@ pub enum NamedParts<'a> {
     },
 }
 
-/// What a name stands for in a namespace, or nothing where the namespace hasn't got it: `a.b.Name.1.0` is a type, with
-/// `.Request` or `.Response` behind it a half of a service.
+/// What a name stands for in a namespace, or nothing where the namespace hasn't got it:
+/// `a.b.Name.1.0` is a type, with `.Request` or `.Response` behind it a half of a service.
 pub fn named<'a>(
     alloc: Global,
     names: &'a Namespace,
@@ -68,8 +68,8 @@ pub fn found<'a>(alloc: Global, names: &'a Namespace, name: &str) -> Result<Name
     }
 }
 
-/// The schema of the message, or of the half of a service, that a name stands for, or how a command ends where it stands
-/// for none.
+/// The schema of the message, or of the half of a service, that a name stands for, or how a command
+/// ends where it stands for none.
 pub fn message<'a>(alloc: Global, names: &'a Namespace, name: &str) -> Result<&'a Schema, Status>
     requires { IsNamespace names.now }
     ensures found { IfOk result (λ schema.
@@ -109,7 +109,8 @@ fn type_named<'a>(
     names: &'a Namespace,
     name: &str,
 ) -> Result<Option<&'a Parts>, NoMemory>
-    ensures { IfOk result (λ found. option_copied found ≡ parts_at names.entry.now (type_id_of name.now)) }
+    ensures { IfOk result (λ found.
+        option_copied found ≡ parts_at names.entry.now (type_id_of name.now)) }
 {
     match parse_type_id(alloc, name) {
         Ok(id) => match names.find(&id) {

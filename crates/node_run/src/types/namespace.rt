@@ -14,11 +14,12 @@ use std::alloc::Global;
 /// The root that stands for an empty namespace.
 const NONE: &str = "none";
 
-/// The namespace of the DSDL files below a root. The root `none` stands for the empty namespace: nothing is listed
-/// then.
+/// The namespace of the DSDL files below a root. The root `none` stands for the empty namespace:
+/// nothing is listed then.
 ///
-/// `NoFile` comes exactly where the root is no folder, and `Dsdl` exactly where its files are refused, with the first
-/// refusal. `ReadFault` comes only where the tree failed in this call. No other status comes but `NoMemory`.
+/// `NoFile` comes exactly where the root is no folder, and `Dsdl` exactly where its files are
+/// refused, with the first refusal. `ReadFault` comes only where the tree failed in this call. No
+/// other status comes but `NoMemory`.
 pub fn load<T: Tree>(alloc: Global, tree: &mut T, root: &str) -> Result<Namespace, Status>
     ensures loaded { IfOk result (IsLoaded root.now (T.files tree.old)) }
     ensures sound { IfOk result IsNamespace }
@@ -56,7 +57,8 @@ fn files_of<T: Tree>(alloc: Global, tree: &mut T, root: &str) -> Result<List<Dsd
 
 /// The status of a folder whose files were not read.
 fn not_read(alloc: Global, root: &str, error: FolderError) -> Status
-    ensures { (result ≡ not_read root.now error) ⊎ ((error ≡ FolderError.NotFolder) × (result ≡ Status.NoMemory)) }
+    ensures { (result ≡ not_read root.now error)
+        ⊎ ((error ≡ FolderError.NotFolder) × (result ≡ Status.NoMemory)) }
 {
     match error {
         FolderError::NotFolder => match Text::from_str(alloc, root) {

@@ -15,13 +15,14 @@ use line_loop::listen_lines;
 use std::alloc::Global;
 use value_lines::Decoder;
 
-/// Writes of each line of the input, the hex of bytes, the text of the value of the type that a name stands for that they
-/// read as. The name is that of a message, or of a half of a service.
+/// Writes of each line of the input, the hex of bytes, the text of the value of the type that a
+/// name stands for that they read as. The name is that of a message, or of a half of a service.
 ///
-/// `NoFile` comes exactly where the namespace has no such message or half, and then nothing of the input is taken. `Text`
-/// comes exactly where the first line that is refused is no hex or has more than 2^20 bytes, and `Unreadable` where it is
-/// the hex of bytes that can't be read. `LogLong` comes exactly where the input has more than 2^28 bytes and no line
-/// before is refused. What answers the lines before is written.
+/// `NoFile` comes exactly where the namespace has no such message or half, and then nothing of the
+/// input is taken. `Text` comes exactly where the first line that is refused is no hex or has more
+/// than 2^20 bytes, and `Unreadable` where it is the hex of bytes that can't be read. `LogLong`
+/// comes exactly where the input has more than 2^28 bytes and no line before is refused. What
+/// answers the lines before is written.
 pub fn decode<L: Source, O: Sink>(
     alloc: Global,
     names: &Namespace,

@@ -15,13 +15,13 @@ use line_loop::listen_lines;
 use std::alloc::Global;
 use value_lines::Encoder;
 
-/// Writes of each line of the input, the text of a value of the type that a name stands for, the hex of the value's bytes.
-/// The name is that of a message, or of a half of a service.
+/// Writes of each line of the input, the text of a value of the type that a name stands for, the
+/// hex of the value's bytes. The name is that of a message, or of a half of a service.
 ///
-/// `NoFile` comes exactly where the namespace has no such message or half, and then nothing of the input is taken. `Text`
-/// comes exactly where a line is the text of no value or has more than 2^20 bytes, with the first such line. `LogLong`
-/// comes exactly where the input has more than 2^28 bytes and no line before is refused. What answers the lines before is
-/// written.
+/// `NoFile` comes exactly where the namespace has no such message or half, and then nothing of the
+/// input is taken. `Text` comes exactly where a line is the text of no value or has more than 2^20
+/// bytes, with the first such line. `LogLong` comes exactly where the input has more than 2^28
+/// bytes and no line before is refused. What answers the lines before is written.
 pub fn encode<L: Source, O: Sink>(
     alloc: Global,
     names: &Namespace,

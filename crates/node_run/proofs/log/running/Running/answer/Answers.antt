@@ -1,4 +1,4 @@
-use Rattle.std.proofs.Common.{◌≡◌, ◌∙◌, ◌++◌, ◌∷◌, [], ℕ, Bool, List, Some, length, refl, sym, ap, ap₂, subst, append-nil}
+use Rattle.std.proofs.Common.{◌≡◌, ◌∙◌, ◌++◌, ◌∷◌, [], ℕ, Bool, List, Some, length, refl, sym, ap, ap₂, subst, append-nil, rules}
 use Rattle.std.specs.Prelude.{if◌then◌else◌}
 use Rattle.line_text.specs.Buffer.{text_of}
 use Rattle.node_core.specs.Files.{is_failed}
@@ -13,115 +13,125 @@ use Rattle.node_core.proofs.Steps.{on_err}
 use Rattle.node_run.specs.Follows.{asked, following}
 use Rattle.node_run.specs.Goes.{with_sent}
 use Rattle.node_run.specs.Tells.{HasTold}
-use Rattle.node_run.proofs.SameNodes.{same_by, same_then}
+use Rattle.node_run.proofs.SameNodes.{same_by, same_then, still}
 use Rattle.node_run.proofs.Tells.{begins_none}
 use Rattle.node_run.proofs.log.running.Running.answer.Goals as goal
 
-pub returns-in_err-file-clause-err : goal.returns-in_err-file-clause-err
-returns-in_err-file-clause-err g c =
+pub returns-in_err-file-clause-followed : goal.returns-in_err-file-clause-followed
+returns-in_err-file-clause-followed g c =
+    let self = c.args.self.now in
+    let lines = g.K.LineSink.lines self.lines.now in record {
+      same = record {
+        over = record { lines = refl; tree = refl; told = c.serve.ensures.files };
+        node = still self.node.now;
+        buses = refl;
+        records = refl;
+        number = refl;
+        next = refl;
+      };
+      ok = search rules;
+      err = on_err _ c.from_residual.result (record {
+        part = λ file served. record {
+          file = file;
+          served = served;
+          part = record {
+            told = begins_none (following self.node.now.plan c.args.rec.now.moment (asked (Some c.args.request) file) (keeps self.node.now)) lines lines refl;
+            uncounted = refl;
+          };
+        };
+        untold = record { told = refl; count = c.serve.ensures.count };
+      });
+    }
+
+pub returns-in_err-full-clause-followed : goal.returns-in_err-full-clause-followed
+returns-in_err-full-clause-followed g c =
     let self = c.args.self.now in
     let lines = g.K.LineSink.lines self.lines.now in
-    on_err _ c.from_residual.result (record {
-      part = λ file served. record {
-        file = file;
-        served = served;
-        part = record {
-          told = begins_none (following self.node.now.plan c.args.rec.now.moment (asked (Some c.args.request) file) (keeps self.node.now)) lines lines refl;
-          uncounted = refl;
-        };
+    let file = c.in_ok-file.file in record {
+      same = record {
+        over = record { lines = refl; tree = refl; told = c.serve.ensures.files };
+        node = same_by c.reply.ensures.plan c.reply.ensures.latest c.reply.ensures.stands;
+        buses = refl;
+        records = refl;
+        number = refl;
+        next = refl;
       };
-      untold = record { told = refl; count = c.serve.ensures.count };
-    })
-
-pub returns-in_err-full-clause-err : goal.returns-in_err-full-clause-err
-returns-in_err-full-clause-err g c =
-    let self = c.args.self.now in
-    let lines = g.K.LineSink.lines self.lines.now in
-    let file = c.in_ok-file.file in
-    on_err _ c.from_residual-in_err-full.result (record {
-      part = λ other may. record {
-        file = file;
-        served = c.in_ok-file.ensures.served;
-        part = record {
-          told = begins_none (following self.node.now.plan c.args.rec.now.moment (asked (Some c.args.request) file) (keeps self.node.now)) lines lines refl;
-          uncounted = refl;
+      ok = search rules;
+      err = on_err _ c.from_residual-in_err-full.result (record {
+        part = λ other may. record {
+          file = file;
+          served = c.in_ok-file.ensures.served;
+          part = record {
+            told = begins_none (following self.node.now.plan c.args.rec.now.moment (asked (Some c.args.request) file) (keeps self.node.now)) lines lines refl;
+            uncounted = refl;
+          };
         };
-      };
-      untold = record { told = refl; count = c.serve.ensures.count };
-    })
+        untold = record { told = refl; count = c.serve.ensures.count };
+      });
+    }
 
-pub returns-in_err-sent-clause-same : goal.returns-in_err-sent-clause-same
-returns-in_err-sent-clause-same g c = record {
-  over = record { lines = refl; tree = refl; told = c.serve.ensures.files };
-  node = same_then (same_by c.reply.ensures.plan c.reply.ensures.latest c.reply.ensures.stands) c.send.ensures.same;
-  buses = c.send.ensures.buses;
-  records = refl;
-  number = refl;
-  next = refl;
-}
-
-pub returns-in_err-sent-clause-err : goal.returns-in_err-sent-clause-err
-returns-in_err-sent-clause-err g c =
+pub returns-in_err-sent-clause-followed : goal.returns-in_err-sent-clause-followed
+returns-in_err-sent-clause-followed g c =
     let self = c.args.self.now in
     let lines = g.K.LineSink.lines in
     let m = c.args.rec.now.moment in
     let reply = c.in_ok-full.ensures in
-    let all = ap₂ (λ (ls : List Line) (k : Kept). ls ++ leaving m k.queues) reply.fulls reply.keeps in
-    on_err _ c.from_residual-in_err-sent.result (record {
-      part = λ other may. record {
-        file = c.in_ok-file.file;
-        served = c.in_ok-file.ensures.served;
-        part = record {
-          told = subst (λ (ls : List Line). BeginsList ls (lines self.lines.now) (lines c.send.new.lines)) all c.in_err-sent.ensures.err;
-          uncounted = refl;
-        };
+    let all = ap₂ (λ (ls : List Line) (k : Kept). ls ++ leaving m k.queues) reply.fulls reply.keeps in record {
+      same = record {
+        over = record { lines = refl; tree = refl; told = c.serve.ensures.files };
+        node = same_then (same_by c.reply.ensures.plan c.reply.ensures.latest c.reply.ensures.stands) c.send.ensures.same;
+        buses = c.send.ensures.buses;
+        records = refl;
+        number = refl;
+        next = refl;
       };
-      untold = record { told = c.send.ensures.untold; count = c.serve.ensures.count };
-    })
+      ok = search rules;
+      err = on_err _ c.from_residual-in_err-sent.result (record {
+        part = λ other may. record {
+          file = c.in_ok-file.file;
+          served = c.in_ok-file.ensures.served;
+          part = record {
+            told = subst (λ (ls : List Line). BeginsList ls (lines self.lines.now) (lines c.send.new.lines)) all c.in_err-sent.ensures.err;
+            uncounted = refl;
+          };
+        };
+        untold = record { told = c.send.ensures.untold; count = c.serve.ensures.count };
+      });
+    }
 
-pub returns-in_err-tell_failed-clause-same : goal.returns-in_err-tell_failed-clause-same
-returns-in_err-tell_failed-clause-same g c = record {
-  over = record { lines = refl; tree = refl; told = c.serve.ensures.files };
-  node = same_then (same_by c.reply.ensures.plan c.reply.ensures.latest c.reply.ensures.stands) c.send.ensures.same;
-  buses = c.send.ensures.buses;
-  records = refl;
-  number = refl;
-  next = refl;
-}
-
-pub returns-in_err-tell_failed-clause-err : goal.returns-in_err-tell_failed-clause-err
-returns-in_err-tell_failed-clause-err g c =
+pub returns-in_err-tell_failed-clause-followed : goal.returns-in_err-tell_failed-clause-followed
+returns-in_err-tell_failed-clause-followed g c =
     let self = c.args.self.now in
     let lines = g.K.LineSink.lines in
     let m = c.args.rec.now.moment in
     let file = c.in_ok-file.file in
     let reply = c.in_ok-full.ensures in
     let due = following self.node.now.plan m (asked (Some c.args.request) file) (keeps self.node.now) in
-    let all = ap₂ (λ (ls : List Line) (k : Kept). ls ++ leaving m k.queues) reply.fulls reply.keeps in
-    on_err _ c.from_residual-in_err-tell_failed.result (record {
-      part = λ other may. record {
-        file = file;
-        served = c.in_ok-file.ensures.served;
-        part = record {
-          told = record { front = due; rest = []; whole = sym (append-nil due); put = c.tell_failed.ensures.lines ∙ (c.in_ok-sent.ensures.told.put ∙ ap (put_behind (lines self.lines.now)) all) };
-          uncounted = refl;
-        };
+    let all = ap₂ (λ (ls : List Line) (k : Kept). ls ++ leaving m k.queues) reply.fulls reply.keeps in record {
+      same = record {
+        over = record { lines = refl; tree = refl; told = c.serve.ensures.files };
+        node = same_then (same_by c.reply.ensures.plan c.reply.ensures.latest c.reply.ensures.stands) c.send.ensures.same;
+        buses = c.send.ensures.buses;
+        records = refl;
+        number = refl;
+        next = refl;
       };
-      untold = record { told = c.in_err-tell_failed.ensures.err ∙ c.send.ensures.untold; count = c.serve.ensures.count };
-    })
+      ok = search rules;
+      err = on_err _ c.from_residual-in_err-tell_failed.result (record {
+        part = λ other may. record {
+          file = file;
+          served = c.in_ok-file.ensures.served;
+          part = record {
+            told = record { front = due; rest = []; whole = sym (append-nil due); put = c.tell_failed.ensures.lines ∙ (c.in_ok-sent.ensures.told.put ∙ ap (put_behind (lines self.lines.now)) all) };
+            uncounted = refl;
+          };
+        };
+        untold = record { told = c.in_err-tell_failed.ensures.err ∙ c.send.ensures.untold; count = c.serve.ensures.count };
+      });
+    }
 
-pub returns-clause-same : goal.returns-clause-same
-returns-clause-same g c = record {
-  over = record { lines = refl; tree = refl; told = c.serve.ensures.files };
-  node = same_then (same_by c.reply.ensures.plan c.reply.ensures.latest c.reply.ensures.stands) c.send.ensures.same;
-  buses = c.send.ensures.buses;
-  records = ap (λ (n : Numbers). n.records) c.send-2.ensures;
-  number = refl;
-  next = refl;
-}
-
-pub returns-clause-ok : goal.returns-clause-ok
-returns-clause-ok g c =
+pub returns-clause-followed : goal.returns-clause-followed
+returns-clause-followed g c =
     let self = c.args.self.now in
     let lines = g.K.LineSink.lines in
     let m = c.args.rec.now.moment in
@@ -131,15 +141,26 @@ returns-clause-ok g c =
     let reply = c.in_ok-full.ensures in
     let all = ap₂ (λ (ls : List Line) (k : Kept). ls ++ leaving m k.queues) reply.fulls reply.keeps in
     let told = subst (λ (ls : List Line). HasTold (writes_for self.writer.now) ls (text_of c.args.gathered.now) (text_of c.send.new.gathered) (lines self.lines.now) (lines c.send.new.lines)) all sent.told in record {
-      file = file;
-      served = c.in_ok-file.ensures.served;
-      follows = record {
-        keeps_are = sent.keeps ∙ ap left reply.keeps;
-        told = record { gathered = told.gathered; put = c.tell_failed.ensures.lines ∙ told.put };
-        counted = c.send-2.ensures ∙ ap (with_sent self.tally.numbers) (sent.sent ∙ ap (λ (k : Kept). length (leaving m k.queues)) reply.keeps);
+      same = record {
+        over = record { lines = refl; tree = refl; told = c.serve.ensures.files };
+        node = same_then (same_by c.reply.ensures.plan c.reply.ensures.latest c.reply.ensures.stands) c.send.ensures.same;
+        buses = c.send.ensures.buses;
+        records = ap (λ (n : Numbers). n.records) c.send-2.ensures;
+        number = refl;
+        next = refl;
       };
-      fails = record {
-        told = c.in_ok-tell_failed.ensures.told ∙ ap₂ (λ o (failed : Bool). put_behind o (if failed then line ∷ [] else [])) c.send.ensures.untold c.is_failed.ensures;
-        cause = c.in_ok-file.ensures.cause;
+      ok = record {
+        file = file;
+        served = c.in_ok-file.ensures.served;
+        follows = record {
+          keeps_are = sent.keeps ∙ ap left reply.keeps;
+          told = record { gathered = told.gathered; put = c.tell_failed.ensures.lines ∙ told.put };
+          counted = c.send-2.ensures ∙ ap (with_sent self.tally.numbers) (sent.sent ∙ ap (λ (k : Kept). length (leaving m k.queues)) reply.keeps);
+        };
+        fails = record {
+          told = c.in_ok-tell_failed.ensures.told ∙ ap₂ (λ o (failed : Bool). put_behind o (if failed then line ∷ [] else [])) c.send.ensures.untold c.is_failed.ensures;
+          cause = c.in_ok-file.ensures.cause;
+        };
       };
+      err = tt;
     }

@@ -8,30 +8,31 @@ use Rattle.node_run.proofs.SameNodes.{still}
 use Rattle.node_run.proofs.Tells.{put_none}
 use Rattle.node_run.proofs.log.running.Running.leave.Goals as goal
 
-pub returns-then-waiting-eq0-clause-same : goal.returns-then-waiting-eq0-clause-same
-returns-then-waiting-eq0-clause-same g c = record {
-  over = record { lines = refl; tree = refl; told = refl };
-  node = still c.args.self.now.node.now;
-  buses = refl;
-  records = refl;
-  number = refl;
-  next = refl;
-}
-
-pub returns-then-waiting-eq0-clause-ok : goal.returns-then-waiting-eq0-clause-ok
-returns-then-waiting-eq0-clause-ok g c =
+pub returns-then-waiting-eq0-clause-followed : goal.returns-then-waiting-eq0-clause-followed
+returns-then-waiting-eq0-clause-followed g c =
     let self = c.args.self.now in
     let lines = g.K.LineSink.lines in
     let k = keeps self.node.now in
     let m = c.args.rec.now.moment in
     let quiet = sym c.waiting.ensures ∙ c.if-waiting-eq0.true in
     let low : self.tally.numbers.sent < 2 ^ 64 = omega arith in record {
-      file = NoFile;
-      served = refl;
-      follows = record {
-        keeps_are = none_kept k quiet;
-        told = none_told (writes_for self.writer.now) m k.queues (text_of c.args.gathered.now) (lines self.lines.now) quiet;
-        counted = none_sent m k.queues self.tally.numbers low quiet;
+      same = record {
+        over = record { lines = refl; tree = refl; told = refl };
+        node = still self.node.now;
+        buses = refl;
+        records = refl;
+        number = refl;
+        next = refl;
       };
-      fails = record { told = put_none (g.K.LineSink.failed self.lines.now); cause = refl };
+      ok = record {
+        file = NoFile;
+        served = refl;
+        follows = record {
+          keeps_are = none_kept k quiet;
+          told = none_told (writes_for self.writer.now) m k.queues (text_of c.args.gathered.now) (lines self.lines.now) quiet;
+          counted = none_sent m k.queues self.tally.numbers low quiet;
+        };
+        fails = record { told = put_none (g.K.LineSink.failed self.lines.now); cause = refl };
+      };
+      err = tt;
     }

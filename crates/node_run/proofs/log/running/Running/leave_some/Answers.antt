@@ -1,4 +1,4 @@
-use Rattle.std.proofs.Common.{◌≡◌, ◌∙◌, ◌++◌, List, length, refl, ap, subst, arith, map}
+use Rattle.std.proofs.Common.{◌≡◌, ◌∙◌, ◌++◌, List, length, refl, ap, subst, arith, map, rules}
 use Rattle.line_text.specs.Buffer.{text_of}
 use Rattle.node_core.specs.Keeps.{keeps}
 use Rattle.node_core.specs.LineSinks.{BeginsList}
@@ -15,58 +15,59 @@ use Rattle.node_run.specs.Tells.{HasTold}
 use Rattle.node_run.proofs.Tells.{put_none}
 use Rattle.node_run.proofs.log.running.Running.leave_some.Goals as goal
 
-pub returns-in_err-sent-clause-err : goal.returns-in_err-sent-clause-err
-returns-in_err-sent-clause-err g c =
+pub returns-in_err-sent-clause-followed : goal.returns-in_err-sent-clause-followed
+returns-in_err-sent-clause-followed g c =
     let self = c.args.self.now in
     let lines = g.K.LineSink.lines in
     let out = leaving c.args.rec.now.moment (keeps self.node.now).queues in
-    let all = ap (λ (fs : List FullLine). map Full fs ++ out) c.new-full.ensures in
-    on_err _ c.from_residual.result (record {
-      part = λ file served. record {
-        file = file;
-        served = served;
-        part = record {
-          told = subst (λ (ls : List Line). BeginsList ls (lines self.lines.now) (lines c.send.new.lines)) all c.in_err-sent.ensures.err;
-          uncounted = refl;
-        };
+    let all = ap (λ (fs : List FullLine). map Full fs ++ out) c.new-full.ensures in record {
+      same = record {
+        over = record { lines = refl; tree = refl; told = refl };
+        node = c.send.ensures.same;
+        buses = c.send.ensures.buses;
+        records = refl;
+        number = refl;
+        next = refl;
       };
-      untold = record { told = c.send.ensures.untold; count = omega arith };
-    })
+      ok = search rules;
+      err = on_err _ c.from_residual.result (record {
+        part = λ file served. record {
+          file = file;
+          served = served;
+          part = record {
+            told = subst (λ (ls : List Line). BeginsList ls (lines self.lines.now) (lines c.send.new.lines)) all c.in_err-sent.ensures.err;
+            uncounted = refl;
+          };
+        };
+        untold = record { told = c.send.ensures.untold; count = omega arith };
+      });
+    }
 
-pub returns-in_err-sent-clause-same : goal.returns-in_err-sent-clause-same
-returns-in_err-sent-clause-same g c = record {
-  over = record { lines = refl; tree = refl; told = refl };
-  node = c.send.ensures.same;
-  buses = c.send.ensures.buses;
-  records = refl;
-  number = refl;
-  next = refl;
-}
-
-pub returns-clause-same : goal.returns-clause-same
-returns-clause-same g c = record {
-  over = record { lines = refl; tree = refl; told = refl };
-  node = c.send.ensures.same;
-  buses = c.send.ensures.buses;
-  records = ap (λ (n : Numbers). n.records) c.send-2.ensures;
-  number = refl;
-  next = refl;
-}
-
-pub returns-clause-ok : goal.returns-clause-ok
-returns-clause-ok g c =
+pub returns-clause-followed : goal.returns-clause-followed
+returns-clause-followed g c =
     let self = c.args.self.now in
     let lines = g.K.LineSink.lines in
     let failed = g.K.LineSink.failed in
     let out = leaving c.args.rec.now.moment (keeps self.node.now).queues in
     let all = ap (λ (fs : List FullLine). map Full fs ++ out) c.new-full.ensures in
     let sent = c.in_ok-sent.ensures in record {
-      file = NoFile;
-      served = refl;
-      follows = record {
-        keeps_are = sent.keeps;
-        told = subst (λ (ls : List Line). HasTold (writes_for self.writer.now) ls (text_of c.args.gathered.now) (text_of c.send.new.gathered) (lines self.lines.now) (lines c.send.new.lines)) all sent.told;
-        counted = c.send-2.ensures ∙ ap (with_sent self.tally.numbers) sent.sent;
+      same = record {
+        over = record { lines = refl; tree = refl; told = refl };
+        node = c.send.ensures.same;
+        buses = c.send.ensures.buses;
+        records = ap (λ (n : Numbers). n.records) c.send-2.ensures;
+        number = refl;
+        next = refl;
       };
-      fails = record { told = c.send.ensures.untold ∙ put_none (failed self.lines.now); cause = refl };
+      ok = record {
+        file = NoFile;
+        served = refl;
+        follows = record {
+          keeps_are = sent.keeps;
+          told = subst (λ (ls : List Line). HasTold (writes_for self.writer.now) ls (text_of c.args.gathered.now) (text_of c.send.new.gathered) (lines self.lines.now) (lines c.send.new.lines)) all sent.told;
+          counted = c.send-2.ensures ∙ ap (with_sent self.tally.numbers) sent.sent;
+        };
+        fails = record { told = c.send.ensures.untold ∙ put_none (failed self.lines.now); cause = refl };
+      };
+      err = tt;
     }

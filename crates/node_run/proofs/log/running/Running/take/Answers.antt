@@ -3,18 +3,18 @@ use Rattle.std.specs.Prelude.{is_some}
 use Rattle.std.specs.Option.{ForSome}
 use Rattle.line_text.specs.Buffer.{text_of}
 use Rattle.node_plan.specs.declared.plan.Plan.{Plan}
-use Rattle.node_core.specs.Came.{came_request}
+use Rattle.node_core.specs.Came.{came_lines, came_request}
 use Rattle.node_core.specs.LineSinks.{put_behind}
 use Rattle.node_core.specs.Sending.{IsRequestTo}
 use Rattle.node_core.specs.Steps.{Heard, failed_at}
 use Rattle.node_core.specs.Told.{told_lines}
 use Rattle.node_core.specs.Writer.{writes_for}
 use Rattle.node_core.specs.declared.came.Heard.{Heard as HeardFrame}
-use Rattle.node_core.specs.declared.request.Request.{Request}
 use Rattle.node_core.proofs.Steps.{on_err}
+use Rattle.node_run.specs.Follows.{request_ended}
 use Rattle.node_run.specs.Goes.{state, state_in}
 use Rattle.node_run.specs.Tells.{HasTold}
-use Rattle.node_run.proofs.Takes.{broke_following, broke_received, broke_untold, came_to, came_to_none, runs_behind, served_by, text_behind}
+use Rattle.node_run.proofs.Takes.{broke_following, broke_untold, came_to, came_to_none, runs_behind, served_by, text_behind}
 use Rattle.node_run.proofs.Tells.{put_none, told_none}
 use Rattle.node_run.proofs.log.running.Running.take.Goals as goal
 
@@ -37,7 +37,7 @@ returns-in_err-came-clause-err g c =
 -- it is no frame for the node
 
 pub returns-in_err-leave-clause-count : goal.returns-in_err-leave-clause-count
-returns-in_err-leave-clause-count g c = let same = c.leave.ensures.same.records in omega arith
+returns-in_err-leave-clause-count g c = let same = c.leave.ensures.followed.same.records in omega arith
 
 pub returns-in_err-leave-clause-err : goal.returns-in_err-leave-clause-err
 returns-in_err-leave-clause-err g c =
@@ -50,7 +50,7 @@ returns-in_err-leave-clause-err g c =
     let came = c.in_ok-came.came in
     let none = is_none_so came.heard (c.if-is_none.ensures {u = tt}) in
     let to = came_to_none rec self.node.now node came c.step.ensures.plan c.step.ensures.keeps step.stands step.lines step.badcrc none in
-    let part = c.in_err-leave.ensures.err in
+    let part = c.in_err-leave.ensures.followed.err in
     let put = lines self.lines.now in
     on_err _ c.from_residual-in_err-leave.result (record {
       breaks = λ plan before past h.
@@ -74,9 +74,9 @@ returns-then-is_none-clause-ok g c =
     let text = text_of c.args.gathered.now in
     let after = text_of c.leave.new.gathered in
     let fin = state_in lines c.leave.new.self in
-    let same = c.leave.ensures.same in
+    let same = c.leave.ensures.followed.same in
     let first = told_none buses text put in
-    let x = c.in_ok-leave.ensures.ok in record {
+    let x = c.in_ok-leave.ensures.followed.ok in record {
       file = x.file;
       served = served_by files rec self.node.now node [] None came.badcrc x.file to x.served;
       goes = λ plan before past few h. (
@@ -100,33 +100,14 @@ returns-in_err-tell-clause-err g c =
       untold = record { told = c.tell.ensures.untold; count = omega arith };
     })
 
-pub returns-in_err-request-clause-err : goal.returns-in_err-request-clause-err
-returns-in_err-request-clause-err g c =
-    let lines = g.K.LineSink.lines in
-    let self = c.args.self.now in
-    let files = g.T.Tree.files self.tree.now in
-    let rec = c.args.rec.now in
-    let node = c.step.new.self in
-    let step = c.in_ok-came.ensures in
-    let came = c.in_ok-came.came in
-    let told = told_lines c.told-told.result in
-    let to = came_to rec self.node.now node came told (came_request came told) c.step.ensures.plan c.step.ensures.keeps step.stands step.lines step.badcrc step.request c.told-told.ensures refl in
-    let new = state node (writes_for c.tell.new.writer) (lines c.tell.new.lines) self.tally.numbers in
-    on_err _ c.from_residual-in_err-request.result (record {
-      breaks = λ plan before past h. broke_received plan before rec past (state_in lines self) h node told (came_request came told) came.badcrc to files new c.in_ok-tell.ensures.adds refl;
-      untold = record { told = c.tell.ensures.untold; count = omega arith };
-    })
-
 pub follow-requires : goal.follow-requires
 follow-requires g c =
-    let node = c.step.new.self in
     let came = c.in_ok-came.came in
-    let told = told_lines c.told-told.result in
-    let asks = subst (λ (p : Plan). ForSome (came_request came told) (IsRequestTo p.node)) (sym c.step.ensures.plan) (c.in_ok-came.ensures.asks told) in
-    subst (λ (r : Option Request). ForSome r (IsRequestTo node.plan.node)) (sym c.in_ok-request.ensures) asks
+    let lines = came_lines c.step.new.self c.args.rec.now came in
+    subst (λ (p : Plan). ForSome (came_request came lines) (IsRequestTo p.node)) (sym c.step.ensures.plan) (c.in_ok-came.ensures.asks lines)
 
 pub returns-in_err-follow-clause-count : goal.returns-in_err-follow-clause-count
-returns-in_err-follow-clause-count g c = let same = c.follow.ensures.same.records in omega arith
+returns-in_err-follow-clause-count g c = let same = c.follow.ensures.followed.same.records in omega arith
 
 pub returns-in_err-follow-clause-err : goal.returns-in_err-follow-clause-err
 returns-in_err-follow-clause-err g c =
@@ -138,9 +119,9 @@ returns-in_err-follow-clause-err g c =
     let step = c.in_ok-came.ensures in
     let came = c.in_ok-came.came in
     let told = told_lines c.told-told.result in
-    let request = c.in_ok-request.request in
-    let to = came_to rec self.node.now node came told request c.step.ensures.plan c.step.ensures.keeps step.stands step.lines step.badcrc step.request c.told-told.ensures c.in_ok-request.ensures in
-    let part = c.in_err-follow.ensures.err in
+    let request = request_ended node rec came in
+    let to = came_to rec self.node.now node came told request c.step.ensures.plan c.step.ensures.keeps step.stands step.lines step.badcrc step.request c.told-told.ensures (ap (came_request came) (sym c.told-told.ensures)) in
+    let part = c.in_err-follow.ensures.followed.err in
     on_err _ c.from_residual-in_err-follow.result (record {
       breaks = λ plan before past h.
           broke_following plan before rec past (state_in lines self) h node told request came.badcrc to files (writes_for c.tell.new.writer) (lines c.tell.new.lines) (state_in lines c.follow.new.self) _ c.in_ok-tell.ensures.adds part;
@@ -157,17 +138,17 @@ returns-clause-ok g c =
     let step = c.in_ok-came.ensures in
     let came = c.in_ok-came.came in
     let told = told_lines c.told-told.result in
-    let request = c.in_ok-request.request in
-    let to = came_to rec self.node.now node came told request c.step.ensures.plan c.step.ensures.keeps step.stands step.lines step.badcrc step.request c.told-told.ensures c.in_ok-request.ensures in
+    let request = request_ended node rec came in
+    let to = came_to rec self.node.now node came told request c.step.ensures.plan c.step.ensures.keeps step.stands step.lines step.badcrc step.request c.told-told.ensures (ap (came_request came) (sym c.told-told.ensures)) in
     let buses = writes_for c.tell.new.writer in
     let put = lines c.tell.new.lines in
     let text = text_of c.args.gathered.now in
     let now = text_of c.tell.new.gathered in
     let after = text_of c.follow.new.gathered in
     let fin = state_in lines c.follow.new.self in
-    let same = c.follow.ensures.same in
+    let same = c.follow.ensures.followed.same in
     let first : HasTold (writes_for self.writer.now) told text now (lines self.lines.now) put = record { gathered = c.in_ok-tell.ensures.text; put = c.in_ok-tell.ensures.adds } in
-    let x = c.in_ok-follow.ensures.ok in record {
+    let x = c.in_ok-follow.ensures.followed.ok in record {
       file = x.file;
       served = served_by files rec self.node.now node told request came.badcrc x.file to x.served;
       goes = λ plan before past few h. (
