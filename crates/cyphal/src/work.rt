@@ -5,7 +5,8 @@ ghost use Rattle.node_run.specs.Ran.{reported, no_numbers};
 ghost use Rattle.cyphal.specs.Words.{asked_by, command_of};
 ghost use Rattle.cyphal.specs.Job.{outcome, told_by, is_fault, NotDone};
 ghost use Rattle.cyphal.specs.Cause.{outside, HasCauseOver};
-ghost use Rattle.cyphal.specs.Expected.{job_of, job_for, WasDone};
+ghost use Rattle.cyphal.specs.Expected.{job_for, WasDone};
+ghost use Rattle.cyphal.specs.jobs.{job_of};
 
 use crate::jobs::bound::bound_plan;
 use crate::jobs::compat::compat_types;
