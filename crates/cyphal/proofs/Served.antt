@@ -6,7 +6,7 @@ use Rattle.node_run.specs.Failures.{AreFailures, Failures}
 use Rattle.node_run.specs.Ran.{Failed}
 use Rattle.node_run.specs.declared.status.Status.{Status}
 use Rattle.node_run.specs.declared.status.Status.TheVariants as status
-use Rattle.cyphal.specs.Words.{Command, Compile, Compat, Encode, Decode, Run, Bound, Migrate, Gen, Monitor, Allocate, Fetch, command_of}
+use Rattle.cyphal.specs.Words.{Command, Run, command_of}
 use Rattle.cyphal.specs.Cause.{Outside}
 use Rattle.cyphal.specs.Job.{Told, Outcome, is_settled, ReportsNothing}
 use Rattle.cyphal.specs.jobs.Run.{HasRunAt}
@@ -32,32 +32,14 @@ module _ (told : Told) (came : Outcome) where
   did_asked : (command : Option Command) → ((job_asked command).serves ≡ false → came.failures.faults_new ≡ came.failures.faults) → came.failures.old ≡ Some [] → came.status ≡ status.Ok
       → (job_asked command).did told came → StaysOrFails came.failures
   did_asked None kept old ok d = absurd d
-  did_asked (Some (Compile root)) kept old ok d = inl (kept refl)
-  did_asked (Some (Compat root newer older)) kept old ok d = inl (kept refl)
-  did_asked (Some (Encode root name)) kept old ok d = inl (kept refl)
-  did_asked (Some (Decode root name)) kept old ok d = inl (kept refl)
   did_asked (Some (Run root path)) kept old ok d = run_done root path old ok d
-  did_asked (Some (Bound root path)) kept old ok d = inl (kept refl)
-  did_asked (Some (Migrate root path)) kept old ok d = inl (kept refl)
-  did_asked (Some (Gen number)) kept old ok d = inl (kept refl)
-  did_asked (Some (Monitor own)) kept old ok d = inl (kept refl)
-  did_asked (Some (Allocate own)) kept old ok d = inl (kept refl)
-  did_asked (Some (Fetch own server path)) kept old ok d = inl (kept refl)
+  did_asked (Some other) kept old ok d = inl (kept refl)
 
   -- a command that serves no files reports none
   nothing_by : (command : Option Command) → (job_asked command).serves ≡ false → (job_asked command).did told came → ReportsNothing came
   nothing_by None h d = absurd d
-  nothing_by (Some (Compile root)) h d = d.1
-  nothing_by (Some (Compat root newer older)) h d = d.1
-  nothing_by (Some (Encode root name)) h d = d.1
-  nothing_by (Some (Decode root name)) h d = d.1
   nothing_by (Some (Run root path)) h d = absurd cc
-  nothing_by (Some (Bound root path)) h d = d.1
-  nothing_by (Some (Migrate root path)) h d = d.1
-  nothing_by (Some (Gen number)) h d = d.1
-  nothing_by (Some (Monitor own)) h d = d.1
-  nothing_by (Some (Allocate own)) h d = d.1
-  nothing_by (Some (Fetch own server path)) h d = d.1
+  nothing_by (Some other) h d = d.1
 
 module _ {L : Type 0} (words : List (List ℕ)) (told : Told) (came : Outcome) (old new : Outside L) (done : WasDone words told came old new) where
   -- where all was done, the tree's count stays, or requests are told in which it failed

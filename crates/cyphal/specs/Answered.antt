@@ -55,8 +55,9 @@ pub record Left : Type 0 where
 abbrev pub left_by : Option (List ℕ) → Option (List ℕ) → Left
 left_by input written = record { input = input; written = written }
 
--- The program ended with this number: it is that of a status with which the words were answered, and which was said. It
--- keeps no line of its report, nor those of requests in which the tree failed, but the numbers.
+-- The program ended with this number: it is that of a status with which the words were answered,
+-- and which was said. It keeps no line of its report, nor those of requests in which the tree
+-- failed, but the numbers.
 pub record HasEnded {L : Type 0} (words : List (List ℕ)) (told : Told) (code : ℕ) (left : Left)
     (old new : Outside L) (err err_new : Stream) : Type 0 where
   pub stat : Status

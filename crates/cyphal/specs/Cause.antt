@@ -12,7 +12,8 @@ pub record Counts : Type 0 where
 abbrev pub counts : ℕ → ℕ → Counts
 counts tree out = record { tree = tree; out = out }
 
--- of a command that is given no input: a fault comes only where a count rose, and each stays where all was done
+-- of a command that is given no input: a fault comes only where a count rose, and each stays where
+-- all was done
 pub record HasCause (stat : Status) (old new : Counts) : Type 0 where
   pub usage : ¬ (stat ≡ status.Usage)
   pub read : stat ≡ status.ReadFault → Rose old.tree new.tree
@@ -38,10 +39,10 @@ is_refused (status.NotNewer path why) = true
 is_refused (status.NoFile path) = true
 is_refused other = false
 
--- The same of any command, by whether it takes of the input: where it does not, where it is refused,
--- or where the tree failed, the input stays as it was. And by whether it serves files: where it does
--- not, the tree's count stays where all was done. That the tree fails in a request of a file is no
--- status.
+-- The same of any command, by whether it takes of the input: where it does not, where it is
+-- refused, or where the tree failed, the input stays as it was. And by whether it serves files:
+-- where it does not, the tree's count stays where all was done. That the tree fails in a request of
+-- a file is no status.
 pub record HasCauseOver {L : Type 0} (takes serves : Bool) (stat : Status)
     (old new : Outside L) : Type 0 where
   pub read : stat ≡ status.ReadFault

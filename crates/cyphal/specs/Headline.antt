@@ -62,8 +62,8 @@ pub record AreMet (plan : Plan) (tree : Files) (bytes : List ℕ) (mets : List M
   pub of_log : met_records mets ≡ logged_in plan bytes
   pub served : AreServed (Some tree) plan (steps plan mets)
 
--- the lines of the log with these records: those of its steps, and where it was read to its end those
--- on the frames that then leave
+-- the lines of the log with these records: those of its steps, and where it was read to its end
+-- those on the frames that then leave
 abbrev pub lines_of : Plan → List ℕ → List Met → List Line
 lines_of plan bytes mets = due_lines plan (steps plan mets) (log_in plan bytes).refusal
 
@@ -106,11 +106,12 @@ DueValuesIn plan bytes lines =
     → (due : IsDue plan.timeout sent origin (of_session_in plan bytes key) q)
     → SaysDueValue key port (transfer_at sent due.j).payload q lines
 
--- The headline over what is written. The records of the log are met, each with what the tree told of
--- a file there; a plan that serves no files asks for none, so its log has one text. Where all that
--- counts of the input was run, what is written is the text of the lines of the log with these, and a
--- beginning of it however the run ended. These lines, and each front of them, say of a session only
--- what was sent, at most once, each value as it was sent; and all of them say what is due.
+-- The headline over what is written. The records of the log are met, each with what the tree told
+-- of a file there; a plan that serves no files asks for none, so its log has one text. Where all
+-- that counts of the input was run, what is written is the text of the lines of the log with these,
+-- and a beginning of it however the run ended. These lines, and each front of them, say of a
+-- session only what was sent, at most once, each value as it was sent; and all of them say what is
+-- due.
 pub record Headline (plan : Plan) (tree : Files) (bytes : List ℕ) (stat : Status)
     (before after : Option (List ℕ)) : Type 0 where
   pub mets : List Met

@@ -2,7 +2,8 @@
 use Rattle.std.specs.Prelude.{◌≡◌, ◌⊎◌, ℕ, List, [], ◌∷◌, codes, Option, Some, None, if◌then◌else◌}
 use Rattle.std.specs.Str.{bytes_eq}
 use Rattle.cy_outside.specs.Written.{behind, Begins}
-use Rattle.cyphal.specs.declared.help.TheConstants.{HELP, VERSION}
+use Rattle.cyphal.specs.declared.help.TheConstants.{VERSION}
+use Rattle.cyphal.specs.declared.words.TheConstants.{HELP}
 
 -- the answer to `--help` or `--version`, where this is the only word
 abbrev pub own_answer : List (List ℕ) → Option (List ℕ)
@@ -11,7 +12,8 @@ own_answer (word ∷ []) =
     else (if bytes_eq word (codes "--version") then Some VERSION.now else None)
 own_answer other = None
 
--- the program ended with this number, and all of an answer was written, or a beginning where a write failed
+-- the program ended with this number, and all of an answer was written, or a beginning where a
+-- write failed
 abbrev pub HasAnswered : List ℕ → ℕ → Option (List ℕ) → Option (List ℕ) → Type 0
 HasAnswered text code before after =
     ((code ≡ 0) × (after ≡ behind before text)) ⊎ ((code ≡ 9) × Begins text before after)

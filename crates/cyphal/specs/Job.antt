@@ -9,7 +9,8 @@ use Rattle.node_run.specs.declared.status.Status.{Status}
 use Rattle.node_run.specs.declared.status.Status.TheVariants as status
 use Rattle.cyphal.specs.Cause.{Outside}
 
--- what the outside tells as the call begins: the files of the tree, the bytes of the input, and what was written before
+-- what the outside tells as the call begins: the files of the tree, the bytes of the input, and
+-- what was written before
 pub record Told : Type 0 where
   pub files : Option Files
   pub input : Option (List ℕ)
@@ -18,8 +19,8 @@ pub record Told : Type 0 where
 abbrev pub told_by : Option Files → Option (List ℕ) → Option (List ℕ) → Told
 told_by files input written = record { files = files; input = input; written = written }
 
--- what a call came to: its status, what it reported, in which requests of files the tree failed, what is left of the input,
--- and what is written at its end
+-- what a call came to: its status, what it reported, in which requests of files the tree failed,
+-- what is left of the input, and what is written at its end
 pub record Outcome : Type 0 where
   pub status : Status
   pub reported : Reported
@@ -31,7 +32,8 @@ abbrev pub outcome : Status → Reported → Failures → Option (List ℕ) → 
 outcome stat put failures left written =
     record { status = stat; reported = put; failures = failures; left = left; written = written }
 
--- what a command came to that is given neither an input nor a sink of lines: its status, and what was written before and after it
+-- what a command came to that is given neither an input nor a sink of lines: its status, and what
+-- was written before and after it
 pub record Printed : Type 0 where
   pub status : Status
   pub before : Option (List ℕ)
@@ -101,7 +103,8 @@ pub record WroteNothing (print : Printed) : Type 0 where
   pub not_settled : is_settled print.status ≡ false
   pub not_write : ¬ (print.status ≡ status.WriteFault)
 
--- the same of a command that is given an input: it took nothing either, and a read fault is one of the tree
+-- the same of a command that is given an input: it took nothing either, and a read fault is one of
+-- the tree
 pub record TookNothing {L : Type 0} (print : Printed) (old new : Outside L) : Type 0 where
   pub nothing : WroteNothing print
   pub source : new.source ≡ old.source

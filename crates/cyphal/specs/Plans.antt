@@ -1,4 +1,5 @@
--- What a command of a plan comes to: why the root has no namespace, or in it what the file at the plan's path gives.
+-- What a command of a plan comes to: why the root has no namespace, or in it what the file at the
+-- plan's path gives.
 use Rattle.std.specs.Prelude.{◌≡◌, ◌⊎◌, ℕ, false, List, Option, Some, None, IfSome}
 use Rattle.std.specs.FinMap as map
 use Rattle.cy_outside.specs.Files.{Files}
@@ -43,8 +44,8 @@ pub record EndsInRoot (ends : PlanEnds) (root path : List ℕ) (files : Option F
   pub is : IsLoaded root files names
   pub end : EndsIn ends names path files stat
 
--- how a command of a plan ends: as the root says that has no namespace, before any of the plan is read, or as in its
--- namespace
+-- how a command of a plan ends: as the root says that has no namespace, before any of the plan is
+-- read, or as in its namespace
 abbrev pub EndsAt : PlanEnds → List ℕ → List ℕ → Option Files → Status → Type 0
 EndsAt ends root path files stat = (is_fault stat ≡ false)
     × (IsNotLoaded root files stat ⊎ EndsInRoot ends root path files stat)

@@ -1,4 +1,5 @@
--- The premises of the headline can be met: the text of a plan, a log and a sent list that meet all of them.
+-- The premises of the headline can be met: the text of a plan, a log and a sent list that meet all
+-- of them.
 use Rattle.std.specs.Prelude.{◌≡◌, ℕ, ◌<◌, List, [], ◌∷◌, ◌++◌, length, codes, Some, None}
 use Rattle.std.specs.FinMap as map
 use Rattle.can_id.specs.declared.key.Kind.TheVariants.{Message}
@@ -39,8 +40,9 @@ pub record MeetsPremises (words : List (List ℕ)) (told : Told) (sent : Sent) :
 abbrev pub plan_text : List ℕ
 plan_text = codes "plan 1\nnode 10\nbus can0\nbus can1\nsilent\nsub 100 4 raw 16\n"
 
--- a transfer of two frames on can0; the same in one frame on can1, which is a repeat; and, when can0 was silent for
--- longer than the timeout, another transfer on can1 alone, which is the handover
+-- a transfer of two frames on can0; the same in one frame on can1, which is a repeat; and, when
+-- can0 was silent for longer than the timeout, another transfer on can1 alone, which is the
+-- handover
 abbrev pub log_text : List ℕ
 log_text =
     codes "(1.000000) can0 10606401#00010203040506A0\n"

@@ -8,21 +8,23 @@ use Rattle.node_run.specs.Taken.{IsOfTaken}
 use Rattle.cyphal.specs.Job.{Told, Outcome, flow_of}
 use Rattle.cyphal.specs.Headline.{AreMet, Asked}
 
--- the records of the input that count are met, each with what the tree told of a file there, and this holds of them
+-- the records of the input that count are met, each with what the tree told of a file there, and
+-- this holds of them
 pub record OverMet (plan : Plan) (tree : Files) (bytes : List ℕ)
     (holds : List Met → Type 0) : Type 0 where
   pub mets : List Met
   pub are : AreMet plan tree bytes mets
   pub is : holds mets
 
--- a run whose input failed: the report and what is written are those of the records whose line and newline were taken,
--- each of them whole, and of no other
+-- a run whose input failed: the report and what is written are those of the records whose line and
+-- newline were taken, each of them whole, and of no other
 abbrev pub TakenOf : List (List ℕ) → Told → Outcome → Type 0
 TakenOf words told came =
     (plan : Plan) (bytes : List ℕ) (a : Asked words told plan bytes)
     → OverMet plan a.tree bytes (λ mets. IsOfTaken plan mets (flow_of told came) came.reported)
 
--- however a run ended: no more than 8,192 bytes were taken of the input before the lines on what came before them were written
+-- however a run ended: no more than 8,192 bytes were taken of the input before the lines on what
+-- came before them were written
 abbrev pub StreamedOf : List (List ℕ) → Told → Outcome → Type 0
 StreamedOf words told came =
     (plan : Plan) (bytes : List ℕ) (a : Asked words told plan bytes)

@@ -1,3 +1,4 @@
+-- The commands: a file makes the job of each, or of those that differ in what they are given.
 pub mod Compile
 pub mod Compat
 pub mod Values
@@ -7,3 +8,34 @@ pub mod Migrate
 pub mod Gen
 pub mod Reach
 pub mod Fetch
+use Rattle.node_reach.specs.Allocated.{allocate_voice}
+use Rattle.node_reach.specs.Fetched.{client_of}
+use Rattle.node_reach.specs.Monitored.{monitor_voice}
+use Rattle.value_lines.specs.Decoded.{Decodes}
+use Rattle.value_lines.specs.Encoded.{Encodes}
+use Rattle.cyphal.specs.Words as command
+use Rattle.cyphal.specs.Words.{Command}
+use Rattle.cyphal.specs.Job.{Job}
+use Rattle.cyphal.specs.jobs.Compile.{compile_job}
+use Rattle.cyphal.specs.jobs.Compat.{compat_job}
+use Rattle.cyphal.specs.jobs.Values.{values_job}
+use Rattle.cyphal.specs.jobs.Run.{run_job}
+use Rattle.cyphal.specs.jobs.Bound.{bound_job}
+use Rattle.cyphal.specs.jobs.Migrate.{migrate_job}
+use Rattle.cyphal.specs.jobs.Gen.{gen_job}
+use Rattle.cyphal.specs.jobs.Reach.{reach_job}
+use Rattle.cyphal.specs.jobs.Fetch.{fetch_job}
+
+-- what a command asks for
+abbrev pub job_of : Command → Job
+job_of (command.Compile root) = compile_job root
+job_of (command.Compat root new old) = compat_job root new old
+job_of (command.Encode root name) = values_job Encodes root name
+job_of (command.Decode root name) = values_job Decodes root name
+job_of (command.Run root path) = run_job root path
+job_of (command.Bound root path) = bound_job root path
+job_of (command.Migrate root path) = migrate_job root path
+job_of (command.Gen number) = gen_job number
+job_of (command.Monitor own) = reach_job (monitor_voice own)
+job_of (command.Allocate own) = reach_job (allocate_voice own)
+job_of (command.Fetch own server path) = fetch_job (client_of own server path)

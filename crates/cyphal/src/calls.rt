@@ -9,8 +9,7 @@ use std::process::Abort;
 use std::test::Fail;
 
 /// The words, the files of the tree by their paths, the input, which calls of the tree, the input
-/// and the output fail, and the status, the output, the line on standard error, and the lines of the
-/// requests of files in which the tree failed, that come of it.
+/// and the output fail, and the status, the output and the line on standard error that come of it.
 #[derive(Clone, Copy)]
 pub struct Call {
     pub words: &'static [&'static str],
@@ -22,7 +21,6 @@ pub struct Call {
     pub code: u8,
     pub written: &'static [u8],
     pub line: &'static [u8],
-    pub failed: &'static [u64],
 }
 
 /// A call of which nothing fails.
@@ -36,7 +34,6 @@ pub const CALL: Call = Call {
     code: 0,
     written: b"",
     line: b"",
-    failed: &[],
 };
 
 /// Words that are no command.
@@ -63,7 +60,6 @@ pub fn come_to(rt: &impl Abort, alloc: Global, calls: &[Call]) -> Result<(), Fai
             &mut err,
         );
         assert_eq!(rt; code_of(&done.status), call.code);
-        assert_eq!(rt; done.report.failed.as_slice(), call.failed);
         assert_eq!(rt; out.written.as_slice(), call.written);
         assert_eq!(rt; err.written.as_slice(), call.line);
     }

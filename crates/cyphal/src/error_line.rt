@@ -72,7 +72,8 @@ fn put_missing<E: Sink>(err: &mut E, path: &str) -> Result<(), Failed>
     put_parts(err, &parts)
 }
 
-/// Writes the line of bytes that can't be read: a word says why, and with it stands the number that was read.
+/// Writes the line of bytes that can't be read: a word says why, and with it stands the number that
+/// was read.
 fn put_unreadable<E: Sink>(
     err: &mut E,
     line: u64,

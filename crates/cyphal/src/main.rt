@@ -4,6 +4,7 @@
 ghost use Rattle.std.specs.Prelude.{◌≡◌};
 ghost use Rattle.cyphal.specs.ErrorLine.{code_of};
 
+mod arguments;
 #[cfg(test)]
 mod calls;
 mod dsdl_line;

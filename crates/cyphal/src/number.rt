@@ -42,7 +42,8 @@ fn number_to(word: &[u8], most: u32) -> Option<u32>
     }
 }
 
-/// The number of decimal digits without leading zeros; one that is large may come as any large number.
+/// The number of decimal digits without leading zeros; one that is large may come as any large
+/// number.
 fn decimal(word: &[u8]) -> Option<u64>
     ensures { (most : ℕ) → most < LARGE → at_most most result ≡ at_most most (number_of word.now) }
 {

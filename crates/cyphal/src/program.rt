@@ -14,8 +14,8 @@ use node_core::NoLines;
 use node_run::Status;
 use std::alloc::Global;
 
-/// Answers on `out` what is asked of the program itself, and does everything else that the words ask for. It keeps no
-/// line of its report. It gives the number with which the program ends.
+/// Answers on `out` what is asked of the program itself, and does everything else that the words
+/// ask for. It keeps no line of its report. It gives the number with which the program ends.
 pub fn program<T: Tree, L: Source, O: Sink, E: Sink>(
     alloc: Global,
     words: &[String],

@@ -20,8 +20,8 @@ impl<'a> RemoteFile<'a> {
     ghost use Rattle.std.specs.Prelude.{◌≡◌, option_map};
     ghost use Rattle.cyphal.specs.Words.{Fetch, fetch_given};
 
-    /// The file at a path, where there are both nodes, they differ, and the path has at most 255 bytes, each of them a
-    /// space or a visible character of ASCII.
+    /// The file at a path, where there are both nodes, they differ, and the path has at most 255
+    /// bytes, each of them a space or a visible character of ASCII.
     pub fn new(own: Option<NodeId>, server: Option<NodeId>, path: &'a str) -> Option<RemoteFile<'a>>
         ensures { let number = option_map (λ node. node.number) in
             option_map (λ file. Fetch file.own.number file.server.number file.path.now) result

@@ -33,8 +33,8 @@ pub struct Counted {
     pub numbers: Numbers,
 }
 
-/// Does what the words ask for. What is due is written to `out`, the lines of a report are put to `lines` as well, and of
-/// each status but `Ok` one line is written to `err`.
+/// Does what the words ask for. What is due is written to `out`, the lines of a report are put to
+/// `lines` as well, and of each status but `Ok` one line is written to `err`.
 pub fn run_words<T: Tree, L: Source, O: Sink, E: Sink, K: LineSink>(
     alloc: Global,
     words: &[String],
@@ -77,8 +77,8 @@ pub fn run_words<T: Tree, L: Source, O: Sink, E: Sink, K: LineSink>(
         (due : TheStatus) → job.is_told told ≡ true → job.expects told due
         → ¬ Rose old.input new.input → ¬ Rose old.out new.out
         → EndsAsDue due result.status old new }
-    // The headline, where the words, the files and the input are told: of what is written, and of the lines where the
-    // sink tells them.
+    // The headline, where the words, the files and the input are told: of what is written, and of
+    // the lines where the sink tells them.
     ensures headline { let words = map string_bytes words.now in
         let told = told_by (T.files tree.old) (L.left input.old) (O.written out.old) in
         let put = reported (K.lines lines.old) (K.lines lines.new) result.numbers in
@@ -111,7 +111,8 @@ pub fn run_words<T: Tree, L: Source, O: Sink, E: Sink, K: LineSink>(
         (T.faults tree.old) (T.faults tree.new) in
         let came = outcome result.status put failed (L.left input.new) (O.written out.new) in
         DueValuesPut words told came }
-    // How far the input is taken where a read fails: not at all, where the tree failed, or up to the last whole line.
+    // How far the input is taken where a read fails: not at all, where the tree failed, or up to
+    // the last whole line.
     ensures taken { let words = map string_bytes words.now in
         let told = told_by (T.files tree.old) (L.left input.old) (O.written out.old) in
         let put = reported (K.lines lines.old) (K.lines lines.new) result.numbers in

@@ -20,16 +20,7 @@ const REGISTER: Call = Call {
     ..RUN
 };
 
-/// A run of the plan of a silent node that serves a folder.
-const SERVE: Call = Call {
-    files: &[
-        ("plan", b"plan 1\nnode 42\nbus can0\nsilent\nserve srv\n"),
-        ("srv/a", b"abc"),
-    ],
-    ..RUN
-};
-
-const ROWS: [Call; 12] = [
+const ROWS: [Call; 10] = [
     // Its first heartbeat, the request, and the reply.
     Call {
         written: b"tx 5.000000 can0 107D552A 00000000000000E0\n\
@@ -155,37 +146,6 @@ const ROWS: [Call; 12] = [
               tx 5.000003 can0 12603DAA 0000187243\n\
               end records 4 delivered 4 badcrc 0 nosession 0 sent 8 held 515 bound 2068\n",
         ..REGISTER
-    },
-    // A file is read, its folder is listed, and what it is is asked for.
-    Call {
-        text: b"(5.000000) can0 1366157B#00000000000161E2\n\
-              (5.000001) can0 1365957B#00000000000000A3\n\
-              (5.000002) can0 1365957B#0000187243\n\
-              (5.000003) can0 1365557B#0161E4\n",
-        written: b"rx 5.000000 can0 req 408 123 4 2 1 1 00000000000161 \
-              {offset: 0, path: {path: #61}}\n\
-              tx 5.000000 can0 12663DAA 00000300616263E2\n\
-              rx 5.000001 can0 req 406 123 4 3 2 3 000000000000000000 \
-              {entry_index: 0, directory_path: {path: #}}\n\
-              tx 5.000002 can0 1265BDAA 000000000161E3\n\
-              rx 5.000003 can0 req 405 123 4 4 4 4 0161 {path: {path: #61}}\n\
-              tx 5.000003 can0 12657DAA 00000300000000A4\n\
-              tx 5.000003 can0 12657DAA 0000000000050004\n\
-              tx 5.000003 can0 12657DAA 5364\n\
-              end records 4 delivered 3 badcrc 0 nosession 0 sent 5 held 900 bound 3600\n",
-        ..SERVE
-    },
-    // The tree fails in a request of two frames: the reply says so, and the status doesn't.
-    Call {
-        tree: &[1],
-        text: b"(5.000000) can0 1366157B#0000000000046CA2\n\
-              (5.000001) can0 1366157B#6F6E67FDE142\n",
-        written: b"rx 5.000000 can0 req 408 123 4 2 1 2 0000000000046C6F6E67 \
-              {offset: 0, path: {path: #6C6F6E67}}\n\
-              tx 5.000001 can0 12663DAA 05000000E2\n\
-              end records 2 delivered 1 badcrc 0 nosession 0 sent 1 held 300 bound 3600\n",
-        failed: &[2],
-        ..SERVE
     },
     // Limits that the register's value is outside of.
     Call {

@@ -27,7 +27,8 @@ pub struct Done {
     pub report: Report,
 }
 
-/// Does what the words ask for. What is due is written to `out`, and of each status but `Ok` one line to `err`.
+/// Does what the words ask for. What is due is written to `out`, and of each status but `Ok` one
+/// line to `err`.
 pub fn top<T: Tree, L: Source, O: Sink, E: Sink>(
     alloc: Global,
     words: &[String],
@@ -68,13 +69,15 @@ pub fn top<T: Tree, L: Source, O: Sink, E: Sink>(
         (due : TheStatus) → job.is_told told ≡ true → job.expects told due
         → ¬ Rose old.input new.input → ¬ Rose old.out new.out
         → EndsAsDue due result.status old new }
-    // Where all was done, the tree's count is as it was, or the report names requests in which it failed.
+    // Where all was done, the tree's count is as it was, or the report names requests in which it
+    // failed.
     ensures failed { result.status ≡ Status.Ok
         → (T.faults tree.new ≡ T.faults tree.old) ⊎ (result.report.failed ≢ []) }
     // Of a command that serves no files it names none.
     ensures unserved { (job_for (map string_bytes words.now)).serves ≡ false
         → result.report.failed ≡ [] }
-    // The headline, where the words, the files and the input are told: of what is written, and of the report.
+    // The headline, where the words, the files and the input are told: of what is written, and of
+    // the report.
     ensures headline { let words = map string_bytes words.now in
         let told = told_by (T.files tree.old) (L.left input.old) (O.written out.old) in
         let put = of_report result.report in
@@ -90,7 +93,8 @@ pub fn top<T: Tree, L: Source, O: Sink, E: Sink>(
     ensures due_values { let words = map string_bytes words.now in
         let told = told_by (T.files tree.old) (L.left input.old) (O.written out.old) in
         DueValuesOf words told result.status result.report.lines }
-    // How far the input is taken where a read fails: not at all, where the tree failed, or up to the last whole line.
+    // How far the input is taken where a read fails: not at all, where the tree failed, or up to
+    // the last whole line.
     ensures taken { let words = map string_bytes words.now in
         let told = told_by (T.files tree.old) (L.left input.old) (O.written out.old) in
         let put = of_report result.report in

@@ -1,14 +1,11 @@
-//! Which words are a command, and what its arguments are.
-ghost use Rattle.std.specs.Prelude.{◌≡◌, ℕ, List, IfOk, OnErr, Some, is_some, map, option_map, string_bytes, true, false};
-ghost use Rattle.clap.specs.Words.{app_of};
-ghost use Rattle.clap.specs.Walk.{rule_of};
-ghost use Rattle.cyphal.specs.ClapShape.{given, one_shape, two_shape, three_shape};
-ghost use Rattle.cyphal.specs.Words.{Gen, Monitor, Allocate, asked_by, is_argument, are_arguments, are_three, one_given, two_given, three_given, named_of_one, named_of_node, named_of_two, named_of_plan, named_of_three, command_of};
+//! Which words are a command, what its arguments are, and what `--help` says of it.
+ghost use Rattle.std.specs.Prelude.{◌≡◌, IfOk, OnErr, is_some, map, option_map, string_bytes, true};
+ghost use Rattle.cyphal.specs.Words.{Gen, Monitor, Allocate, asked_by, named_of_one, named_of_node, named_of_two, named_of_plan, named_of_three, command_of};
 
+use crate::arguments::{are_arguments, are_three, is_argument, one_word, three_words, two_words};
 use crate::node_id::NodeId;
 use crate::number::{node_of, number_of};
 use crate::remote_file::RemoteFile;
-use clap::{Arg, ArgAction, Command};
 use cy_bits::NoMemory;
 use std::alloc::Global;
 
@@ -67,6 +64,60 @@ pub enum Accepted<'a> {
         file: RemoteFile<'a>,
     },
 }
+
+/// What `--help` answers: of each command its word, its arguments and what it does.
+pub const HELP: &str = "\
+cyphal compile ROOT
+    compiles the DSDL files below the folder ROOT, and writes for each type its
+    lengths and where its fields stand; ROOT none stands for no files
+
+cyphal compat ROOT NEW OLD
+    writes whether the type NEW is newer than OLD, so that either reads what the
+    other writes; names are as a.b.Name.1.0, with .Request or .Response behind
+    them for a half of a service
+
+cyphal encode ROOT TYPE
+    writes for each line of standard input, the text of a value of TYPE, the
+    hex of its bytes
+
+cyphal decode ROOT TYPE
+    writes for each line of standard input, the hex of bytes, the text of the
+    value of TYPE that they read as
+
+cyphal run ROOT PLAN
+    runs a node by the plan in the file PLAN over the log on standard input,
+    and writes its report; the types that the plan names are those of ROOT
+
+cyphal bound ROOT PLAN
+    writes how many bytes the plan's sessions hold at most
+
+cyphal migrate ROOT PLAN
+    writes the plan as one of version 2; a plan of version 2 stays as it is
+
+cyphal gen NUMBER
+    makes a log of 20,000 transfers on three buses from the number, below 2^32,
+    runs it, and writes how much was received
+
+cyphal monitor NODE
+    hears the log on standard input as the node NODE, 0 to 127, and writes which
+    nodes are online at its end, and the network's time
+
+cyphal allocate NODE
+    hears such a log, gives node-IDs to nodes that have none, and writes which,
+    with the frames that say so
+
+cyphal fetch NODE SERVER PATH
+    fetches the file PATH of the node SERVER over such a log, and writes the
+    requests that it makes, and the file
+
+cyphal --help, cyphal --version
+    write this, or the version
+
+statuses: 0 done, 1 usage, 2 DSDL file refused, 3 plan refused, 4 log refused,
+    5 line of no value, 6 bytes that can't be read, 7 not newer, 8 read fault,
+    9 write fault, 10 out of memory, 11 input too long,
+    12 no such file, folder or type
+";
 
 /// The command that the words are, so `compile ROOT`, `compat ROOT NEW OLD`, `encode ROOT TYPE`,
 /// `decode ROOT TYPE`, `run ROOT PLAN`, `bound ROOT PLAN`, `migrate ROOT PLAN`, `gen NUMBER`,
@@ -219,114 +270,5 @@ fn of_plan<'a>(word: &str, root: &'a str, plan: &'a str) -> Option<Accepted<'a>>
         Some(Accepted::Migrate { root, plan })
     } else {
         None
-    }
-}
-
-/// Whether a word can be an argument: it isn't empty and begins with no hyphen.
-fn is_argument(word: &str) -> bool
-    ensures { result ≡ is_argument word.now }
-{
-    match word.as_bytes() {
-        [] => false,
-        [first, ..] => *first != b'-',
-    }
-}
-
-/// Whether a root and another argument are accepted.
-fn are_arguments(root: &str, argument: &str) -> bool
-    ensures { result ≡ are_arguments root.now argument.now }
-{
-    is_argument(root) && is_argument(argument)
-}
-
-/// Whether three arguments are accepted.
-fn are_three(first: &str, second: &str, third: &str) -> bool
-    ensures { result ≡ are_three first.now second.now third.now }
-{
-    is_argument(first) && is_argument(second) && is_argument(third)
-}
-
-/// A required argument with one value.
-fn given<'a>(alloc: Global, id: &'a str) -> Arg<'a>
-    ensures rule { rule_of result ≡ given id.entry.now }
-    ensures local { result.global ≡ false }
-{
-    Arg::new(alloc, id).required(true).action(ArgAction::Set)
-}
-
-fn one_shape<'a>(alloc: Global) -> Result<Command<'a>, NoMemory>
-    ensures { IfOk result (λ c. app_of c ≡ one_shape) }
-{
-    let command = Command::new(alloc, "cyphal").arg(given(alloc, "ARGUMENT"))?;
-    Ok(command)
-}
-
-fn three_shape<'a>(alloc: Global) -> Result<Command<'a>, NoMemory>
-    ensures { IfOk result (λ c. app_of c ≡ three_shape) }
-{
-    let command = Command::new(alloc, "cyphal")
-        .arg(given(alloc, "FIRST"))?
-        .arg(given(alloc, "SECOND"))?
-        .arg(given(alloc, "THIRD"))?;
-    Ok(command)
-}
-
-fn two_shape<'a>(alloc: Global) -> Result<Command<'a>, NoMemory>
-    ensures { IfOk result (λ c. app_of c ≡ two_shape) }
-{
-    let command = Command::new(alloc, "cyphal")
-        .arg(given(alloc, "ROOT"))?
-        .arg(given(alloc, "ARGUMENT"))?;
-    Ok(command)
-}
-
-/// The argument of accepted words that have one alone. It refuses nothing, and wants memory.
-fn one_word<'a>(alloc: Global, words: &'a [String]) -> Result<&'a str, NoMemory>
-    requires { is_some (one_given (map string_bytes words.now)) ≡ true }
-    ensures { IfOk result (λ word. one_given (map string_bytes words.entry.now) ≡ Some word.now) }
-{
-    let command = one_shape(alloc)?;
-    match command.try_get_matches_from(words) {
-        Ok(matches) => Ok(matches.get_str("ARGUMENT").unwrap()),
-        Err(_) => Err(NoMemory),
-    }
-}
-
-/// The arguments of accepted words that have three. It refuses nothing, and wants memory.
-fn three_words<'a>(
-    alloc: Global,
-    words: &'a [String],
-) -> Result<(&'a str, &'a str, &'a str), NoMemory>
-    requires { is_some (three_given (map string_bytes words.now)) ≡ true }
-    ensures { let given = three_given (map string_bytes words.entry.now) in
-        IfOk result (λ got. given ≡ Some (got.0.now, got.1.now, got.2.now)) }
-{
-    let command = three_shape(alloc)?;
-    match command.try_get_matches_from(words) {
-        Ok(matches) => {
-            let first = matches.get_str("FIRST").unwrap();
-            let second = matches.get_str("SECOND").unwrap();
-            let third = matches.get_str("THIRD").unwrap();
-            Ok((first, second, third))
-        }
-        Err(_) => Err(NoMemory),
-    }
-}
-
-/// The arguments of accepted words that have a root and another. It refuses nothing, and wants
-/// memory.
-fn two_words<'a>(alloc: Global, words: &'a [String]) -> Result<(&'a str, &'a str), NoMemory>
-    requires { is_some (two_given (map string_bytes words.now)) ≡ true }
-    ensures { let given = two_given (map string_bytes words.entry.now) in
-        IfOk result (λ got. given ≡ Some (got.0.now, got.1.now)) }
-{
-    let command = two_shape(alloc)?;
-    match command.try_get_matches_from(words) {
-        Ok(matches) => {
-            let root = matches.get_str("ROOT").unwrap();
-            let argument = matches.get_str("ARGUMENT").unwrap();
-            Ok((root, argument))
-        }
-        Err(_) => Err(NoMemory),
     }
 }

@@ -1,6 +1,5 @@
 -- A comparison's status.
-use Rattle.std.proofs.Common.{◌≡◌, ◌∙◌, inl, inr, ℕ, false, List, Option, Some, None, refl, sym, subst}
-use Rattle.cy_outside.specs.Files.{Files}
+use Rattle.std.proofs.Common.{◌≡◌, ℕ, false, List, Option, Some, None, sym, subst}
 use Rattle.dsdl_types.specs.declared.definition.Parts.{Parts}
 use Rattle.dsdl_types.specs.declared.namespace.Namespace.{Namespace}
 use Rattle.compat_check.specs.declared.verdict.Verdict.{Verdict}
@@ -9,12 +8,7 @@ use Rattle.node_run.specs.NamedTypes.{named as named_in}
 use Rattle.node_run.specs.Compared.{parts_verdict, ended, compared_found, compared, HasCompared}
 use Rattle.node_run.specs.declared.status.Status.{Status}
 use Rattle.node_run.specs.declared.status.Status.TheVariants as status
-use Rattle.dsdl_resolve.specs.Laws.{HaveOneAnswer}
-use Rattle.node_run.specs.Loaded.{is_none}
 use Rattle.cyphal.specs.Job.{is_fault}
-use Rattle.cyphal.specs.jobs.Compat.{Compares, compat_job}
-use Rattle.cyphal.proofs.Loaded.{Comes, loaded, Found, found_told, not_loaded, one}
-use Rattle.cyphal.proofs.statuses.Single.{IsSingle}
 
 -- a comparison's status is the one that is asked for
 pub compared_answer : (names : Namespace) (new old : List ℕ) (stat : Status) (before after : Option (List ℕ)) → HasCompared names new old stat before after → is_fault stat ≡ false → stat ≡ compared names new old
@@ -48,17 +42,3 @@ compared_usage names new old stat before after h e =
 
 pub compared_read : (names : Namespace) (new old : List ℕ) (stat : Status) (before after : Option (List ℕ)) → HasCompared names new old stat before after → stat ≡ status.ReadFault → ⊥
 compared_read names new old stat before after h e = subst (λ (s : Status). HasCompared names new old s before after) e h
-
--- a comparison ends so
-abbrev compares : List ℕ → List ℕ → Namespace → Status → Type 0
-compares new old names stat = stat ≡ compared names new old
-
-comes_compared : (root new old : List ℕ) (told : Option Files) (f : Found root told) (stat : Status) → Compares root new old told stat → Comes root (compares new old) f.found stat
-comes_compared root new old told f stat (h, inl n) = not_loaded root (compares new old) told f stat h n
-comes_compared root new old told f stat (h, inr (names, is, e)) = loaded is.files names (f.are is.files is.are) is.compiled e
-
-pub single : HaveOneAnswer → (root new old : List ℕ) → IsSingle (compat_job root new old)
-single law root new old told s t h a b =
-    let files = told.files in
-    let f = found_told (is_none root) root files refl h in
-    one law root (compares new old) (λ names a b x y. x ∙ sym y) f.found s t (comes_compared root new old files f s a) (comes_compared root new old files f t b)

@@ -4,11 +4,6 @@ use Rattle.node_run.specs.Generated.{HasGenerated}
 use Rattle.node_run.specs.declared.status.Status.{Status}
 use Rattle.node_run.specs.declared.status.Status.TheVariants as status
 use Rattle.cyphal.specs.Job.{is_fault}
-use Rattle.cyphal.specs.jobs.Gen.{gen_job}
-use Rattle.cyphal.proofs.statuses.Single.{IsSingle}
-
-pub single : (number : ℕ) → IsSingle (gen_job number)
-single number told s t h a b = a ∙ sym b
 
 -- there are three
 pub one_of : (number : ℕ) (stat : Status) (before after : Option (List ℕ)) → HasGenerated number stat before after → (stat ≡ status.Ok) ⊎ ((stat ≡ status.WriteFault) ⊎ (stat ≡ status.NoMemory))

@@ -16,12 +16,7 @@ use Rattle.node_run.specs.declared.status.Status.TheVariants as status
 use Rattle.cyphal.specs.Cause.{Outside, is_refused, HasCauseOver}
 use Rattle.cyphal.specs.Job.{is_fault}
 use Rattle.cyphal.specs.LogEnds.{ending, EndsAsLog}
-use Rattle.cyphal.specs.jobs.Reach.{reach_job}
-use Rattle.cyphal.proofs.LogEnds.{named, one_log_end}
-use Rattle.cyphal.proofs.statuses.Single.{IsSingle}
-
-pub single : (said : Voice Record) → IsSingle (reach_job said)
-single said told s t h a b = one_log_end bus_names told.input h s t a b
+use Rattle.cyphal.proofs.LogEnds.{named}
 
 module _ (said : Voice Record) where
   -- an end that is no fault is that of the log

@@ -1,8 +1,5 @@
 -- A run has one status, that of its log's end.
-use Rattle.std.proofs.Common.{◌≡◌, ◌∙◌, ℕ, true, false, List, Option, Some, None, IfSome, sym, ap, is_some}
-use Rattle.clap.proofs.WalkLemmas.{both}
-use Rattle.dsdl_resolve.specs.Laws.{HaveOneAnswer}
-use Rattle.node_plan.specs.Laws.{OnePlan}
+use Rattle.std.proofs.Common.{◌≡◌, ◌∙◌, ℕ, true, false, List, Option, Some, None, IfSome, sym, ap}
 use Rattle.node_plan.specs.declared.plan.Plan.{Plan}
 use Rattle.cy_outside.specs.Files.{Files}
 use Rattle.frame_log.specs.Log.{log_of}
@@ -17,10 +14,8 @@ use Rattle.node_run.specs.declared.status.Status.TheVariants as status
 use Rattle.cyphal.specs.Cause.{is_refused}
 use Rattle.cyphal.specs.Job.{is_fault}
 use Rattle.cyphal.specs.LogEnds.{ending}
-use Rattle.cyphal.specs.jobs.Run.{over, run_job}
-use Rattle.cyphal.proofs.LogEnds.{named, one_log_end}
-use Rattle.cyphal.proofs.Plans.{one_end}
-use Rattle.cyphal.proofs.statuses.Single.{IsSingle}
+use Rattle.cyphal.specs.jobs.Run.{over}
+use Rattle.cyphal.proofs.LogEnds.{named}
 
 module _ (plan : Plan) (mets : List Met) (refusal : Option LogError) (put : Reported) (before after : Option (List ℕ)) where
   -- a status that is no fault is that of the log's end
@@ -68,8 +63,3 @@ module _ (plan : Plan) (files : Option Files) (told : Flow) (stat : Status) (put
 
   pub run_not_refused : is_refused stat ≡ true → ⊥
   run_not_refused h = no_refusal plan r.mets (log_of (names_of plan) r.bytes).refusal put told.before told.after stat h r.ran
-
-pub single : HaveOneAnswer × OnePlan → (root path : List ℕ) → IsSingle (run_job root path)
-single law root path told s t h a b =
-    let all = both (is_some told.files) (is_some told.input) h in
-    one_end law root path (over told.input) (λ plan. one_log_end (names_of plan) told.input all.1) told.files all.0 s t a b

@@ -1,10 +1,6 @@
 -- The status of lines of values.
-use Rattle.std.proofs.Common.{◌≡◌, ◌∙◌, inl, inr, ℕ, true, false, ◌||◌, List, ◌++◌, Option, Some, None, is_some, IfSome, refl, sym, ap, subst, append-nil}
-use Rattle.clap.proofs.WalkLemmas.{both}
-use Rattle.dsdl_types.specs.Definitions.{IsNamespace}
+use Rattle.std.proofs.Common.{◌≡◌, ◌∙◌, ℕ, true, false, List, ◌++◌, Option, Some, None, IfSome, refl, sym, ap, subst, append-nil}
 use Rattle.dsdl_types.specs.Schemas.{Sch}
-use Rattle.dsdl_types.specs.declared.namespace.Namespace.{Namespace}
-use Rattle.dsdl_resolve.specs.Laws.{HaveOneAnswer}
 use Rattle.line_loop.specs.Gone.{HasGone, Said}
 use Rattle.line_loop.specs.Input.{IsTaken}
 use Rattle.line_loop.specs.Reply.{IsReply}
@@ -12,16 +8,11 @@ use Rattle.line_loop.specs.declared.ended.LinesEnded.{LinesEnded}
 use Rattle.line_loop.specs.declared.ended.LinesEnded.TheVariants as end
 use Rattle.value_lines.specs.declared.refusal.Refusal.{Refusal}
 use Rattle.value_lines.specs.declared.refusal.Refusal.TheVariants as refusal
-use Rattle.node_run.specs.Loaded.{is_none}
-use Rattle.node_run.specs.NamedTypes.{message_named}
-use Rattle.node_run.specs.ValueLines.{Answering, values_voice, lines_status, Flow, AnsweredUntil, HasAnsweredLines, EndsIn, Ends, HasOneStatus}
+use Rattle.node_run.specs.ValueLines.{Answering, values_voice, lines_status, Flow, AnsweredUntil, HasAnsweredLines, EndsIn, Ends}
 use Rattle.node_run.specs.declared.status.Status.{Status}
 use Rattle.node_run.specs.declared.status.Status.TheVariants as status
 use Rattle.cyphal.specs.Cause.{is_refused}
-use Rattle.cyphal.specs.Job.{Told, is_fault}
-use Rattle.cyphal.specs.jobs.Values.{AnswersLines, values_job}
-use Rattle.cyphal.proofs.Loaded.{Comes, loaded, Found, found_told, not_loaded, one}
-use Rattle.cyphal.proofs.statuses.Single.{IsSingle}
+use Rattle.cyphal.specs.Job.{is_fault}
 
 -- the ends of a loop that came to the end of what counts of its input
 abbrev IsWhole : LinesEnded Refusal → Type 0
@@ -99,29 +90,3 @@ module _ (answers : Answering) (message : Option Sch) (name : List ℕ) (told : 
 
   pub no_usage : (stat : Status) → HasAnsweredLines answers message name stat told → stat ≡ status.Usage → ⊥
   no_usage stat a e = subst (λ (s : Status). HasAnsweredLines answers message name s told) e a
-
-told_bytes : (o : Option (List ℕ)) → is_some o ≡ true → (bytes : List ℕ) × (o ≡ Some bytes)
-told_bytes None h = absurd cc
-told_bytes (Some bytes) h = (bytes, refl)
-
-module _ (answers : Answering) (root name : List ℕ) (told : Told) where
-  -- in a namespace
-  abbrev rest : Namespace → Status → Type 0
-  rest names stat = IsNamespace names × Ends answers (message_named names name) name told.input stat
-
-  comes_answered : (f : Found root told.files) (stat : Status) → AnswersLines answers root name told stat → Comes root rest f.found stat
-  comes_answered f stat (h, inl n) = not_loaded root rest told.files f stat h n
-  comes_answered f stat (h, inr a) = loaded a.is.files a.names (f.are a.is.files a.is.are) a.is.compiled (a.rules, a.ends)
-
-  one_rest : HasOneStatus answers → (bytes : List ℕ) → told.input ≡ Some bytes → (names : Namespace) (s t : Status) → rest names s → rest names t → s ≡ t
-  one_rest law bytes e names s t x y =
-      let at = λ (stat : Status) (r : rest names stat). subst (λ (o : Option (List ℕ)). Ends answers (message_named names name) name o stat) e r.1 in
-      law names x.0 name bytes s t (at s x) (at t y)
-
-pub single : HaveOneAnswer → (answers : Answering) → HasOneStatus answers → (root name : List ℕ) → IsSingle (values_job answers root name)
-single law answers once root name told s t h a b =
-    let all = both (is_none root || is_some told.files) (is_some told.input) h in
-    let f = found_told (is_none root) root told.files refl all.0 in
-    let input = told_bytes told.input all.1 in
-    one law root (rest answers root name told) (one_rest answers root name told once input.0 input.1) f.found s t
-    (comes_answered answers root name told f s a) (comes_answered answers root name told f t b)

@@ -12,7 +12,8 @@ abbrev pub CompareIn : List ℕ → List ℕ → List ℕ → Option Files → S
 CompareIn root new old files stat =
     (names : Namespace) × IsLoaded root files names × (stat ≡ compared names new old)
 
--- what comparing two types of a root comes to: why the root has no namespace, or how the comparison in it ends
+-- what comparing two types of a root comes to: why the root has no namespace, or how the comparison
+-- in it ends
 abbrev pub Compares : List ℕ → List ℕ → List ℕ → Option Files → Status → Type 0
 Compares root new old files stat = (is_fault stat ≡ false)
     × (IsNotLoaded root files stat ⊎ CompareIn root new old files stat)

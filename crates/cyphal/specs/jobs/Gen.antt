@@ -4,7 +4,8 @@ use Rattle.node_run.specs.Generated.{HasGenerated}
 use Rattle.node_run.specs.declared.status.Status.TheVariants as status
 use Rattle.cyphal.specs.Job.{Printed, Job, ReportsNothing, print_of}
 
--- the numbers of the run were written: those that the definitions give of the plan and the log of the number
+-- the numbers of the run were written: those that the definitions give of the plan and the log of
+-- the number
 abbrev pub HasGeneratedAt : ℕ → Printed → Type 0
 HasGeneratedAt number print = HasGenerated number print.status print.before print.after
 

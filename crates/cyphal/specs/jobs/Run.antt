@@ -12,8 +12,8 @@ use Rattle.cyphal.specs.Plans.{PlanEnds, EndsAt, PlanAt}
 abbrev pub over : Option (List ℕ) → PlanEnds
 over input plan stat = EndsAsLog (names_of plan) input stat
 
--- the plan at a path was run over the input and the files of the tree; the memory bound is the plan's however the run
--- ended
+-- the plan at a path was run over the input and the files of the tree; the memory bound is the
+-- plan's however the run ended
 pub record HasRunAt (root path : List ℕ) (told : Told) (came : Outcome) : Type 0 where
   pub plan : Plan
   pub is : PlanAt root path told.files plan

@@ -1,4 +1,5 @@
--- `encode ROOT TYPE` and `decode ROOT TYPE`: each line of the input answered as one of values of a type.
+-- `encode ROOT TYPE` and `decode ROOT TYPE`: each line of the input answered as one of values of a
+-- type.
 use Rattle.std.specs.Prelude.{◌≡◌, ◌⊎◌, ℕ, true, false, ◌&&◌, ◌||◌, List, Option, is_some}
 use Rattle.cy_outside.specs.Files.{Files}
 use Rattle.dsdl_types.specs.Definitions.{IsNamespace}
@@ -9,7 +10,8 @@ use Rattle.node_run.specs.ValueLines.{Answering, Flow, AreStreamed, Ends, HasAns
 use Rattle.node_run.specs.declared.status.Status.{Status}
 use Rattle.cyphal.specs.Job.{Told, Job, ReportsNothing, flow_of, is_fault}
 
--- the root has a namespace, whose types keep the rules, and answering the lines of the input in it comes to this status
+-- the root has a namespace, whose types keep the rules, and answering the lines of the input in it
+-- comes to this status
 pub record AnswersIn (answers : Answering) (root name : List ℕ) (told : Told)
     (stat : Status) : Type 0 where
   pub names : Namespace
@@ -17,13 +19,14 @@ pub record AnswersIn (answers : Answering) (root name : List ℕ) (told : Told)
   pub rules : IsNamespace names
   pub ends : Ends answers (message_named names name) name told.input stat
 
--- what answering the lines of the input comes to: why the root has no namespace, or what it comes to in it
+-- what answering the lines of the input comes to: why the root has no namespace, or what it comes
+-- to in it
 abbrev pub AnswersLines : Answering → List ℕ → List ℕ → Told → Status → Type 0
 AnswersLines answers root name told stat = (is_fault stat ≡ false)
     × (IsNotLoaded root told.files stat ⊎ AnswersIn answers root name told stat)
 
--- the lines of the input were answered as values of a type of the namespace of a root, and each answer was written before
--- much more was taken
+-- the lines of the input were answered as values of a type of the namespace of a root, and each
+-- answer was written before much more was taken
 pub record HasAnsweredAt (answers : Answering) (root name : List ℕ) (files : Option Files)
     (stat : Status) (told : Flow) : Type 0 where
   pub names : Namespace

@@ -10,7 +10,8 @@ use cy_outside::{Sink, Source, Tree};
 use node_run::{Status, decode, load};
 use std::alloc::Global;
 
-/// Answers each line of the input, the hex of bytes, by the text of the value of a type of a root that they read as.
+/// Answers each line of the input, the hex of bytes, by the text of the value of a type of a root
+/// that they read as.
 pub fn decode_lines<T: Tree, L: Source, O: Sink>(
     alloc: Global,
     root: &str,

@@ -10,7 +10,8 @@ use cy_outside::{Sink, Source, Tree};
 use node_run::{Status, encode, load};
 use std::alloc::Global;
 
-/// Answers each line of the input, the text of a value of a type of a root, by the hex of its bytes.
+/// Answers each line of the input, the text of a value of a type of a root, by the hex of its
+/// bytes.
 pub fn encode_lines<T: Tree, L: Source, O: Sink>(
     alloc: Global,
     root: &str,

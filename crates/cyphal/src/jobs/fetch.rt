@@ -14,8 +14,9 @@ use node_reach::fetch;
 use node_run::{Status, status_of};
 use std::alloc::Global;
 
-/// Hears the log of the input as the node that fetches a file, and writes what it asks of the other node, and behind the log
-/// the file or what became of it. It is given no tree, so each count of a tree's faults stays.
+/// Hears the log of the input as the node that fetches a file, and writes what it asks of the other
+/// node, and behind the log the file or what became of it. It is given no tree, so each count of a
+/// tree's faults stays.
 pub fn fetch_file<L: Source, O: Sink>(
     alloc: Global,
     file: RemoteFile<'_>,

@@ -8,7 +8,8 @@ use cy_outside::Sink;
 use node_run::{Status, run_gen};
 use std::alloc::Global;
 
-/// Runs the log of a number, and writes its numbers. It is given no tree, so each count of a tree's faults stays.
+/// Runs the log of a number, and writes its numbers. It is given no tree, so each count of a tree's
+/// faults stays.
 pub fn generated<O: Sink>(alloc: Global, number: u32, out: &mut O) -> Status
     ensures answer { is_fault result ≡ false → result ≡ Status.Ok }
     ensures cause { (tree : ℕ)

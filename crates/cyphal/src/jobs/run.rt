@@ -12,8 +12,9 @@ use node_core::{LineSink, Numbers};
 use node_run::{Status, run_over};
 use std::alloc::Global;
 
-/// Runs the plan at a path, which is read in the namespace of a root, over the input, and serves the files of the tree. A sink
-/// takes the lines of its report, and the numbers become those of the run.
+/// Runs the plan at a path, which is read in the namespace of a root, over the input, and serves
+/// the files of the tree. A sink takes the lines of its report, and the numbers become those of the
+/// run.
 pub fn run_plan<T: Tree, L: Source, O: Sink, K: LineSink>(
     alloc: Global,
     root: &str,

@@ -1,6 +1,6 @@
 use Rattle.std.proofs.Common.{◌∙◌, Some, ap, List, ℕ}
 use Rattle.cyphal.proofs.ClapWords.{has_one, some_now, now_is}
-use Rattle.cyphal.proofs.words.one_word.Goals as goal
+use Rattle.cyphal.proofs.arguments.one_word.Goals as goal
 
 pub unwrap-requires : goal.unwrap-requires
 unwrap-requires c =

@@ -1,5 +1,5 @@
 use Rattle.std.proofs.Common.{refl, inl}
-use Rattle.cyphal.proofs.work.carry_out.Goals as goal
+use Rattle.cyphal.proofs.jobs.carry_out.Goals as goal
 
 -- the run of a number's log is given neither a tree nor an input
 pub returns-in-Gen-clause-cause : goal.returns-in-Gen-clause-cause

@@ -1,6 +1,6 @@
 use Rattle.std.proofs.Common.{◌≡◌, ◌∙◌, Some}
 use Rattle.cyphal.proofs.ClapWords.{has_two, some_now, now_is}
-use Rattle.cyphal.proofs.words.two_words.Goals as goal
+use Rattle.cyphal.proofs.arguments.two_words.Goals as goal
 
 pub unwrap-root-requires : goal.unwrap-root-requires
 unwrap-root-requires c =

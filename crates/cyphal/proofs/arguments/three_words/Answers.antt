@@ -1,6 +1,6 @@
 use Rattle.std.proofs.Common.{◌≡◌, ◌∙◌, Some}
 use Rattle.cyphal.proofs.ClapWords.{has_three, some_now, now_is}
-use Rattle.cyphal.proofs.words.three_words.Goals as goal
+use Rattle.cyphal.proofs.arguments.three_words.Goals as goal
 
 pub unwrap-first-requires : goal.unwrap-first-requires
 unwrap-first-requires c =
