@@ -2,8 +2,8 @@
 ghost use Rattle.std.specs.Prelude.{Some};
 
 use crate::calls::{CALL, Call, USAGE, come_to, end_with, files_of, words_of};
-use crate::help::HELP;
 use crate::program::program;
+use crate::words::HELP;
 use cy_outside::{Failed, MemSink, MemTree, Source};
 use std::alloc::AllocError;
 use std::test::Fail;
