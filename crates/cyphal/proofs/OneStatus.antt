@@ -6,6 +6,7 @@ use Rattle.dsdl_resolve.specs.Laws.{HaveOneAnswer}
 use Rattle.dsdl_types.specs.Definitions.{IsNamespace}
 use Rattle.dsdl_types.specs.declared.namespace.Namespace.{Namespace}
 use Rattle.node_plan.specs.Laws.{OnePlan}
+use Rattle.node_reach.specs.Buses.{bus_names}
 use Rattle.node_run.specs.Compared.{compared}
 use Rattle.node_run.specs.Loaded.{is_none}
 use Rattle.node_run.specs.NamedTypes.{message_named}
@@ -15,7 +16,7 @@ use Rattle.node_run.specs.declared.status.Status.{Status}
 use Rattle.node_run.specs.declared.status.Status.TheVariants as status
 use Rattle.value_lines.specs.Decoded.{Decodes}
 use Rattle.value_lines.specs.Encoded.{Encodes}
-use Rattle.cyphal.specs.Words.{Command, Gen}
+use Rattle.cyphal.specs.Words.{Command, Compile, Compat, Encode, Decode, Run, Gen}
 use Rattle.cyphal.specs.Job.{Told, Job}
 use Rattle.cyphal.specs.LogEnds.{EndsAsLog}
 use Rattle.cyphal.specs.Plans.{EndsAt}
@@ -105,14 +106,19 @@ module _ (laws : HaveOneAnswer × OnePlan) (encodes : HasOneStatus Encodes) (dec
       let all = both (is_some told.files) (is_some told.input) h in
       one_end laws root path (over told.input) (λ plan. one_log_end (names_of plan) told.input all.1) told.files all.0 s t a b
 
-  -- by the log of the input
-  by_log : (names : List (List ℕ)) (input : Option (List ℕ)) (s t : Status) → is_some input ≡ true → EndsAsLog names input s → EndsAsLog names input t → s ≡ t
-  by_log names input s t h a b = one_log_end names input h s t a b
+  -- by the log of the input, of the buses that are heard without a plan
+  by_log : (input : Option (List ℕ)) (s t : Status) → is_some input ≡ true → EndsAsLog bus_names input s → EndsAsLog bus_names input t → s ≡ t
+  by_log input s t h a b = one_log_end bus_names input h s t a b
 
-  -- a command whose status is decided in one of these ways needs no case of its own
+  -- a command whose status is decided as that of another needs no case of its own
   single : (command : Command) → IsSingle (job_of command)
+  single (Compile root) told s t h a b = by_compiling root told.files s t h a b
+  single (Compat root new old) told s t h a b = by_comparing root new old told.files s t h a b
+  single (Encode root name) told s t h a b = by_lines Encodes encodes root name told s t h a b
+  single (Decode root name) told s t h a b = by_lines Decodes decodes root name told s t h a b
+  single (Run root path) told s t h a b = by_running root path told s t h a b
   single (Gen number) told s t h a b = a ∙ sym b
-  single other told s t h a b = search (by_log, by_plan, by_running, by_compiling, by_comparing, by_lines Encodes encodes, by_lines Decodes decodes)
+  single other told s t h a b = search (by_log, by_plan, by_running, by_compiling)
 
   pub one_status : (command : Option Command) → IsSingle (job_asked command)
   one_status None told s t h a b = a ∙ sym b
