@@ -12,4 +12,4 @@ returns-clause-schema c = λ constants.
     let section = c.args.self in
     c.composite.ensures
     ∙ ap (λ b. if section.before.totals.union then schema.Union b else schema.Struct b)
-    (c.body_of-body.ensures (said_of section constants) refl (c.greatest.ensures section.before.totals.union (flds section.fields) c.requires.ready.totals))
+    (c.in_ok-body.ensures (said_of section constants) refl (c.greatest.ensures section.before.totals.union (flds section.fields) c.requires.ready.totals))
