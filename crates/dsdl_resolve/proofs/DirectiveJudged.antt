@@ -20,7 +20,7 @@ use Rattle.dsdl_resolve.specs.declared.why.DsdlWhy.TheVariants as why
 use Rattle.dsdl_resolve.specs.Additions.{IsBefore, IsJudged}
 use Rattle.dsdl_resolve.specs.Judged.{assert_at, if_false, long_at, long_extent, refusal_valued}
 use Rattle.dsdl_resolve.specs.Place.{Place}
-use Rattle.dsdl_resolve.specs.Rules.{least, rules_of, directive_rules, breaks_4, is_extent_for}
+use Rattle.dsdl_resolve.specs.Rules.{least, rules_of, directive_rules, is_extent_too_small, is_extent_for}
 use Rattle.dsdl_resolve.specs.Said.{Said, greatest}
 use Rattle.dsdl_resolve.specs.Says.{is_union, is_entry}
 use Rattle.dsdl_resolve.specs.Totals.{AreTotals, AreWithin}
@@ -110,8 +110,8 @@ module _ (scope : Scope) (p : Place) (said : Said) (vs : Values) (name : List �
 pub clear_with : (p : Place) (said : Said) (vs : Values) (name : List ℕ) {b c : Bool} → b ≡ c → least (directive_rules p said vs name b) ≡ None → least (directive_rules p said vs name c) ≡ None
 clear_with p said vs name same clear = subst (λ d. least (directive_rules p said vs name d) ≡ None) same clear
 
--- an extent that breaks neither Rule 4 nor Rule 18 is a whole number
-whole_extent : (said : Said) (value : Option Const) (some : Bool) → is_some value ≡ some → breaks_4 said value ≡ false → not some ≡ false → (n : ℕ) × (natural_of value ≡ Some n)
+-- an extent that isn't too small, and has an expression, is a whole number
+whole_extent : (said : Said) (value : Option Const) (some : Bool) → is_some value ≡ some → is_extent_too_small said value ≡ false → not some ≡ false → (n : ℕ) × (natural_of value ≡ Some n)
 whole_extent said value false e four eighteen = absurd (false≢true (sym eighteen))
 whole_extent said None true e four eighteen = absurd (false≢true e)
 whole_extent said (Some u) true e four eighteen = by_natural (natural_of (Some u)) four

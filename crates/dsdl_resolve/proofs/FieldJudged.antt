@@ -23,7 +23,8 @@ use Rattle.dsdl_resolve.specs.Additions.{size_refusal, with_addition, name_of, I
 use Rattle.dsdl_resolve.specs.Forms as forms
 use Rattle.dsdl_resolve.specs.Judged.{above_limit, assert_at, long_at, refusal_valued}
 use Rattle.dsdl_resolve.specs.Place.{Place}
-use Rattle.dsdl_resolve.specs.Rules.{Tests, least, rules_of, named_rules, breaks_14, breaks_23, breaks_24}
+use Rattle.dsdl_resolve.specs.RuleNumbers.{not_a_message, nested_too_deep, too_many_nodes}
+use Rattle.dsdl_resolve.specs.Rules.{Tests, least, rules_of, named_rules, is_no_message, is_nested_too_deep, has_too_many_nodes}
 use Rattle.dsdl_resolve.specs.Said.{Said, greatest}
 use Rattle.dsdl_resolve.specs.Says.{attribute_of}
 use Rattle.dsdl_resolve.specs.Totals.{AreTotals, AreWithin, IsMeasure}
@@ -72,7 +73,7 @@ module _ (fields : List Field) (name : List ℕ) (s : Schema) (typed : kind_of s
   made_measure m h = subst (λ x. IsMeasure m (type_of x.1)) (sym made_is) h
 
 -- the numbers of a field's rules and of its length, by the fields with it
-sizes : (a b : Bool) (l : Option DsdlWhy) → option_or (rule_of (if a then Some 23 else if b then Some 24 else None)) l ≡ (if a then Some (why.Rule 23) else if b then Some (why.Rule 24) else l)
+sizes : (a b : Bool) (l : Option DsdlWhy) → option_or (rule_of (if a then Some nested_too_deep else if b then Some too_many_nodes else None)) l ≡ (if a then Some (why.Rule nested_too_deep) else if b then Some (why.Rule too_many_nodes) else l)
 unfolding rule_of
 sizes true b l = refl
 sizes false true l = refl
@@ -83,14 +84,14 @@ module _ (scope : Scope) (p : Place) (said : Said) (vs : Values) (form : Form) (
   long_with t = above_limit (greatest said.union (with_field said name t).fields)
 
   last_rules : Option of_form.Typed → Tests
-  last_rules t = (14, breaks_14 scope true form.scalar) ∷ (23, breaks_23 said t) ∷ (24, breaks_24 said t) ∷ []
+  last_rules t = (not_a_message, is_no_message scope true form.scalar) ∷ (nested_too_deep, is_nested_too_deep said t) ∷ (too_many_nodes, has_too_many_nodes said t) ∷ []
 
   refusal_is : refusal_valued scope p said vs ≡ option_or (rule_of (option_or (least (named_rules p vs.bound form name [])) (least (last_rules (forms.type_of scope form vs.bound))))) (long_with (forms.type_of scope form vs.bound))
   unfolding rule_of last_rules long_with
   refusal_is =
       ap (λ s. option_or (option_map (λ n. why.Rule n) (least (rules_of scope p said vs s))) (option_or (assert_at vs s) (long_at scope said vs s))) at
       ∙ ap (λ r. option_or (option_map (λ n. why.Rule n) r) (above_limit (greatest said.union (with_field said name (forms.type_of scope form vs.bound)).fields)))
-      (least_or (named_rules p vs.bound form name []) ((14, breaks_14 scope true form.scalar) ∷ (23, breaks_23 said (forms.type_of scope form vs.bound)) ∷ (24, breaks_24 said (forms.type_of scope form vs.bound)) ∷ []))
+      (least_or (named_rules p vs.bound form name []) ((not_a_message, is_no_message scope true form.scalar) ∷ (nested_too_deep, is_nested_too_deep said (forms.type_of scope form vs.bound)) ∷ (too_many_nodes, has_too_many_nodes said (forms.type_of scope form vs.bound)) ∷ []))
 
   pub named_refused : (n : ℕ) → Some n ≡ least (named_rules p vs.bound form name []) → refusal_valued scope p said vs ≡ Some (why.Rule n)
   unfolding rule_of
@@ -100,20 +101,20 @@ module _ (scope : Scope) (p : Place) (said : Said) (vs : Values) (form : Form) (
     refusal_last : refusal_valued scope p said vs ≡ option_or (rule_of (least (last_rules (forms.type_of scope form vs.bound)))) (long_with (forms.type_of scope form vs.bound))
     refusal_last = refusal_is ∙ ap (λ r. option_or (rule_of (option_or r (least (last_rules (forms.type_of scope form vs.bound))))) (long_with (forms.type_of scope form vs.bound))) (sym clear)
 
-    pub message_refused : breaks_14 scope true form.scalar ≡ true → refusal_valued scope p said vs ≡ Some (why.Rule 14)
+    pub message_refused : is_no_message scope true form.scalar ≡ true → refusal_valued scope p said vs ≡ Some (why.Rule not_a_message)
     unfolding rule_of last_rules
     message_refused h =
         refusal_last
-        ∙ ap (λ b. option_or (rule_of (least ((14, b) ∷ (23, breaks_23 said (forms.type_of scope form vs.bound)) ∷ (24, breaks_24 said (forms.type_of scope form vs.bound)) ∷ []))) (long_with (forms.type_of scope form vs.bound))) h
+        ∙ ap (λ b. option_or (rule_of (least ((not_a_message, b) ∷ (nested_too_deep, is_nested_too_deep said (forms.type_of scope form vs.bound)) ∷ (too_many_nodes, has_too_many_nodes said (forms.type_of scope form vs.bound)) ∷ []))) (long_with (forms.type_of scope form vs.bound))) h
 
-    module _ (messaged : breaks_14 scope true form.scalar ≡ false) (t : of_form.Typed) (is : forms.type_of scope form vs.bound ≡ Some t) (fine : IsFieldType t.schema) where
+    module _ (messaged : is_no_message scope true form.scalar ≡ false) (t : of_form.Typed) (is : forms.type_of scope form vs.bound ≡ Some t) (fine : IsFieldType t.schema) where
       abbrev with_it : Flds
       with_it = flds (said.fields ++ made name t.schema ∷ [])
 
-      depth_same : breaks_23 said (Some t) ≡ nat_lt 32 (suc (nesting_of with_it))
+      depth_same : is_nested_too_deep said (Some t) ≡ nat_lt 32 (suc (nesting_of with_it))
       depth_same = ap (λ n. nat_lt 32 (suc n)) (nesting_made said.fields [] t.schema fine.typed ∙ sym (nesting_made said.fields name t.schema fine.typed))
 
-      nodes_same : breaks_24 said (Some t) ≡ nat_lt (2 ^ 20) (suc (nodes_of with_it))
+      nodes_same : has_too_many_nodes said (Some t) ≡ nat_lt (2 ^ 20) (suc (nodes_of with_it))
       nodes_same = ap (λ n. nat_lt (2 ^ 20) (suc n)) (nodes_made said.fields [] t.schema fine.typed ∙ sym (nodes_made said.fields name t.schema fine.typed))
 
       pub sized : refusal_valued scope p said vs ≡ size_refusal said.union (flds (said.fields ++ made name t.schema ∷ []))
@@ -121,10 +122,10 @@ module _ (scope : Scope) (p : Place) (said : Said) (vs : Values) (form : Form) (
       sized =
           refusal_last
           ∙ ap (λ o. option_or (rule_of (least (last_rules o))) (long_with o)) is
-          ∙ ap (λ b. option_or (rule_of (least ((14, b) ∷ (23, breaks_23 said (Some t)) ∷ (24, breaks_24 said (Some t)) ∷ []))) (long_with (Some t))) messaged
-          ∙ sizes (breaks_23 said (Some t)) (breaks_24 said (Some t)) (long_with (Some t))
-          ∙ ap (λ b. if b then Some (why.Rule 23) else if breaks_24 said (Some t) then Some (why.Rule 24) else long_with (Some t)) depth_same
-          ∙ ap (λ b. if nat_lt 32 (suc (nesting_of with_it)) then Some (why.Rule 23) else if b then Some (why.Rule 24) else long_with (Some t)) nodes_same
+          ∙ ap (λ b. option_or (rule_of (least ((not_a_message, b) ∷ (nested_too_deep, is_nested_too_deep said (Some t)) ∷ (too_many_nodes, has_too_many_nodes said (Some t)) ∷ []))) (long_with (Some t))) messaged
+          ∙ sizes (is_nested_too_deep said (Some t)) (has_too_many_nodes said (Some t)) (long_with (Some t))
+          ∙ ap (λ b. if b then Some (why.Rule nested_too_deep) else if has_too_many_nodes said (Some t) then Some (why.Rule too_many_nodes) else long_with (Some t)) depth_same
+          ∙ ap (λ b. if nat_lt 32 (suc (nesting_of with_it)) then Some (why.Rule nested_too_deep) else if b then Some (why.Rule too_many_nodes) else long_with (Some t)) nodes_same
 
       pub field_judged : (totals : Totals) → size_refusal said.union (flds (said.fields ++ made name t.schema ∷ [])) ≡ None →
           AreTotals totals said.union (flds (said.fields ++ made name t.schema ∷ [])) → AreWithin totals → IsJudged scope p said vs (record { addition = addition.Field t; totals = totals })

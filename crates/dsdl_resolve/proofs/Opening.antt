@@ -29,7 +29,8 @@ use Rattle.dsdl_resolve.specs.Additions.{IsBefore, IsJudged, IsStatementRefusal,
 use Rattle.dsdl_resolve.specs.Judged.{refusal_at, refusal_of_values, refusal_valued}
 use Rattle.dsdl_resolve.specs.Opens.{AreOffsets, IsOpen, IsReady, IsTaken, between, is_early, kept_offsets, of_values, on_name, offset_for, said_of, value_refusal, with_offset}
 use Rattle.dsdl_resolve.specs.Place.{Place, place, onto_section, last_section, is_union_section, is_union_at}
-use Rattle.dsdl_resolve.specs.Rules.{breaks_22, is_used}
+use Rattle.dsdl_resolve.specs.RuleNumbers.{union_offset_too_early}
+use Rattle.dsdl_resolve.specs.Rules.{is_offset_too_early, is_used}
 use Rattle.dsdl_resolve.specs.Said.{Said, offsets}
 use Rattle.dsdl_resolve.specs.Says.{is_split, is_field, attribute_of, names_offset}
 use Rattle.dsdl_resolve.specs.SoundSections.{AreFine, IsSound, KeepsRules}
@@ -97,8 +98,8 @@ module _ (S : Scope) (constants : List NamedConst) (section : OpenSection) (fron
       ∙ ap (λ n. is_union_at here && (nat_lt (count_by is_field so_far) 2 || nat_lt (count_by is_field so_far) n)) whole_fields
       ∙ ap (λ b. is_union_at here && (nat_lt (count_by is_field so_far) 2 || b)) (fields_behind so_far (s ∷ before_first is_split back))
 
-  rule_22 : (names_offset s && is_early section) ≡ breaks_22 here
-  rule_22 = ap (λ b. names_offset s && b) early_is
+  is_early_here : (names_offset s && is_early section) ≡ is_offset_too_early here
+  is_early_here = ap (λ b. names_offset s && b) early_is
 
   offset_is : (b : Bool) → offset_for section b ≡ offset_in (said_of section constants) b
   offset_is true = refl
@@ -110,24 +111,24 @@ module _ (S : Scope) (constants : List NamedConst) (section : OpenSection) (fron
       ∙ ap (λ (d : Said). record S { constants = d.constants; offset = offset_in d (names_offset s) }) (sym h.says)
 
   -- what expressions are refused for is what the statement is
-  refused_there : (cause : DsdlWhy) (b : Bool) (r : Result Values ExprError) → (if b then Some (why.Rule 22) else of_values r) ≡ Some cause →
-      (if b then Some (why.Rule 22) else refusal_of_values S here said r) ≡ Some cause
+  refused_there : (cause : DsdlWhy) (b : Bool) (r : Result Values ExprError) → (if b then Some (why.Rule union_offset_too_early) else of_values r) ≡ Some cause →
+      (if b then Some (why.Rule union_offset_too_early) else refusal_of_values S here said r) ≡ Some cause
   refused_there cause true r e = e
   refused_there cause false (Ok vs) e = absurd (none-some cause e)
   refused_there cause false (Err x) e = e
 
   pub value_refused : (cause : DsdlWhy) → value_refusal (between S constants) section s ≡ Some cause → refusal_at S here ≡ Some cause
   value_refused cause e =
-      let at : (if breaks_22 here then Some (why.Rule 22) else of_values (values (scope_at S said s) s)) ≡ Some cause =
-      ap (λ b. if b then Some (why.Rule 22) else of_values (values (scope_at S said s) s)) (sym rule_22)
-      ∙ ap (λ (t : Scope). if names_offset s && is_early section then Some (why.Rule 22) else of_values (values t s)) (sym scope_is) ∙ e in
-      refused_there cause (breaks_22 here) (values (scope_at S said s) s) at
+      let at : (if is_offset_too_early here then Some (why.Rule union_offset_too_early) else of_values (values (scope_at S said s) s)) ≡ Some cause =
+      ap (λ b. if b then Some (why.Rule union_offset_too_early) else of_values (values (scope_at S said s) s)) (sym is_early_here)
+      ∙ ap (λ (t : Scope). if names_offset s && is_early section then Some (why.Rule union_offset_too_early) else of_values (values t s)) (sym scope_is) ∙ e in
+      refused_there cause (is_offset_too_early here) (values (scope_at S said s) s) at
 
-  late : value_refusal (between S constants) section s ≡ None → breaks_22 here ≡ false
-  late e = sym rule_22 ∙ go (names_offset s && is_early section) e
+  late : value_refusal (between S constants) section s ≡ None → is_offset_too_early here ≡ false
+  late e = sym is_early_here ∙ go (names_offset s && is_early section) e
     where
-      go : (b : Bool) → (if b then Some (why.Rule 22) else of_values (values (with_offset (between S constants) section s) s)) ≡ None → b ≡ false
-      go true e = absurd (none-some (why.Rule 22) (sym e))
+      go : (b : Bool) → (if b then Some (why.Rule union_offset_too_early) else of_values (values (with_offset (between S constants) section s) s)) ≡ None → b ≡ false
+      go true e = absurd (none-some (why.Rule union_offset_too_early) (sym e))
       go false e = refl
 
   pub worth_is : (vs : Values) → values (with_offset (between S constants) section s) s ≡ Ok vs → values (scope_at S said s) s ≡ Ok vs
@@ -136,7 +137,7 @@ module _ (S : Scope) (constants : List NamedConst) (section : OpenSection) (fron
   -- behind the expressions, what is left is the refusal by the values
   by_values : (vs : Values) → value_refusal (between S constants) section s ≡ None → values (with_offset (between S constants) section s) s ≡ Ok vs → refusal_at S here ≡ refusal_valued S here said vs
   by_values vs none e =
-      ap (λ b. if b then Some (why.Rule 22) else refusal_of_values S here said (values (scope_at S said s) s)) (late none)
+      ap (λ b. if b then Some (why.Rule union_offset_too_early) else refusal_of_values S here said (values (scope_at S said s) s)) (late none)
       ∙ ap (refusal_of_values S here said) (worth_is vs e)
 
   -- constants and lengths don't matter to the rules

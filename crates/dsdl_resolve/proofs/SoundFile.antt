@@ -30,7 +30,8 @@ use Rattle.dsdl_resolve.specs.declared.outcome.Refused.{Refused}
 use Rattle.dsdl_resolve.specs.declared.values.Values.{Values}
 use Rattle.dsdl_resolve.specs.Judged.{body_of, finished, in_file, on_line, prints_from, refusal_at, refusal_at_end, refusal_behind, refusal_from, refusal_of_values, refusal_valued, unless_refused}
 use Rattle.dsdl_resolve.specs.Place.{Place, place, onto_section, last_section}
-use Rattle.dsdl_resolve.specs.Rules.{least, rules_at_end, breaks_7, breaks_22, split_rules}
+use Rattle.dsdl_resolve.specs.RuleNumbers.{union_offset_too_early}
+use Rattle.dsdl_resolve.specs.Rules.{least, rules_at_end, has_too_few_variants, is_offset_too_early, split_rules}
 use Rattle.dsdl_resolve.specs.Said.{Said, greatest, greatest_union}
 use Rattle.dsdl_resolve.specs.Says.{is_split, is_union, is_field}
 use Rattle.dsdl_resolve.specs.Soundness.{DefinitionsKeepRules}
@@ -94,14 +95,14 @@ module _ (fields : List Field) (n : ℕ) (sealed : Bool) (short : n ≤ 2 ^ 32) 
       let held : IsExtent sealed (up (prefix (variants (flds fields) - 1) + longest_variant (flds fields))) n = subst (λ g. IsExtent sealed g n) (union_greatest (variants (flds fields)) (flds fields) two) fits in
       ((subst IsSchema (sym same) (((held, short), two, h.packed refl, h.formed), h.flat, omega (arith, h.few), (h.named, h.inner)), ap is_composite same), ap typed_count same)
 
-enough : (ss : List Statement) (said : Said) → IsSound ss said → breaks_7 ss ≡ false → said.union ≡ true → 2 ≤ variants (flds said.fields)
+enough : (ss : List Statement) (said : Said) → IsSound ss said → has_too_few_variants ss ≡ false → said.union ≡ true → 2 ≤ variants (flds said.fields)
 enough ss said h rule u = elim (and_cases (list_any is_union ss) (nat_lt (count_by is_field ss) 2) rule) [
   | inl absent ↦ absurd (false≢true (sym absent ∙ sym h.union ∙ u))
   | inr many ↦ omega (arith, ltb-false (count_by is_field ss) 2 many, h.counted)
 ]
 
 -- by whether it is a union, and by its extent
-by_parts : (ss : List Statement) (said : Said) (u : Bool) (o : Option ℕ) → IsSound ss said → breaks_7 ss ≡ false → said.union ≡ u → said.extent ≡ o →
+by_parts : (ss : List Statement) (said : Said) (u : Bool) (o : Option ℕ) → IsSound ss said → has_too_few_variants ss ≡ false → said.union ≡ u → said.extent ≡ o →
     IsComposite (if u then schema.Union (body_of said o) else schema.Struct (body_of said o)) said.fields
 by_parts ss said true None h rule e f =
     subst (λ g. IsComposite (union_of said.fields g true) said.fields) (ap (λ b. greatest b said.fields) (sym e))
@@ -116,7 +117,7 @@ by_parts ss said false (Some n) h rule e f =
     let held = h.extent n f in
     struct_type said.fields n false held.2 (subst (λ b. AreFine b said.fields) e h.fine) (subst (λ b. greatest b said.fields ≤ n) e held.0, held.1)
 
-pub closed : (ss : List Statement) (said : Said) → IsSound ss said → breaks_7 ss ≡ false → IsFinished said
+pub closed : (ss : List Statement) (said : Said) → IsSound ss said → has_too_few_variants ss ≡ false → IsFinished said
 closed ss said h rule = let c = by_parts ss said said.union said.extent h rule refl refl in (c.0, h.texts ∙ sym c.1)
 
 -- ---- over the statements of a file
@@ -142,9 +143,9 @@ module _ (scope : Scope) (sound : All IsDefinition scope.namespace.definitions) 
 
   no_refusal : (p : Place) (said : Said) → refusal_behind scope p said ≡ None →
       (vs : Values) × (values (scope_at scope said p.at) p.at ≡ Ok vs) × (refusal_valued scope p said vs ≡ None)
-  no_refusal p said none = go (breaks_22 p) none
+  no_refusal p said none = go (is_offset_too_early p) none
     where
-      go : (b : Bool) → (if b then Some (why.Rule 22) else refusal_of_values scope p said (values (scope_at scope said p.at) p.at)) ≡ None →
+      go : (b : Bool) → (if b then Some (why.Rule union_offset_too_early) else refusal_of_values scope p said (values (scope_at scope said p.at) p.at)) ≡ None →
           (vs : Values) × (values (scope_at scope said p.at) p.at ≡ Ok vs) × (refusal_valued scope p said vs ≡ None)
       go true none = absurd (none-some _ (sym none))
       go false none = valued p said (values (scope_at scope said p.at) p.at) refl none
@@ -205,10 +206,10 @@ module _ (scope : Scope) (sound : All IsDefinition scope.namespace.definitions) 
       let rest = to_end port (front ++ s ∷ []) back (step front s back h (All-head WellSpelled s back spelled) here) (All-tail WellSpelled s back spelled) first.1 in
       subst (λ l. KeepsRules scope l × (refusal_at_end port l ≡ None)) (append_assoc front (s ∷ []) back) rest
 
-  pub end_rule : (port : Option ℕ) (lines : List Statement) → refusal_at_end port lines ≡ None → breaks_7 (last_section lines) ≡ false
+  pub end_rule : (port : Option ℕ) (lines : List Statement) → refusal_at_end port lines ≡ None → has_too_few_variants (last_section lines) ≡ false
   end_rule port lines none = (kept (rules_at_end port lines (last_section lines)) (map_none (λ n. why.Rule n) (least (rules_at_end port lines (last_section lines))) none)).1.0
 
-  finished_sound : (name : FileName) (lines : List Statement) (prints : List Print) → KeepsRules scope lines → breaks_7 (last_section lines) ≡ false →
+  finished_sound : (name : FileName) (lines : List Statement) (prints : List Print) → KeepsRules scope lines → has_too_few_variants (last_section lines) ≡ false →
       IsDefinition (finished scope name lines prints).definition
   finished_sound name lines prints h rule = elim (cases_Bool (list_any is_split lines)) [
     | inl e ↦

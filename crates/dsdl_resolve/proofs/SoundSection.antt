@@ -35,7 +35,7 @@ use Rattle.dsdl_resolve.specs.Forms as forms
 use Rattle.dsdl_resolve.specs.Forms.{width_in, primitive_of, of_primitive, referred, item_of, bounded, in_bound, array_of}
 use Rattle.dsdl_resolve.specs.Judged.{above_limit, assert_at, long_at, long_extent, refusal_valued}
 use Rattle.dsdl_resolve.specs.Place.{Place, is_union_section}
-use Rattle.dsdl_resolve.specs.Rules.{Tests, least, rules_of, rules_at, field_rules, padding_rules, directive_rules, breaks_11, breaks_13, breaks_14, breaks_23, breaks_24, is_used, is_extent_for, breaks_4}
+use Rattle.dsdl_resolve.specs.Rules.{Tests, least, rules_of, rules_at, field_rules, padding_rules, directive_rules, has_wrong_width, has_wrong_capacity, is_no_message, is_nested_too_deep, has_too_many_nodes, is_used, is_extent_for, is_extent_too_small}
 use Rattle.dsdl_resolve.specs.Said.{Said, greatest, node_count, depth}
 use Rattle.dsdl_resolve.specs.Says.{is_split, is_union, is_extent, is_field, is_entry, attribute_of}
 use Rattle.dsdl_resolve.specs.declared.values.Values.{Values}
@@ -344,14 +344,14 @@ module _ (ss : List Statement) (said : Said) (x : Option Expr) (value : Option C
   abbrev at_extent : Statement
   at_extent = statement.Directive (codes "extent") x
 
-  extent_holds : (u : Option Const) (n : ℕ) → natural_of u ≡ Some n → breaks_4 said u ≡ false → long_extent (natural_of u) ≡ None → Holds said.union said.fields n
+  extent_holds : (u : Option Const) (n : ℕ) → natural_of u ≡ Some n → is_extent_too_small said u ≡ false → long_extent (natural_of u) ≡ None → Holds said.union said.fields n
   extent_holds None n e rule long = absurd (none-some n e)
   extent_holds (Some u) n e rule long =
       let fits : is_extent_for (greatest said.union said.fields) (Some n) ≡ true = ap (is_extent_for (greatest said.union said.fields)) (sym e) ∙ not-false _ rule in
       let p = and_parts (n % 8 == 0) (nat_le (greatest said.union said.fields) n) fits in
       (leb-true (greatest said.union said.fields) n p.1, eqb-true (n % 8) 0 p.0, within_limit n (ap long_extent (sym e) ∙ long))
 
-  sound_extent : breaks_4 said value ≡ false → long_extent (natural_of value) ≡ None → IsSound (ss ++ statement.Directive (codes "extent") x ∷ []) (record said { extent = natural_of value })
+  sound_extent : is_extent_too_small said value ≡ false → long_extent (natural_of value) ≡ None → IsSound (ss ++ statement.Directive (codes "extent") x ∷ []) (record said { extent = natural_of value })
   sound_extent rule long = record {
     fine = h.fine;
     texts = h.texts;
@@ -369,17 +369,17 @@ some_of : {A : Type 0} (a : Option A) → is_none a ≡ false → (x : A) × (a 
 some_of None e = absurd (false≢true (sym e))
 some_of (Some x) e = (x, refl)
 
-bound_some : (b : Option Bound) (u : Option Const) (item : of_form.Typed) → breaks_13 b u ≡ false → (t : of_form.Typed) × (in_bound b u item ≡ Some t)
+bound_some : (b : Option Bound) (u : Option Const) (item : of_form.Typed) → has_wrong_capacity b u ≡ false → (t : of_form.Typed) × (in_bound b u item ≡ Some t)
 bound_some None u item e = (item, refl)
 bound_some (Some b) u item e = let (n, is) = some_of (bounded b.sign u) e in (array_of b.sign item n, ap (option_map (array_of b.sign item)) is)
 
 module _ (scope : Scope) where
-  item_some : (s : Scalar) → breaks_11 s ≡ false → breaks_14 scope true s ≡ false → (t : of_form.Typed) × (item_of scope s ≡ Some t)
+  item_some : (s : Scalar) → has_wrong_width s ≡ false → is_no_message scope true s ≡ false → (t : of_form.Typed) × (item_of scope s ≡ Some t)
   item_some (scalar.Primitive word name) e f = let (p, is) = some_of (primitive_of word name) e in (of_primitive p, ap (option_map of_primitive) is)
   item_some (scalar.Reference r) e f = some_of (referred scope r) f
   item_some (scalar.Void digits) e f = absurd (false≢true (sym f))
 
-  pub type_some : (form : Form) (u : Option Const) → breaks_11 form.scalar ≡ false → breaks_13 form.array u ≡ false → breaks_14 scope true form.scalar ≡ false →
+  pub type_some : (form : Form) (u : Option Const) → has_wrong_width form.scalar ≡ false → has_wrong_capacity form.array u ≡ false → is_no_message scope true form.scalar ≡ false →
       (t : of_form.Typed) × (forms.type_of scope form u ≡ Some t)
   type_some form u wide count message =
       let (item, at) = item_some form.scalar wide message in
@@ -394,8 +394,8 @@ module _ (scope : Scope) where
         let (r5, (r9, (r10, (r11, (r12, (r13, (r14, (r23, (r24, end))))))))) = kept (field_rules scope p said vs form name) rules in
         let (t, is) = type_some form vs.bound r11 r13 r14 in
         let fine = type_fine scope sound form vs.bound t is in
-        let few : node_count (said.fields ++ made [] t.schema ∷ []) ≤ 2 ^ 20 = ltb-false (2 ^ 20) _ (ap (breaks_24 said) (sym is) ∙ r24) in
-        let flat : depth (said.fields ++ made [] t.schema ∷ []) ≤ 32 = ltb-false 32 _ (ap (breaks_23 said) (sym is) ∙ r23) in
+        let few : node_count (said.fields ++ made [] t.schema ∷ []) ≤ 2 ^ 20 = ltb-false (2 ^ 20) _ (ap (has_too_many_nodes said) (sym is) ∙ r24) in
+        let flat : depth (said.fields ++ made [] t.schema ∷ []) ≤ 32 = ltb-false 32 _ (ap (is_nested_too_deep said) (sym is) ∙ r23) in
         subst (λ o. IsSound (p.before ++ statement.Field form name ∷ []) (with_field said name o)) (sym is)
         (sound_field p.before said form name t fine h spelled r9 (h.open_end r5)
         (record {

@@ -18,6 +18,7 @@ use Rattle.dsdl_resolve.specs.declared.why.DsdlWhy.{DsdlWhy}
 use Rattle.dsdl_resolve.specs.declared.why.DsdlWhy.TheVariants as why
 use Rattle.dsdl_resolve.specs.Judged.{above_limit, refusal_valued}
 use Rattle.dsdl_resolve.specs.Place.{Place}
+use Rattle.dsdl_resolve.specs.RuleNumbers.{nested_too_deep, too_many_nodes}
 use Rattle.dsdl_resolve.specs.Rules.{is_used}
 use Rattle.dsdl_resolve.specs.Said.{Said, greatest_in}
 use Rattle.dsdl_resolve.specs.Says.{attribute_of}
@@ -25,11 +26,11 @@ use Rattle.dsdl_resolve.specs.Standing.{Stands}
 use Rattle.dsdl_resolve.specs.Totals.{AreTotals, AreWithin}
 use Rattle.dsdl_resolve.specs.Values.{added, with_field, with_padding}
 
--- what fields are refused for by their numbers: Rule 23, Rule 24, and then their length
+-- what fields are refused for by their numbers: their nesting, their nodes, and then their length
 abbrev pub size_refusal : Bool → Flds → Option DsdlWhy
 size_refusal union fs =
-    if nat_lt 32 (suc (nesting_of fs)) then Some (why.Rule 23)
-    else if nat_lt (2 ^ 20) (suc (nodes_of fs)) then Some (why.Rule 24)
+    if nat_lt 32 (suc (nesting_of fs)) then Some (why.Rule nested_too_deep)
+    else if nat_lt (2 ^ 20) (suc (nodes_of fs)) then Some (why.Rule too_many_nodes)
     else above_limit (greatest_in union fs)
 
 -- what a section says with an addition, which has a name

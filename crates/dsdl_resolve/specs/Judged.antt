@@ -19,7 +19,8 @@ use Rattle.const_expr.specs.declared.error.ExprError.TheVariants as error
 use Rattle.const_expr.specs.declared.scope.Scope.{Scope}
 use Rattle.const_expr.specs.Constants.{Layer}
 use Rattle.dsdl_resolve.specs.Place.{Place, place, last_section}
-use Rattle.dsdl_resolve.specs.Rules.{least, rules_at, rules_at_end, breaks_22}
+use Rattle.dsdl_resolve.specs.RuleNumbers.{union_offset_too_early}
+use Rattle.dsdl_resolve.specs.Rules.{least, rules_at, rules_at_end, is_offset_too_early}
 use Rattle.dsdl_resolve.specs.Said.{Said, greatest}
 use Rattle.dsdl_resolve.specs.Says.{is_split}
 use Rattle.dsdl_resolve.specs.declared.outcome.Outcome.{Outcome}
@@ -72,13 +73,15 @@ assert_at vs _ = None
 abbrev pub refusal_valued : Scope → Place → Said → Values → Option DsdlWhy
 refusal_valued scope p said vs = option_or (option_map (λ n. why.Rule n) (least (rules_at scope p said vs))) (option_or (assert_at vs p.at) (long_at scope said vs p.at))
 
--- an expression that is refused comes before all rules but 22
+-- an expression that is refused comes before all rules but `union_offset_too_early`
 abbrev pub refusal_of_values : Scope → Place → Said → Result Values ExprError → Option DsdlWhy
 refusal_of_values scope p said (Err e) = Some (why.Expr (cause_of e))
 refusal_of_values scope p said (Ok vs) = refusal_valued scope p said vs
 
 abbrev pub refusal_behind : Scope → Place → Said → Option DsdlWhy
-refusal_behind scope p said = if breaks_22 p then Some (why.Rule 22) else refusal_of_values scope p said (values (scope_at scope said p.at) p.at)
+refusal_behind scope p said =
+    if is_offset_too_early p then Some (why.Rule union_offset_too_early)
+    else refusal_of_values scope p said (values (scope_at scope said p.at) p.at)
 
 -- what a statement is refused for at its place
 abbrev pub refusal_at : Scope → Place → Option DsdlWhy

@@ -6,6 +6,7 @@ pub mod Forms
 pub mod Said
 pub mod Values
 pub mod Place
+pub mod RuleNumbers
 pub mod Rules
 pub mod Judged
 pub mod SoundSections

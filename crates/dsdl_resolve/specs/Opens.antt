@@ -10,6 +10,7 @@ use Rattle.const_expr.specs.declared.scope.NamedConst.{NamedConst}
 use Rattle.const_expr.specs.declared.scope.Scope.{Scope}
 use Rattle.dsdl_resolve.specs.Judged.{cause_of, refusal_at}
 use Rattle.dsdl_resolve.specs.Place.{place, last_section, is_union_section}
+use Rattle.dsdl_resolve.specs.RuleNumbers.{union_offset_too_early}
 use Rattle.dsdl_resolve.specs.Rules.{is_used}
 use Rattle.dsdl_resolve.specs.Said.{Said, offsets}
 use Rattle.dsdl_resolve.specs.Says.{is_split, is_field, attribute_of, names_offset}
@@ -90,7 +91,9 @@ of_values (Err e) = Some (why.Expr (cause_of e))
 
 -- what the expressions of a statement are refused for
 abbrev pub value_refusal : Scope → OpenSection → Statement → Option DsdlWhy
-value_refusal scope section s = if names_offset s && is_early section then Some (why.Rule 22) else of_values (values (with_offset scope section s) s)
+value_refusal scope section s =
+    if names_offset s && is_early section then Some (why.Rule union_offset_too_early)
+    else of_values (values (with_offset scope section s) s)
 
 -- a statement isn't refused at its place and is worth these values, and the section has it
 pub record IsTaken (scope : Scope) (front back : List Statement) (s : Statement) (vs : Values) (section : OpenSection) (constants : List NamedConst) : Type 0 where

@@ -5,7 +5,7 @@ ghost use Rattle.dsdl_parse.specs.declared.statement.Statement.TheVariants as st
 ghost use Rattle.dsdl_parse.specs.declared.expr.Expr.{Expr};
 ghost use Rattle.dsdl_resolve.specs.Additions.{IsStatementRefusal, Judges, Refuses};
 ghost use Rattle.dsdl_resolve.specs.Forms.{IsPrimitive};
-ghost use Rattle.dsdl_resolve.specs.Rules.{breaks_15, breaks_16, holds, least};
+ghost use Rattle.dsdl_resolve.specs.Rules.{holds, is_not_primitive, is_out_of_range, least};
 ghost use Rattle.dsdl_resolve.specs.Places.{ArePlacesIn};
 ghost use Rattle.dsdl_resolve.specs.Totals.{AreWithin};
 ghost use Rattle.dsdl_resolve.specs.Values.{constant_value};
@@ -14,8 +14,9 @@ use crate::addition::{Addition, Judged, StatementError};
 use crate::before::Before;
 use crate::finding::Places;
 use crate::fits::fits;
-use crate::naming::{breaks_14, named_rule};
+use crate::naming::{is_no_message, named_rule};
 use crate::primitive::{Primitive, primitive_of};
+use crate::rules::{CONSTANT_NOT_PRIMITIVE, CONSTANT_OUT_OF_RANGE, NOT_A_MESSAGE};
 use crate::values::Values;
 use crate::why::DsdlWhy;
 use const_expr::{Const, Scope};
@@ -36,10 +37,10 @@ fn holds(primitive: Option<Primitive>, value: &Option<Const>) -> bool
     }
 }
 
-/// The least of the rules 15 and 16 that a constant breaks.
+/// The least rule on its type and its value that a constant breaks.
 fn constant_rule(form: &Form, value: &Option<Const>) -> Option<u8>
-    ensures rule { result ≡ least ((15, breaks_15 form.now) ∷
-        (16, breaks_16 form.now.scalar value.now) ∷ []) }
+    ensures rule { result ≡ least ((CONSTANT_NOT_PRIMITIVE, is_not_primitive form.now) ∷
+        (CONSTANT_OUT_OF_RANGE, is_out_of_range form.now.scalar value.now) ∷ []) }
     ensures some { IfNone result (is_some value.now ≡ true) }
 {
     match (&form.scalar, &form.array) {
@@ -47,10 +48,10 @@ fn constant_rule(form: &Form, value: &Option<Const>) -> Option<u8>
             if holds(primitive_of(*prefix, name.as_str()), value) {
                 None
             } else {
-                Some(16)
+                Some(CONSTANT_OUT_OF_RANGE)
             }
         }
-        _ => Some(15),
+        _ => Some(CONSTANT_NOT_PRIMITIVE),
     }
 }
 
@@ -97,8 +98,8 @@ pub fn judge_constant(
     if let Some(number) = named_rule(before, form, name, &values.bound) {
         return Err(StatementError::Refused(DsdlWhy::Rule(number)));
     }
-    if breaks_14(alloc, scope, places, form.array.is_some(), &form.scalar)? {
-        return Err(StatementError::Refused(DsdlWhy::Rule(14)));
+    if is_no_message(alloc, scope, places, form.array.is_some(), &form.scalar)? {
+        return Err(StatementError::Refused(DsdlWhy::Rule(NOT_A_MESSAGE)));
     }
     if let Some(number) = constant_rule(form, &values.value) {
         return Err(StatementError::Refused(DsdlWhy::Rule(number)));

@@ -6,7 +6,7 @@ ghost use Rattle.dsdl_parse.specs.declared.statement.Statement.TheVariants as st
 ghost use Rattle.dsdl_resolve.specs.Additions.{IsBefore, IsStatementRefusal, Judges, Refuses};
 ghost use Rattle.dsdl_resolve.specs.Judged.{if_false, long_extent};
 ghost use Rattle.dsdl_resolve.specs.Place.{Place};
-ghost use Rattle.dsdl_resolve.specs.Rules.{breaks_20, breaks_4, directive_rules, least};
+ghost use Rattle.dsdl_resolve.specs.Rules.{directive_rules, is_extent_too_small, is_no_truth, least};
 ghost use Rattle.dsdl_resolve.specs.Said.{Said, greatest};
 ghost use Rattle.dsdl_resolve.specs.Totals.{AreWithin};
 ghost use Rattle.dsdl_resolve.specs.Values.{natural_of};
@@ -15,6 +15,10 @@ ghost use Rattle.dsdl_resolve.specs.declared.values.Values.{Values as ValuesOf};
 use crate::addition::{Addition, Judged, StatementError};
 use crate::before::Before;
 use crate::entry::rule;
+use crate::rules::{
+    ASSERT_NOT_TRUTH, EXTENT_TOO_SMALL, LATE_DEPRECATED, LATE_UNION, MISPLACED_EXPRESSION,
+    SECOND_ENDING, UNKNOWN_DIRECTIVE,
+};
 use crate::totals::Totals;
 use crate::why::DsdlWhy;
 use const_expr::Const;
@@ -42,9 +46,9 @@ fn natural_of(value: &Option<Const>) -> Option<u128>
 }
 
 /// Whether an extent is no whole multiple of 8, or is below the greatest length.
-fn breaks_4(longest: u64, value: &Option<Const>) -> bool
+fn is_extent_too_small(longest: u64, value: &Option<Const>) -> bool
     ensures { (said : Said) → longest ≡ greatest said.union said.fields →
-        result ≡ breaks_4 said value.now }
+        result ≡ is_extent_too_small said value.now }
 {
     match natural_of(value) {
         Some(n) => n % 8 != 0 || n < u128::from(longest),
@@ -53,8 +57,8 @@ fn breaks_4(longest: u64, value: &Option<Const>) -> bool
 }
 
 /// Whether a value is no truth value.
-fn breaks_20(value: &Option<Const>) -> bool
-    ensures { result ≡ breaks_20 value.now }
+fn is_no_truth(value: &Option<Const>) -> bool
+    ensures { result ≡ is_no_truth value.now }
 {
     match value {
         None | Some(Const::Truth(_)) => false,
@@ -92,26 +96,38 @@ fn directive_rule(before: &Before, name: &str, value: &Option<Const>) -> Option<
     let standing = before.standing;
     let valued = value.is_some();
     if name == "assert" {
-        first_of((18, !valued), (20, breaks_20(value)))
+        first_of(
+            (MISPLACED_EXPRESSION, !valued),
+            (ASSERT_NOT_TRUTH, is_no_truth(value)),
+        )
     } else if name == "print" {
         None
     } else if name == "union" {
-        first_of((6, standing.union || standing.entry), (18, valued))
+        first_of(
+            (LATE_UNION, standing.union || standing.entry),
+            (MISPLACED_EXPRESSION, valued),
+        )
     } else if name == "sealed" {
-        first_of((3, standing.sealing), (18, valued))
+        first_of(
+            (SECOND_ENDING, standing.sealing),
+            (MISPLACED_EXPRESSION, valued),
+        )
     } else if name == "extent" {
         if standing.sealing {
-            return Some(3);
+            return Some(SECOND_ENDING);
         }
         first_of(
-            (4, breaks_4(before.totals.greatest(), value)),
-            (18, !valued),
+            (
+                EXTENT_TOO_SMALL,
+                is_extent_too_small(before.totals.greatest(), value),
+            ),
+            (MISPLACED_EXPRESSION, !valued),
         )
     } else if name == "deprecated" {
         let late = standing.deprecated || (standing.begun || standing.split);
-        first_of((18, valued), (19, late))
+        first_of((MISPLACED_EXPRESSION, valued), (LATE_DEPRECATED, late))
     } else {
-        Some(17)
+        Some(UNKNOWN_DIRECTIVE)
     }
 }
 

@@ -14,7 +14,8 @@ use crate::finding::Places;
 use crate::form::type_of;
 use crate::limits::{above_limit, size_refusal};
 use crate::measure::measure_of;
-use crate::naming::{breaks_14, named_rule};
+use crate::naming::{is_no_message, named_rule};
+use crate::rules::{BEHIND_EXTENT, NOT_A_MESSAGE, PADDING_IN_UNION, WRONG_WIDTH};
 use crate::why::DsdlWhy;
 use crate::width::width_in;
 use const_expr::{Const, Scope};
@@ -50,8 +51,8 @@ pub fn judge_field(
     if let Some(number) = named_rule(before, form, name, bound) {
         return Err(StatementError::Refused(DsdlWhy::Rule(number)));
     }
-    if breaks_14(alloc, scope, places, true, &form.scalar)? {
-        return Err(StatementError::Refused(DsdlWhy::Rule(14)));
+    if is_no_message(alloc, scope, places, true, &form.scalar)? {
+        return Err(StatementError::Refused(DsdlWhy::Rule(NOT_A_MESSAGE)));
     }
     let Some(typed) = type_of(alloc, scope, places, form, bound)? else {
         unreachable!();
@@ -75,13 +76,13 @@ pub fn judge_padding(before: &Before, digits: &str) -> Result<Judged, StatementE
         Refuses scope before.now (statement.Padding digits.now) vs why)) }
 {
     if before.standing.extent {
-        return Err(rule(5));
+        return Err(rule(BEHIND_EXTENT));
     }
     if before.standing.union {
-        return Err(rule(8));
+        return Err(rule(PADDING_IN_UNION));
     }
     let Some(bits) = width_in(1, digits.as_bytes()) else {
-        return Err(rule(11));
+        return Err(rule(WRONG_WIDTH));
     };
     let totals = before.totals.with_padding(bits);
     match above_limit(totals.greatest()) {

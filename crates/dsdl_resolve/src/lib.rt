@@ -33,6 +33,7 @@ mod primitive;
 mod printing;
 mod progress;
 mod room;
+pub mod rules;
 mod size;
 mod soundness;
 mod sources;

@@ -5,6 +5,7 @@ ghost use Rattle.dsdl_resolve.specs.Additions.{size_refusal};
 ghost use Rattle.dsdl_resolve.specs.Judged.{above_limit};
 ghost use Rattle.dsdl_resolve.specs.Totals.{AreTotals, AreWithin, AreCounted};
 
+use crate::rules::{NESTED_TOO_DEEP, TOO_MANY_NODES};
 use crate::totals::Totals;
 use crate::why::DsdlWhy;
 
@@ -32,7 +33,7 @@ pub fn above_limit(length: u64) -> Option<DsdlWhy>
     }
 }
 
-/// What fields of these numbers are refused for: Rule 23, Rule 24, and then their length.
+/// What fields of these numbers are refused for: their nesting, their nodes, and then their length.
 pub fn size_refusal(totals: Totals) -> Option<DsdlWhy>
     requires { AreCounted totals }
     ensures refusal { (union : Bool) (fs : Flds) → AreTotals totals union fs →
@@ -41,10 +42,10 @@ pub fn size_refusal(totals: Totals) -> Option<DsdlWhy>
         IfNone result (AreWithin totals) }
 {
     if totals.nesting >= DEEPEST {
-        return Some(DsdlWhy::Rule(23));
+        return Some(DsdlWhy::Rule(NESTED_TOO_DEEP));
     }
     if totals.nodes >= MOST_NODES {
-        return Some(DsdlWhy::Rule(24));
+        return Some(DsdlWhy::Rule(TOO_MANY_NODES));
     }
     above_limit(totals.greatest())
 }

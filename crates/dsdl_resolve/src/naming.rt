@@ -3,13 +3,16 @@ ghost use Rattle.std.specs.Prelude.{◌≡◌, [], false, IfNone, IfOk};
 ghost use Rattle.dsdl_resolve.specs.Additions.{IsBefore};
 ghost use Rattle.dsdl_resolve.specs.Place.{Place};
 ghost use Rattle.dsdl_resolve.specs.Places.{ArePlacesIn};
-ghost use Rattle.dsdl_resolve.specs.Rules.{breaks_11, breaks_12, breaks_13, breaks_14, has_no_cast, least, named_rules};
+ghost use Rattle.dsdl_resolve.specs.Rules.{has_no_cast, has_wrong_capacity, has_wrong_cast_mode, has_wrong_width, is_no_message, least, named_rules};
 ghost use Rattle.dsdl_resolve.specs.Said.{Said};
 
 use crate::before::Before;
 use crate::finding::Places;
 use crate::form::{bounded, is_message};
 use crate::primitive::primitive_of;
+use crate::rules::{
+    BEHIND_EXTENT, NAME_RESERVED, NAME_TAKEN, WRONG_CAPACITY, WRONG_CAST_MODE, WRONG_WIDTH,
+};
 use crate::width::width_in;
 use const_expr::{Const, Scope};
 use cy_bits::NoMemory;
@@ -18,8 +21,8 @@ use dsdl_parse::{Bound, Form, Prefix, Scalar};
 use std::alloc::Global;
 
 /// Whether a type has a width that no type of its kind has, or one with a leading zero.
-fn breaks_11(scalar: &Scalar) -> bool
-    ensures { result ≡ breaks_11 scalar.now }
+fn has_wrong_width(scalar: &Scalar) -> bool
+    ensures { result ≡ has_wrong_width scalar.now }
 {
     match scalar {
         Scalar::Primitive { prefix, name } => primitive_of(*prefix, name.as_str()).is_none(),
@@ -36,8 +39,8 @@ fn has_no_cast(name: &str) -> bool
 }
 
 /// Whether `truncated` stands at a type that is saturated alone.
-fn breaks_12(scalar: &Scalar) -> bool
-    ensures { result ≡ breaks_12 scalar.now }
+fn has_wrong_cast_mode(scalar: &Scalar) -> bool
+    ensures { result ≡ has_wrong_cast_mode scalar.now }
 {
     match scalar {
         Scalar::Primitive {
@@ -49,8 +52,8 @@ fn breaks_12(scalar: &Scalar) -> bool
 }
 
 /// Whether the length or the capacity of an array isn't whole from 1 to 2^20.
-fn breaks_13(array: &Option<Bound>, value: &Option<Const>) -> bool
-    ensures { result ≡ breaks_13 array.now value.now }
+fn has_wrong_capacity(array: &Option<Bound>, value: &Option<Const>) -> bool
+    ensures { result ≡ has_wrong_capacity array.now value.now }
 {
     match array {
         Some(bound) => bounded(bound.sign, value).is_none(),
@@ -59,7 +62,7 @@ fn breaks_13(array: &Option<Bound>, value: &Option<Const>) -> bool
 }
 
 /// Whether a type is no message and must be one, or is `void`, which has a name or is an item here.
-pub fn breaks_14(
+pub fn is_no_message(
     alloc: Global,
     scope: &Scope,
     places: &Places,
@@ -67,7 +70,7 @@ pub fn breaks_14(
     scalar: &Scalar,
 ) -> Result<bool, NoMemory>
     requires { ArePlacesIn scope.now places.now }
-    ensures { IfOk result (λ breaks. breaks ≡ breaks_14 scope.now typed scalar.now) }
+    ensures { IfOk result (λ breaks. breaks ≡ is_no_message scope.now typed scalar.now) }
 {
     match scalar {
         Scalar::Primitive { .. } => Ok(false),
@@ -76,30 +79,30 @@ pub fn breaks_14(
     }
 }
 
-/// The least of the rules 5 and 9 to 13 that a field or a constant breaks.
+/// The least rule on its place, name and form that a field or a constant breaks.
 pub fn named_rule(before: &Before, form: &Form, name: &str, bound: &Option<Const>) -> Option<u8>
     ensures rule { (p : Place) (said : Said) → IsBefore before.now p said →
         result ≡ least (named_rules p bound.now form.now name.now []) }
-    ensures clear { IfNone result ((breaks_11 form.now.scalar ≡ false) ×
-        (breaks_13 form.now.array bound.now ≡ false)) }
+    ensures clear { IfNone result ((has_wrong_width form.now.scalar ≡ false) ×
+        (has_wrong_capacity form.now.array bound.now ≡ false)) }
 {
     if before.standing.extent {
-        return Some(5);
+        return Some(BEHIND_EXTENT);
     }
     if before.names.contains(name) {
-        return Some(9);
+        return Some(NAME_TAKEN);
     }
     if is_reserved(name.as_bytes()) {
-        return Some(10);
+        return Some(NAME_RESERVED);
     }
-    if breaks_11(&form.scalar) {
-        return Some(11);
+    if has_wrong_width(&form.scalar) {
+        return Some(WRONG_WIDTH);
     }
-    if breaks_12(&form.scalar) {
-        return Some(12);
+    if has_wrong_cast_mode(&form.scalar) {
+        return Some(WRONG_CAST_MODE);
     }
-    if breaks_13(&form.array, bound) {
-        return Some(13);
+    if has_wrong_capacity(&form.array, bound) {
+        return Some(WRONG_CAPACITY);
     }
     None
 }

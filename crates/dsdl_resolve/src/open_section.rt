@@ -29,6 +29,7 @@ use crate::finding::Places;
 use crate::judge::judge;
 use crate::mention::names_offset;
 use crate::offsets::{Offsets, offsets_of};
+use crate::rules::UNION_OFFSET_TOO_EARLY;
 use crate::standing::Standing;
 use crate::totals::Totals;
 use crate::typed::Typed;
@@ -214,7 +215,7 @@ impl OpenSection {
             return valued(values_of(alloc, scope, statement));
         }
         if self.is_early() {
-            return Err(StatementError::Refused(DsdlWhy::Rule(22)));
+            return Err(StatementError::Refused(DsdlWhy::Rule(UNION_OFFSET_TOO_EARLY)));
         }
         valued(self.values_with_offset(alloc, scope, statement))
     }

@@ -4,7 +4,7 @@ ghost use Rattle.const_expr.specs.declared.scope.Scope.{Scope as ScopeOf};
 ghost use Rattle.dsdl_parse.specs.declared.statement.Statement.{Statement};
 ghost use Rattle.dsdl_parse.specs.declared.statement.Statement.TheVariants as statement;
 ghost use Rattle.dsdl_resolve.specs.Additions.{IsStatementRefusal, Judges, Refuses};
-ghost use Rattle.dsdl_resolve.specs.Rules.{breaks_21, breaks_7, least, rules_at_end};
+ghost use Rattle.dsdl_resolve.specs.Rules.{has_too_few_variants, is_port_too_great, least, rules_at_end};
 ghost use Rattle.dsdl_resolve.specs.Standing.{Stands};
 ghost use Rattle.dsdl_resolve.specs.Totals.{AreWithin};
 ghost use Rattle.dsdl_resolve.specs.declared.values.Values.{Values as ValuesOf};
@@ -12,23 +12,24 @@ ghost use Rattle.dsdl_resolve.specs.declared.values.Values.{Values as ValuesOf};
 use crate::addition::{Addition, Judged, StatementError};
 use crate::before::Before;
 use crate::entry::rule;
+use crate::rules::{NO_ENDING, SECOND_SPLIT, SERVICE_PORT_TOO_GREAT, TOO_FEW_VARIANTS};
 use crate::standing::Standing;
 
 /// The greatest port of a service.
 const GREATEST_SERVICE: u16 = 511;
 
 /// Whether a section is a union with fewer than two variants.
-fn breaks_7(standing: Standing) -> bool
+fn has_too_few_variants(standing: Standing) -> bool
     ensures { (file section : List Statement) → Stands standing file section →
-        result ≡ breaks_7 section }
+        result ≡ has_too_few_variants section }
 {
     standing.union && standing.fields < 2
 }
 
 /// Whether a file is a service with a port above 511.
-fn breaks_21(port: Option<u16>, standing: Standing) -> bool
+fn is_port_too_great(port: Option<u16>, standing: Standing) -> bool
     ensures { (file section : List Statement) → Stands standing file section →
-        result ≡ breaks_21 port file }
+        result ≡ is_port_too_great port file }
 {
     match port {
         Some(port) => port > GREATEST_SERVICE && standing.split,
@@ -46,13 +47,13 @@ pub fn judge_split(before: &Before) -> Result<Judged, StatementError>
 {
     let standing = before.standing;
     if standing.split {
-        return Err(rule(1));
+        return Err(rule(SECOND_SPLIT));
     }
     if !standing.sealing {
-        return Err(rule(2));
+        return Err(rule(NO_ENDING));
     }
-    if breaks_7(standing) {
-        return Err(rule(7));
+    if has_too_few_variants(standing) {
+        return Err(rule(TOO_FEW_VARIANTS));
     }
     Ok(Judged {
         addition: Addition::Nothing,
@@ -66,13 +67,13 @@ pub fn end_rule(port: Option<u16>, standing: Standing) -> Option<u8>
         result ≡ least (rules_at_end port file section) }
 {
     if !standing.sealing {
-        return Some(2);
+        return Some(NO_ENDING);
     }
-    if breaks_7(standing) {
-        return Some(7);
+    if has_too_few_variants(standing) {
+        return Some(TOO_FEW_VARIANTS);
     }
-    if breaks_21(port, standing) {
-        return Some(21);
+    if is_port_too_great(port, standing) {
+        return Some(SERVICE_PORT_TOO_GREAT);
     }
     None
 }

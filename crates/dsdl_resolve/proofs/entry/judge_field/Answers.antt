@@ -13,11 +13,11 @@ returns-in-Some-clause-refused c = λ vs same p said at h.
 pub returns-then-branch-clause-refused : goal.returns-then-branch-clause-refused
 returns-then-branch-clause-refused c = λ vs same p said at h.
     message_refused c.args.scope.now p said vs c.args.form.now c.args.name.now at (at_bound p c.args.form.now c.args.name.now same (c.in_default.ensures.rule p said h))
-    (sym c.in_ok-breaks_14.ensures ∙ c.if-branch.true)
+    (sym c.in_ok-is_no_message.ensures ∙ c.if-branch.true)
 
 pub unreachable-requires : goal.unreachable-requires
 unreachable-requires c =
-    let (t, is) = type_some c.args.scope.now c.args.form.now c.args.bound.now c.in_default.ensures.clear.0 c.in_default.ensures.clear.1 (sym c.in_ok-breaks_14.ensures ∙ c.if-branch.false) in
+    let (t, is) = type_some c.args.scope.now c.args.form.now c.args.bound.now c.in_default.ensures.clear.0 c.in_default.ensures.clear.1 (sym c.in_ok-is_no_message.ensures ∙ c.if-branch.false) in
     c.in_default-2.not-Some t (c.in_ok-typed.ensures ∙ is)
 
 pub measure_of-requires-clause-part : goal.measure_of-requires-clause-part
@@ -37,7 +37,7 @@ returns-in-Some-size_refusal-clause-refused c = λ vs same p said at h.
     (made_measure said.fields c.args.name.now c.in-Some-2.typed.schema fine.typed c.measure_of.result c.measure_of.ensures.measure)
     in
     sized c.args.scope.now p said vs c.args.form.now c.args.name.now at (at_bound p c.args.form.now c.args.name.now same (c.in_default.ensures.rule p said h))
-    (sym c.in_ok-breaks_14.ensures ∙ c.if-branch.false) c.in-Some-2.typed (ap (type_of c.args.scope.now c.args.form.now) same ∙ is) fine
+    (sym c.in_ok-is_no_message.ensures ∙ c.if-branch.false) c.in-Some-2.typed (ap (type_of c.args.scope.now c.args.form.now) same ∙ is) fine
     ∙ sym (c.in-Some-size_refusal.ensures.refusal said.union _ totals)
 
 pub returns-in-None-clause-judged : goal.returns-in-None-clause-judged
@@ -49,5 +49,5 @@ returns-in-None-clause-judged c = λ vs same p said at h.
     (made_measure said.fields c.args.name.now c.in-Some-2.typed.schema fine.typed c.measure_of.result c.measure_of.ensures.measure)
     in
     field_judged c.args.scope.now p said vs c.args.form.now c.args.name.now at (at_bound p c.args.form.now c.args.name.now same (c.in_default.ensures.rule p said h))
-    (sym c.in_ok-breaks_14.ensures ∙ c.if-branch.false) c.in-Some-2.typed (ap (type_of c.args.scope.now c.args.form.now) same ∙ is) fine
+    (sym c.in_ok-is_no_message.ensures ∙ c.if-branch.false) c.in-Some-2.typed (ap (type_of c.args.scope.now c.args.form.now) same ∙ is) fine
     c.with_field-totals.result (sym (c.in-None.ensures.refusal said.union _ totals)) totals (c.in-None.ensures.within said.union _ totals)
