@@ -1,5 +1,5 @@
 # make run [PLAN=FILE LOG=FILE]: runs a plan over a log, those of examples/first unless others are given, by the kit's
-#   quick build. It takes about a minute, proves nothing and leaves nothing; it shows at most 1 MiB of report.
+#   quick build. It takes a minute and a half, proves nothing and leaves nothing; it shows at most 1 MiB of report.
 # make build: proves the program and leaves it, optimised, as build/cyphal. From nothing that proves every crate.
 # make install [PREFIX=FOLDER] [DESTDIR=FOLDER]: copies build/cyphal, its man page and its completions.
 # make test: the whole gate: proofs, must-fail edits, tests and programs.
@@ -13,7 +13,7 @@ INSTALL = install
 .PHONY: run build install uninstall test bench
 
 run:
-	@echo 'A quick build, about a minute. Nothing has proved it; make build proves the program and leaves it.' >&2
+	@echo 'A quick build, a minute and a half. Nothing has proved it; make build proves the program and leaves it.' >&2
 	@cd crates/cyphal && rt try --data plan=$(abspath $(PLAN)) -- run none plan < $(abspath $(LOG))
 
 build:
