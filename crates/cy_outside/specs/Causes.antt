@@ -1,5 +1,5 @@
 -- What every call of a tree keeps, whether its files are told or not.
-use Rattle.std.specs.Prelude.{◌≡◌, ◌≤◌, ℕ, List, Result, Ok, Err, drop, ⊤}
+use Rattle.std.specs.Prelude.{◌≡◌, ◌≤◌, ℕ, Bool, true, false, List, Result, Ok, Err, drop, ⊤}
 use Rattle.cy_outside.specs.Outside.{Rose}
 use Rattle.cy_outside.specs.declared.tree.TreeError.{TreeError}
 use Rattle.cy_outside.specs.declared.tree.TreeError.TheVariants.{Failed, NoMemory}
@@ -23,3 +23,9 @@ abbrev pub IsLeft : Got → List ℕ → List ℕ → Type 0
 IsLeft (Bytes n) before after = drop n after ≡ drop n before
 IsLeft Absent before after = after ≡ before
 IsLeft Folder before after = after ≡ before
+
+-- a call of a tree failed exactly where it was to fail
+abbrev pub FailsWhere : {T : Type 0} → Bool → Result T TreeError → Type 0
+FailsWhere is_failing (Ok answer) = is_failing ≡ false
+FailsWhere is_failing (Err Failed) = is_failing ≡ true
+FailsWhere is_failing (Err NoMemory) = is_failing ≡ false

@@ -1,4 +1,6 @@
-ghost use Rattle.std.specs.Prelude.{◌≡◌, [], Some};
+ghost use Rattle.std.specs.Prelude.{◌≡◌, ◌<◌, ◌≤◌, [], Some, length, drop, true, false, MatchResult, OnErr, IfOk, OnOk};
+ghost use Rattle.cy_outside.specs.Calls.{one_more, is_failing};
+ghost use Rattle.cy_outside.specs.Outside.{HasCause, Takes, Adds};
 
 use crate::{Calls, Failed, NeverSource, Sink, Source};
 use cy_bits::Bytes;
@@ -26,6 +28,34 @@ impl<'a> MemSource<'a> {
             calls: Calls::new(failing),
         }
     }
+
+    /// One read, which fails exactly where its number is one of those that are to fail.
+    /// `Source::read` is this call.
+    pub fn counted_read(&mut self, buf: &mut [u8]) -> Result<usize, Failed>
+        ensures fails { MatchResult result
+            (λ _. is_failing self.old.calls.failing.now self.old.calls.next ≡ false)
+            (λ _. is_failing self.old.calls.failing.now self.old.calls.next ≡ true) }
+        ensures faults { MatchResult result
+            (λ _. self.new.calls.faults ≡ self.old.calls.faults)
+            (λ _. self.new.calls.faults ≡ one_more self.old.calls.faults) }
+        ensures next { self.new.calls.next ≡ one_more self.old.calls.next }
+        ensures failing { self.new.calls.failing.now ≡ self.old.calls.failing.now }
+        ensures within { IfOk result (λ n. n ≤ length buf.old) }
+        ensures takes { IfOk result (λ n. Takes (Some self.old.source.left.now)
+            (Some self.new.source.left.now) buf.old buf.new n) }
+        ensures behind { IfOk result (λ n. drop n buf.new ≡ drop n buf.old) }
+        ensures failed { OnErr result
+            (Some self.new.source.left.now ≡ Some self.old.source.left.now) }
+        ensures cause { HasCause self.old.calls.faults self.new.calls.faults result }
+        ensures count { self.old.calls.faults ≤ self.new.calls.faults }
+    {
+        let is_failing = self.calls.fails();
+        if is_failing {
+            Err(Failed)
+        } else {
+            self.source.read(buf)
+        }
+    }
 }
 
 impl<'a> Source for MemSource<'a> {
@@ -34,10 +64,7 @@ impl<'a> Source for MemSource<'a> {
     ghost faults = { λ s. s.calls.faults };
 
     fn read(&mut self, buf: &mut [u8]) -> Result<usize, Failed> {
-        if self.calls.fails() {
-            return Err(Failed);
-        }
-        self.source.read(buf)
+        self.counted_read(buf)
     }
 }
 
@@ -64,14 +91,26 @@ impl<'a> MemSink<'a> {
             calls: Calls::new(failing),
         }
     }
-}
 
-impl<'a> Sink for MemSink<'a> {
-    ghost written = { λ s. Some s.written };
-
-    ghost faults = { λ s. s.calls.faults };
-
-    fn write(&mut self, bytes: &[u8]) -> Result<usize, Failed> {
+    /// One write, of all the bytes. It fails where its number is one of those that are to fail, and
+    /// else at most for want of memory. `Sink::write` is this call.
+    pub fn counted_write(&mut self, bytes: &[u8]) -> Result<usize, Failed>
+        ensures fails { OnOk result
+            (is_failing self.old.calls.failing.now self.old.calls.next ≡ false) }
+        ensures faults { MatchResult result
+            (λ _. self.new.calls.faults ≡ self.old.calls.faults)
+            (λ _. self.new.calls.faults ≡ one_more self.old.calls.faults) }
+        ensures next { self.new.calls.next ≡ one_more self.old.calls.next }
+        ensures failing { self.new.calls.failing.now ≡ self.old.calls.failing.now }
+        ensures whole { IfOk result (λ n. n ≡ length bytes.now) }
+        ensures adds { IfOk result (λ n.
+            Adds (Some self.old.written) (Some self.new.written) bytes.now n) }
+        ensures failed { OnErr result (Some self.new.written ≡ Some self.old.written) }
+        ensures within { IfOk result (λ n. n ≤ length bytes.now) }
+        ensures some { IfOk result (λ n. 0 < length bytes.now → 0 < n) }
+        ensures cause { HasCause self.old.calls.faults self.new.calls.faults result }
+        ensures count { self.old.calls.faults ≤ self.new.calls.faults }
+    {
         if self.calls.fails() {
             return Err(Failed);
         }
@@ -80,5 +119,15 @@ impl<'a> Sink for MemSink<'a> {
             return Err(Failed);
         };
         Ok(bytes.len())
+    }
+}
+
+impl<'a> Sink for MemSink<'a> {
+    ghost written = { λ s. Some s.written };
+
+    ghost faults = { λ s. s.calls.faults };
+
+    fn write(&mut self, bytes: &[u8]) -> Result<usize, Failed> {
+        self.counted_write(bytes)
     }
 }

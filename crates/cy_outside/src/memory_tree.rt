@@ -1,5 +1,7 @@
-ghost use Rattle.std.specs.Prelude.{◌≡◌, true, Some, MatchOption, IfSome};
-ghost use Rattle.cy_outside.specs.Files.{has_clash};
+ghost use Rattle.std.specs.Prelude.{◌≡◌, ◌≤◌, true, Some, length, MatchOption, IfSome, IfOk, IfErr};
+ghost use Rattle.cy_outside.specs.Calls.{one_more, is_failing};
+ghost use Rattle.cy_outside.specs.Causes.{FailsWhere, HasTreeCause, IsWithin, IsLeft};
+ghost use Rattle.cy_outside.specs.Files.{has_clash, Lists, Reads, Sizes};
 ghost use Rattle.cy_outside.specs.Memory.{files_of};
 
 use crate::{Calls, File, Got, Listing, NeverTree, Size, Tree, TreeError};
@@ -29,6 +31,75 @@ impl<'a> MemTree<'a> {
         let calls = Calls::new(failing);
         Some(MemTree { tree, calls })
     }
+
+    /// Lists a folder, and fails exactly where the call's number is one of those that are to fail.
+    /// `Tree::list` is this call.
+    pub fn counted_list(&mut self, alloc: Global, path: &str) -> Result<Listing, TreeError>
+        ensures fails { FailsWhere
+            (is_failing self.old.calls.failing.now self.old.calls.next) result }
+        ensures next { self.new.calls.next ≡ one_more self.old.calls.next }
+        ensures failing { self.new.calls.failing.now ≡ self.old.calls.failing.now }
+        ensures files { Some (files_of self.new.tree.files)
+            ≡ Some (files_of self.old.tree.files) }
+        ensures lists { IfOk result (λ listing.
+            Lists (Some (files_of self.old.tree.files)) path.now listing) }
+        ensures cause { HasTreeCause self.old.calls.faults self.new.calls.faults result }
+        ensures count { self.old.calls.faults ≤ self.new.calls.faults }
+    {
+        if self.calls.fails() {
+            return Err(TreeError::Failed);
+        }
+        self.tree.list(alloc, path)
+    }
+
+    /// Reads a file, and fails exactly where the call's number is one of those that are to fail.
+    /// `Tree::read_at` is this call.
+    pub fn counted_read_at(
+        &mut self,
+        path: &str,
+        offset: u64,
+        buf: &mut [u8],
+    ) -> Result<Got, TreeError>
+        ensures fails { FailsWhere
+            (is_failing self.old.calls.failing.now self.old.calls.next) result }
+        ensures next { self.new.calls.next ≡ one_more self.old.calls.next }
+        ensures failing { self.new.calls.failing.now ≡ self.old.calls.failing.now }
+        ensures files { Some (files_of self.new.tree.files)
+            ≡ Some (files_of self.old.tree.files) }
+        ensures within { IfOk result (λ got. IsWithin got (length buf.old)) }
+        ensures reads { IfOk result (λ got.
+            Reads (Some (files_of self.old.tree.files)) path.now offset buf.new got) }
+        ensures behind { IfOk result (λ got. IsLeft got buf.old buf.new) }
+        ensures memory { IfErr result (λ error. error ≡ TreeError.Failed) }
+        ensures cause { HasTreeCause self.old.calls.faults self.new.calls.faults result }
+        ensures count { self.old.calls.faults ≤ self.new.calls.faults }
+    {
+        if self.calls.fails() {
+            return Err(TreeError::Failed);
+        }
+        self.tree.read_at(path, offset, buf)
+    }
+
+    /// What stands at a path; fails exactly where the call's number is one of those that are to fail.
+    /// `Tree::size` is this call.
+    pub fn counted_size(&mut self, path: &str) -> Result<Size, TreeError>
+        ensures fails { FailsWhere
+            (is_failing self.old.calls.failing.now self.old.calls.next) result }
+        ensures next { self.new.calls.next ≡ one_more self.old.calls.next }
+        ensures failing { self.new.calls.failing.now ≡ self.old.calls.failing.now }
+        ensures files { Some (files_of self.new.tree.files)
+            ≡ Some (files_of self.old.tree.files) }
+        ensures sizes { IfOk result (λ size.
+            Sizes (Some (files_of self.old.tree.files)) path.now size) }
+        ensures memory { IfErr result (λ error. error ≡ TreeError.Failed) }
+        ensures cause { HasTreeCause self.old.calls.faults self.new.calls.faults result }
+        ensures count { self.old.calls.faults ≤ self.new.calls.faults }
+    {
+        if self.calls.fails() {
+            return Err(TreeError::Failed);
+        }
+        self.tree.size(path)
+    }
 }
 
 impl<'a> Tree for MemTree<'a> {
@@ -37,23 +108,14 @@ impl<'a> Tree for MemTree<'a> {
     ghost faults = { λ t. t.calls.faults };
 
     fn list(&mut self, alloc: Global, path: &str) -> Result<Listing, TreeError> {
-        if self.calls.fails() {
-            return Err(TreeError::Failed);
-        }
-        self.tree.list(alloc, path)
+        self.counted_list(alloc, path)
     }
 
     fn read_at(&mut self, path: &str, offset: u64, buf: &mut [u8]) -> Result<Got, TreeError> {
-        if self.calls.fails() {
-            return Err(TreeError::Failed);
-        }
-        self.tree.read_at(path, offset, buf)
+        self.counted_read_at(path, offset, buf)
     }
 
     fn size(&mut self, path: &str) -> Result<Size, TreeError> {
-        if self.calls.fails() {
-            return Err(TreeError::Failed);
-        }
-        self.tree.size(path)
+        self.counted_size(path)
     }
 }
