@@ -2,4 +2,5 @@ mod Below
 mod Fronts
 mod Listed
 mod Stored
+mod Taken
 mod Writes

@@ -4,3 +4,4 @@ pub mod Files
 pub mod Causes
 pub mod Calls
 pub mod Memory
+pub mod Absence

@@ -1,4 +1,7 @@
-ghost use Rattle.std.specs.Prelude.{◌≡◌, ◌≤◌, None, length, drop, IfOk};
+ghost use Rattle.std.specs.Prelude.{◌≡◌, ◌<◌, ◌≤◌, None, length, drop, IfOk, MatchResult};
+ghost use Rattle.std.specs.Io.KnownBytes.{ReadConsumes, WriteAppends};
+ghost use Rattle.cy_outside.specs.Calls.{one_more};
+ghost use Rattle.cy_outside.specs.Outside.{HasCause};
 
 use crate::{Failed, Sink, Source};
 use std::io::{self, Read, Write};
@@ -25,12 +28,20 @@ impl<R> RealSource<R> {
     }
 }
 
-impl<R: Read> Source for RealSource<R> {
-    ghost left = { λ _. None };
-
-    ghost faults = { λ s. s.faults };
-
-    fn read(&mut self, buf: &mut [u8]) -> Result<usize, Failed> {
+impl<R: Read> RealSource<R> {
+    /// One read, of at most a piece: the bytes at the buffer's front are those that the reader gave,
+    /// where it tells them. `Source::read` is this call.
+    pub fn counted_read(&mut self, buf: &mut [u8]) -> Result<usize, Failed>
+        ensures bytes { ReadConsumes (R.remaining self.old.reader) (R.remaining self.new.reader)
+            result buf.new }
+        ensures faults { MatchResult result
+            (λ _. self.new.faults ≡ self.old.faults)
+            (λ _. self.new.faults ≡ one_more self.old.faults) }
+        ensures within { IfOk result (λ n. n ≤ length buf.old) }
+        ensures behind { IfOk result (λ n. drop n buf.new ≡ drop n buf.old) }
+        ensures cause { HasCause self.old.faults self.new.faults result }
+        ensures count { self.old.faults ≤ self.new.faults }
+    {
         match read_piece(&mut self.reader, buf) {
             Ok(n) => Ok(n),
             Err(_) => {
@@ -41,9 +52,20 @@ impl<R: Read> Source for RealSource<R> {
     }
 }
 
+impl<R: Read> Source for RealSource<R> {
+    ghost left = { λ _. None };
+
+    ghost faults = { λ s. s.faults };
+
+    fn read(&mut self, buf: &mut [u8]) -> Result<usize, Failed> {
+        self.counted_read(buf)
+    }
+}
+
 /// Reads once, at most a piece. Nobody says what a reader leaves behind the bytes that it gave, so it
 /// reads into an array, and the rest of the buffer stays.
 pub(crate) fn read_piece<R: Read>(reader: &mut R, buf: &mut [u8]) -> io::Result<usize>
+    ensures bytes { ReadConsumes (R.remaining reader.old) (R.remaining reader.new) result buf.new }
     ensures within { IfOk result (λ n. n ≤ length buf.old) }
     ensures behind { IfOk result (λ n. drop n buf.new ≡ drop n buf.old) }
 {
@@ -74,12 +96,20 @@ impl<W> RealSink<W> {
     }
 }
 
-impl<W: Write> Sink for RealSink<W> {
-    ghost written = { λ _. None };
-
-    ghost faults = { λ s. s.faults };
-
-    fn write(&mut self, bytes: &[u8]) -> Result<usize, Failed> {
+impl<W: Write> RealSink<W> {
+    /// One write: the number is that of the bytes that the writer took, where it tells them.
+    /// `Sink::write` is this call.
+    pub fn counted_write(&mut self, bytes: &[u8]) -> Result<usize, Failed>
+        ensures bytes { WriteAppends (W.contents self.old.writer) (W.contents self.new.writer)
+            result bytes.now }
+        ensures faults { MatchResult result
+            (λ _. self.new.faults ≡ self.old.faults)
+            (λ _. self.new.faults ≡ one_more self.old.faults) }
+        ensures within { IfOk result (λ n. n ≤ length bytes.now) }
+        ensures some { IfOk result (λ n. 0 < length bytes.now → 0 < n) }
+        ensures cause { HasCause self.old.faults self.new.faults result }
+        ensures count { self.old.faults ≤ self.new.faults }
+    {
         match self.writer.write(bytes) {
             Ok(n) if n > 0 || bytes.is_empty() => Ok(n),
             _ => {
@@ -87,5 +117,15 @@ impl<W: Write> Sink for RealSink<W> {
                 Err(Failed)
             }
         }
+    }
+}
+
+impl<W: Write> Sink for RealSink<W> {
+    ghost written = { λ _. None };
+
+    ghost faults = { λ s. s.faults };
+
+    fn write(&mut self, bytes: &[u8]) -> Result<usize, Failed> {
+        self.counted_write(bytes)
     }
 }

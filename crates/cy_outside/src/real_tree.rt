@@ -1,4 +1,7 @@
-ghost use Rattle.std.specs.Prelude.{◌≡◌, ◌≤◌, None, length, drop, IfOk};
+ghost use Rattle.std.specs.Prelude.{◌≡◌, ◌<◌, ◌≤◌, None, length, take, drop, IfOk};
+ghost use Rattle.std.specs.Io.KnownBytes.{Consumes, IsAtEnd};
+ghost use Rattle.std.specs.IoError.{error_kind};
+ghost use Rattle.cy_outside.specs.Absence.{is_absence};
 
 use crate::real::read_piece;
 use crate::{Entry, Got, Listing, Size, Tree, TreeError};
@@ -82,7 +85,9 @@ impl<'a, R: Files + Alloc + Clone + Drop> Tree for RealTree<'a, R> {
 }
 
 /// Whether an error says that nothing stands at a path.
-fn is_absence(error: &io::Error) -> bool {
+fn is_absence(error: &io::Error) -> bool
+    ensures { result ≡ is_absence (error_kind error.now) }
+{
     matches!(error.kind(), ErrorKind::NotFound | ErrorKind::NotADirectory)
 }
 
@@ -125,6 +130,9 @@ fn open_at<R: Files>(rt: &R, path: &str, offset: u64) -> io::Result<Option<R::Fi
 
 /// Reads on until the buffer is full or the file ends. The rest of the buffer stays.
 fn fill<F: Read>(file: &mut F, buf: &mut [u8]) -> io::Result<usize>
+    ensures bytes { IfOk result (λ n.
+        Consumes (F.remaining file.old) (F.remaining file.new) (take n buf.new)) }
+    ensures end { IfOk result (λ n. n < length buf.old → IsAtEnd (F.remaining file.new)) }
     ensures within { IfOk result (λ n. n ≤ length buf.old) }
     ensures behind { IfOk result (λ n. drop n buf.new ≡ drop n buf.old) }
 {
