@@ -1,5 +1,5 @@
 -- What each step of reading a folder does.
-use Rattle.std.specs.Prelude.{◌≡◌, ◌≢◌, ℕ, ◌<◌, Bool, true, false, not, ◌||◌, ◌&&◌, List, ◌∷◌, ◌++◌, length, map, take, Option, Some, None, Result, Ok, Err, ⊤}
+use Rattle.std.specs.Prelude.{◌≡◌, ◌≢◌, ℕ, ◌<◌, Bool, true, false, not, ◌||◌, ◌&&◌, List, [], ◌∷◌, ◌++◌, length, map, filter, take, Option, Some, None, Result, Ok, Err, ⊤}
 use Rattle.std.specs.List.{list_any, AllPairs}
 use Rattle.std.specs.Str.{bytes_eq}
 use Rattle.cy_outside.specs.Files.{Files, is_folder, bytes_at, ListsMembers}
@@ -13,6 +13,11 @@ use Rattle.dsdl_files.specs.Folders.{is_dsdl, name_below, dsdl_paths, dsdl_file,
 -- no name stands twice
 abbrev pub NamesDiffer : List Entry → Type 0
 NamesDiffer = AllPairs (λ (a b : Entry). a.name ≢ b.name)
+
+-- of each name the first entry, in their order
+abbrev pub first_of_each : List Entry → List Entry
+first_of_each [] = []
+first_of_each (entry ∷ rest) = entry ∷ filter (λ (other : Entry). not (bytes_eq entry.name other.name)) (first_of_each rest)
 
 -- what a path lists, where the files are told
 abbrev pub ListsFolder : Option Files → List ℕ → Option (List Entry) → Type 0

@@ -1,6 +1,6 @@
-ghost use Rattle.std.specs.Prelude.{◌≡◌, ◌≤◌, IfOk};
+ghost use Rattle.std.specs.Prelude.{◌≡◌, ◌≤◌, IfOk, IfSome};
 ghost use Rattle.dsdl_files.specs.Causes.{HasFolderCause, RefusesNothing};
-ghost use Rattle.dsdl_files.specs.Steps.{ListsFolder, NamesDiffer};
+ghost use Rattle.dsdl_files.specs.Steps.{ListsFolder, NamesDiffer, first_of_each};
 
 use crate::FolderError;
 use crate::paths::Paths;
@@ -16,6 +16,7 @@ pub fn list_folder<T: Tree>(
 ) -> Result<Option<List<Entry>>, FolderError>
     ensures files { T.files tree.new ≡ T.files tree.old }
     ensures lists { IfOk result (λ members. ListsFolder (T.files tree.old) path.now members) }
+    ensures differ { IfOk result (λ members. IfSome members NamesDiffer) }
     ensures refused { RefusesNothing result }
     ensures cause { HasFolderCause (T.faults tree.old) (T.faults tree.new) result }
     ensures count { T.faults tree.old ≤ T.faults tree.new }
@@ -26,9 +27,11 @@ pub fn list_folder<T: Tree>(
     }
 }
 
-/// The first entry of each name.
+/// The first entry of each name, in their order. Where no name stands twice these are all.
 fn first_of_each(alloc: Global, entries: List<Entry>) -> Result<List<Entry>, NoMemory>
-    ensures { IfOk result (λ firsts. NamesDiffer entries → firsts ≡ entries) }
+    ensures firsts { IfOk result (λ firsts. firsts ≡ first_of_each entries) }
+    ensures differ { IfOk result NamesDiffer }
+    ensures same { IfOk result (λ firsts. NamesDiffer entries → firsts ≡ entries) }
 {
     let mut names = Paths::new(alloc);
     let mut firsts = List::empty(alloc);
