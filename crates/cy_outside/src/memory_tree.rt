@@ -80,7 +80,7 @@ impl<'a> MemTree<'a> {
         self.tree.read_at(path, offset, buf)
     }
 
-    /// What stands at a path; fails exactly where the call's number is one of those that are to fail.
+    /// Finds a size, and fails exactly where the call's number is one of those that are to fail.
     /// `Tree::size` is this call.
     pub fn counted_size(&mut self, path: &str) -> Result<Size, TreeError>
         ensures fails { FailsWhere

@@ -29,8 +29,8 @@ impl<R> RealSource<R> {
 }
 
 impl<R: Read> RealSource<R> {
-    /// One read, of at most a piece: the bytes at the buffer's front are those that the reader gave,
-    /// where it tells them. `Source::read` is this call.
+    /// One read, of at most a piece. The bytes at the buffer's front are those that the reader gave.
+    /// `Source::read` is this call.
     pub fn counted_read(&mut self, buf: &mut [u8]) -> Result<usize, Failed>
         ensures bytes { ReadConsumes (R.remaining self.old.reader) (R.remaining self.new.reader)
             result buf.new }
