@@ -1,5 +1,5 @@
 -- The log that a node stands for.
-use Rattle.std.specs.Prelude.{◌≡◌, ◌≤◌, ℕ, Bool, List, ◌∷◌}
+use Rattle.std.specs.Prelude.{◌≡◌, ◌≤◌, ◌⊎◌, ℕ, Bool, List, ◌∷◌}
 use Rattle.tail_frame.specs.Frames.{FrameOf}
 use Rattle.tail_frame.specs.declared.logged.Record.{Record}
 use Rattle.rx_table.specs.Keys.{KeyedFrame}
@@ -33,6 +33,11 @@ Takes rec old new = (past : List Record) → Stands old past → Stands new (rec
 -- it stands for the records that it stood for
 abbrev pub StandsAsBefore : Node → Node → Type 0
 StandsAsBefore old new = (past : List Record) → Stands old past → Stands new past
+
+-- it stands for the records that it stood for, or for this one too: so its ports, and the bound on the bytes of its
+-- buffers, are as before
+abbrev pub TakesOrNot : Record → Node → Node → Type 0
+TakesOrNot rec old new = (past : List Record) → Stands old past → Stands new past ⊎ Stands new (rec ∷ past)
 
 -- these are the lines that the next record gives
 abbrev pub Gives : Node → Record → List Line → Type 0

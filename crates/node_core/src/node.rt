@@ -76,7 +76,7 @@ impl Node {
     ghost use Rattle.node_core.specs.Steps.{kept};
     ghost use Rattle.node_core.specs.declared.line.Line.{Line as LineOf};
     ghost use Rattle.node_core.specs.Stands.{Stands, Takes, StandsAsBefore, Gives, TellsBadCrc};
-    ghost use Rattle.node_core.specs.Stands.{TakesFrame, KeepsSessions, FrameGives};
+    ghost use Rattle.node_core.specs.Stands.{TakesFrame, TakesOrNot, KeepsSessions, FrameGives};
     ghost use Rattle.node_core.specs.Stands.{FrameTellsBadCrc};
     ghost use Rattle.node_core.specs.Stands.{Holds, IsWithinBound};
     ghost use Rattle.node_core.specs.Told.{answer_is_bad, told_lines};
@@ -109,7 +109,7 @@ impl Node {
     /// on what it gives, and those on the buses that have no room for its reply. A request of a
     /// file is asked of the tree. Memory is taken for these lines, for a new source's session, and
     /// for what is asked of registers and files; where it is wanting, the lines are left as they
-    /// were, and the node is not to be used further.
+    /// were, and the node, which may have taken the record, keeps its ports and its bound.
     pub fn frame<T: Tree>(
         &mut self,
         rec: &Record,
@@ -125,6 +125,7 @@ impl Node {
         ensures badcrc { IfOk result (λ step. TellsBadCrc self.old rec.now step.badcrc) }
         ensures behind { take (length lines.old) lines.new ≡ lines.old }
         ensures err { OnErr result (lines.new ≡ lines.old) }
+        ensures memory { OnErr result (TakesOrNot rec.now self.old self.new) }
         ensures files { T.files tree.new ≡ T.files tree.old }
         ensures cause { IfOk result (λ step.
             TellsFault step.failed (T.faults tree.old) (T.faults tree.new)) }

@@ -51,6 +51,12 @@ has_bus name buses = list_any (λ b. bytes_eq b.name name) buses
 abbrev pub has_subject : ℕ → List Sub → Bool
 has_subject port subs = list_any (λ s. s.port == port) subs
 
+-- what a line says is kept in a list that may grow: a subscription, a register
+abbrev pub grows_a_list : Said → Bool
+grows_a_list (said.Sub sub) = true
+grows_a_list (said.Register register) = true
+grows_a_list other = false
+
 -- what may be said once, where it stands already or not
 abbrev pub once : Bool → Draft → Result Draft PlanWhy
 once stands new = if stands then Err why.Repeated else Ok new

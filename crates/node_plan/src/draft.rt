@@ -51,9 +51,10 @@ pub struct Draft {
 }
 
 impl Draft {
-    ghost use Rattle.std.specs.Prelude.{◌≡◌, ◌<◌, ◌≤◌, Err, IfSome, Some, length};
+    ghost use Rattle.std.specs.Prelude.{◌≡◌, ◌≢◌, ◌<◌, ◌≤◌, Err, IfSome, Some, length, true};
+    ghost use Rattle.node_plan.specs.declared.plan.PlanError.TheVariants as error;
     ghost use Rattle.node_plan.specs.Answers.{IsStep};
-    ghost use Rattle.node_plan.specs.Draft.{start, complete, is_two, limits_at, plan_with, without_type, with_limits, with_line, step};
+    ghost use Rattle.node_plan.specs.Draft.{start, complete, grows_a_list, is_two, limits_at, plan_with, without_type, with_limits, with_line, step};
     ghost use Rattle.node_plan.specs.IsPlan.{IsBus, IsDraft, IsFolderPath, IsInfo, IsMtu, IsPlan, IsRate, IsStatus, IsSub};
     ghost use Rattle.node_plan.specs.Line.{IsSaid};
     ghost use Rattle.node_plan.specs.Registers.{IsRegister};
@@ -92,6 +93,7 @@ impl Draft {
         requires { IsDraft self.old }
         ensures value { IsStep (step self.old (Said.Version version)) n self.new result }
         ensures sound { IsDraft self.new }
+        ensures no_memory { result ≢ Err error.NoMemory }
     {
         match (self.version, version) {
             (None, _) => {
@@ -112,6 +114,7 @@ impl Draft {
         requires low { node < 128 }
         ensures value { IsStep (with_line self.old (Said.Node node)) n self.new result }
         ensures sound { IsDraft self.new }
+        ensures no_memory { result ≢ Err error.NoMemory }
     {
         if self.node.is_some() {
             return Err(repeated(n));
@@ -125,6 +128,7 @@ impl Draft {
         requires fits { IsMtu mtu }
         ensures value { IsStep (with_line self.old (Said.Mtu mtu)) n self.new result }
         ensures sound { IsDraft self.new }
+        ensures no_memory { result ≢ Err error.NoMemory }
     {
         if self.mtu.is_some() {
             return Err(repeated(n));
@@ -138,6 +142,7 @@ impl Draft {
         requires fits { IsRate rate }
         ensures value { IsStep (with_line self.old (Said.Rate rate)) n self.new result }
         ensures sound { IsDraft self.new }
+        ensures no_memory { result ≢ Err error.NoMemory }
     {
         if self.rate.is_some() {
             return Err(repeated(n));
@@ -152,6 +157,7 @@ impl Draft {
         requires high { timeout ≤ 60000000 }
         ensures value { IsStep (with_line self.old (Said.Timeout timeout)) n self.new result }
         ensures sound { IsDraft self.new }
+        ensures no_memory { result ≢ Err error.NoMemory }
     {
         if self.timeout.is_some() {
             return Err(repeated(n));
@@ -166,6 +172,7 @@ impl Draft {
         requires high { clients ≤ 128 }
         ensures value { IsStep (with_line self.old (Said.Clients clients)) n self.new result }
         ensures sound { IsDraft self.new }
+        ensures no_memory { result ≢ Err error.NoMemory }
     {
         if self.clients.is_some() {
             return Err(repeated(n));
@@ -179,6 +186,7 @@ impl Draft {
         requires fits { IsStatus status }
         ensures value { IsStep (with_line self.old (Said.Status status)) n self.new result }
         ensures sound { IsDraft self.new }
+        ensures no_memory { result ≢ Err error.NoMemory }
     {
         if self.status.is_some() {
             return Err(repeated(n));
@@ -192,6 +200,7 @@ impl Draft {
         requires fits { IsInfo info }
         ensures value { IsStep (with_line self.old (Said.Info info)) n self.new result }
         ensures sound { IsDraft self.new }
+        ensures no_memory { result ≢ Err error.NoMemory }
     {
         if self.info.is_some() {
             return Err(repeated(n));
@@ -206,6 +215,7 @@ impl Draft {
         requires high { queue ≤ 4096 }
         ensures value { IsStep (with_line self.old (Said.Queue queue)) n self.new result }
         ensures sound { IsDraft self.new }
+        ensures no_memory { result ≢ Err error.NoMemory }
     {
         if self.queue.is_some() {
             return Err(repeated(n));
@@ -218,6 +228,7 @@ impl Draft {
         requires { IsDraft self.old }
         ensures value { IsStep (with_line self.old Said.Silent) n self.new result }
         ensures sound { IsDraft self.new }
+        ensures no_memory { result ≢ Err error.NoMemory }
     {
         if self.silent {
             return Err(repeated(n));
@@ -231,6 +242,7 @@ impl Draft {
         requires fits { IsBus bus }
         ensures value { IsStep (with_line self.old (Said.Bus bus)) n self.new result }
         ensures sound { IsDraft self.new }
+        ensures no_memory { result ≢ Err error.NoMemory }
     {
         if self.buses.len() >= MAX_BUSES {
             return Err(PlanError::Refused {
@@ -295,6 +307,7 @@ impl Draft {
         requires sound { IsDraft self.old }
         ensures value { IsStep (with_limits self.old name.now limits) n self.new result }
         ensures sound { IsDraft self.new }
+        ensures no_memory { result ≢ Err error.NoMemory }
     {
         match place_of(self.registers.as_slice(), name.as_str().as_bytes()) {
             Some(place) => self.set_limits_at(alloc, n, place, limits),
@@ -314,6 +327,7 @@ impl Draft {
         requires held { place < length self.old.registers }
         ensures value { IsStep (limits_at self.old limits (Some place)) n self.new result }
         ensures sound { IsDraft self.new }
+        ensures no_memory { result ≢ Err error.NoMemory }
     {
         let register = &self.registers.as_slice()[place];
         if !can_limit(limits, &register.value) {
@@ -331,6 +345,7 @@ impl Draft {
         requires fits { IsFolderPath path }
         ensures value { IsStep (with_line self.old (Said.Serve path)) n self.new result }
         ensures sound { IsDraft self.new }
+        ensures no_memory { result ≢ Err error.NoMemory }
     {
         if self.serve.is_some() {
             return Err(repeated(n));
@@ -358,6 +373,7 @@ impl Draft {
         requires fits { IsSaid said }
         ensures value { IsStep (with_line self.old said) n self.new result }
         ensures sound { IsDraft self.new }
+        ensures memory { result ≡ Err error.NoMemory → grows_a_list said ≡ true }
     {
         match said {
             Said::Node(node) => self.set_node(n, node),
@@ -395,6 +411,7 @@ impl Draft {
         requires fits { IsSaid said }
         ensures value { IsStep (step self.old said) n self.new result }
         ensures sound { IsDraft self.new }
+        ensures memory { result ≡ Err error.NoMemory → grows_a_list said ≡ true }
     {
         match said {
             Said::NoForm => Err(PlanError::Refused {
