@@ -29,8 +29,8 @@ abbrev pub saw_end : LogReader → Bool
 saw_end r = r.is_ended
 
 -- what it answers from now on, where it has answered its end or an error
-abbrev pub answer_of : LogReader → Option Answer
-answer_of r = r.done
+abbrev pub settled_answer : LogReader → Option Answer
+settled_answer r = r.done
 
 -- the log that it gives, where these bytes come behind those that it holds
 abbrev pub log_behind : LogReader → List ℕ → Log

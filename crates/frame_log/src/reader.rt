@@ -56,7 +56,7 @@ impl LogReader {
     ghost use Rattle.frame_log.specs.Line.{cut};
     ghost use Rattle.frame_log.specs.Log.{log_of, start};
     ghost use Rattle.frame_log.specs.Order.{IsFit};
-    ghost use Rattle.frame_log.specs.Reader.{buses_of, place_of, held_of, bytes_left, saw_end, answer_of, log_behind, IsNext, IsNextHeld, kept, kept_held, answered, given};
+    ghost use Rattle.frame_log.specs.Reader.{buses_of, place_of, held_of, bytes_left, saw_end, settled_answer, log_behind, IsNext, IsNextHeld, kept, kept_held, answered, given};
     ghost use Rattle.frame_log.specs.Used.{Uses, IsBefore, IsBeforeHeld};
     ghost use Rattle.frame_log.specs.declared.error.LogError.TheVariants as error;
     ghost use Rattle.frame_log.specs.declared.reader.turn.Turn.TheVariants as turn;
@@ -68,7 +68,7 @@ impl LogReader {
         ensures start { IfOk result
             (λ r. (buses_of r ≡ buses) × (place_of r ≡ start) × (held_of r ≡ [])
             × (bytes_left r ≡ 2 ^ 28)) }
-        ensures reading { IfOk result (λ r. (answer_of r ≡ None) × (saw_end r ≡ false)) }
+        ensures reading { IfOk result (λ r. (settled_answer r ≡ None) × (saw_end r ≡ false)) }
     {
         Ok(LogReader {
             buses: Buses::new(buses),
@@ -93,14 +93,14 @@ impl LogReader {
         written: &mut Record,
     ) -> Result<bool, LogError>
         // What the log gives that is left: the bytes held, those that came in this call, and any rest.
-        ensures next { answer_of self.old ≡ None → (came : List ℕ)
+        ensures next { settled_answer self.old ≡ None → (came : List ℕ)
             × Took (L.left input.old) (L.left input.new) came
             × ((rest : List ℕ) → (saw_end self.new ≡ true → rest ≡ [])
             → IsNext (log_behind self.old (came ++ rest)) (given written.new result)
             (log_behind self.new rest)) }
 
         // What was held and what came are whole lines that give no record, and behind them at most 8,192 bytes.
-        ensures used { answer_of self.old ≡ None → (came : List ℕ)
+        ensures used { settled_answer self.old ≡ None → (came : List ℕ)
             × Took (L.left input.old) (L.left input.new) came
             × Uses (buses_of self.old) (place_of self.old) (held_of self.old ++ came)
             (IsBefore (given written.new result) self.new) }
@@ -108,24 +108,24 @@ impl LogReader {
         // It has ended only where the input has.
         ensures end { saw_end self.old ≡ false → saw_end self.new ≡ true
             → IsAtEnd (L.left input.new) }
-        ensures whole { answer_of self.old ≡ None → given written.new result ≡ Ok None
+        ensures whole { settled_answer self.old ≡ None → given written.new result ≡ Ok None
             → saw_end self.new ≡ true }
-        ensures ended { answer_of self.old ≡ None → saw_end self.old ≡ true
+        ensures ended { settled_answer self.old ≡ None → saw_end self.old ≡ true
             → (input.new ≡ input.old) × (saw_end self.new ≡ true)
             × IsNext (log_behind self.old []) (given written.new result) (log_behind self.new []) }
 
         // The answer stays.
-        ensures done { answer_of self.old ≡ None
-            → answer_of self.new ≡ kept (given written.new result) }
-        ensures again { IfSome (answer_of self.old)
+        ensures done { settled_answer self.old ≡ None
+            → settled_answer self.new ≡ kept (given written.new result) }
+        ensures again { IfSome (settled_answer self.old)
             (λ a. (given written.new result ≡ answered a) × (self.new ≡ self.old)
             × (input.new ≡ input.old)) }
 
         // The input failed, and no line that was taken is left.
-        ensures failed { answer_of self.old ≡ None → given written.new result ≡ Err error.Failed
+        ensures failed { settled_answer self.old ≡ None → given written.new result ≡ Err error.Failed
             → Rose (L.faults input.old) (L.faults input.new) × (cut 10 (held_of self.new) ≡ None)
             × (length (held_of self.new) ≤ 4096) }
-        ensures open { answer_of self.old ≡ None → given written.new result ≡ Err error.Failed
+        ensures open { settled_answer self.old ≡ None → given written.new result ≡ Err error.Failed
             → saw_end self.new ≡ false }
         ensures count { ¬ (given written.new result ≡ Err error.Failed)
             → L.faults input.new ≡ L.faults input.old }
@@ -180,21 +180,21 @@ impl LogReader {
     #[inline(always)]
     pub fn next_held_into(&mut self, written: &mut Record) -> Result<bool, LogError>
         // What the log gives that is left, whatever comes behind the bytes held.
-        ensures next { answer_of self.old ≡ None → (rest : List ℕ)
+        ensures next { settled_answer self.old ≡ None → (rest : List ℕ)
             → IsNextHeld (log_behind self.old rest) (given written.new result)
             (log_behind self.new rest) }
-        ensures none { answer_of self.old ≡ None → given written.new result ≡ Ok None
+        ensures none { settled_answer self.old ≡ None → given written.new result ≡ Ok None
             → cut 10 (held_of self.new) ≡ None }
-        ensures used { answer_of self.old ≡ None
+        ensures used { settled_answer self.old ≡ None
             → Uses (buses_of self.old) (place_of self.old) (held_of self.old)
             (IsBeforeHeld (given written.new result) self.new) }
-        ensures input { answer_of self.old ≡ None
+        ensures input { settled_answer self.old ≡ None
             → ¬ (given written.new result ≡ Err error.Failed) }
 
         // A refusal stays.
-        ensures done { answer_of self.old ≡ None
-            → answer_of self.new ≡ kept_held (given written.new result) }
-        ensures again { IfSome (answer_of self.old)
+        ensures done { settled_answer self.old ≡ None
+            → settled_answer self.new ≡ kept_held (given written.new result) }
+        ensures again { IfSome (settled_answer self.old)
             (λ a. (given written.new result ≡ answered a) × (self.new ≡ self.old)) }
         ensures end { saw_end self.new ≡ saw_end self.old }
 

@@ -4,7 +4,7 @@ use Rattle.tail_frame.specs.declared.logged.Record.{Record}
 use Rattle.cy_outside.specs.Outside.{Rose}
 use Rattle.cy_outside.specs.Written.{Begins}
 use Rattle.frame_log.specs.Input.{Took}
-use Rattle.frame_log.specs.Reader.{buses_of, place_of, held_of, bytes_left, saw_end, answer_of, log_behind, IsNext}
+use Rattle.frame_log.specs.Reader.{buses_of, place_of, held_of, bytes_left, saw_end, settled_answer, log_behind, IsNext}
 use Rattle.frame_log.specs.Used.{Uses, IsBefore}
 use Rattle.frame_log.specs.declared.error.LogError.{LogError}
 use Rattle.frame_log.specs.declared.error.LogError.TheVariants as error
@@ -48,7 +48,7 @@ ComesBehind old new before after gathered (Err stop.Write) = after ≡ before
 
 -- behind a record the reader goes on, with fewer bytes
 abbrev pub ReadsOn : LogReader → LogReader → Result (Option Record) Stop → Type 0
-ReadsOn old new (Ok (Some rec)) = (bytes_left new < bytes_left old) × (answer_of new ≡ None)
+ReadsOn old new (Ok (Some rec)) = (bytes_left new < bytes_left old) × (settled_answer new ≡ None)
 ReadsOn old new (Ok None) = ⊤
 ReadsOn old new (Err stop) = ⊤
 

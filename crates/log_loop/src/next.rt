@@ -2,7 +2,7 @@
 ghost use Rattle.std.specs.Prelude.{◌≡◌, ◌≤◌, length, true, false, None, Err, OnOk};
 ghost use Rattle.frame_log.specs.Input.{IsAtEnd};
 ghost use Rattle.frame_log.specs.Line.{cut};
-ghost use Rattle.frame_log.specs.Reader.{buses_of, held_of, saw_end, answer_of};
+ghost use Rattle.frame_log.specs.Reader.{buses_of, held_of, saw_end, settled_answer};
 ghost use Rattle.frame_log.specs.declared.error.LogError.TheVariants as error;
 ghost use Rattle.line_text.specs.Buffer.{text_of};
 ghost use Rattle.log_loop.specs.Next.{handed, GoesOn, ComesBehind, ReadsOn, Writes, HasStopCause};
@@ -33,7 +33,7 @@ pub fn next<L: Source, O: Sink>(
     gathered: &mut TextBuffer,
     written: &mut Record,
 ) -> Result<bool, Stop>
-    requires { answer_of reader.old ≡ None }
+    requires { settled_answer reader.old ≡ None }
     ensures log { GoesOn reader.old reader.new (L.left input.old) (L.left input.new)
         (handed written.new result) }
     ensures came { ComesBehind reader.old reader.new (L.left input.old) (L.left input.new)
@@ -75,7 +75,7 @@ fn next_read<L: Source, O: Sink>(
     waiting: &mut TextBuffer,
     written: &mut Record,
 ) -> Result<bool, Stop>
-    requires { answer_of reader.old ≡ None }
+    requires { settled_answer reader.old ≡ None }
     ensures log { GoesOn reader.old reader.new (L.left input.old) (L.left input.new)
         (handed written.new result) }
     ensures came { ComesBehind reader.old reader.new (L.left input.old) (L.left input.new)

@@ -4,7 +4,7 @@ ghost use Rattle.cy_outside.specs.Outside.{Rose};
 ghost use Rattle.frame_log.specs.Input.{Took, IsAtEnd};
 ghost use Rattle.frame_log.specs.Line.{cut};
 ghost use Rattle.frame_log.specs.Order.{IsFit};
-ghost use Rattle.frame_log.specs.Reader.{buses_of, place_of, held_of, bytes_left, saw_end, answer_of, log_behind, IsNext, IsNextHeld, kept, kept_held, answered};
+ghost use Rattle.frame_log.specs.Reader.{buses_of, place_of, held_of, bytes_left, saw_end, settled_answer, log_behind, IsNext, IsNextHeld, kept, kept_held, answered};
 ghost use Rattle.frame_log.specs.Used.{Uses, IsBefore, IsBeforeHeld};
 ghost use Rattle.frame_log.specs.declared.error.LogError.TheVariants as error;
 
@@ -30,13 +30,13 @@ impl LogReader {
     #[inline(always)]
     pub fn next_record<L: Source>(&mut self, input: &mut L) -> Result<Option<Record>, LogError>
         // What the log gives that is left: the bytes held, those that came in this call, and any rest.
-        ensures next { answer_of self.old ≡ None → (came : List ℕ)
+        ensures next { settled_answer self.old ≡ None → (came : List ℕ)
             × Took (L.left input.old) (L.left input.new) came
             × ((rest : List ℕ) → (saw_end self.new ≡ true → rest ≡ [])
             → IsNext (log_behind self.old (came ++ rest)) result (log_behind self.new rest)) }
 
         // What was held and what came are whole lines that give no record, and behind them at most 8,192 bytes.
-        ensures used { answer_of self.old ≡ None → (came : List ℕ)
+        ensures used { settled_answer self.old ≡ None → (came : List ℕ)
             × Took (L.left input.old) (L.left input.new) came
             × Uses (buses_of self.old) (place_of self.old) (held_of self.old ++ came)
             (IsBefore result self.new) }
@@ -44,21 +44,21 @@ impl LogReader {
         // It has ended only where the input has.
         ensures end { saw_end self.old ≡ false → saw_end self.new ≡ true
             → IsAtEnd (L.left input.new) }
-        ensures whole { answer_of self.old ≡ None → result ≡ Ok None → saw_end self.new ≡ true }
-        ensures ended { answer_of self.old ≡ None → saw_end self.old ≡ true
+        ensures whole { settled_answer self.old ≡ None → result ≡ Ok None → saw_end self.new ≡ true }
+        ensures ended { settled_answer self.old ≡ None → saw_end self.old ≡ true
             → (input.new ≡ input.old) × (saw_end self.new ≡ true)
             × IsNext (log_behind self.old []) result (log_behind self.new []) }
 
         // The answer stays.
-        ensures done { answer_of self.old ≡ None → answer_of self.new ≡ kept result }
-        ensures again { IfSome (answer_of self.old)
+        ensures done { settled_answer self.old ≡ None → settled_answer self.new ≡ kept result }
+        ensures again { IfSome (settled_answer self.old)
             (λ a. (result ≡ answered a) × (self.new ≡ self.old) × (input.new ≡ input.old)) }
 
         // The input failed, and no line that was taken is left.
-        ensures failed { answer_of self.old ≡ None → result ≡ Err error.Failed
+        ensures failed { settled_answer self.old ≡ None → result ≡ Err error.Failed
             → Rose (L.faults input.old) (L.faults input.new) × (cut 10 (held_of self.new) ≡ None)
             × (length (held_of self.new) ≤ 4096) }
-        ensures open { answer_of self.old ≡ None → result ≡ Err error.Failed
+        ensures open { settled_answer self.old ≡ None → result ≡ Err error.Failed
             → saw_end self.new ≡ false }
         ensures count { ¬ (result ≡ Err error.Failed) → L.faults input.new ≡ L.faults input.old }
 
@@ -93,18 +93,18 @@ impl LogReader {
     #[inline(always)]
     pub fn next_held(&mut self) -> Result<Option<Record>, LogError>
         // What the log gives that is left, whatever comes behind the bytes held.
-        ensures next { answer_of self.old ≡ None → (rest : List ℕ)
+        ensures next { settled_answer self.old ≡ None → (rest : List ℕ)
             → IsNextHeld (log_behind self.old rest) result (log_behind self.new rest) }
-        ensures none { answer_of self.old ≡ None → result ≡ Ok None
+        ensures none { settled_answer self.old ≡ None → result ≡ Ok None
             → cut 10 (held_of self.new) ≡ None }
-        ensures used { answer_of self.old ≡ None
+        ensures used { settled_answer self.old ≡ None
             → Uses (buses_of self.old) (place_of self.old) (held_of self.old)
             (IsBeforeHeld result self.new) }
-        ensures input { answer_of self.old ≡ None → ¬ (result ≡ Err error.Failed) }
+        ensures input { settled_answer self.old ≡ None → ¬ (result ≡ Err error.Failed) }
 
         // A refusal stays.
-        ensures done { answer_of self.old ≡ None → answer_of self.new ≡ kept_held result }
-        ensures again { IfSome (answer_of self.old)
+        ensures done { settled_answer self.old ≡ None → settled_answer self.new ≡ kept_held result }
+        ensures again { IfSome (settled_answer self.old)
             (λ a. (result ≡ answered a) × (self.new ≡ self.old)) }
         ensures end { saw_end self.new ≡ saw_end self.old }
 
