@@ -17,12 +17,12 @@ abbrev pub place_of : LogReader → Place
 place_of r = record { lines = r.lines; first = r.first; last = r.last }
 
 -- the bytes that were taken and not yet used
-abbrev pub held_of : LogReader → List ℕ
-held_of r = r.held
+abbrev pub kept_bytes_of : LogReader → List ℕ
+kept_bytes_of r = r.kept_bytes
 
--- how many bytes count, from those that it holds on
+-- how many bytes count, from those that it keeps on
 abbrev pub bytes_left : LogReader → ℕ
-bytes_left r = r.room + length r.held
+bytes_left r = r.room + length r.kept_bytes
 
 -- whether a read gave the end of the input
 abbrev pub saw_end : LogReader → Bool
@@ -32,9 +32,9 @@ saw_end r = r.is_ended
 abbrev pub settled_answer : LogReader → Option Answer
 settled_answer r = r.done
 
--- the log that it gives, where these bytes come behind those that it holds
+-- the log that it gives, where these bytes come behind those that it keeps
 abbrev pub log_behind : LogReader → List ℕ → Log
-log_behind r rest = log_from (buses_of r) (bytes_left r) (held_of r ++ rest) (place_of r)
+log_behind r rest = log_from (buses_of r) (bytes_left r) (kept_bytes_of r ++ rest) (place_of r)
 
 -- an answer leads from one log to the next: where the input failed, nothing is lost
 abbrev pub IsNext : Log → Result (Option Record) LogError → Log → Type 0
@@ -42,22 +42,22 @@ IsNext before (Ok None) after = before ≡ ended None
 IsNext before (Ok (Some r)) after = before ≡ with_record r after
 IsNext before (Err e) after = (before ≡ ended (Some e)) ⊎ ((e ≡ error.Failed) × (before ≡ after))
 
--- the same, of the lines that are held: where no line is left, the log is as before
-abbrev pub IsNextHeld : Log → Result (Option Record) LogError → Log → Type 0
-IsNextHeld before (Ok None) after = before ≡ after
-IsNextHeld before (Ok (Some r)) after = before ≡ with_record r after
-IsNextHeld before (Err e) after = before ≡ ended (Some e)
+-- the same, of the lines that are kept: where no line is left, the log is as before
+abbrev pub IsNextKept : Log → Result (Option Record) LogError → Log → Type 0
+IsNextKept before (Ok None) after = before ≡ after
+IsNextKept before (Ok (Some r)) after = before ≡ with_record r after
+IsNextKept before (Err e) after = before ≡ ended (Some e)
 
 -- what a reader answers from then on
-abbrev pub kept : Result (Option Record) LogError → Option Answer
-kept (Ok None) = Some Whole
-kept (Ok (Some r)) = None
-kept (Err e) = Some (Refused e)
+abbrev pub settled : Result (Option Record) LogError → Option Answer
+settled (Ok None) = Some Whole
+settled (Ok (Some r)) = None
+settled (Err e) = Some (Refused e)
 
--- the same, of the lines that are held: a refusal alone
-abbrev pub kept_held : Result (Option Record) LogError → Option Answer
-kept_held (Ok answer) = None
-kept_held (Err e) = Some (Refused e)
+-- the same, of the lines that are kept: a refusal alone
+abbrev pub settled_kept : Result (Option Record) LogError → Option Answer
+settled_kept (Ok answer) = None
+settled_kept (Err e) = Some (Refused e)
 
 -- an answer that is given again
 abbrev pub answered : Answer → Result (Option Record) LogError

@@ -4,8 +4,8 @@ ghost use Rattle.cy_outside.specs.Outside.{Rose};
 ghost use Rattle.frame_log.specs.Input.{Took, IsAtEnd};
 ghost use Rattle.frame_log.specs.Line.{cut};
 ghost use Rattle.frame_log.specs.Order.{IsFit};
-ghost use Rattle.frame_log.specs.Reader.{buses_of, place_of, held_of, bytes_left, saw_end, settled_answer, log_behind, IsNext, IsNextHeld, kept, kept_held, answered};
-ghost use Rattle.frame_log.specs.Used.{Uses, IsBefore, IsBeforeHeld};
+ghost use Rattle.frame_log.specs.Reader.{buses_of, place_of, kept_bytes_of, bytes_left, saw_end, settled_answer, log_behind, IsNext, IsNextKept, settled, settled_kept, answered};
+ghost use Rattle.frame_log.specs.Used.{Uses, IsBefore, IsBeforeKept};
 ghost use Rattle.frame_log.specs.declared.error.LogError.TheVariants as error;
 
 use crate::error::LogError;
@@ -25,20 +25,20 @@ fn blank() -> Record {
 }
 
 impl LogReader {
-    /// The next record, or None at the log's end. It reads only where no whole line is held. After
+    /// The next record, or None at the log's end. It reads only where no whole line is kept. After
     /// None or an error each later call answers the same and reads nothing.
     #[inline(always)]
     pub fn next_record<L: Source>(&mut self, input: &mut L) -> Result<Option<Record>, LogError>
-        // What the log gives that is left: the bytes held, those that came in this call, and any rest.
+        // What the log gives that is left: the bytes kept, those that came in this call, and any rest.
         ensures next { settled_answer self.old ≡ None → (came : List ℕ)
             × Took (L.left input.old) (L.left input.new) came
             × ((rest : List ℕ) → (saw_end self.new ≡ true → rest ≡ [])
             → IsNext (log_behind self.old (came ++ rest)) result (log_behind self.new rest)) }
 
-        // What was held and what came are whole lines that give no record, and behind them at most 8,192 bytes.
+        // What was kept and what came are whole lines that give no record, and behind them at most 8,192 bytes.
         ensures used { settled_answer self.old ≡ None → (came : List ℕ)
             × Took (L.left input.old) (L.left input.new) came
-            × Uses (buses_of self.old) (place_of self.old) (held_of self.old ++ came)
+            × Uses (buses_of self.old) (place_of self.old) (kept_bytes_of self.old ++ came)
             (IsBefore result self.new) }
 
         // It has ended only where the input has.
@@ -50,14 +50,14 @@ impl LogReader {
             × IsNext (log_behind self.old []) result (log_behind self.new []) }
 
         // The answer stays.
-        ensures done { settled_answer self.old ≡ None → settled_answer self.new ≡ kept result }
+        ensures done { settled_answer self.old ≡ None → settled_answer self.new ≡ settled result }
         ensures again { IfSome (settled_answer self.old)
             (λ a. (result ≡ answered a) × (self.new ≡ self.old) × (input.new ≡ input.old)) }
 
         // The input failed, and no line that was taken is left.
         ensures failed { settled_answer self.old ≡ None → result ≡ Err error.Failed
-            → Rose (L.faults input.old) (L.faults input.new) × (cut 10 (held_of self.new) ≡ None)
-            × (length (held_of self.new) ≤ 4096) }
+            → Rose (L.faults input.old) (L.faults input.new) × (cut 10 (kept_bytes_of self.new) ≡ None)
+            × (length (kept_bytes_of self.new) ≤ 4096) }
         ensures open { settled_answer self.old ≡ None → result ≡ Err error.Failed
             → saw_end self.new ≡ false }
         ensures count { ¬ (result ≡ Err error.Failed) → L.faults input.new ≡ L.faults input.old }
@@ -76,7 +76,7 @@ impl LogReader {
         ensures less { IfOk result
             (λ o. IfSome o (λ _. bytes_left self.new < bytes_left self.old)) }
         ensures within { bytes_left self.new ≤ bytes_left self.old }
-        ensures near { length (held_of self.new) ≤ 8192 }
+        ensures near { length (kept_bytes_of self.new) ≤ 8192 }
         ensures same { buses_of self.new ≡ buses_of self.old }
     {
         let mut written = blank();
@@ -87,23 +87,23 @@ impl LogReader {
         }
     }
 
-    /// The next record of the lines that are held whole, without reading. None where no such line is
+    /// The next record of the lines that are kept whole, without reading. None where no such line is
     /// left: `next_record` goes on from there. A refusal is the answer of each later call, and a
     /// reader that has answered its end or an error answers the same again.
     #[inline(always)]
-    pub fn next_held(&mut self) -> Result<Option<Record>, LogError>
-        // What the log gives that is left, whatever comes behind the bytes held.
+    pub fn next_kept(&mut self) -> Result<Option<Record>, LogError>
+        // What the log gives that is left, whatever comes behind the bytes kept.
         ensures next { settled_answer self.old ≡ None → (rest : List ℕ)
-            → IsNextHeld (log_behind self.old rest) result (log_behind self.new rest) }
+            → IsNextKept (log_behind self.old rest) result (log_behind self.new rest) }
         ensures none { settled_answer self.old ≡ None → result ≡ Ok None
-            → cut 10 (held_of self.new) ≡ None }
+            → cut 10 (kept_bytes_of self.new) ≡ None }
         ensures used { settled_answer self.old ≡ None
-            → Uses (buses_of self.old) (place_of self.old) (held_of self.old)
-            (IsBeforeHeld result self.new) }
+            → Uses (buses_of self.old) (place_of self.old) (kept_bytes_of self.old)
+            (IsBeforeKept result self.new) }
         ensures input { settled_answer self.old ≡ None → ¬ (result ≡ Err error.Failed) }
 
         // A refusal stays.
-        ensures done { settled_answer self.old ≡ None → settled_answer self.new ≡ kept_held result }
+        ensures done { settled_answer self.old ≡ None → settled_answer self.new ≡ settled_kept result }
         ensures again { IfSome (settled_answer self.old)
             (λ a. (result ≡ answered a) × (self.new ≡ self.old)) }
         ensures end { saw_end self.new ≡ saw_end self.old }
@@ -122,11 +122,11 @@ impl LogReader {
         ensures less { IfOk result
             (λ o. IfSome o (λ _. bytes_left self.new < bytes_left self.old)) }
         ensures within { bytes_left self.new ≤ bytes_left self.old }
-        ensures near { length (held_of self.new) ≤ 8192 }
+        ensures near { length (kept_bytes_of self.new) ≤ 8192 }
         ensures same { buses_of self.new ≡ buses_of self.old }
     {
         let mut written = blank();
-        match self.next_held_into(&mut written) {
+        match self.next_kept_into(&mut written) {
             Ok(true) => Ok(Some(written)),
             Ok(false) => Ok(None),
             Err(e) => Err(e),
