@@ -1,11 +1,13 @@
 -- What a reader gives.
-use Rattle.std.specs.Prelude.{◌≡◌, ◌+◌, ◌++◌, ◌⊎◌, ℕ, Bool, true, false, List, Option, Some, None, Result, Ok, Err, length}
+use Rattle.std.specs.Prelude.{◌≡◌, ◌≤◌, ◌+◌, ◌++◌, ◌⊎◌, ℕ, Bool, true, false, List, [], Option, Some, None, Result, Ok, Err, length, IfOk, IfSome}
 use Rattle.tail_frame.specs.declared.logged.Record.{Record}
 use Rattle.frame_log.specs.declared.reader.LogReader.{LogReader}
 use Rattle.frame_log.specs.declared.error.LogError.{LogError}
 use Rattle.frame_log.specs.declared.error.LogError.TheVariants as error
 use Rattle.frame_log.specs.declared.reader.Answer.{Answer}
 use Rattle.frame_log.specs.declared.reader.Answer.TheVariants.{Whole, Refused}
+use Rattle.frame_log.specs.Input.{Took}
+use Rattle.frame_log.specs.Line.{cut}
 use Rattle.frame_log.specs.Log.{Log, Place, ended, with_record, log_from}
 
 -- the names of its buses
@@ -47,6 +49,29 @@ abbrev pub IsNextKept : Log → Result (Option Record) LogError → Log → Type
 IsNextKept before (Ok None) after = before ≡ after
 IsNextKept before (Ok (Some r)) after = before ≡ with_record r after
 IsNextKept before (Err e) after = before ≡ ended (Some e)
+
+-- The answer is the next of what the log gives that is left: of the bytes that were kept, of those that came in the call,
+-- and of any rest behind them; none comes behind the end.
+abbrev pub AnswersNext : (old new : LogReader) (before after : Option (List ℕ)) → Result (Option Record) LogError → Type 0
+AnswersNext old new before after answer =
+    (came : List ℕ) × Took before after came
+    × ((rest : List ℕ) → (saw_end new ≡ true → rest ≡ []) → IsNext (log_behind old (came ++ rest)) answer (log_behind new rest))
+
+-- behind the end of the input the call takes nothing of it, and the answer is the next of what the bytes that were kept give
+abbrev pub AnswersAtEnd : {Input : Type 0} (old new : LogReader) (before after : Input) → Result (Option Record) LogError → Type 0
+AnswersAtEnd old new before after answer = (after ≡ before) × (saw_end new ≡ true) × IsNext (log_behind old []) answer (log_behind new [])
+
+-- the answer is the next of the lines that are kept, whatever comes behind them
+abbrev pub AnswersKept : (old new : LogReader) → Result (Option Record) LogError → Type 0
+AnswersKept old new answer = (rest : List ℕ) → IsNextKept (log_behind old rest) answer (log_behind new rest)
+
+-- where the answer is a record, this is said of it
+abbrev pub IfRecord : Result (Option Record) LogError → (Record → Type 0) → Type 0
+IfRecord answer Is = IfOk answer (λ found. IfSome found Is)
+
+-- no whole line is kept, and no part of one that is too long
+abbrev pub HasNoLine : LogReader → Type 0
+HasNoLine r = (cut 10 (kept_bytes_of r) ≡ None) × (length (kept_bytes_of r) ≤ 4096)
 
 -- what a reader answers from then on
 abbrev pub settled : Result (Option Record) LogError → Option Answer

@@ -4,6 +4,7 @@ use Rattle.tail_frame.specs.declared.logged.Record.{Record}
 use Rattle.frame_log.specs.declared.error.LogError.{LogError}
 use Rattle.frame_log.specs.declared.error.LogError.TheVariants as error
 use Rattle.frame_log.specs.declared.reader.LogReader.{LogReader}
+use Rattle.frame_log.specs.Input.{Took}
 use Rattle.frame_log.specs.Line.{cut}
 use Rattle.frame_log.specs.Log.{Place, Take, given, lines_of, log_of_lines}
 use Rattle.frame_log.specs.Reader.{buses_of, place_of, kept_bytes_of, saw_end}
@@ -48,3 +49,13 @@ abbrev pub IsBeforeKept : Result (Option Record) LogError → LogReader → Plac
 IsBeforeKept (Ok (Some r)) new at bytes = Gives (buses_of new) at bytes r (place_of new) (kept_bytes_of new)
 IsBeforeKept (Ok None) new at bytes = (at ≡ place_of new) × (bytes ≡ kept_bytes_of new)
 IsBeforeKept (Err e) new at bytes = ⊤
+
+-- what was kept and what came are whole lines that give no record, and behind them at most 8,192 bytes
+abbrev pub UsesNext : (old new : LogReader) (before after : Option (List ℕ)) → Result (Option Record) LogError → Type 0
+UsesNext old new before after answer =
+    (came : List ℕ) × Took before after came
+    × Uses (buses_of old) (place_of old) (kept_bytes_of old ++ came) (IsBefore answer new)
+
+-- the same of what was kept alone
+abbrev pub UsesKept : (old new : LogReader) → Result (Option Record) LogError → Type 0
+UsesKept old new answer = Uses (buses_of old) (place_of old) (kept_bytes_of old) (IsBeforeKept answer new)

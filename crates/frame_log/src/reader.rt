@@ -50,21 +50,23 @@ pub struct LogReader {
 }
 
 impl LogReader {
-    ghost use Rattle.std.specs.Prelude.{◌≡◌, ◌≤◌, ◌<◌, ◌+◌, ◌++◌, ◌^◌, ℕ, List, [], None, Some, Ok, Err, length, IfOk, IfSome, true, false};
+    ghost use Rattle.std.specs.Prelude.{◌≡◌, ◌≤◌, ◌<◌, ◌^◌, ℕ, List, [], None, Ok, Err, length, IfOk, IfSome, true, false};
     ghost use Rattle.cy_outside.specs.Outside.{Rose};
-    ghost use Rattle.frame_log.specs.Input.{Took, IsAtEnd};
+    ghost use Rattle.frame_log.specs.Input.{IsAtEnd};
     ghost use Rattle.frame_log.specs.Line.{cut};
     ghost use Rattle.frame_log.specs.Log.{log_of, start};
-    ghost use Rattle.frame_log.specs.Order.{IsFit};
-    ghost use Rattle.frame_log.specs.Reader.{buses_of, place_of, kept_bytes_of, bytes_left, saw_end, settled_answer, log_behind, IsNext, IsNextKept, settled, settled_kept, answered, given};
-    ghost use Rattle.frame_log.specs.Used.{Uses, IsBefore, IsBeforeKept};
+    ghost use Rattle.frame_log.specs.Order.{IsFit, StandsBehind};
+    ghost use Rattle.frame_log.specs.Reader.{buses_of, place_of, kept_bytes_of, bytes_left, saw_end, settled_answer, log_behind, settled, settled_kept, answered, given, AnswersNext, AnswersAtEnd, AnswersKept, IfRecord, HasNoLine};
+    ghost use Rattle.frame_log.specs.Steps.{IsAt};
+    ghost use Rattle.frame_log.specs.Used.{UsesNext, UsesKept};
     ghost use Rattle.frame_log.specs.declared.error.LogError.TheVariants as error;
     ghost use Rattle.frame_log.specs.declared.reader.turn.Turn.TheVariants as turn;
     ghost use Rattle.frame_log.specs.declared.reader.step.Step.TheVariants as step;
 
     /// A reader at a log's start, which knows these buses.
     pub fn new(alloc: Global, buses: ShortList<BusName, 3>) -> Result<LogReader, NoMemory>
-        ensures log { IfOk result (λ r. (rest : List ℕ) → log_behind r rest ≡ log_of buses rest) }
+        ensures log { IfOk result
+            (λ r. (rest : List ℕ) → log_behind r rest ≡ log_of buses rest) }
         ensures start { IfOk result
             (λ r. (buses_of r ≡ buses) × (place_of r ≡ start) × (kept_bytes_of r ≡ [])
             × (bytes_left r ≡ 2 ^ 28)) }
@@ -92,18 +94,13 @@ impl LogReader {
         input: &mut L,
         written: &mut Record,
     ) -> Result<bool, LogError>
-        // What the log gives that is left: the bytes kept, those that came in this call, and any rest.
-        ensures next { settled_answer self.old ≡ None → (came : List ℕ)
-            × Took (L.left input.old) (L.left input.new) came
-            × ((rest : List ℕ) → (saw_end self.new ≡ true → rest ≡ [])
-            → IsNext (log_behind self.old (came ++ rest)) (given written.new result)
-            (log_behind self.new rest)) }
-
-        // What was kept and what came are whole lines that give no record, and behind them at most 8,192 bytes.
-        ensures used { settled_answer self.old ≡ None → (came : List ℕ)
-            × Took (L.left input.old) (L.left input.new) came
-            × Uses (buses_of self.old) (place_of self.old) (kept_bytes_of self.old ++ came)
-            (IsBefore (given written.new result) self.new) }
+        // The answer is the next of what the log gives that is left.
+        ensures next { settled_answer self.old ≡ None
+            → AnswersNext self.old self.new (L.left input.old) (L.left input.new)
+            (given written.new result) }
+        ensures used { settled_answer self.old ≡ None
+            → UsesNext self.old self.new (L.left input.old) (L.left input.new)
+            (given written.new result) }
 
         // It has ended only where the input has.
         ensures end { saw_end self.old ≡ false → saw_end self.new ≡ true
@@ -111,8 +108,7 @@ impl LogReader {
         ensures whole { settled_answer self.old ≡ None → given written.new result ≡ Ok None
             → saw_end self.new ≡ true }
         ensures ended { settled_answer self.old ≡ None → saw_end self.old ≡ true
-            → (input.new ≡ input.old) × (saw_end self.new ≡ true)
-            × IsNext (log_behind self.old []) (given written.new result) (log_behind self.new []) }
+            → AnswersAtEnd self.old self.new input.old input.new (given written.new result) }
 
         // The answer stays.
         ensures done { settled_answer self.old ≡ None
@@ -122,27 +118,25 @@ impl LogReader {
             × (input.new ≡ input.old)) }
 
         // The input failed, and no line that was taken is left.
-        ensures failed { settled_answer self.old ≡ None → given written.new result ≡ Err error.Failed
-            → Rose (L.faults input.old) (L.faults input.new) × (cut 10 (kept_bytes_of self.new) ≡ None)
-            × (length (kept_bytes_of self.new) ≤ 4096) }
-        ensures open { settled_answer self.old ≡ None → given written.new result ≡ Err error.Failed
+        ensures failed { settled_answer self.old ≡ None
+            → given written.new result ≡ Err error.Failed
+            → Rose (L.faults input.old) (L.faults input.new) × HasNoLine self.new }
+        ensures open { settled_answer self.old ≡ None
+            → given written.new result ≡ Err error.Failed
             → saw_end self.new ≡ false }
         ensures count { ¬ (given written.new result ≡ Err error.Failed)
             → L.faults input.new ≡ L.faults input.old }
 
         // A record is behind those before it, and has one of the buses.
-        ensures order { IfOk (given written.new result)
-            (λ o. IfSome o (λ r. ((place_of self.old).last ≤ r.moment)
-            × ((place_of self.old).lines < r.line))) }
-        ensures place { IfOk (given written.new result)
-            (λ o. IfSome o (λ r. ((place_of self.new).last ≡ r.moment)
-            × ((place_of self.new).lines ≡ r.line))) }
-        ensures fit { IfOk (given written.new result)
-            (λ o. IfSome o (λ r. IsFit (buses_of self.old) r × (r.line ≤ 2 ^ 28))) }
+        ensures order { IfRecord (given written.new result)
+            (λ r. StandsBehind r (place_of self.old)) }
+        ensures place { IfRecord (given written.new result) (λ r. IsAt r (place_of self.new)) }
+        ensures fit { IfRecord (given written.new result)
+            (λ r. IsFit (buses_of self.old) r × (r.line ≤ 2 ^ 28)) }
 
         // Each record leaves fewer bytes, and no more were taken than stand in the buffer.
-        ensures less { IfOk (given written.new result)
-            (λ o. IfSome o (λ _. bytes_left self.new < bytes_left self.old)) }
+        ensures less { IfRecord (given written.new result)
+            (λ _. bytes_left self.new < bytes_left self.old) }
         ensures within { bytes_left self.new ≤ bytes_left self.old }
         ensures near { length (kept_bytes_of self.new) ≤ 8192 }
         ensures same { buses_of self.new ≡ buses_of self.old }
@@ -179,15 +173,13 @@ impl LogReader {
     /// answers the same again.
     #[inline(always)]
     pub fn next_kept_into(&mut self, written: &mut Record) -> Result<bool, LogError>
-        // What the log gives that is left, whatever comes behind the bytes kept.
-        ensures next { settled_answer self.old ≡ None → (rest : List ℕ)
-            → IsNextKept (log_behind self.old rest) (given written.new result)
-            (log_behind self.new rest) }
+        // The answer is the next of the lines that are kept.
+        ensures next { settled_answer self.old ≡ None
+            → AnswersKept self.old self.new (given written.new result) }
         ensures none { settled_answer self.old ≡ None → given written.new result ≡ Ok None
             → cut 10 (kept_bytes_of self.new) ≡ None }
         ensures used { settled_answer self.old ≡ None
-            → Uses (buses_of self.old) (place_of self.old) (kept_bytes_of self.old)
-            (IsBeforeKept (given written.new result) self.new) }
+            → UsesKept self.old self.new (given written.new result) }
         ensures input { settled_answer self.old ≡ None
             → ¬ (given written.new result ≡ Err error.Failed) }
 
@@ -199,18 +191,15 @@ impl LogReader {
         ensures end { saw_end self.new ≡ saw_end self.old }
 
         // A record is behind those before it, and has one of the buses.
-        ensures order { IfOk (given written.new result)
-            (λ o. IfSome o (λ r. ((place_of self.old).last ≤ r.moment)
-            × ((place_of self.old).lines < r.line))) }
-        ensures place { IfOk (given written.new result)
-            (λ o. IfSome o (λ r. ((place_of self.new).last ≡ r.moment)
-            × ((place_of self.new).lines ≡ r.line))) }
-        ensures fit { IfOk (given written.new result)
-            (λ o. IfSome o (λ r. IsFit (buses_of self.old) r × (r.line ≤ 2 ^ 28))) }
+        ensures order { IfRecord (given written.new result)
+            (λ r. StandsBehind r (place_of self.old)) }
+        ensures place { IfRecord (given written.new result) (λ r. IsAt r (place_of self.new)) }
+        ensures fit { IfRecord (given written.new result)
+            (λ r. IsFit (buses_of self.old) r × (r.line ≤ 2 ^ 28)) }
 
         // Each record leaves fewer bytes.
-        ensures less { IfOk (given written.new result)
-            (λ o. IfSome o (λ _. bytes_left self.new < bytes_left self.old)) }
+        ensures less { IfRecord (given written.new result)
+            (λ _. bytes_left self.new < bytes_left self.old) }
         ensures within { bytes_left self.new ≤ bytes_left self.old }
         ensures near { length (kept_bytes_of self.new) ≤ 8192 }
         ensures same { buses_of self.new ≡ buses_of self.old }

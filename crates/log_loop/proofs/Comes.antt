@@ -2,9 +2,9 @@
 use Rattle.std.proofs.Common.{◌≡◌, ◌∙◌, inl, inr, ℕ, Bool, true, false, List, [], ◌++◌, Option, Some, None, Result, Ok, Err, refl, sym, subst}
 use Rattle.tail_frame.specs.declared.logged.Record.{Record}
 use Rattle.frame_log.specs.Input.{Took}
-use Rattle.frame_log.specs.Log.{Place, with_record, ended}
-use Rattle.frame_log.specs.Reader.{buses_of, place_of, kept_bytes_of, saw_end, log_behind, given}
-use Rattle.frame_log.specs.Used.{Uses, IsBefore, IsBeforeKept}
+use Rattle.frame_log.specs.Log.{Place}
+use Rattle.frame_log.specs.Reader.{buses_of, place_of, kept_bytes_of, saw_end, given, AnswersKept}
+use Rattle.frame_log.specs.Used.{Uses, UsesNext, UsesKept, IsBefore, IsBeforeKept}
 use Rattle.frame_log.specs.declared.error.LogError.{LogError}
 use Rattle.frame_log.specs.declared.error.LogError.TheVariants as error
 use Rattle.frame_log.specs.declared.reader.LogReader.{LogReader}
@@ -18,10 +18,10 @@ took_same : (before after : Option (List ℕ)) → after ≡ before → Took bef
 took_same before after e = subst (λ (o : Option (List ℕ)). Took before o []) (sym e) (Took-none before)
 
 -- a record of the lines that are kept
-pub goes_kept : (old new : LogReader) (left : Option (List ℕ)) (rec : Record) → ((rest : List ℕ) → log_behind old rest ≡ with_record rec (log_behind new rest)) → saw_end new ≡ saw_end old → Goes old new left left (Ok (Some rec))
+pub goes_kept : (old new : LogReader) (left : Option (List ℕ)) (rec : Record) → AnswersKept old new (Ok (Some rec)) → saw_end new ≡ saw_end old → Goes old new left left (Ok (Some rec))
 goes_kept old new left rec h e = record { came = []; took = Took-none left; ended = λ t. (refl, e ∙ t); next = λ rest _. h rest }
 
-pub comes_kept : (old new : LogReader) (left : Option (List ℕ)) (gathered : List ℕ) (rec : Record) → Uses (buses_of old) (place_of old) (kept_bytes_of old) (IsBeforeKept (Ok (Some rec)) new) → Comes old new left left gathered (Ok (Some rec))
+pub comes_kept : (old new : LogReader) (left : Option (List ℕ)) (gathered : List ℕ) (rec : Record) → UsesKept old new (Ok (Some rec)) → Comes old new left left gathered (Ok (Some rec))
 comes_kept old new left gathered rec u = record {
   came = [];
   took = Took-none left;
@@ -32,7 +32,7 @@ comes_kept old new left gathered rec u = record {
 }
 
 -- a refusal among the lines that are kept
-pub goes_refused : (old new : LogReader) (left : Option (List ℕ)) (e : LogError) → ((rest : List ℕ) → log_behind old rest ≡ ended (Some e)) → saw_end new ≡ saw_end old → Goes old new left left (Err e)
+pub goes_refused : (old new : LogReader) (left : Option (List ℕ)) (e : LogError) → AnswersKept old new (Err e) → saw_end new ≡ saw_end old → Goes old new left left (Err e)
 goes_refused old new left e h s = record { came = []; took = Took-none left; ended = λ t. (refl, s ∙ t); next = λ rest _. inl (h rest) }
 
 refused_before : (e : LogError) (new : LogReader) (at : Place) (bytes : List ℕ) → (e ≡ error.Failed → ⊥) → IsBefore (Err e) new at bytes
@@ -43,7 +43,7 @@ refused_before (error.TooFar n) new at bytes d = tt
 refused_before error.LogLong new at bytes d = tt
 refused_before error.Failed new at bytes d = absurd (d refl)
 
-pub comes_refused : (old new : LogReader) (left : Option (List ℕ)) (gathered : List ℕ) (e : LogError) → (e ≡ error.Failed → ⊥) → Uses (buses_of old) (place_of old) (kept_bytes_of old) (IsBeforeKept (Err e) new) → Comes old new left left gathered (Err e)
+pub comes_refused : (old new : LogReader) (left : Option (List ℕ)) (gathered : List ℕ) (e : LogError) → (e ≡ error.Failed → ⊥) → UsesKept old new (Err e) → Comes old new left left gathered (Err e)
 comes_refused old new left gathered e d u = record {
   came = [];
   took = Took-none left;
@@ -55,7 +55,7 @@ comes_refused old new left gathered e d u = record {
 
 -- what a call gives that may read
 pub comes_read : (old new : LogReader) (before after : Option (List ℕ)) (gathered : List ℕ) (answer : Result (Option Record) LogError)
-    → ((came : List ℕ) × Took before after came × Uses (buses_of old) (place_of old) (kept_bytes_of old ++ came) (IsBefore answer new)) → (saw_end old ≡ true → after ≡ before) → gathered ≡ [] → Comes old new before after gathered answer
+    → UsesNext old new before after answer → (saw_end old ≡ true → after ≡ before) → gathered ≡ [] → Comes old new before after gathered answer
 comes_read old new before after gathered answer n same none = by_end (saw_end old) refl
   where
     by_end : (b : Bool) → saw_end old ≡ b → Comes old new before after gathered answer
@@ -63,7 +63,7 @@ comes_read old new before after gathered answer n same none = by_end (saw_end ol
     by_end false e = record { came = n.0; took = n.1; ended = λ t. let bad : true ≡ false = sym t ∙ e in absurd cc; flushed = inr none; used = λ _. n.2 }
 
 -- the same behind the lines that were kept
-later : (old mid new : LogReader) (before after : Option (List ℕ)) (gathered : List ℕ) (answer : Result (Option Record) LogError) → Uses (buses_of old) (place_of old) (kept_bytes_of old) (IsBeforeKept (Ok None) mid) → buses_of mid ≡ buses_of old → saw_end mid ≡ saw_end old
+later : (old mid new : LogReader) (before after : Option (List ℕ)) (gathered : List ℕ) (answer : Result (Option Record) LogError) → UsesKept old mid (Ok None) → buses_of mid ≡ buses_of old → saw_end mid ≡ saw_end old
     → Comes mid new before after gathered answer → Comes old new before after gathered answer
 later old mid new before after gathered answer u buses end c = record {
   came = c.came;
@@ -75,7 +75,7 @@ later old mid new before after gathered answer u buses end c = record {
       (subst (λ (b : List (List ℕ)). Uses b (place_of mid) (kept_bytes_of mid ++ c.came) (IsBefore answer new)) buses (c.used (end ∙ e)));
 }
 
-pub comes_later : (old mid new : LogReader) (before after : Option (List ℕ)) (gathered : List ℕ) (answer : Result (Option Record) Stop) → Uses (buses_of old) (place_of old) (kept_bytes_of old) (IsBeforeKept (Ok None) mid) → buses_of mid ≡ buses_of old
+pub comes_later : (old mid new : LogReader) (before after : Option (List ℕ)) (gathered : List ℕ) (answer : Result (Option Record) Stop) → UsesKept old mid (Ok None) → buses_of mid ≡ buses_of old
     → saw_end mid ≡ saw_end old → ComesBehind mid new before after gathered answer → ComesBehind old new before after gathered answer
 comes_later old mid new before after gathered (Ok answer) u buses end c = later old mid new before after gathered (Ok answer) u buses end c
 comes_later old mid new before after gathered (Err (stop.Log error)) u buses end c = later old mid new before after gathered (Err error) u buses end c
