@@ -1,5 +1,5 @@
 pub mod LineLemmas
-pub mod HeldLemmas
+pub mod KeptLemmas
 pub mod CutLemmas
 pub mod LogLemmas
 pub mod OrderLemmas

@@ -1,4 +1,4 @@
--- Lemmas on the log behind the bytes that are held.
+-- Lemmas on the log behind the bytes that are kept.
 use Rattle.std.proofs.Common.{◌≡◌, ◌∙◌, ◌==◌, ◌<◌, ◌≤◌, ℕ, suc, ◌+◌, Bool, true, false, List, [], ◌∷◌, ◌++◌, Option, Some, None, refl, sym, ap, subst, length, take, drop, arith, append-nil, append_assoc, length-append, ◌⊎◌, inl, inr}
 use Rattle.frame_log.specs.Input.{Took}
 use Rattle.std.specs.Prelude.{if◌then◌else◌, nat_lt}
@@ -28,9 +28,9 @@ take-past r (x ∷ xs) rest =
     ap (λ n. take n (x ∷ (xs ++ rest))) e ∙ ap (λ (t : List ℕ). x ∷ t) (take-past r xs rest)
 
 -- bytes that count stand before the others
-pub log_from-held : (buses : List (List ℕ)) (r : ℕ) (s rest : List ℕ) (at : Place)
+pub log_from-kept : (buses : List (List ℕ)) (r : ℕ) (s rest : List ℕ) (at : Place)
     → log_from buses (r + length s) (s ++ rest) at ≡ parts buses (nat_lt r (length rest)) (lines_of (s ++ take r rest)) at
-log_from-held buses r s rest at =
+log_from-kept buses r s rest at =
     let t : take (r + length s) (s ++ rest) ≡ s ++ take r rest = take-past r s rest in
     let l : length (s ++ rest) ≡ length s + length rest = length-append s rest in
     let b : nat_lt (r + length s) (length (s ++ rest)) ≡ nat_lt r (length rest) = test r (length s) (length rest) (length (s ++ rest)) l in
@@ -116,16 +116,16 @@ lines_of-front (x ∷ xs) rest h = go (λ k. lines_of-front xs rest k) (x == 10)
         let k : (cut 10 xs >>= longer x) ≡ None = no (x == 10) (Some (([], xs))) (cut 10 xs >>= longer x) e ∙ h in
         lines_of-byte x (xs ++ rest) e ∙ ap (with_byte x) (more (none _ k)) ∙ with_byte-front x xs (lines_of rest).0 (lines_of rest).1
 
--- the first line of what is held
+-- the first line of what is kept
 pub log_from-line : (buses : List (List ℕ)) (r : ℕ) (s rest : List ℕ) (i : ℕ) (at : Place) → IsLine s i
     → log_from buses (r + length s) (s ++ rest) at ≡ followed (given buses at (take i s)) (λ new. log_from buses (r + length (drop (i + 1) s)) (drop (i + 1) s ++ rest) new)
 log_from-line buses r s rest i at h =
     let t = take r rest in
-    log_from-held buses r s rest at
+    log_from-kept buses r s rest at
     ∙ ap (λ (p : List (List ℕ) × List ℕ). parts buses (nat_lt r (length rest)) p at) (lines_of-line s (take i s) (drop (i + 1) s) t h.1)
     ∙ parts-line buses (nat_lt r (length rest)) (take i s) (lines_of (drop (i + 1) s ++ t)).0 (lines_of (drop (i + 1) s ++ t)).1 at
     ∙ same (given buses at (take i s)) (λ new. parts buses (nat_lt r (length rest)) (lines_of (drop (i + 1) s ++ t)) new) (λ new. log_from buses (r + length (drop (i + 1) s)) (drop (i + 1) s ++ rest) new)
-    (λ new. sym (log_from-held buses r (drop (i + 1) s) rest new))
+    (λ new. sym (log_from-kept buses r (drop (i + 1) s) rest new))
   where
     same : (x : Given) (f g : Place → Log) → ((new : Place) → f new ≡ g new) → followed x f ≡ followed x g
     same (Skip at) f g h = h at
@@ -183,15 +183,15 @@ parts-long buses more s (x ∷ xs) tail at h =
 pub log_from-long : (buses : List (List ℕ)) (r : ℕ) (s rest : List ℕ) (at : Place) → cut 10 s ≡ None → 4096 < length s
     → log_from buses (r + length s) (s ++ rest) at ≡ ended (Some (error.BadLine (at.lines + 1)))
 log_from-long buses r s rest at none h =
-    log_from-held buses r s rest at
+    log_from-kept buses r s rest at
     ∙ ap (λ (p : List (List ℕ) × List ℕ). parts buses (nat_lt r (length rest)) p at) (lines_of-front s (take r rest) none)
     ∙ parts-long buses (nat_lt r (length rest)) s (lines_of (take r rest)).0 (lines_of (take r rest)).1 at h
 
--- the end: what is held is the last line
+-- the end: what is kept is the last line
 pub log_from-end : (buses : List (List ℕ)) (r : ℕ) (s : List ℕ) (at : Place) → cut 10 s ≡ None → 0 < length s
     → log_from buses (r + length s) (s ++ []) at ≡ followed (given buses at s) (λ new. ended None)
 log_from-end buses r s at none h =
-    log_from-held buses r s [] at
+    log_from-kept buses r s [] at
     ∙ ap (λ (x : List ℕ). parts buses (nat_lt r 0) (lines_of (s ++ x)) at) (nothing r)
     ∙ ap (λ (p : List (List ℕ) × List ℕ). parts buses (nat_lt r 0) p at) (lines_of-front s [] none)
     ∙ ap (λ (v : Bool). parts buses v ([], s ++ []) at) (test r)
@@ -218,7 +218,7 @@ log_from-none buses r at =
 pub log_from-past : (buses : List (List ℕ)) (s rest : List ℕ) (at : Place) → cut 10 s ≡ None → length s ≤ 4096 → 0 < length rest
     → log_from buses (0 + length s) (s ++ rest) at ≡ ended (Some error.LogLong)
 log_from-past buses s rest at none h more =
-    log_from-held buses 0 s rest at
+    log_from-kept buses 0 s rest at
     ∙ ap (λ (p : List (List ℕ) × List ℕ). parts buses (nat_lt 0 (length rest)) p at) (lines_of-front s (take 0 rest) none)
     ∙ ap (λ (v : Bool). parts buses v ([], s ++ []) at) (test (length rest) more)
     ∙ ap (λ (x : List ℕ). log_of_lines buses (Some error.LogLong) (last_line 4096 x) at) (append-nil s)

@@ -144,8 +144,8 @@ reads-same read s t n v e r = record {
 }
 
 -- the first bytes of a vector that is kept
-pub reads-kept : (read : List ℕ → Option (ℕ × List ℕ)) (s text : List ℕ) (n m v : ℕ) → n ≤ m → n ≤ 16 → take m (take 16 s) ≡ take m text → Reads read text n v → Reads read s n v
-reads-kept read s text n m v le short e r =
+pub reads-stored : (read : List ℕ → Option (ℕ × List ℕ)) (s text : List ℕ) (n m v : ℕ) → n ≤ m → n ≤ 16 → take m (take 16 s) ≡ take m text → Reads read text n v → Reads read s n v
+reads-stored read s text n m v le short e r =
     let same : take n s ≡ take n text = sym (take-less n 16 s short) ∙ sym (take-less n m (take 16 s) le) ∙ ap (take n) e ∙ take-less n m text le in
     reads-same read text s n v same r
 
@@ -285,9 +285,9 @@ pub record Agrees (w h : List ℕ) (i : ℕ) : Type 0 where
   pub line : IsLine h i
   pub same : take i w ≡ take i h
 
--- a line of a window is one of the bytes that are held, where it and its newline stand among them
-pub line-held : (w h : List ℕ) (i : ℕ) → IsLine w i → i < length h → take (i + 1) w ≡ take (i + 1) h → Agrees w h i
-line-held w h i is l e =
+-- a line of a window is one of the bytes that are kept, where it and its newline stand among them
+pub line-kept : (w h : List ℕ) (i : ℕ) → IsLine w i → i < length h → take (i + 1) w ≡ take (i + 1) h → Agrees w h i
+line-kept w h i is l e =
     let f = cut-found 10 w (take i w) (drop (i + 1) w) is.1 in
     let count : length (take i w) ≡ i = length-front i w (omega (arith, is.0)) in
     let newline : get_or w i 0 ≡ 10 = ap (λ t. get_or t i 0) f.1 ∙ ap (λ n. get_or (take i w ++ 10 ∷ drop (i + 1) w) n 0) (sym count) ∙ seam (take i w) (drop (i + 1) w) 10 in

@@ -127,7 +127,7 @@ pub passes-to : (buses : List (List ℕ)) (at new : Place) (bytes behind : List 
 passes-to buses at new bytes behind u =
     subst (λ p. Passes buses at bytes p behind) u.there.0 (subst (λ (b : List ℕ). Passes buses at bytes u.at b) u.there.1 u.passes)
 
--- at the end no record stands in front of what is held
+-- at the end no record stands in front of what is kept
 pub before-end : (t : Turn) (w : Record) (new : LogReader) (at : Place) (bytes : List ℕ) → (t ≡ turn.Again → ⊥) → (t ≡ turn.Failed → ⊥) → saw_end new ≡ true → IsBeforeTurn t w new at bytes
 before-end turn.Again w new at bytes a f e = absurd (a refl)
 before-end turn.Failed w new at bytes a f e = absurd (f refl)
@@ -148,20 +148,20 @@ before-refused error.LogLong new at bytes h = tt
 before-refused error.Failed new at bytes h = absurd (h refl)
 
 -- what came behind bytes that were passed is used
-pub came-uses : (a b c : Option (List ℕ)) (buses : List (List ℕ)) (at mid : Place) (held rest : List ℕ) (There : Place → List ℕ → Type 0)
-    → ((x : List ℕ) × Took a b x × Passes buses at (held ++ x) mid rest) → ((y : List ℕ) × Took b c y × Uses buses mid (rest ++ y) There) → (z : List ℕ) × Took a c z × Uses buses at (held ++ z) There
-came-uses a b c buses at mid held rest There x y = (
+pub came-uses : (a b c : Option (List ℕ)) (buses : List (List ℕ)) (at mid : Place) (kept rest : List ℕ) (There : Place → List ℕ → Type 0)
+    → ((x : List ℕ) × Took a b x × Passes buses at (kept ++ x) mid rest) → ((y : List ℕ) × Took b c y × Uses buses mid (rest ++ y) There) → (z : List ℕ) × Took a c z × Uses buses at (kept ++ z) There
+came-uses a b c buses at mid kept rest There x y = (
   x.0 ++ y.0,
   Took-more a b c x.0 y.0 x.1 y.1,
-  subst (λ (t : List ℕ). Uses buses at t There) (append_assoc held x.0 y.0)
-      (uses-later buses at mid ((held ++ x.0) ++ y.0) (rest ++ y.0) There (passes-came buses at mid (held ++ x.0) rest y.0 x.2) y.2),
+  subst (λ (t : List ℕ). Uses buses at t There) (append_assoc kept x.0 y.0)
+      (uses-later buses at mid ((kept ++ x.0) ++ y.0) (rest ++ y.0) There (passes-came buses at mid (kept ++ x.0) rest y.0 x.2) y.2),
 )
 
 -- the same, of a reader with the same buses, where what holds there is less
-pub came-later : (a b c : Option (List ℕ)) (buses same : List (List ℕ)) (at mid : Place) (held rest : List ℕ) (P Q : Place → List ℕ → Type 0) → same ≡ buses
-    → ((x : List ℕ) × Took a b x × Passes buses at (held ++ x) mid rest) → ((y : List ℕ) × Took b c y × Uses same mid (rest ++ y) P) → ((p : Place) (t : List ℕ) → P p t → Q p t) → (z : List ℕ) × Took a c z × Uses buses at (held ++ z) Q
-came-later a b c buses same at mid held rest P Q e x y f =
-    came-uses a b c buses at mid held rest Q x (y.0, y.1, uses-same buses mid (rest ++ y.0) P Q f (subst (λ (d : List (List ℕ)). Uses d mid (rest ++ y.0) P) e y.2))
+pub came-later : (a b c : Option (List ℕ)) (buses same : List (List ℕ)) (at mid : Place) (kept rest : List ℕ) (P Q : Place → List ℕ → Type 0) → same ≡ buses
+    → ((x : List ℕ) × Took a b x × Passes buses at (kept ++ x) mid rest) → ((y : List ℕ) × Took b c y × Uses same mid (rest ++ y) P) → ((p : Place) (t : List ℕ) → P p t → Q p t) → (z : List ℕ) × Took a c z × Uses buses at (kept ++ z) Q
+came-later a b c buses same at mid kept rest P Q e x y f =
+    came-uses a b c buses at mid kept rest Q x (y.0, y.1, uses-same buses mid (rest ++ y.0) P Q f (subst (λ (d : List (List ℕ)). Uses d mid (rest ++ y.0) P) e y.2))
 
 -- a step by what its line gives
 pub used-given : (g : Given) (q : Step) (w : Record) (buses : List (List ℕ)) (at new : Place) (bytes line behind : List ℕ) → cut 10 bytes ≡ Some (line, behind) → given buses at line ≡ g → IsGiven g q w new → IsUsed buses at bytes q w new behind

@@ -4,9 +4,10 @@ use Rattle.tail_frame.specs.declared.logged.Record.{Record}
 use Rattle.frame_log.specs.declared.error.LogError.{LogError}
 use Rattle.frame_log.specs.declared.error.LogError.TheVariants as error
 use Rattle.frame_log.specs.declared.reader.LogReader.{LogReader}
+use Rattle.frame_log.specs.Input.{Took}
 use Rattle.frame_log.specs.Line.{cut}
 use Rattle.frame_log.specs.Log.{Place, Take, given, lines_of, log_of_lines}
-use Rattle.frame_log.specs.Reader.{buses_of, place_of, held_of, saw_end}
+use Rattle.frame_log.specs.Reader.{buses_of, place_of, kept_bytes_of, saw_end}
 
 -- these lines give no record, and lead from one place to another: whatever lines come behind them give the same log there
 abbrev pub LeadsOn : List (List ℕ) → Place → List (List ℕ) → Place → Type 0
@@ -35,16 +36,26 @@ pub record Uses (buses : List (List ℕ)) (from : Place) (bytes : List ℕ) (The
   pub near : length behind ≤ 8192
   pub there : There at behind
 
--- What stands behind the lines that give no record: the line of the record that is answered, and then what is held, where
--- the end wasn't reached; and what is held alone, where the input failed.
+-- What stands behind the lines that give no record: the line of the record that is answered, and then what is kept, where
+-- the end wasn't reached; and what is kept alone, where the input failed.
 abbrev pub IsBefore : Result (Option Record) LogError → LogReader → Place → List ℕ → Type 0
-IsBefore (Ok (Some r)) new at bytes = saw_end new ≡ false → Gives (buses_of new) at bytes r (place_of new) (held_of new)
+IsBefore (Ok (Some r)) new at bytes = saw_end new ≡ false → Gives (buses_of new) at bytes r (place_of new) (kept_bytes_of new)
 IsBefore (Ok None) new at bytes = ⊤
-IsBefore (Err error.Failed) new at bytes = (at ≡ place_of new) × (bytes ≡ held_of new)
+IsBefore (Err error.Failed) new at bytes = (at ≡ place_of new) × (bytes ≡ kept_bytes_of new)
 IsBefore (Err e) new at bytes = ⊤
 
--- The same among the lines that are held: where no record is answered, what is held alone.
-abbrev pub IsBeforeHeld : Result (Option Record) LogError → LogReader → Place → List ℕ → Type 0
-IsBeforeHeld (Ok (Some r)) new at bytes = Gives (buses_of new) at bytes r (place_of new) (held_of new)
-IsBeforeHeld (Ok None) new at bytes = (at ≡ place_of new) × (bytes ≡ held_of new)
-IsBeforeHeld (Err e) new at bytes = ⊤
+-- The same among the lines that are kept: where no record is answered, what is kept alone.
+abbrev pub IsBeforeKept : Result (Option Record) LogError → LogReader → Place → List ℕ → Type 0
+IsBeforeKept (Ok (Some r)) new at bytes = Gives (buses_of new) at bytes r (place_of new) (kept_bytes_of new)
+IsBeforeKept (Ok None) new at bytes = (at ≡ place_of new) × (bytes ≡ kept_bytes_of new)
+IsBeforeKept (Err e) new at bytes = ⊤
+
+-- what was kept and what came are whole lines that give no record, and behind them at most 8,192 bytes
+abbrev pub UsesNext : (old new : LogReader) (before after : Option (List ℕ)) → Result (Option Record) LogError → Type 0
+UsesNext old new before after answer =
+    (came : List ℕ) × Took before after came
+    × Uses (buses_of old) (place_of old) (kept_bytes_of old ++ came) (IsBefore answer new)
+
+-- the same of what was kept alone
+abbrev pub UsesKept : (old new : LogReader) → Result (Option Record) LogError → Type 0
+UsesKept old new answer = Uses (buses_of old) (place_of old) (kept_bytes_of old) (IsBeforeKept answer new)

@@ -7,7 +7,7 @@ use Rattle.frame_log.specs.declared.reader.step.Step.TheVariants as step
 use Rattle.frame_log.specs.declared.reader.turn.Turn.{Turn}
 use Rattle.frame_log.specs.declared.reader.turn.Turn.TheVariants as turn
 use Rattle.frame_log.specs.Log.{Place}
-use Rattle.frame_log.specs.Reader.{buses_of, place_of, held_of, saw_end}
+use Rattle.frame_log.specs.Reader.{buses_of, place_of, kept_bytes_of, saw_end}
 use Rattle.frame_log.specs.Used.{Passes, Gives}
 
 -- the first line of these bytes is used, where it is no refusal
@@ -18,13 +18,13 @@ IsUsed buses at bytes other written new behind = ⊤
 
 -- what stands behind the lines that give no record, where a step found no further line or a record
 abbrev pub IsBeforeStep : Step → Record → LogReader → Place → List ℕ → Type 0
-IsBeforeStep step.NoLine written new at bytes = (at ≡ place_of new) × (bytes ≡ held_of new)
-IsBeforeStep step.Record written new at bytes = Gives (buses_of new) at bytes written (place_of new) (held_of new)
+IsBeforeStep step.NoLine written new at bytes = (at ≡ place_of new) × (bytes ≡ kept_bytes_of new)
+IsBeforeStep step.Record written new at bytes = Gives (buses_of new) at bytes written (place_of new) (kept_bytes_of new)
 IsBeforeStep other written new at bytes = ⊤
 
 -- what stands behind the lines that give no record, where a turn found nothing yet or a record
 abbrev pub IsBeforeTurn : Turn → Record → LogReader → Place → List ℕ → Type 0
-IsBeforeTurn turn.Again written new at bytes = (at ≡ place_of new) × (bytes ≡ held_of new)
-IsBeforeTurn turn.Failed written new at bytes = (at ≡ place_of new) × (bytes ≡ held_of new)
-IsBeforeTurn turn.Record written new at bytes = saw_end new ≡ false → Gives (buses_of new) at bytes written (place_of new) (held_of new)
+IsBeforeTurn turn.Again written new at bytes = (at ≡ place_of new) × (bytes ≡ kept_bytes_of new)
+IsBeforeTurn turn.Failed written new at bytes = (at ≡ place_of new) × (bytes ≡ kept_bytes_of new)
+IsBeforeTurn turn.Record written new at bytes = saw_end new ≡ false → Gives (buses_of new) at bytes written (place_of new) (kept_bytes_of new)
 IsBeforeTurn other written new at bytes = ⊤

@@ -6,7 +6,7 @@ mod data;
 mod digits;
 mod error;
 mod front;
-mod held;
+mod kept_bytes;
 mod laws;
 mod line;
 mod quick;

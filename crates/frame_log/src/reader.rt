@@ -4,7 +4,7 @@ ghost use Rattle.std.specs.Prelude.{◌≤◌, ◌+◌, length};
 use crate::buses::Buses;
 use crate::error::LogError;
 use crate::front::Front;
-use crate::held::Held;
+use crate::kept_bytes::KeptBytes;
 use cy_bits::{BusName, NoMemory, ShortList};
 use cy_outside::Source;
 use std::alloc::Global;
@@ -25,14 +25,14 @@ pub enum Answer {
     Refused(LogError),
 }
 
-/// A reader of a log, to which each call hands the same input. It holds at most 8,192 bytes.
+/// A reader of a log, to which each call hands the same input. It keeps at most 8,192 bytes.
 #[derive(Drop)]
 pub struct LogReader {
     buses: Buses,
     /// The front of a line before.
     front: Front,
     /// The bytes that were taken and not yet used.
-    held: Held,
+    kept_bytes: KeptBytes,
     /// How many bytes may still be taken.
     room: usize,
     /// The lines before.
@@ -45,35 +45,37 @@ pub struct LogReader {
     is_ended: bool,
     /// What is answered from now on.
     done: Option<Answer>,
-    ghost near: { length held ≤ 8192 },
-    ghost within: { lines + (room + length held) ≤ 268435456 },
+    ghost near: { length kept_bytes ≤ 8192 },
+    ghost within: { lines + (room + length kept_bytes) ≤ 268435456 },
 }
 
 impl LogReader {
-    ghost use Rattle.std.specs.Prelude.{◌≡◌, ◌≤◌, ◌<◌, ◌+◌, ◌++◌, ◌^◌, ℕ, List, [], None, Some, Ok, Err, length, IfOk, IfSome, true, false};
+    ghost use Rattle.std.specs.Prelude.{◌≡◌, ◌≤◌, ◌<◌, ◌^◌, ℕ, List, [], None, Ok, Err, length, IfOk, IfSome, true, false};
     ghost use Rattle.cy_outside.specs.Outside.{Rose};
-    ghost use Rattle.frame_log.specs.Input.{Took, IsAtEnd};
+    ghost use Rattle.frame_log.specs.Input.{IsAtEnd};
     ghost use Rattle.frame_log.specs.Line.{cut};
     ghost use Rattle.frame_log.specs.Log.{log_of, start};
-    ghost use Rattle.frame_log.specs.Order.{IsFit};
-    ghost use Rattle.frame_log.specs.Reader.{buses_of, place_of, held_of, bytes_left, saw_end, answer_of, log_behind, IsNext, IsNextHeld, kept, kept_held, answered, given};
-    ghost use Rattle.frame_log.specs.Used.{Uses, IsBefore, IsBeforeHeld};
+    ghost use Rattle.frame_log.specs.Order.{IsFit, StandsBehind};
+    ghost use Rattle.frame_log.specs.Reader.{buses_of, place_of, kept_bytes_of, bytes_left, saw_end, settled_answer, log_behind, settled, settled_kept, answered, given, AnswersNext, AnswersAtEnd, AnswersKept, IfRecord, HasNoLine};
+    ghost use Rattle.frame_log.specs.Steps.{IsAt};
+    ghost use Rattle.frame_log.specs.Used.{UsesNext, UsesKept};
     ghost use Rattle.frame_log.specs.declared.error.LogError.TheVariants as error;
     ghost use Rattle.frame_log.specs.declared.reader.turn.Turn.TheVariants as turn;
     ghost use Rattle.frame_log.specs.declared.reader.step.Step.TheVariants as step;
 
     /// A reader at a log's start, which knows these buses.
     pub fn new(alloc: Global, buses: ShortList<BusName, 3>) -> Result<LogReader, NoMemory>
-        ensures log { IfOk result (λ r. (rest : List ℕ) → log_behind r rest ≡ log_of buses rest) }
+        ensures log { IfOk result
+            (λ r. (rest : List ℕ) → log_behind r rest ≡ log_of buses rest) }
         ensures start { IfOk result
-            (λ r. (buses_of r ≡ buses) × (place_of r ≡ start) × (held_of r ≡ [])
+            (λ r. (buses_of r ≡ buses) × (place_of r ≡ start) × (kept_bytes_of r ≡ [])
             × (bytes_left r ≡ 2 ^ 28)) }
-        ensures reading { IfOk result (λ r. (answer_of r ≡ None) × (saw_end r ≡ false)) }
+        ensures reading { IfOk result (λ r. (settled_answer r ≡ None) × (saw_end r ≡ false)) }
     {
         Ok(LogReader {
             buses: Buses::new(buses),
             front: Front::zero(),
-            held: Held::new(alloc)?,
+            kept_bytes: KeptBytes::new(alloc)?,
             room: 1 << 28,
             lines: 0,
             first: None,
@@ -84,7 +86,7 @@ impl LogReader {
     }
 
     /// Writes the next record into `written`. False at the log's end, and then `written` says nothing. It
-    /// reads only where no whole line is held. After false or an error each later call answers the
+    /// reads only where no whole line is kept. After false or an error each later call answers the
     /// same and reads nothing.
     #[inline(always)]
     pub fn next_into<L: Source>(
@@ -92,59 +94,51 @@ impl LogReader {
         input: &mut L,
         written: &mut Record,
     ) -> Result<bool, LogError>
-        // What the log gives that is left: the bytes held, those that came in this call, and any rest.
-        ensures next { answer_of self.old ≡ None → (came : List ℕ)
-            × Took (L.left input.old) (L.left input.new) came
-            × ((rest : List ℕ) → (saw_end self.new ≡ true → rest ≡ [])
-            → IsNext (log_behind self.old (came ++ rest)) (given written.new result)
-            (log_behind self.new rest)) }
-
-        // What was held and what came are whole lines that give no record, and behind them at most 8,192 bytes.
-        ensures used { answer_of self.old ≡ None → (came : List ℕ)
-            × Took (L.left input.old) (L.left input.new) came
-            × Uses (buses_of self.old) (place_of self.old) (held_of self.old ++ came)
-            (IsBefore (given written.new result) self.new) }
+        // The answer is the next of what the log gives that is left.
+        ensures next { settled_answer self.old ≡ None
+            → AnswersNext self.old self.new (L.left input.old) (L.left input.new)
+            (given written.new result) }
+        ensures used { settled_answer self.old ≡ None
+            → UsesNext self.old self.new (L.left input.old) (L.left input.new)
+            (given written.new result) }
 
         // It has ended only where the input has.
         ensures end { saw_end self.old ≡ false → saw_end self.new ≡ true
             → IsAtEnd (L.left input.new) }
-        ensures whole { answer_of self.old ≡ None → given written.new result ≡ Ok None
+        ensures whole { settled_answer self.old ≡ None → given written.new result ≡ Ok None
             → saw_end self.new ≡ true }
-        ensures ended { answer_of self.old ≡ None → saw_end self.old ≡ true
-            → (input.new ≡ input.old) × (saw_end self.new ≡ true)
-            × IsNext (log_behind self.old []) (given written.new result) (log_behind self.new []) }
+        ensures ended { settled_answer self.old ≡ None → saw_end self.old ≡ true
+            → AnswersAtEnd self.old self.new input.old input.new (given written.new result) }
 
         // The answer stays.
-        ensures done { answer_of self.old ≡ None
-            → answer_of self.new ≡ kept (given written.new result) }
-        ensures again { IfSome (answer_of self.old)
+        ensures done { settled_answer self.old ≡ None
+            → settled_answer self.new ≡ settled (given written.new result) }
+        ensures again { IfSome (settled_answer self.old)
             (λ a. (given written.new result ≡ answered a) × (self.new ≡ self.old)
             × (input.new ≡ input.old)) }
 
         // The input failed, and no line that was taken is left.
-        ensures failed { answer_of self.old ≡ None → given written.new result ≡ Err error.Failed
-            → Rose (L.faults input.old) (L.faults input.new) × (cut 10 (held_of self.new) ≡ None)
-            × (length (held_of self.new) ≤ 4096) }
-        ensures open { answer_of self.old ≡ None → given written.new result ≡ Err error.Failed
+        ensures failed { settled_answer self.old ≡ None
+            → given written.new result ≡ Err error.Failed
+            → Rose (L.faults input.old) (L.faults input.new) × HasNoLine self.new }
+        ensures open { settled_answer self.old ≡ None
+            → given written.new result ≡ Err error.Failed
             → saw_end self.new ≡ false }
         ensures count { ¬ (given written.new result ≡ Err error.Failed)
             → L.faults input.new ≡ L.faults input.old }
 
         // A record is behind those before it, and has one of the buses.
-        ensures order { IfOk (given written.new result)
-            (λ o. IfSome o (λ r. ((place_of self.old).last ≤ r.moment)
-            × ((place_of self.old).lines < r.line))) }
-        ensures place { IfOk (given written.new result)
-            (λ o. IfSome o (λ r. ((place_of self.new).last ≡ r.moment)
-            × ((place_of self.new).lines ≡ r.line))) }
-        ensures fit { IfOk (given written.new result)
-            (λ o. IfSome o (λ r. IsFit (buses_of self.old) r × (r.line ≤ 2 ^ 28))) }
+        ensures order { IfRecord (given written.new result)
+            (λ r. StandsBehind r (place_of self.old)) }
+        ensures place { IfRecord (given written.new result) (λ r. IsAt r (place_of self.new)) }
+        ensures fit { IfRecord (given written.new result)
+            (λ r. IsFit (buses_of self.old) r × (r.line ≤ 2 ^ 28)) }
 
         // Each record leaves fewer bytes, and no more were taken than stand in the buffer.
-        ensures less { IfOk (given written.new result)
-            (λ o. IfSome o (λ _. bytes_left self.new < bytes_left self.old)) }
+        ensures less { IfRecord (given written.new result)
+            (λ _. bytes_left self.new < bytes_left self.old) }
         ensures within { bytes_left self.new ≤ bytes_left self.old }
-        ensures near { length (held_of self.new) ≤ 8192 }
+        ensures near { length (kept_bytes_of self.new) ≤ 8192 }
         ensures same { buses_of self.new ≡ buses_of self.old }
     {
         if let Some(answer) = self.done {
@@ -173,46 +167,41 @@ impl LogReader {
         }
     }
 
-    /// Writes the next record of the lines that are held whole into `written`, without reading. False
+    /// Writes the next record of the lines that are kept whole into `written`, without reading. False
     /// where no such line is left, and then `written` says nothing: `next_into` goes on from there. A
     /// refusal is the answer of each later call, and a reader that has answered its end or an error
     /// answers the same again.
     #[inline(always)]
-    pub fn next_held_into(&mut self, written: &mut Record) -> Result<bool, LogError>
-        // What the log gives that is left, whatever comes behind the bytes held.
-        ensures next { answer_of self.old ≡ None → (rest : List ℕ)
-            → IsNextHeld (log_behind self.old rest) (given written.new result)
-            (log_behind self.new rest) }
-        ensures none { answer_of self.old ≡ None → given written.new result ≡ Ok None
-            → cut 10 (held_of self.new) ≡ None }
-        ensures used { answer_of self.old ≡ None
-            → Uses (buses_of self.old) (place_of self.old) (held_of self.old)
-            (IsBeforeHeld (given written.new result) self.new) }
-        ensures input { answer_of self.old ≡ None
+    pub fn next_kept_into(&mut self, written: &mut Record) -> Result<bool, LogError>
+        // The answer is the next of the lines that are kept.
+        ensures next { settled_answer self.old ≡ None
+            → AnswersKept self.old self.new (given written.new result) }
+        ensures none { settled_answer self.old ≡ None → given written.new result ≡ Ok None
+            → cut 10 (kept_bytes_of self.new) ≡ None }
+        ensures used { settled_answer self.old ≡ None
+            → UsesKept self.old self.new (given written.new result) }
+        ensures input { settled_answer self.old ≡ None
             → ¬ (given written.new result ≡ Err error.Failed) }
 
         // A refusal stays.
-        ensures done { answer_of self.old ≡ None
-            → answer_of self.new ≡ kept_held (given written.new result) }
-        ensures again { IfSome (answer_of self.old)
+        ensures done { settled_answer self.old ≡ None
+            → settled_answer self.new ≡ settled_kept (given written.new result) }
+        ensures again { IfSome (settled_answer self.old)
             (λ a. (given written.new result ≡ answered a) × (self.new ≡ self.old)) }
         ensures end { saw_end self.new ≡ saw_end self.old }
 
         // A record is behind those before it, and has one of the buses.
-        ensures order { IfOk (given written.new result)
-            (λ o. IfSome o (λ r. ((place_of self.old).last ≤ r.moment)
-            × ((place_of self.old).lines < r.line))) }
-        ensures place { IfOk (given written.new result)
-            (λ o. IfSome o (λ r. ((place_of self.new).last ≡ r.moment)
-            × ((place_of self.new).lines ≡ r.line))) }
-        ensures fit { IfOk (given written.new result)
-            (λ o. IfSome o (λ r. IsFit (buses_of self.old) r × (r.line ≤ 2 ^ 28))) }
+        ensures order { IfRecord (given written.new result)
+            (λ r. StandsBehind r (place_of self.old)) }
+        ensures place { IfRecord (given written.new result) (λ r. IsAt r (place_of self.new)) }
+        ensures fit { IfRecord (given written.new result)
+            (λ r. IsFit (buses_of self.old) r × (r.line ≤ 2 ^ 28)) }
 
         // Each record leaves fewer bytes.
-        ensures less { IfOk (given written.new result)
-            (λ o. IfSome o (λ _. bytes_left self.new < bytes_left self.old)) }
+        ensures less { IfRecord (given written.new result)
+            (λ _. bytes_left self.new < bytes_left self.old) }
         ensures within { bytes_left self.new ≤ bytes_left self.old }
-        ensures near { length (held_of self.new) ≤ 8192 }
+        ensures near { length (kept_bytes_of self.new) ≤ 8192 }
         ensures same { buses_of self.new ≡ buses_of self.old }
     {
         if let Some(answer) = self.done {
@@ -221,7 +210,7 @@ impl LogReader {
                 Answer::Refused(e) => Err(e),
             };
         }
-        match self.from_held(written) {
+        match self.from_kept(written) {
             Step::Record => Ok(true),
             Step::Refused(e) => {
                 self.done = Some(Answer::Refused(e));

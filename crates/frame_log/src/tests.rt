@@ -69,9 +69,9 @@ fn put_answer(
     }
 }
 
-/// The records that the input gives, and twice what is answered behind them. Where `held` says so, some
+/// The records that the input gives, and twice what is answered behind them. Where `kept` says so, some
 /// are asked for without the input first.
-fn text_of<L: Source>(alloc: Global, input: &mut L, held: bool) -> Result<String, AllocError> {
+fn text_of<L: Source>(alloc: Global, input: &mut L, kept: bool) -> Result<String, AllocError> {
     let mut text = String::new(alloc);
     let Ok(mut log) = reader(alloc) else {
         text.push_str("no memory")?;
@@ -80,8 +80,8 @@ fn text_of<L: Source>(alloc: Global, input: &mut L, held: bool) -> Result<String
     let mut was_end = false;
     for n in 0..100 {
         let mut answer = Ok(None);
-        if held && n % 3 > 0 {
-            answer = log.next_held();
+        if kept && n % 3 > 0 {
+            answer = log.next_kept();
         }
         if matches!(answer, Ok(None)) {
             answer = log.next_record(input);
@@ -178,8 +178,8 @@ fn logs_give_their_records(rt: HostRuntime) -> Result<(), AllocError> {
         let bytes = log.as_bytes();
         let whole = text_of(alloc, &mut MemSource::new(bytes, &[]), false)?;
         assert_eq!(rt; whole.as_str(), want, "{log}");
-        let held = text_of(alloc, &mut MemSource::new(bytes, &[]), true)?;
-        assert_eq!(rt; held.as_str(), want, "{log}");
+        let kept = text_of(alloc, &mut MemSource::new(bytes, &[]), true)?;
+        assert_eq!(rt; kept.as_str(), want, "{log}");
         let slow = text_of(alloc, &mut OneByte { left: bytes }, true)?;
         assert_eq!(rt; slow.as_str(), want, "{log}");
     }

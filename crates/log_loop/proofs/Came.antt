@@ -4,7 +4,7 @@ use Rattle.std.specs.Prelude.{unwrap_or}
 use Rattle.tail_frame.specs.declared.logged.Record.{Record}
 use Rattle.frame_log.specs.Input.{Took, IsAtEnd}
 use Rattle.frame_log.specs.Log.{Log, log_of}
-use Rattle.frame_log.specs.Reader.{saw_end, log_behind, IsNext, given}
+use Rattle.frame_log.specs.Reader.{saw_end, log_behind, given, IsNext, AnswersNext, AnswersAtEnd}
 use Rattle.frame_log.specs.declared.error.LogError.{LogError}
 use Rattle.frame_log.specs.declared.reader.LogReader.{LogReader}
 use Rattle.log_loop.specs.Next.{Goes, GoesOn, handed}
@@ -111,8 +111,8 @@ reads_none names left reader h e = record { came = []; took = took_none left; lo
 
 -- what a call gives that may read, also behind the end of the input, where it doesn't
 pub goes_read : (old new : LogReader) (before after : Option (List ℕ)) (answer : Result (Option Record) LogError)
-    → ((came : List ℕ) × Took before after came × ((rest : List ℕ) → (saw_end new ≡ true → rest ≡ []) → IsNext (log_behind old (came ++ rest)) answer (log_behind new rest)))
-    → (saw_end old ≡ true → (after ≡ before) × (saw_end new ≡ true) × IsNext (log_behind old []) answer (log_behind new [])) → Goes old new before after answer
+    → AnswersNext old new before after answer
+    → (saw_end old ≡ true → AnswersAtEnd old new before after answer) → Goes old new before after answer
 goes_read old new before after answer n e = by_end (saw_end old) refl
   where
     took_same : (a b : Option (List ℕ)) → b ≡ a → Took a b []

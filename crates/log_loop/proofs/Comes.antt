@@ -2,9 +2,9 @@
 use Rattle.std.proofs.Common.{◌≡◌, ◌∙◌, inl, inr, ℕ, Bool, true, false, List, [], ◌++◌, Option, Some, None, Result, Ok, Err, refl, sym, subst}
 use Rattle.tail_frame.specs.declared.logged.Record.{Record}
 use Rattle.frame_log.specs.Input.{Took}
-use Rattle.frame_log.specs.Log.{Place, with_record, ended}
-use Rattle.frame_log.specs.Reader.{buses_of, place_of, held_of, saw_end, log_behind, given}
-use Rattle.frame_log.specs.Used.{Uses, IsBefore, IsBeforeHeld}
+use Rattle.frame_log.specs.Log.{Place}
+use Rattle.frame_log.specs.Reader.{buses_of, place_of, kept_bytes_of, saw_end, given, AnswersKept}
+use Rattle.frame_log.specs.Used.{Uses, UsesNext, UsesKept, IsBefore, IsBeforeKept}
 use Rattle.frame_log.specs.declared.error.LogError.{LogError}
 use Rattle.frame_log.specs.declared.error.LogError.TheVariants as error
 use Rattle.frame_log.specs.declared.reader.LogReader.{LogReader}
@@ -17,22 +17,22 @@ use Rattle.log_loop.specs.declared.next.Stop.TheVariants as stop
 took_same : (before after : Option (List ℕ)) → after ≡ before → Took before after []
 took_same before after e = subst (λ (o : Option (List ℕ)). Took before o []) (sym e) (Took-none before)
 
--- a record of the lines that are held
-pub goes_held : (old new : LogReader) (left : Option (List ℕ)) (rec : Record) → ((rest : List ℕ) → log_behind old rest ≡ with_record rec (log_behind new rest)) → saw_end new ≡ saw_end old → Goes old new left left (Ok (Some rec))
-goes_held old new left rec h e = record { came = []; took = Took-none left; ended = λ t. (refl, e ∙ t); next = λ rest _. h rest }
+-- a record of the lines that are kept
+pub goes_kept : (old new : LogReader) (left : Option (List ℕ)) (rec : Record) → AnswersKept old new (Ok (Some rec)) → saw_end new ≡ saw_end old → Goes old new left left (Ok (Some rec))
+goes_kept old new left rec h e = record { came = []; took = Took-none left; ended = λ t. (refl, e ∙ t); next = λ rest _. h rest }
 
-pub comes_held : (old new : LogReader) (left : Option (List ℕ)) (gathered : List ℕ) (rec : Record) → Uses (buses_of old) (place_of old) (held_of old) (IsBeforeHeld (Ok (Some rec)) new) → Comes old new left left gathered (Ok (Some rec))
-comes_held old new left gathered rec u = record {
+pub comes_kept : (old new : LogReader) (left : Option (List ℕ)) (gathered : List ℕ) (rec : Record) → UsesKept old new (Ok (Some rec)) → Comes old new left left gathered (Ok (Some rec))
+comes_kept old new left gathered rec u = record {
   came = [];
   took = Took-none left;
   ended = λ _. refl;
   flushed = inl refl;
-  used = λ _. uses-none (buses_of old) (place_of old) (held_of old) (IsBefore (Ok (Some rec)) new)
-      (uses-same (buses_of old) (place_of old) (held_of old) (IsBeforeHeld (Ok (Some rec)) new) (IsBefore (Ok (Some rec)) new) (λ at bytes gives _. gives) u);
+  used = λ _. uses-none (buses_of old) (place_of old) (kept_bytes_of old) (IsBefore (Ok (Some rec)) new)
+      (uses-same (buses_of old) (place_of old) (kept_bytes_of old) (IsBeforeKept (Ok (Some rec)) new) (IsBefore (Ok (Some rec)) new) (λ at bytes gives _. gives) u);
 }
 
--- a refusal among the lines that are held
-pub goes_refused : (old new : LogReader) (left : Option (List ℕ)) (e : LogError) → ((rest : List ℕ) → log_behind old rest ≡ ended (Some e)) → saw_end new ≡ saw_end old → Goes old new left left (Err e)
+-- a refusal among the lines that are kept
+pub goes_refused : (old new : LogReader) (left : Option (List ℕ)) (e : LogError) → AnswersKept old new (Err e) → saw_end new ≡ saw_end old → Goes old new left left (Err e)
 goes_refused old new left e h s = record { came = []; took = Took-none left; ended = λ t. (refl, s ∙ t); next = λ rest _. inl (h rest) }
 
 refused_before : (e : LogError) (new : LogReader) (at : Place) (bytes : List ℕ) → (e ≡ error.Failed → ⊥) → IsBefore (Err e) new at bytes
@@ -43,39 +43,39 @@ refused_before (error.TooFar n) new at bytes d = tt
 refused_before error.LogLong new at bytes d = tt
 refused_before error.Failed new at bytes d = absurd (d refl)
 
-pub comes_refused : (old new : LogReader) (left : Option (List ℕ)) (gathered : List ℕ) (e : LogError) → (e ≡ error.Failed → ⊥) → Uses (buses_of old) (place_of old) (held_of old) (IsBeforeHeld (Err e) new) → Comes old new left left gathered (Err e)
+pub comes_refused : (old new : LogReader) (left : Option (List ℕ)) (gathered : List ℕ) (e : LogError) → (e ≡ error.Failed → ⊥) → UsesKept old new (Err e) → Comes old new left left gathered (Err e)
 comes_refused old new left gathered e d u = record {
   came = [];
   took = Took-none left;
   ended = λ _. refl;
   flushed = inl refl;
-  used = λ _. uses-none (buses_of old) (place_of old) (held_of old) (IsBefore (Err e) new)
-      (uses-same (buses_of old) (place_of old) (held_of old) (IsBeforeHeld (Err e) new) (IsBefore (Err e) new) (λ at bytes _. refused_before e new at bytes d) u);
+  used = λ _. uses-none (buses_of old) (place_of old) (kept_bytes_of old) (IsBefore (Err e) new)
+      (uses-same (buses_of old) (place_of old) (kept_bytes_of old) (IsBeforeKept (Err e) new) (IsBefore (Err e) new) (λ at bytes _. refused_before e new at bytes d) u);
 }
 
 -- what a call gives that may read
 pub comes_read : (old new : LogReader) (before after : Option (List ℕ)) (gathered : List ℕ) (answer : Result (Option Record) LogError)
-    → ((came : List ℕ) × Took before after came × Uses (buses_of old) (place_of old) (held_of old ++ came) (IsBefore answer new)) → (saw_end old ≡ true → after ≡ before) → gathered ≡ [] → Comes old new before after gathered answer
+    → UsesNext old new before after answer → (saw_end old ≡ true → after ≡ before) → gathered ≡ [] → Comes old new before after gathered answer
 comes_read old new before after gathered answer n same none = by_end (saw_end old) refl
   where
     by_end : (b : Bool) → saw_end old ≡ b → Comes old new before after gathered answer
     by_end true e = record { came = []; took = took_same before after (same e); ended = λ _. refl; flushed = inr none; used = λ f. let bad : true ≡ false = sym e ∙ f in absurd cc }
     by_end false e = record { came = n.0; took = n.1; ended = λ t. let bad : true ≡ false = sym t ∙ e in absurd cc; flushed = inr none; used = λ _. n.2 }
 
--- the same behind the lines that were held
-later : (old mid new : LogReader) (before after : Option (List ℕ)) (gathered : List ℕ) (answer : Result (Option Record) LogError) → Uses (buses_of old) (place_of old) (held_of old) (IsBeforeHeld (Ok None) mid) → buses_of mid ≡ buses_of old → saw_end mid ≡ saw_end old
+-- the same behind the lines that were kept
+later : (old mid new : LogReader) (before after : Option (List ℕ)) (gathered : List ℕ) (answer : Result (Option Record) LogError) → UsesKept old mid (Ok None) → buses_of mid ≡ buses_of old → saw_end mid ≡ saw_end old
     → Comes mid new before after gathered answer → Comes old new before after gathered answer
 later old mid new before after gathered answer u buses end c = record {
   came = c.came;
   took = c.took;
   ended = λ e. c.ended (end ∙ e);
   flushed = c.flushed;
-  used = λ e. uses-later (buses_of old) (place_of old) (place_of mid) (held_of old ++ c.came) (held_of mid ++ c.came) (IsBefore answer new)
-      (passes-came (buses_of old) (place_of old) (place_of mid) (held_of old) (held_of mid) c.came (passes-to (buses_of old) (place_of old) (place_of mid) (held_of old) (held_of mid) u))
-      (subst (λ (b : List (List ℕ)). Uses b (place_of mid) (held_of mid ++ c.came) (IsBefore answer new)) buses (c.used (end ∙ e)));
+  used = λ e. uses-later (buses_of old) (place_of old) (place_of mid) (kept_bytes_of old ++ c.came) (kept_bytes_of mid ++ c.came) (IsBefore answer new)
+      (passes-came (buses_of old) (place_of old) (place_of mid) (kept_bytes_of old) (kept_bytes_of mid) c.came (passes-to (buses_of old) (place_of old) (place_of mid) (kept_bytes_of old) (kept_bytes_of mid) u))
+      (subst (λ (b : List (List ℕ)). Uses b (place_of mid) (kept_bytes_of mid ++ c.came) (IsBefore answer new)) buses (c.used (end ∙ e)));
 }
 
-pub comes_later : (old mid new : LogReader) (before after : Option (List ℕ)) (gathered : List ℕ) (answer : Result (Option Record) Stop) → Uses (buses_of old) (place_of old) (held_of old) (IsBeforeHeld (Ok None) mid) → buses_of mid ≡ buses_of old
+pub comes_later : (old mid new : LogReader) (before after : Option (List ℕ)) (gathered : List ℕ) (answer : Result (Option Record) Stop) → UsesKept old mid (Ok None) → buses_of mid ≡ buses_of old
     → saw_end mid ≡ saw_end old → ComesBehind mid new before after gathered answer → ComesBehind old new before after gathered answer
 comes_later old mid new before after gathered (Ok answer) u buses end c = later old mid new before after gathered (Ok answer) u buses end c
 comes_later old mid new before after gathered (Err (stop.Log error)) u buses end c = later old mid new before after gathered (Err error) u buses end c

@@ -7,7 +7,7 @@ use Rattle.cy_outside.specs.Written.{behind, Begins}
 use Rattle.frame_log.specs.Input.{IsAtEnd}
 use Rattle.frame_log.specs.Line.{cut}
 use Rattle.frame_log.specs.Log.{Log, log_of}
-use Rattle.frame_log.specs.Reader.{held_of, saw_end, log_behind}
+use Rattle.frame_log.specs.Reader.{kept_bytes_of, saw_end, log_behind}
 use Rattle.frame_log.specs.declared.error.LogError.{LogError}
 use Rattle.frame_log.specs.declared.error.LogError.TheVariants as error
 use Rattle.frame_log.specs.declared.reader.LogReader.{LogReader}
@@ -65,7 +65,7 @@ module _ {E : Type 0} (names : List (List ℕ)) (v : Voice E) (s : Stages E) (co
     (before mid after : Option (List ℕ)) (may : MayCome v past) (reads : Reads names told left old (map v.record_of past)) (streams : Streams names v told left old past before mid) (has : Gathered (said v past) gathered before mid) where
   -- there is no further record
   pub listened_stopped : (halt : Stop) → GoesOn old new left next_left (Err halt) → ComesBehind old new left next_left rest (Err halt) → (saw_end old ≡ false → saw_end new ≡ true → IsAtEnd next_left)
-      → (halt ≡ stop.Log error.Failed → (cut 10 (held_of new) ≡ None) × (saw_end new ≡ false)) → Writes gathered rest mid after (Err halt) → s.heard past → HasListened names v s told next_left (stopped halt) before after
+      → (halt ≡ stop.Log error.Failed → (cut 10 (kept_bytes_of new) ≡ None) × (saw_end new ≡ false)) → Writes gathered rest mid after (Err halt) → s.heard past → HasListened names v s told next_left (stopped halt) before after
   listened_stopped (stop.Log error) l c e failed w k =
       let h = has_next names told left next_left old new (map v.record_of past) (Err error) reads l e in
       let none : Gathered (said v past) [] before after = subst (λ (t : List ℕ). Gathered (said v past) t before after) w.1 (gathered_less (said v past) gathered rest before mid after has w.0) in

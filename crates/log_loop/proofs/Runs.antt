@@ -7,7 +7,7 @@ use Rattle.cy_outside.specs.Written.{behind, Begins}
 use Rattle.frame_log.specs.Log.{Log, ended as ended_by, log_of, start}
 use Rattle.frame_log.specs.Order.{IsAhead, IsFit}
 use Rattle.frame_log.specs.Line.{cut}
-use Rattle.frame_log.specs.Reader.{buses_of, bytes_left, held_of, place_of, saw_end, log_behind}
+use Rattle.frame_log.specs.Reader.{buses_of, bytes_left, kept_bytes_of, place_of, saw_end, log_behind}
 use Rattle.frame_log.specs.declared.reader.LogReader.{LogReader}
 use Rattle.frame_log.specs.declared.error.LogError.{LogError}
 use Rattle.frame_log.specs.declared.error.LogError.TheVariants as error
@@ -126,7 +126,7 @@ begins_step v past event gathered before after g = begins_more (said v past) (v.
 
 -- a run whose input failed
 pub has_taken : {E : Type 0} (names : List (List ℕ)) (v : Voice E) (heard : List E → Type 0) (told left next_left : Option (List ℕ)) (old new : LogReader) (past : List E) (halt : Stop) (gathered rest : List ℕ) (before mid after : Option (List ℕ))
-    → Reads names told left old (map v.record_of past) → GoesOn old new left next_left (Err halt) → (halt ≡ stop.Log error.Failed → (cut 10 (held_of new) ≡ None) × (saw_end new ≡ false))
+    → Reads names told left old (map v.record_of past) → GoesOn old new left next_left (Err halt) → (halt ≡ stop.Log error.Failed → (cut 10 (kept_bytes_of new) ≡ None) × (saw_end new ≡ false))
     → heard past → Gathered (said v past) gathered before mid → Writes gathered rest mid after (Err halt) → (events : List E) → FirstOf events past → stopped halt ≡ end.ReadFault → IsOfTaken names v heard events told next_left before after
 has_taken names v heard told left next_left old new past (stop.Log error.Failed) gathered rest before mid after r g failed k h w events first e =
     let records = map v.record_of past in
@@ -140,7 +140,7 @@ has_taken names v heard told left next_left old new past (stop.Log error.Failed)
     let next = g.next tail is_open in
     let none : (log_behind old (g.came ++ tail)).records ≡ [] = elim next [
       | inl x ↦ ap (λ (l : Log). l.records) x
-      | inr x ↦ ap (λ (l : Log). l.records) x.1 ∙ none_behind (buses_of new) (bytes_left new) (held_of new) tail (place_of new) (plain_cut (held_of new) f.0) plain long
+      | inr x ↦ ap (λ (l : Log). l.records) x.1 ∙ none_behind (buses_of new) (bytes_left new) (kept_bytes_of new) tail (place_of new) (plain_cut (kept_bytes_of new) f.0) plain long
     ] in
     let of_lines = records_whole names (2 ^ 28) (r.came ++ g.came) tail start plain long in
     let same : whole_records names (r.came ++ g.came) ≡ records = ap (λ (t : List Record). reverse_aux t []) (sym of_lines ∙ (ap (λ (l : Log). l.records) whole ∙ ap (reverse_aux records) none)) ∙ newest_onto records [] in

@@ -7,7 +7,7 @@ use Rattle.tail_frame.specs.declared.logged.Record.{Record}
 use Rattle.cy_outside.specs.Written.{behind, Begins}
 use Rattle.frame_log.specs.Input.{Took}
 use Rattle.frame_log.specs.Log.{Log, Place, Given, Skip, Take, Refuse, followed, given, lines_of, log_of_lines, with_byte, start}
-use Rattle.frame_log.specs.Reader.{buses_of, place_of, held_of, saw_end}
+use Rattle.frame_log.specs.Reader.{buses_of, place_of, kept_bytes_of, saw_end}
 use Rattle.frame_log.specs.Used.{Passes, Gives, Uses, IsBefore}
 use Rattle.frame_log.specs.declared.error.LogError.{LogError}
 use Rattle.frame_log.specs.declared.reader.LogReader.{LogReader}
@@ -151,10 +151,10 @@ AllFar names v taken past before after = (front more : List ℕ) → taken ≡ f
 
 -- The reader.
 
--- all that was taken is whole lines, which gave the records, and what is held
+-- all that was taken is whole lines, which gave the records, and what is kept
 pub record Used (names : List (List ℕ)) (taken : List ℕ) (reader : LogReader) (past : List Record) : Type 0 where
   pub used : List ℕ
-  pub parts : taken ≡ used ++ held_of reader
+  pub parts : taken ≡ used ++ kept_bytes_of reader
   pub whole : Whole names used past (place_of reader)
 
 pub record Streams {E : Type 0} (names : List (List ℕ)) (v : Voice E) (told left : Option (List ℕ)) (reader : LogReader) (past : List E) (before after : Option (List ℕ)) : Type 0 where
@@ -171,7 +171,7 @@ no_front front more e long =
     let sum : length (front ++ more) ≡ length front + length more = length-append front more in omega arith
 
 -- at the start nothing was taken
-pub streams_none : {E : Type 0} (names : List (List ℕ)) (v : Voice E) (left : Option (List ℕ)) (reader : LogReader) (before : Option (List ℕ)) → (buses_of reader ≡ names) × (place_of reader ≡ start) × (held_of reader ≡ []) → Streams names v left left reader [] before before
+pub streams_none : {E : Type 0} (names : List (List ℕ)) (v : Voice E) (left : Option (List ℕ)) (reader : LogReader) (before : Option (List ℕ)) → (buses_of reader ≡ names) × (place_of reader ≡ start) × (kept_bytes_of reader ≡ []) → Streams names v left left reader [] before before
 streams_none names v left reader before h = record {
   taken = [];
   took = Took-none left;
@@ -208,14 +208,14 @@ module _ {E : Type 0} (names : List (List ℕ)) (v : Voice E) (told left next_le
   abbrev records : List Record
   records = map v.record_of past
 
-  used_of : (answer : Result (Option Record) LogError) → Streams names v told left old past before mid → (c : Comes old new left next_left rest answer) → saw_end old ≡ false → Uses names (place_of old) (held_of old ++ c.came) (IsBefore answer new)
-  used_of answer s c e = subst (λ (b : List (List ℕ)). Uses b (place_of old) (held_of old ++ c.came) (IsBefore answer new)) s.buses (c.used e)
+  used_of : (answer : Result (Option Record) LogError) → Streams names v told left old past before mid → (c : Comes old new left next_left rest answer) → saw_end old ≡ false → Uses names (place_of old) (kept_bytes_of old ++ c.came) (IsBefore answer new)
+  used_of answer s c e = subst (λ (b : List (List ℕ)). Uses b (place_of old) (kept_bytes_of old ++ c.came) (IsBefore answer new)) s.buses (c.used e)
 
   -- all that was taken, up to the last 8,192 bytes at most
   parts_of : (answer : Result (Option Record) LogError) → (s : Streams names v told left old past before mid) → (c : Comes old new left next_left rest answer) → (e : saw_end old ≡ false) → (u : Used names s.taken old records)
-      → (p : Uses names (place_of old) (held_of old ++ c.came) (IsBefore answer new)) → s.taken ++ c.came ≡ (u.used ++ p.passes.skipped) ++ p.behind
+      → (p : Uses names (place_of old) (kept_bytes_of old ++ c.came) (IsBefore answer new)) → s.taken ++ c.came ≡ (u.used ++ p.passes.skipped) ++ p.behind
   parts_of answer s c e u p =
-      ap (λ t. t ++ c.came) u.parts ∙ (append_assoc u.used (held_of old) c.came ∙ (ap (λ t. u.used ++ t) p.passes.parts ∙ sym (append_assoc u.used p.passes.skipped p.behind)))
+      ap (λ t. t ++ c.came) u.parts ∙ (append_assoc u.used (kept_bytes_of old) c.came ∙ (ap (λ t. u.used ++ t) p.passes.parts ∙ sym (append_assoc u.used p.passes.skipped p.behind)))
 
   -- the same front, where nothing came
   far_same : (answer : Result (Option Record) LogError) → (s : Streams names v told left old past before mid) → (c : Comes old new left next_left rest answer) → c.came ≡ [] → Grew mid after → AllFar names v (s.taken ++ c.came) past before after
@@ -230,7 +230,7 @@ module _ {E : Type 0} (names : List (List ℕ)) (v : Voice E) (told left next_le
       let p = used_of answer s c was in
       let whole = said v past in
       let k = front_within front more (u.used ++ p.passes.skipped) p.behind (sym e ∙ parts_of answer s c was u p) (let near : length p.behind ≤ 8192 = p.near in omega (arith, near, long)) in
-      let w = passed names u.used (held_of old ++ c.came) p.behind records (place_of old) p.at u.whole p.passes in
+      let w = passed names u.used (kept_bytes_of old ++ c.came) p.behind records (place_of old) p.at u.whole p.passes in
       let n = front_records names (u.used ++ p.passes.skipped) front k.0 records p.at w k.1 in
       far_all names v front past n.0 before after n.1 (all_written whole before after (subst (λ (t : List ℕ). Gathered whole t before after) none g))
 
@@ -261,13 +261,13 @@ module _ {E : Type 0} (names : List (List ℕ)) (v : Voice E) (told left next_le
       used_next was still_open =
           let u = s.used was in
           let p = used_of (Ok (Some rec)) s c was in
-          let gives = subst (λ (b : List (List ℕ)). Gives b p.at p.behind rec (place_of new) (held_of new)) (buses ∙ s.buses) (p.there still_open) in
+          let gives = subst (λ (b : List (List ℕ)). Gives b p.at p.behind rec (place_of new) (kept_bytes_of new)) (buses ∙ s.buses) (p.there still_open) in
           let first = u.used ++ p.passes.skipped in
           let line = gives.line ++ 10 ∷ [] in record {
             used = first ++ line;
             parts = parts_of (Ok (Some rec)) s c was u p
-                ∙ (ap (λ t. first ++ t) (cut-parts p.behind gives.line (held_of new) gives.first ∙ sym (append_assoc gives.line (10 ∷ []) (held_of new))) ∙ sym (append_assoc first line (held_of new)));
-            whole = gave names first p.behind (held_of new) records rec p.at (place_of new) (passed names u.used (held_of old ++ c.came) p.behind records (place_of old) p.at u.whole p.passes) gives;
+                ∙ (ap (λ t. first ++ t) (cut-parts p.behind gives.line (kept_bytes_of new) gives.first ∙ sym (append_assoc gives.line (10 ∷ []) (kept_bytes_of new))) ∙ sym (append_assoc first line (kept_bytes_of new)));
+            whole = gave names first p.behind (kept_bytes_of new) records rec p.at (place_of new) (passed names u.used (kept_bytes_of old ++ c.came) p.behind records (place_of old) p.at u.whole p.passes) gives;
           }
 
 -- the end was seen before, or it wasn't

@@ -127,8 +127,8 @@ records_whole names room bytes tail at p h =
 no_lines : (n : ℕ) (s : List ℕ) → IsPlain s → (lines_of (take n s)).0 ≡ []
 no_lines n s p = ap (λ (l : List (List ℕ) × List ℕ). l.0) (lines_of_plain (take n s) (plain_take n s p))
 
-pub none_behind : (names : List (List ℕ)) (room : ℕ) (held tail : List ℕ) (at : Place) → IsPlain held → IsPlain tail → 4096 < length tail → (log_from names room (held ++ tail) at).records ≡ []
-none_behind names room held tail at q p h = records_whole names room held tail at p h ∙ ap (λ ls. (log_of_lines names None ls at).records) (no_lines room held q)
+pub none_behind : (names : List (List ℕ)) (room : ℕ) (kept tail : List ℕ) (at : Place) → IsPlain kept → IsPlain tail → 4096 < length tail → (log_from names room (kept ++ tail) at).records ≡ []
+none_behind names room kept tail at q p h = records_whole names room kept tail at p h ∙ ap (λ ls. (log_of_lines names None ls at).records) (no_lines room kept q)
 
 cut_here : {A : Type 0} (t : Bool) (x : A) (o : Option A) → (if t then Some x else o) ≡ None → (t ≡ false) × (o ≡ None)
 cut_here true x o e = absurd cc

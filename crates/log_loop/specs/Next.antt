@@ -4,7 +4,7 @@ use Rattle.tail_frame.specs.declared.logged.Record.{Record}
 use Rattle.cy_outside.specs.Outside.{Rose}
 use Rattle.cy_outside.specs.Written.{Begins}
 use Rattle.frame_log.specs.Input.{Took}
-use Rattle.frame_log.specs.Reader.{buses_of, place_of, held_of, bytes_left, saw_end, answer_of, log_behind, IsNext}
+use Rattle.frame_log.specs.Reader.{buses_of, place_of, kept_bytes_of, bytes_left, saw_end, settled_answer, log_behind, IsNext}
 use Rattle.frame_log.specs.Used.{Uses, IsBefore}
 use Rattle.frame_log.specs.declared.error.LogError.{LogError}
 use Rattle.frame_log.specs.declared.error.LogError.TheVariants as error
@@ -38,7 +38,7 @@ pub record Comes (old new : LogReader) (before after : Option (List ℕ)) (gathe
   pub took : Took before after came
   pub ended : saw_end old ≡ true → came ≡ []
   pub flushed : (came ≡ []) ⊎ (gathered ≡ [])
-  pub used : saw_end old ≡ false → Uses (buses_of old) (place_of old) (held_of old ++ came) (IsBefore answer new)
+  pub used : saw_end old ≡ false → Uses (buses_of old) (place_of old) (kept_bytes_of old ++ came) (IsBefore answer new)
 
 -- the same; where the output failed, nothing came
 abbrev pub ComesBehind : LogReader → LogReader → Option (List ℕ) → Option (List ℕ) → List ℕ → Result (Option Record) Stop → Type 0
@@ -48,7 +48,7 @@ ComesBehind old new before after gathered (Err stop.Write) = after ≡ before
 
 -- behind a record the reader goes on, with fewer bytes
 abbrev pub ReadsOn : LogReader → LogReader → Result (Option Record) Stop → Type 0
-ReadsOn old new (Ok (Some rec)) = (bytes_left new < bytes_left old) × (answer_of new ≡ None)
+ReadsOn old new (Ok (Some rec)) = (bytes_left new < bytes_left old) × (settled_answer new ≡ None)
 ReadsOn old new (Ok None) = ⊤
 ReadsOn old new (Err stop) = ⊤
 

@@ -7,7 +7,7 @@ ghost use Rattle.log_loop.specs.Gathered.{Gathered};
 use cy_outside::{Failed, Sink, put_all};
 use line_text::TextBuffer;
 
-/// The most text, in bytes, that stays gathered while records are held.
+/// The most text, in bytes, that stays gathered while records are kept.
 const MUCH: usize = 1 << 16;
 
 /// Writes what is gathered at once, and gathers anew.

@@ -2,7 +2,7 @@
 ghost use Rattle.std.specs.Prelude.{◌≡◌, ◌≤◌, length, true, false, None, Err, OnOk};
 ghost use Rattle.frame_log.specs.Input.{IsAtEnd};
 ghost use Rattle.frame_log.specs.Line.{cut};
-ghost use Rattle.frame_log.specs.Reader.{buses_of, held_of, saw_end, answer_of};
+ghost use Rattle.frame_log.specs.Reader.{buses_of, kept_bytes_of, saw_end, settled_answer};
 ghost use Rattle.frame_log.specs.declared.error.LogError.TheVariants as error;
 ghost use Rattle.line_text.specs.Buffer.{text_of};
 ghost use Rattle.log_loop.specs.Next.{handed, GoesOn, ComesBehind, ReadsOn, Writes, HasStopCause};
@@ -22,7 +22,7 @@ pub enum Stop {
     Write,
 }
 
-/// Writes the next record into `written`: of the lines that are held, or else of the input. False at the log's end.
+/// Writes the next record into `written`: of the lines that are kept, or else of the input. False at the log's end.
 /// Before the input is read, and where there is no further record, all that is gathered is written; behind a record
 /// at most 65,536 bytes stay gathered.
 #[inline(always)]
@@ -33,7 +33,7 @@ pub fn next<L: Source, O: Sink>(
     gathered: &mut TextBuffer,
     written: &mut Record,
 ) -> Result<bool, Stop>
-    requires { answer_of reader.old ≡ None }
+    requires { settled_answer reader.old ≡ None }
     ensures log { GoesOn reader.old reader.new (L.left input.old) (L.left input.new)
         (handed written.new result) }
     ensures came { ComesBehind reader.old reader.new (L.left input.old) (L.left input.new)
@@ -48,9 +48,9 @@ pub fn next<L: Source, O: Sink>(
     ensures cause { HasStopCause (L.faults input.old) (L.faults input.new)
         (O.faults out.old) (O.faults out.new) (handed written.new result) }
     ensures failed { result ≡ Err (Stop.Log error.Failed)
-        → (cut 10 (held_of reader.new) ≡ None) × (saw_end reader.new ≡ false) }
+        → (cut 10 (kept_bytes_of reader.new) ≡ None) × (saw_end reader.new ≡ false) }
 {
-    match reader.next_held_into(written) {
+    match reader.next_kept_into(written) {
         Ok(true) => {
             let Ok(()) = flush_much(out, gathered) else {
                 return Err(Stop::Write);
@@ -67,7 +67,7 @@ pub fn next<L: Source, O: Sink>(
     }
 }
 
-/// The next record where none is held, and all text that waits is written first.
+/// The next record where none is kept, and all text that waits is written first.
 fn next_read<L: Source, O: Sink>(
     reader: &mut LogReader,
     input: &mut L,
@@ -75,7 +75,7 @@ fn next_read<L: Source, O: Sink>(
     waiting: &mut TextBuffer,
     written: &mut Record,
 ) -> Result<bool, Stop>
-    requires { answer_of reader.old ≡ None }
+    requires { settled_answer reader.old ≡ None }
     ensures log { GoesOn reader.old reader.new (L.left input.old) (L.left input.new)
         (handed written.new result) }
     ensures came { ComesBehind reader.old reader.new (L.left input.old) (L.left input.new)
@@ -90,7 +90,7 @@ fn next_read<L: Source, O: Sink>(
     ensures cause { HasStopCause (L.faults input.old) (L.faults input.new)
         (O.faults out.old) (O.faults out.new) (handed written.new result) }
     ensures failed { result ≡ Err (Stop.Log error.Failed)
-        → (cut 10 (held_of reader.new) ≡ None) × (saw_end reader.new ≡ false) }
+        → (cut 10 (kept_bytes_of reader.new) ≡ None) × (saw_end reader.new ≡ false) }
 {
     let Ok(()) = flush(out, waiting) else {
         return Err(Stop::Write);

@@ -2,7 +2,7 @@ ghost use Rattle.std.specs.Prelude.{◌≡◌, ◌≤◌, ◌^◌, ◌≢◌, �
 ghost use Rattle.cy_outside.specs.Outside.{Rose};
 ghost use Rattle.cy_outside.specs.Written.{behind, Begins};
 ghost use Rattle.frame_log.specs.Log.{log_of, start};
-ghost use Rattle.frame_log.specs.Reader.{buses_of, place_of, held_of, bytes_left, saw_end, answer_of, log_behind};
+ghost use Rattle.frame_log.specs.Reader.{buses_of, place_of, kept_bytes_of, bytes_left, saw_end, settled_answer, log_behind};
 ghost use Rattle.line_text.specs.Buffer.{text_of};
 ghost use Rattle.log_loop.specs.Gone.{stages, stopped, refused, IsFinish};
 ghost use Rattle.log_loop.specs.Listened.{HasListened};
@@ -55,9 +55,9 @@ fn hear_all<M: Listener, L: Source, O: Sink>(
 ) -> Ended
     requires log { (rest : List ℕ)
         → log_behind reader.old rest ≡ log_of (buses_of reader.old) rest }
-    requires reading { answer_of reader.old ≡ None }
+    requires reading { settled_answer reader.old ≡ None }
     requires open { saw_end reader.old ≡ false }
-    requires start { (place_of reader.old ≡ start) × (held_of reader.old ≡ []) }
+    requires start { (place_of reader.old ≡ start) × (kept_bytes_of reader.old ≡ []) }
     requires room { bytes_left reader.old ≤ 2 ^ 28 }
     requires heard { M.heard listener.old listener.old [] }
     requires fresh { (M.latest listener.old ≡ 0) × (M.count listener.old ≡ 0) }

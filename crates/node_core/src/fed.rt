@@ -4,7 +4,7 @@ ghost use Rattle.can_id.specs.Identifiers.{key_of};
 ghost use Rattle.tail_frame.specs.Frames.{key_record, seen};
 ghost use Rattle.dsdl_types.specs.Views.{sch};
 ghost use Rattle.rx_session.specs.Session.{Delivered};
-ghost use Rattle.rx_table.specs.Table.{answer_of};
+ghost use Rattle.rx_table.specs.Table.{fed_answer};
 ghost use Rattle.node_core.specs.Steps.{refused_line};
 ghost use Rattle.node_core.specs.Told.{owned, outcome_lines, answer_lines, answer_is_bad, told_lines};
 ghost use Rattle.node_core.specs.Types.{type_at};
@@ -22,7 +22,7 @@ use tail_frame::Frame;
 #[inline(always)]
 pub fn line_on<'a>(table: &'a Table<PortShape>, frame: &Frame, fed: Fed<'a>) -> Option<LineRef<'a>>
     ensures { let port_type = type_at table.now (key_of frame.now.ident) in
-        told_lines result ≡ answer_lines port_type (seen frame.now) (answer_of fed.entry) }
+        told_lines result ≡ answer_lines port_type (seen frame.now) (fed_answer fed.entry) }
 {
     match fed {
         Fed::NoPort => None,
@@ -81,7 +81,7 @@ fn refused<'a>(frame: &Frame) -> LineRef<'a>
 /// Whether a frame ends a transfer whose bytes don't fit their CRC.
 #[inline(always)]
 pub fn is_bad(fed: Fed<'_>) -> bool
-    ensures { result ≡ answer_is_bad (answer_of fed.entry) }
+    ensures { result ≡ answer_is_bad (fed_answer fed.entry) }
 {
     matches!(fed, Fed::Session(Outcome::BadCrc))
 }

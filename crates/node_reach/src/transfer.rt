@@ -1,6 +1,6 @@
 ghost use Rattle.std.specs.Prelude.{◌≡◌, ◌<◌, IfSome, option_map};
 ghost use Rattle.rx_table.specs.Admitted.{key_of};
-ghost use Rattle.rx_table.specs.Table.{answer_of};
+ghost use Rattle.rx_table.specs.Table.{fed_answer};
 ghost use Rattle.node_reach.specs.Told.{owned, of_answer};
 
 use can_id::Kind;
@@ -28,7 +28,7 @@ pub struct Transfer<'a> {
 pub(crate) fn transfer_of(kind: Kind, port: u16, source: u8, fed: Fed<'_>) -> Option<Transfer<'_>>
     requires { source < 128 }
     ensures told { option_map owned result
-        ≡ of_answer (key_of kind port source) (answer_of fed.entry) }
+        ≡ of_answer (key_of kind port source) (fed_answer fed.entry) }
     ensures source { IfSome result (λ transfer. transfer.source < 128) }
 {
     match fed {

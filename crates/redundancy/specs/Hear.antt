@@ -14,9 +14,9 @@ hear timeout (Some c) heard bus moment start =
     else if start && nat_lt (heard + timeout) moment then Some true else None
 
 -- the answer as an option: None elsewhere, else whether the frame is late
-abbrev pub answer_of : Heard → Option Bool
-answer_of Elsewhere = None
-answer_of (Here late) = Some late
+abbrev pub lateness_of : Heard → Option Bool
+lateness_of Elsewhere = None
+lateness_of (Here late) = Some late
 
 -- what is kept after a frame with that answer: a frame elsewhere changes nothing
 abbrev pub force_then : Force → ℕ → ℕ → Option Bool → Force

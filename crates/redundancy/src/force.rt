@@ -1,6 +1,6 @@
 ghost use Rattle.std.specs.Prelude.{◌≡◌, ℕ, ◌≤◌, List, [], ◌∷◌, None};
 ghost use Rattle.tail_frame.specs.Chains.{KeyRecord};
-ghost use Rattle.redundancy.specs.Hear.{hear, answer_of, force_then, answer_at, ForceStands, IsFrameOf};
+ghost use Rattle.redundancy.specs.Hear.{hear, lateness_of, force_then, answer_at, ForceStands, IsFrameOf};
 
 use crate::laws::hearing;
 
@@ -47,13 +47,14 @@ impl Force {
     /// silence before it was longer than the timeout. A frame elsewhere changes nothing.
     pub fn hear(&mut self, bus: u8, moment: u64, start: bool, timeout: u64) -> Heard
         requires { self.old.heard ≤ moment }
-        ensures answer { answer_of result
+        ensures answer { lateness_of result
             ≡ hear timeout self.old.bus self.old.heard bus moment start }
-        ensures state { self.new ≡ force_then self.old bus moment (answer_of result) }
+        ensures state { self.new ≡ force_then self.old bus moment (lateness_of result) }
         ensures stands { (past : List KeyRecord) (r : KeyRecord) → IsFrameOf bus moment start r
             → ForceStands timeout past self.old → ForceStands timeout (r ∷ past) self.new }
         ensures told { (past : List KeyRecord) (r : KeyRecord) → IsFrameOf bus moment start r
-            → ForceStands timeout past self.old → answer_of result ≡ answer_at timeout r past }
+            → ForceStands timeout past self.old
+            → lateness_of result ≡ answer_at timeout r past }
     {
         hearing();
         self.step(bus, moment, start, timeout)
@@ -62,9 +63,9 @@ impl Force {
     /// The step of `hear`.
     fn step(&mut self, bus: u8, moment: u64, start: bool, timeout: u64) -> Heard
         requires { self.old.heard ≤ moment }
-        ensures answer { answer_of result
+        ensures answer { lateness_of result
             ≡ hear timeout self.old.bus self.old.heard bus moment start }
-        ensures state { self.new ≡ force_then self.old bus moment (answer_of result) }
+        ensures state { self.new ≡ force_then self.old bus moment (lateness_of result) }
     {
         match self.bus {
             None => {

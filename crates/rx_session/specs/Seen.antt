@@ -40,11 +40,11 @@ abbrev pub fresh : ℕ → Kept
 fresh extent = record { bus = None; heard = 0; last = None; part = None; buffer = replicate extent 0 }
 
 -- what an outcome says
-abbrev pub answer_of : Outcome → Answer
-answer_of Ignored = AnswerIgnored
-answer_of Held = AnswerHeld
-answer_of BadCrc = AnswerBadCrc
-answer_of (Delivered d) = AnswerDelivered d.bus d.priority d.tid d.first d.last d.moment d.payload.now
+abbrev pub outcome_answer : Outcome → Answer
+outcome_answer Ignored = AnswerIgnored
+outcome_answer Held = AnswerHeld
+outcome_answer BadCrc = AnswerBadCrc
+outcome_answer (Delivered d) = AnswerDelivered d.bus d.priority d.tid d.first d.last d.moment d.payload.now
 
 -- what a step says, with the payload as the front of this buffer
 abbrev pub step_answer : List ℕ → step.Step → Answer

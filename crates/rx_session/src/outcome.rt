@@ -1,5 +1,5 @@
 ghost use Rattle.std.specs.Prelude.{◌≡◌, take};
-ghost use Rattle.rx_session.specs.Seen.{answer_of, step_answer};
+ghost use Rattle.rx_session.specs.Seen.{outcome_answer, step_answer};
 
 /// A transfer that was received.
 #[derive(Clone, Copy, Debug)]
@@ -98,7 +98,7 @@ impl Step {
     /// The outcome, with a payload lent from the session's buffer.
     #[inline(always)]
     pub fn lend(self, buffer: &[u8]) -> Outcome<'_>
-        ensures { answer_of result ≡ step_answer buffer.now self }
+        ensures { outcome_answer result ≡ step_answer buffer.now self }
     {
         match self {
             Step::Ignored => Outcome::Ignored,

@@ -4,7 +4,7 @@ ghost use Rattle.std.specs.Io.BufRead.{Rests};
 ghost use Rattle.transfer_crc.specs.Crc.{crc_more};
 ghost use Rattle.rx_session.specs.Extents.{extent_bytes};
 ghost use Rattle.rx_session.specs.Session.{begin, take_in};
-ghost use Rattle.rx_session.specs.Seen.{kept, part_of, fresh, record_of, answer_of, step_answer, accepted};
+ghost use Rattle.rx_session.specs.Seen.{kept, part_of, fresh, record_of, outcome_answer, step_answer, accepted};
 ghost use Rattle.rx_session.specs.contracts.session.Session.{the_row};
 
 use crate::{Front, Outcome, Step};
@@ -74,7 +74,7 @@ impl<S: Shape> Session<S> {
         ensures* after { sem 𝓛 (Rests (the_row S.row) self.entry (λ new.
             (kept new ≡ (accepted timeout (kept self.old) frame.now).0)
             × (length new.buffer ≡ length self.old.buffer))) }
-        ensures outcome { answer_of result ≡ (accepted timeout (kept self.old) frame.now).1 }
+        ensures outcome { outcome_answer result ≡ (accepted timeout (kept self.old) frame.now).1 }
     {
         let step = self.step(frame, timeout);
         self.lend(step)
@@ -116,7 +116,7 @@ impl<S: Shape> Session<S> {
     /// The outcome of the last step, with a payload lent from the buffer.
     #[inline(always)]
     pub fn lend(&self, step: Step) -> Outcome<'_>
-        ensures { answer_of result ≡ step_answer self.now.buffer step }
+        ensures { outcome_answer result ≡ step_answer self.now.buffer step }
     {
         step.lend(self.buffer.as_slice())
     }

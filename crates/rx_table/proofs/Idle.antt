@@ -6,7 +6,7 @@ use Rattle.transfer_crc.specs.Crc.{crc_more}
 use Rattle.rx_session.specs.Session.{Outcome, Ignored, accept}
 use Rattle.rx_table.specs.Admitted.{has}
 use Rattle.rx_table.specs.Ports.{Port, Entry, PortState, NoSession, OfSession, is_of_session, sources_of, open_session, accept_at, outcome_at}
-use Rattle.rx_table.specs.Places.{fed_entries, fed_answer, feed_nth, answer_nth}
+use Rattle.rx_table.specs.Places.{fed_entries, port_answer, feed_nth, answer_nth}
 
 -- by whether the source is known, the frame a start, and there is room
 idle-cond : (known start room : Bool) (o first : Outcome) (fed more es : List Entry) → is_of_session (cond known (OfSession o) (cond start (cond room (OfSession first) NoSession) (OfSession Ignored))) ≡ false
@@ -16,7 +16,7 @@ idle-cond false true true o first fed more es h = absurd (true≢false h)
 idle-cond false true false o first fed more es h = refl
 idle-cond false false room o first fed more es h = absurd (true≢false h)
 
-idle-fed : (timeout : ℕ) (p : Port) (es : List Entry) (source : ℕ) (r : KeyRecord) → is_of_session (fed_answer timeout p es source r) ≡ false → fed_entries timeout p es source r ≡ es
+idle-fed : (timeout : ℕ) (p : Port) (es : List Entry) (source : ℕ) (r : KeyRecord) → is_of_session (port_answer timeout p es source r) ≡ false → fed_entries timeout p es source r ≡ es
 idle-fed timeout p es source r h =
     let new : Entry = record { source = source; session = (accept crc_more 0xFFFF timeout (open_session p.extent) r).0 } in
     idle-cond (has source (sources_of es)) r.start (nat_lt (length es) p.sources) (outcome_at crc_more 0xFFFF timeout source r es) (accept crc_more 0xFFFF timeout (open_session p.extent) r).1

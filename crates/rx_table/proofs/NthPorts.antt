@@ -4,7 +4,7 @@ use Rattle.tail_frame.specs.Chains.{KeyRecord}
 use Rattle.rx_table.specs.declared.port.Port as code
 use Rattle.rx_table.specs.declared.fed.PortMet as code_met
 use Rattle.rx_table.specs.Ports.{Port, Entry, PortState, NoPort, ports_of}
-use Rattle.rx_table.specs.Places.{fed_entries, fed_answer, feed_nth, answer_nth, met_answer, met_nth, Adds, AddsNth}
+use Rattle.rx_table.specs.Places.{fed_entries, port_answer, feed_nth, answer_nth, met_answer, met_nth, Adds, AddsNth}
 use Rattle.rx_table.specs.Table.{entries_of, port_of, state_of, states, EntriesHeard, HeardBy}
 
 some_is : {X : Type 0} (x y : X) → Some x ≡ Some y → x ≡ y
@@ -63,10 +63,10 @@ module _ {S : Type 0} (extent : S → ℕ) where
     set-fed (o ∷ ports) zero p q h e f = ap (λ (s : PortState). s ∷ states extent ports) (state_path e f ∙ ap fed (sym (some_is _ _ h)))
     set-fed (o ∷ ports) (suc i) p q h e f = ap (λ (t : List PortState). state_of extent o ∷ t) (set-fed ports i p q h e f)
 
-    pub fed_answer-nth : (ports : List (code.Port S)) (i : ℕ) (p : code.Port S) → slice_get ports i ≡ Some p → fed_answer timeout (port_of extent p) (entries p) source r ≡ answer_nth timeout (states extent ports) i source r
-    fed_answer-nth [] i p h = absurd cc
-    fed_answer-nth (o ∷ ports) zero p h = ap (λ (x : code.Port S). fed_answer timeout (port_of extent x) (entries x) source r) (sym (some_is _ _ h))
-    fed_answer-nth (o ∷ ports) (suc i) p h = fed_answer-nth ports i p h
+    pub port_answer-nth : (ports : List (code.Port S)) (i : ℕ) (p : code.Port S) → slice_get ports i ≡ Some p → port_answer timeout (port_of extent p) (entries p) source r ≡ answer_nth timeout (states extent ports) i source r
+    port_answer-nth [] i p h = absurd cc
+    port_answer-nth (o ∷ ports) zero p h = ap (λ (x : code.Port S). port_answer timeout (port_of extent x) (entries x) source r) (sym (some_is _ _ h))
+    port_answer-nth (o ∷ ports) (suc i) p h = port_answer-nth ports i p h
 
   pub Adds-nth : (source : ℕ) (r : KeyRecord) (ports : List (code.Port S)) (i : ℕ) (p : code.Port S) → slice_get ports i ≡ Some p → Adds (port_of extent p) (entries p) source r → AddsNth (states extent ports) i source r
   Adds-nth source r [] i p h x = absurd cc

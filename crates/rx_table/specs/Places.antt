@@ -40,8 +40,8 @@ opened_answer timeout p es r = if r.start
 abbrev pub fed_entries : ℕ → Port → List Entry → ℕ → KeyRecord → List Entry
 fed_entries timeout p es source r = if has source (sources_of es) then accept_at crc_more 0xFFFF timeout source r es else opened timeout p es source r
 
-abbrev pub fed_answer : ℕ → Port → List Entry → ℕ → KeyRecord → Answer
-fed_answer timeout p es source r =
+abbrev pub port_answer : ℕ → Port → List Entry → ℕ → KeyRecord → Answer
+port_answer timeout p es source r =
     if has source (sources_of es) then OfSession (outcome_at crc_more 0xFFFF timeout source r es) else opened_answer timeout p es r
 
 -- whether that opens a session
@@ -58,7 +58,7 @@ feed_nth timeout (p ∷ ps) (suc i) source r = p ∷ feed_nth timeout ps i sourc
 
 abbrev pub answer_nth : ℕ → List PortState → ℕ → ℕ → KeyRecord → Answer
 answer_nth timeout [] i source r = NoPort
-answer_nth timeout (p ∷ ps) zero source r = fed_answer timeout p.port p.entries source r
+answer_nth timeout (p ∷ ps) zero source r = port_answer timeout p.port p.entries source r
 answer_nth timeout (p ∷ ps) (suc i) source r = answer_nth timeout ps i source r
 
 abbrev pub AddsNth : List PortState → ℕ → ℕ → KeyRecord → Type 0

@@ -5,7 +5,7 @@ use Rattle.tail_frame.specs.declared.frame.Frame.{Frame}
 use Rattle.rx_session.specs.Extents.{extent_bytes}
 use Rattle.rx_session.specs.Seen.{record_of}
 use Rattle.rx_table.specs.Ports.{Port as PortOf, Entry, Answer, sources_of, buffered}
-use Rattle.rx_table.specs.Places.{fed_entries, fed_answer, opened, opened_answer, Adds, grown}
+use Rattle.rx_table.specs.Places.{fed_entries, port_answer, opened, opened_answer, Adds, grown}
 use Rattle.rx_table.specs.Table.{entries_of, port_of}
 use Rattle.rx_table.specs.declared.port.Port.{Port}
 use Rattle.rx_table.specs.declared.fed.PortMet as code_met
@@ -32,7 +32,7 @@ module _ {S : Type 0} (shape : S → Sch) where
   after_frame timeout p source frame = fed_entries timeout (subscription p) (entries_in p) source (record_of frame)
 
   abbrev pub answer_to : ℕ → Port S → ℕ → Frame → Answer
-  answer_to timeout p source frame = fed_answer timeout (subscription p) (entries_in p) source (record_of frame)
+  answer_to timeout p source frame = port_answer timeout (subscription p) (entries_in p) source (record_of frame)
 
   abbrev pub OpensFor : Port S → ℕ → Frame → Type 0
   OpensFor p source frame = Adds (subscription p) (entries_in p) source (record_of frame)

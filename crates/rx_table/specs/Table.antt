@@ -6,7 +6,7 @@ use Rattle.tail_frame.specs.Frames.{FrameOf, key_record}
 use Rattle.transfer_crc.specs.Crc.{crc_of}
 use Rattle.rx_session.specs.declared.session.Session.{Session}
 use Rattle.rx_session.specs.Session.{Outcome, Delivered}
-use Rattle.rx_session.specs.Seen.{kept, answer_of as outcome_of}
+use Rattle.rx_session.specs.Seen.{kept, outcome_answer}
 use Rattle.rx_table.specs.Keys.{KeyedFrame, same_kind, EachFrame}
 use Rattle.rx_table.specs.Admitted.{has, admitted, key_of}
 use Rattle.rx_table.specs.Ports.{Port, Entry, PortState, Answer, NoPort, NoSession, OfSession, Anonymous, ports_of, port_at, IsPortList, is_admitted, TableStands, AnswerAt, buffered}
@@ -82,11 +82,11 @@ TableHeard =
     → EachFrame (λ f. f.rec.moment ≤ now) log → StandsFor timeout log ps → HeardBy now ps
 
 -- what a table tells of a frame
-abbrev pub answer_of : code_fed.Fed → Answer
-answer_of code_fed.TheVariants.NoPort = NoPort
-answer_of code_fed.TheVariants.NoSession = NoSession
-answer_of (code_fed.TheVariants.Anonymous d) = Anonymous (Delivered d.bus d.priority d.tid d.first d.last d.moment d.payload.now)
-answer_of (code_fed.TheVariants.Session outcome) = OfSession (outcome_of outcome)
+abbrev pub fed_answer : code_fed.Fed → Answer
+fed_answer code_fed.TheVariants.NoPort = NoPort
+fed_answer code_fed.TheVariants.NoSession = NoSession
+fed_answer (code_fed.TheVariants.Anonymous d) = Anonymous (Delivered d.bus d.priority d.tid d.first d.last d.moment d.payload.now)
+fed_answer (code_fed.TheVariants.Session outcome) = OfSession (outcome_answer outcome)
 
 -- a frame that is a whole transfer, delivered with this extent
 abbrev pub whole : FrameOf → ℕ → Outcome

@@ -10,7 +10,7 @@ use Rattle.rx_session.specs.Seen.{record_of}
 use Rattle.rx_table.specs.Keys.{KeyedFrame, same_kind}
 use Rattle.rx_table.specs.Ports.{Port, PortState, Answer, ports_of, is_of_session}
 use Rattle.rx_table.specs.Places.{table_answer, feed_nth, answer_nth, AddsNth}
-use Rattle.rx_table.specs.Table.{states, StandsFor, HeardBy, logged, answer_of, Told, Opens}
+use Rattle.rx_table.specs.Table.{states, StandsFor, HeardBy, logged, fed_answer, Told, Opens}
 use Rattle.rx_table.specs.declared.table.Table.{Table}
 use Rattle.rx_table.specs.declared.fed.Fed as code_fed
 use Rattle.rx_table.specs.declared.fed.Met as code_met
@@ -86,5 +86,5 @@ module _ {S : Type 0} (shape : S → Sch) where
       Keeps old new
       × ((now : ℕ) → frame.moment ≤ now → HasHeardBy now new)
       × OnOk result (TakesIn (seen frame) old new)
-      × IfOk result (λ fed. IsIdleAt (answer_of fed) old new)
+      × IfOk result (λ fed. IsIdleAt (fed_answer fed) old new)
       × OnErr result (KeepsSessions old new)

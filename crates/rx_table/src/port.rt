@@ -4,11 +4,11 @@ ghost use Rattle.rx_table.specs.PortViews.{entries_in, sources_in, buffered_in, 
 ghost use Rattle.indexmap.specs.IndexMap.{get};
 ghost use Rattle.tail_frame.specs.Frames.{seen};
 ghost use Rattle.rx_session.specs.Extents.{extent_bytes};
-ghost use Rattle.rx_session.specs.Seen.{record_of, step_answer, answer_of as outcome_of};
+ghost use Rattle.rx_session.specs.Seen.{record_of, step_answer, outcome_answer};
 ghost use Rattle.rx_session.specs.declared.outcome.Step.TheVariants.{Delivered};
 ghost use Rattle.rx_table.specs.Keys.{same_kind};
 ghost use Rattle.rx_table.specs.Places.{step_nth, outcome_nth, buffer_nth, met_answer};
-ghost use Rattle.rx_table.specs.Table.{EntriesHeard, whole, answer_of, state_of, subscribed};
+ghost use Rattle.rx_table.specs.Table.{EntriesHeard, whole, fed_answer, state_of, subscribed};
 
 use crate::fed::{Fed, PortMet};
 use can_id::Kind;
@@ -218,7 +218,7 @@ impl<S: Shape> Port<S> {
     /// What a frame of a source came to, with the payload lent from its session.
     #[inline(always)]
     pub(crate) fn lend(&self, met: PortMet) -> Fed<'_>
-        ensures { answer_of result ≡ met_answer (entries_in self.now) met }
+        ensures { fed_answer result ≡ met_answer (entries_in self.now) met }
     {
         match met {
             PortMet::NoSession => Fed::NoSession,
@@ -231,7 +231,8 @@ impl<S: Shape> Port<S> {
     /// What the session at a place made of a frame, with the payload lent from its buffer.
     #[inline(always)]
     fn lend_at(&self, index: usize, step: Step) -> Outcome<'_>
-        ensures { outcome_of result ≡ step_answer (buffer_nth (entries_in self.now) index) step }
+        ensures { outcome_answer result
+            ≡ step_answer (buffer_nth (entries_in self.now) index) step }
     {
         match self.sessions.get_index(index) {
             Some((_, session)) => session.lend(step),

@@ -43,7 +43,7 @@ impl<S: Shape> Table<S> {
     ghost use Rattle.rx_table.specs.Keys.{KeyedFrame};
     ghost use Rattle.rx_table.specs.Ports.{port_at, held, bound, held_of};
     ghost use Rattle.rx_table.specs.SubjectPlaces.{place_of};
-    ghost use Rattle.rx_table.specs.Table.{StandsFor, answer_of, shape_at, admitted_on, subscribed};
+    ghost use Rattle.rx_table.specs.Table.{StandsFor, fed_answer, shape_at, admitted_on, subscribed};
     ghost use Rattle.rx_table.specs.Views.{states_of, subscriptions, place_in, states_after, answer_after, OpensAtPlace, IsOfLog, HasHeardBy, told_by, Keeps, KeepsSessions, TakesIn, Answers, OpensOne, IsIdleAt, IsFed};
     ghost use Rattle.rx_table.specs.declared.fed.SubscribeError.TheVariants.{Taken};
     ghost use Rattle.rx_table.specs.contracts.table.Table.{the_row};
@@ -145,7 +145,7 @@ impl<S: Shape> Table<S> {
         ensures* after { sem 𝓛 (Rests (the_row S.row) self.entry
             (IsFed S.shape frame.now self.old result)) }
         ensures told { IfOk result (λ fed.
-            Answers S.shape self.old (seen frame.now) (answer_of fed)) }
+            Answers S.shape self.old (seen frame.now) (fed_answer fed)) }
         ensures memory { OnErr result (OpensOne S.shape self.old (seen frame.now)) }
     {
         match self.step(frame) {
@@ -203,7 +203,7 @@ impl<S: Shape> Table<S> {
     /// What a frame came to, with the payload lent from the frame or from a session's buffer.
     #[inline(always)]
     pub fn lend<'a>(&'a self, met: Met, frame: &Frame<'a>) -> Fed<'a>
-        ensures { answer_of result ≡ told_by S.shape self.now frame.now met }
+        ensures { fed_answer result ≡ told_by S.shape self.now frame.now met }
     {
         match met {
             Met::NoPort => Fed::NoPort,

@@ -1,11 +1,12 @@
 //! The records of a log, each given as a value.
-ghost use Rattle.std.specs.Prelude.{◌≡◌, ◌≤◌, ◌<◌, ◌+◌, ◌++◌, ◌^◌, ℕ, List, [], None, Some, Ok, Err, length, IfOk, IfSome, true, false};
+ghost use Rattle.std.specs.Prelude.{◌≡◌, ◌≤◌, ◌<◌, ◌^◌, None, Ok, Err, length, IfSome, true, false};
 ghost use Rattle.cy_outside.specs.Outside.{Rose};
-ghost use Rattle.frame_log.specs.Input.{Took, IsAtEnd};
+ghost use Rattle.frame_log.specs.Input.{IsAtEnd};
 ghost use Rattle.frame_log.specs.Line.{cut};
-ghost use Rattle.frame_log.specs.Order.{IsFit};
-ghost use Rattle.frame_log.specs.Reader.{buses_of, place_of, held_of, bytes_left, saw_end, answer_of, log_behind, IsNext, IsNextHeld, kept, kept_held, answered};
-ghost use Rattle.frame_log.specs.Used.{Uses, IsBefore, IsBeforeHeld};
+ghost use Rattle.frame_log.specs.Order.{IsFit, StandsBehind};
+ghost use Rattle.frame_log.specs.Reader.{buses_of, place_of, kept_bytes_of, bytes_left, saw_end, settled_answer, settled, settled_kept, answered, AnswersNext, AnswersAtEnd, AnswersKept, IfRecord, HasNoLine};
+ghost use Rattle.frame_log.specs.Steps.{IsAt};
+ghost use Rattle.frame_log.specs.Used.{UsesNext, UsesKept};
 ghost use Rattle.frame_log.specs.declared.error.LogError.TheVariants as error;
 
 use crate::error::LogError;
@@ -25,58 +26,49 @@ fn blank() -> Record {
 }
 
 impl LogReader {
-    /// The next record, or None at the log's end. It reads only where no whole line is held. After
+    /// The next record, or None at the log's end. It reads only where no whole line is kept. After
     /// None or an error each later call answers the same and reads nothing.
     #[inline(always)]
     pub fn next_record<L: Source>(&mut self, input: &mut L) -> Result<Option<Record>, LogError>
-        // What the log gives that is left: the bytes held, those that came in this call, and any rest.
-        ensures next { answer_of self.old ≡ None → (came : List ℕ)
-            × Took (L.left input.old) (L.left input.new) came
-            × ((rest : List ℕ) → (saw_end self.new ≡ true → rest ≡ [])
-            → IsNext (log_behind self.old (came ++ rest)) result (log_behind self.new rest)) }
-
-        // What was held and what came are whole lines that give no record, and behind them at most 8,192 bytes.
-        ensures used { answer_of self.old ≡ None → (came : List ℕ)
-            × Took (L.left input.old) (L.left input.new) came
-            × Uses (buses_of self.old) (place_of self.old) (held_of self.old ++ came)
-            (IsBefore result self.new) }
+        // The answer is the next of what the log gives that is left.
+        ensures next { settled_answer self.old ≡ None
+            → AnswersNext self.old self.new (L.left input.old) (L.left input.new) result }
+        ensures used { settled_answer self.old ≡ None
+            → UsesNext self.old self.new (L.left input.old) (L.left input.new) result }
 
         // It has ended only where the input has.
         ensures end { saw_end self.old ≡ false → saw_end self.new ≡ true
             → IsAtEnd (L.left input.new) }
-        ensures whole { answer_of self.old ≡ None → result ≡ Ok None → saw_end self.new ≡ true }
-        ensures ended { answer_of self.old ≡ None → saw_end self.old ≡ true
-            → (input.new ≡ input.old) × (saw_end self.new ≡ true)
-            × IsNext (log_behind self.old []) result (log_behind self.new []) }
+        ensures whole { settled_answer self.old ≡ None → result ≡ Ok None
+            → saw_end self.new ≡ true }
+        ensures ended { settled_answer self.old ≡ None → saw_end self.old ≡ true
+            → AnswersAtEnd self.old self.new input.old input.new result }
 
         // The answer stays.
-        ensures done { answer_of self.old ≡ None → answer_of self.new ≡ kept result }
-        ensures again { IfSome (answer_of self.old)
-            (λ a. (result ≡ answered a) × (self.new ≡ self.old) × (input.new ≡ input.old)) }
+        ensures done { settled_answer self.old ≡ None
+            → settled_answer self.new ≡ settled result }
+        ensures again { IfSome (settled_answer self.old)
+            (λ a. (result ≡ answered a) × (self.new ≡ self.old)
+            × (input.new ≡ input.old)) }
 
         // The input failed, and no line that was taken is left.
-        ensures failed { answer_of self.old ≡ None → result ≡ Err error.Failed
-            → Rose (L.faults input.old) (L.faults input.new) × (cut 10 (held_of self.new) ≡ None)
-            × (length (held_of self.new) ≤ 4096) }
-        ensures open { answer_of self.old ≡ None → result ≡ Err error.Failed
+        ensures failed { settled_answer self.old ≡ None → result ≡ Err error.Failed
+            → Rose (L.faults input.old) (L.faults input.new) × HasNoLine self.new }
+        ensures open { settled_answer self.old ≡ None → result ≡ Err error.Failed
             → saw_end self.new ≡ false }
-        ensures count { ¬ (result ≡ Err error.Failed) → L.faults input.new ≡ L.faults input.old }
+        ensures count { ¬ (result ≡ Err error.Failed)
+            → L.faults input.new ≡ L.faults input.old }
 
         // A record is behind those before it, and has one of the buses.
-        ensures order { IfOk result
-            (λ o. IfSome o (λ r. ((place_of self.old).last ≤ r.moment)
-            × ((place_of self.old).lines < r.line))) }
-        ensures place { IfOk result
-            (λ o. IfSome o (λ r. ((place_of self.new).last ≡ r.moment)
-            × ((place_of self.new).lines ≡ r.line))) }
-        ensures fit { IfOk result
-            (λ o. IfSome o (λ r. IsFit (buses_of self.old) r × (r.line ≤ 2 ^ 28))) }
+        ensures order { IfRecord result (λ r. StandsBehind r (place_of self.old)) }
+        ensures place { IfRecord result (λ r. IsAt r (place_of self.new)) }
+        ensures fit { IfRecord result
+            (λ r. IsFit (buses_of self.old) r × (r.line ≤ 2 ^ 28)) }
 
         // Each record leaves fewer bytes, and no more were taken than stand in the buffer.
-        ensures less { IfOk result
-            (λ o. IfSome o (λ _. bytes_left self.new < bytes_left self.old)) }
+        ensures less { IfRecord result (λ _. bytes_left self.new < bytes_left self.old) }
         ensures within { bytes_left self.new ≤ bytes_left self.old }
-        ensures near { length (held_of self.new) ≤ 8192 }
+        ensures near { length (kept_bytes_of self.new) ≤ 8192 }
         ensures same { buses_of self.new ≡ buses_of self.old }
     {
         let mut written = blank();
@@ -87,46 +79,40 @@ impl LogReader {
         }
     }
 
-    /// The next record of the lines that are held whole, without reading. None where no such line is
+    /// The next record of the lines that are kept whole, without reading. None where no such line is
     /// left: `next_record` goes on from there. A refusal is the answer of each later call, and a
     /// reader that has answered its end or an error answers the same again.
     #[inline(always)]
-    pub fn next_held(&mut self) -> Result<Option<Record>, LogError>
-        // What the log gives that is left, whatever comes behind the bytes held.
-        ensures next { answer_of self.old ≡ None → (rest : List ℕ)
-            → IsNextHeld (log_behind self.old rest) result (log_behind self.new rest) }
-        ensures none { answer_of self.old ≡ None → result ≡ Ok None
-            → cut 10 (held_of self.new) ≡ None }
-        ensures used { answer_of self.old ≡ None
-            → Uses (buses_of self.old) (place_of self.old) (held_of self.old)
-            (IsBeforeHeld result self.new) }
-        ensures input { answer_of self.old ≡ None → ¬ (result ≡ Err error.Failed) }
+    pub fn next_kept(&mut self) -> Result<Option<Record>, LogError>
+        // The answer is the next of the lines that are kept.
+        ensures next { settled_answer self.old ≡ None → AnswersKept self.old self.new result }
+        ensures none { settled_answer self.old ≡ None → result ≡ Ok None
+            → cut 10 (kept_bytes_of self.new) ≡ None }
+        ensures used { settled_answer self.old ≡ None → UsesKept self.old self.new result }
+        ensures input { settled_answer self.old ≡ None
+            → ¬ (result ≡ Err error.Failed) }
 
         // A refusal stays.
-        ensures done { answer_of self.old ≡ None → answer_of self.new ≡ kept_held result }
-        ensures again { IfSome (answer_of self.old)
+        ensures done { settled_answer self.old ≡ None
+            → settled_answer self.new ≡ settled_kept result }
+        ensures again { IfSome (settled_answer self.old)
             (λ a. (result ≡ answered a) × (self.new ≡ self.old)) }
         ensures end { saw_end self.new ≡ saw_end self.old }
 
         // A record is behind those before it, and has one of the buses.
-        ensures order { IfOk result
-            (λ o. IfSome o (λ r. ((place_of self.old).last ≤ r.moment)
-            × ((place_of self.old).lines < r.line))) }
-        ensures place { IfOk result
-            (λ o. IfSome o (λ r. ((place_of self.new).last ≡ r.moment)
-            × ((place_of self.new).lines ≡ r.line))) }
-        ensures fit { IfOk result
-            (λ o. IfSome o (λ r. IsFit (buses_of self.old) r × (r.line ≤ 2 ^ 28))) }
+        ensures order { IfRecord result (λ r. StandsBehind r (place_of self.old)) }
+        ensures place { IfRecord result (λ r. IsAt r (place_of self.new)) }
+        ensures fit { IfRecord result
+            (λ r. IsFit (buses_of self.old) r × (r.line ≤ 2 ^ 28)) }
 
         // Each record leaves fewer bytes.
-        ensures less { IfOk result
-            (λ o. IfSome o (λ _. bytes_left self.new < bytes_left self.old)) }
+        ensures less { IfRecord result (λ _. bytes_left self.new < bytes_left self.old) }
         ensures within { bytes_left self.new ≤ bytes_left self.old }
-        ensures near { length (held_of self.new) ≤ 8192 }
+        ensures near { length (kept_bytes_of self.new) ≤ 8192 }
         ensures same { buses_of self.new ≡ buses_of self.old }
     {
         let mut written = blank();
-        match self.next_held_into(&mut written) {
+        match self.next_kept_into(&mut written) {
             Ok(true) => Ok(Some(written)),
             Ok(false) => Ok(None),
             Err(e) => Err(e),

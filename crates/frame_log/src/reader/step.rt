@@ -1,4 +1,4 @@
-//! One line of those that are held.
+//! One line of those that are kept.
 ghost use Rattle.std.specs.Prelude.{◌≡◌, ◌≤◌, ◌<◌, ◌+◌, ◌++◌, ℕ, List, [], None, Some, length, take, drop, MatchOption, true, false};
 ghost use Rattle.frame_log.specs.Line.{cut};
 ghost use Rattle.frame_log.specs.Found.{said_by};
@@ -21,7 +21,7 @@ use tail_frame::Record;
 /// What the next line gives.
 #[derive(Clone, Copy, Debug, PartialEq, Eq)]
 pub enum Step {
-    /// No whole line is held.
+    /// No whole line is kept.
     NoLine,
     /// The line is skipped.
     Skipped,
@@ -32,12 +32,12 @@ pub enum Step {
 }
 
 impl LogReader {
-    /// The end of the first line that is held.
+    /// The end of the first line that is kept.
     #[inline(always)]
     fn line_end(&self) -> Option<usize>
-        ensures { MatchOption result (cut 10 self.now.held ≡ None) (λ i. IsLine self.now.held i) }
+        ensures { MatchOption result (cut 10 self.now.kept_bytes ≡ None) (λ i. IsLine self.now.kept_bytes i) }
     {
-        memchr(b'\n', self.held.as_slice())
+        memchr(b'\n', self.kept_bytes.as_slice())
     }
 
     /// Takes what a line says, with the next number, and writes its record.
@@ -49,7 +49,7 @@ impl LogReader {
             (given_by (place_of self.old) (self.old.lines + 1) (said_by found written.old.bytes))
             result written.new (place_of self.new) }
         ensures at { result ≡ step.Record → IsAt written.new (place_of self.new) }
-        ensures same { (self.new.buses ≡ self.old.buses) × (self.new.held ≡ self.old.held)
+        ensures same { (self.new.buses ≡ self.old.buses) × (self.new.kept_bytes ≡ self.old.kept_bytes)
             × (self.new.room ≡ self.old.room) × (self.new.is_ended ≡ self.old.is_ended)
             × (self.new.done ≡ self.old.done) }
     {
@@ -81,20 +81,20 @@ impl LogReader {
         }
     }
 
-    /// The first line that is held: its length, and what was found in it.
+    /// The first line that is kept: its length, and what was found in it.
     #[cold]
     #[inline(never)]
     fn any_line(&mut self, written: &mut Record) -> Option<(usize, Found)>
-        ensures line { MatchOption result (cut 10 self.old.held ≡ None)
-            (λ p. IsFound self.old.buses self.old.held p.0 p.1 written.new.bytes) }
+        ensures line { MatchOption result (cut 10 self.old.kept_bytes ≡ None)
+            (λ p. IsFound self.old.buses self.old.kept_bytes p.0 p.1 written.new.bytes) }
         ensures place { place_of self.new ≡ place_of self.old }
-        ensures same { (self.new.buses ≡ self.old.buses) × (self.new.held ≡ self.old.held)
+        ensures same { (self.new.buses ≡ self.old.buses) × (self.new.kept_bytes ≡ self.old.kept_bytes)
             × (self.new.room ≡ self.old.room) × (self.new.is_ended ≡ self.old.is_ended)
             × (self.new.done ≡ self.old.done) }
     {
         let i = self.line_end()?;
         written.bytes.clear();
-        let line = &self.held.as_slice()[..i];
+        let line = &self.kept_bytes.as_slice()[..i];
         let found = read_line(self.buses.as_slice(), line, &mut written.bytes);
         if let Some(front) = Front::of(line) {
             self.front = front;
@@ -105,10 +105,10 @@ impl LogReader {
     /// The same, and sooner of a line of the common form.
     #[inline(always)]
     fn first_line(&mut self, written: &mut Record) -> Option<(usize, Found)>
-        ensures line { MatchOption result (cut 10 self.old.held ≡ None)
-            (λ p. IsFound self.old.buses self.old.held p.0 p.1 written.new.bytes) }
+        ensures line { MatchOption result (cut 10 self.old.kept_bytes ≡ None)
+            (λ p. IsFound self.old.buses self.old.kept_bytes p.0 p.1 written.new.bytes) }
         ensures place { place_of self.new ≡ place_of self.old }
-        ensures same { (self.new.buses ≡ self.old.buses) × (self.new.held ≡ self.old.held)
+        ensures same { (self.new.buses ≡ self.old.buses) × (self.new.kept_bytes ≡ self.old.kept_bytes)
             × (self.new.room ≡ self.old.room) × (self.new.is_ended ≡ self.old.is_ended)
             × (self.new.done ≡ self.old.done) }
     {
@@ -116,10 +116,10 @@ impl LogReader {
         if let Some(seen) = quick(
             &self.front,
             &self.buses,
-            self.held.window(),
+            self.kept_bytes.window(),
             &mut written.bytes,
         ) {
-            if seen.len < self.held.as_slice().len() {
+            if seen.len < self.kept_bytes.as_slice().len() {
                 let found = Found::Frame {
                     moment: seen.moment,
                     bus: seen.bus,
@@ -131,18 +131,18 @@ impl LogReader {
         self.any_line(written)
     }
 
-    /// What the first line that is held gives.
+    /// What the first line that is kept gives.
     #[inline(always)]
     fn step_line(&mut self, written: &mut Record) -> Step
         ensures next { (rest : List ℕ)
             → IsStep (log_behind self.old rest) result written.new (log_behind self.new rest) }
         ensures used { IsUsed (buses_of self.old)
-            (place_of self.old) self.old.held result written.new (place_of self.new) self.new.held }
-        ensures none { result ≡ step.NoLine → (cut 10 self.new.held ≡ None)
-            × (place_of self.new ≡ place_of self.old) × (self.new.held ≡ self.old.held) }
-        ensures less { result ≡ step.Record → length self.new.held < length self.old.held }
-        ensures skipped { result ≡ step.Skipped → length self.new.held < length self.old.held }
-        ensures within { length self.new.held ≤ length self.old.held }
+            (place_of self.old) self.old.kept_bytes result written.new (place_of self.new) self.new.kept_bytes }
+        ensures none { result ≡ step.NoLine → (cut 10 self.new.kept_bytes ≡ None)
+            × (place_of self.new ≡ place_of self.old) × (self.new.kept_bytes ≡ self.old.kept_bytes) }
+        ensures less { result ≡ step.Record → length self.new.kept_bytes < length self.old.kept_bytes }
+        ensures skipped { result ≡ step.Skipped → length self.new.kept_bytes < length self.old.kept_bytes }
+        ensures within { length self.new.kept_bytes ≤ length self.old.kept_bytes }
         ensures input { ¬ (result ≡ step.Refused error.Failed) }
         ensures at { result ≡ step.Record → IsAt written.new (place_of self.new) }
         ensures same { (self.new.buses ≡ self.old.buses) × (self.new.room ≡ self.old.room)
@@ -151,21 +151,21 @@ impl LogReader {
         let Some((i, found)) = self.first_line(written) else {
             return Step::NoLine;
         };
-        self.held.skip(i + 1);
+        self.kept_bytes.skip(i + 1);
         self.accept(found, written)
     }
 
-    /// What the lines that are held give.
+    /// What the lines that are kept give.
     #[inline(always)]
-    pub fn from_held(&mut self, written: &mut Record) -> Step
+    pub fn from_kept(&mut self, written: &mut Record) -> Step
         ensures next { (rest : List ℕ)
             → IsStep (log_behind self.old rest) result written.new (log_behind self.new rest) }
-        ensures used { Uses (buses_of self.old) (place_of self.old) self.old.held
+        ensures used { Uses (buses_of self.old) (place_of self.old) self.old.kept_bytes
             (IsBeforeStep result written.new self.new) }
-        ensures none { result ≡ step.NoLine → cut 10 self.new.held ≡ None }
+        ensures none { result ≡ step.NoLine → cut 10 self.new.kept_bytes ≡ None }
         ensures whole { ¬ (result ≡ step.Skipped) }
-        ensures less { result ≡ step.Record → length self.new.held < length self.old.held }
-        ensures within { length self.new.held ≤ length self.old.held }
+        ensures less { result ≡ step.Record → length self.new.kept_bytes < length self.old.kept_bytes }
+        ensures within { length self.new.kept_bytes ≤ length self.old.kept_bytes }
         ensures input { ¬ (result ≡ step.Refused error.Failed) }
         ensures at { result ≡ step.Record → IsAt written.new (place_of self.new) }
         ensures same { (self.new.buses ≡ self.old.buses) × (self.new.room ≡ self.old.room)
@@ -179,32 +179,32 @@ impl LogReader {
         }
     }
 
-    /// What is held is the last line, without a newline.
+    /// What is kept is the last line, without a newline.
     #[cold]
     #[inline(never)]
     pub fn last_line(&mut self, written: &mut Record) -> Step
-        requires { cut 10 self.old.held ≡ None }
+        requires { cut 10 self.old.kept_bytes ≡ None }
         ensures next { IsStep (log_behind self.old []) result written.new (log_behind self.new []) }
         ensures none { result ≡ step.NoLine → log_behind self.old [] ≡ ended None }
         ensures skipped { result ≡ step.Skipped → log_behind self.old [] ≡ ended None }
-        ensures less { result ≡ step.Record → length self.new.held < length self.old.held }
-        ensures within { length self.new.held ≤ length self.old.held }
+        ensures less { result ≡ step.Record → length self.new.kept_bytes < length self.old.kept_bytes }
+        ensures within { length self.new.kept_bytes ≤ length self.old.kept_bytes }
         ensures input { ¬ (result ≡ step.Refused error.Failed) }
         ensures at { result ≡ step.Record → IsAt written.new (place_of self.new) }
         ensures same { (self.new.buses ≡ self.old.buses) × (self.new.room ≡ self.old.room)
             × (self.new.is_ended ≡ self.old.is_ended) × (self.new.done ≡ self.old.done) }
     {
-        let n = self.held.as_slice().len();
+        let n = self.kept_bytes.as_slice().len();
         if n == 0 {
             return Step::NoLine;
         }
         written.bytes.clear();
         let found = read_line(
             self.buses.as_slice(),
-            self.held.as_slice(),
+            self.kept_bytes.as_slice(),
             &mut written.bytes,
         );
-        self.held.skip(n);
+        self.kept_bytes.skip(n);
         self.accept(found, written)
     }
 }

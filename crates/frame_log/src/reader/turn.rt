@@ -1,4 +1,4 @@
-//! One turn of a reader: the lines that are held, or else one read.
+//! One turn of a reader: the lines that are kept, or else one read.
 ghost use Rattle.std.specs.Prelude.{◌≡◌, ◌≤◌, ◌<◌, ◌+◌, ◌++◌, ℕ, List, [], None, Some, Ok, length, drop, IfOk, OnErr, OnOk, true, false};
 ghost use Rattle.cy_outside.specs.Outside.{Rose};
 ghost use Rattle.frame_log.specs.Input.{Took, IsAtEnd};
@@ -11,7 +11,7 @@ ghost use Rattle.frame_log.specs.declared.error.LogError.TheVariants as error;
 ghost use Rattle.frame_log.specs.declared.reader.turn.Turn.TheVariants as turn;
 
 use crate::error::LogError;
-use crate::held::{PIECE, read_some};
+use crate::kept_bytes::{PIECE, read_some};
 use crate::reader::LogReader;
 use crate::reader::step::Step;
 use cy_outside::{Failed, Source};
@@ -33,30 +33,30 @@ pub enum Turn {
 }
 
 impl LogReader {
-    /// Reads a piece behind what is held.
+    /// Reads a piece behind what is kept.
     #[inline(always)]
     fn fill<L: Source>(&mut self, input: &mut L) -> Result<usize, Failed>
-        requires short { length self.old.held ≤ 4096 }
+        requires short { length self.old.kept_bytes ≤ 4096 }
         ensures came { OnOk result
-            (self.new.held ≡ self.old.held ++ drop (length self.old.held) self.new.held) }
+            (self.new.kept_bytes ≡ self.old.kept_bytes ++ drop (length self.old.kept_bytes) self.new.kept_bytes) }
         ensures room { IfOk result
             (λ n. (self.new.room + n ≡ self.old.room)
-            × (length self.new.held ≡ length self.old.held + n)) }
+            × (length self.new.kept_bytes ≡ length self.old.kept_bytes + n)) }
         ensures took { OnOk result
             (Took (L.left input.old) (L.left input.new)
-            (drop (length self.old.held) self.new.held)) }
-        ensures none { IfOk result (λ n. n ≡ 0 → self.new.held ≡ self.old.held) }
+            (drop (length self.old.kept_bytes) self.new.kept_bytes)) }
+        ensures none { IfOk result (λ n. n ≡ 0 → self.new.kept_bytes ≡ self.old.kept_bytes) }
         ensures end { IfOk result (λ n. n ≡ 0 → 0 < self.old.room → IsAtEnd (L.left input.new)) }
         ensures err { OnErr result
-            ((self.new.held ≡ self.old.held) × (self.new.room ≡ self.old.room)
+            ((self.new.kept_bytes ≡ self.old.kept_bytes) × (self.new.room ≡ self.old.room)
             × (L.left input.new ≡ L.left input.old)) }
         ensures cause { OnErr result (Rose (L.faults input.old) (L.faults input.new)) }
         ensures count { OnOk result (L.faults input.new ≡ L.faults input.old) }
         ensures same { (self.new.buses ≡ self.old.buses) × (place_of self.new ≡ place_of self.old)
             × (self.new.is_ended ≡ self.old.is_ended) × (self.new.done ≡ self.old.done) }
     {
-        let most = self.room.min(PIECE - self.held.as_slice().len());
-        let n = self.held.fill(input, most)?;
+        let most = self.room.min(PIECE - self.kept_bytes.as_slice().len());
+        let n = self.kept_bytes.fill(input, most)?;
         self.room -= n;
         Ok(n)
     }
@@ -65,7 +65,7 @@ impl LogReader {
     #[cold]
     #[inline(never)]
     fn at_end(&mut self, written: &mut Record) -> Turn
-        requires { cut 10 self.old.held ≡ None }
+        requires { cut 10 self.old.kept_bytes ≡ None }
         ensures next { IsTurn (log_behind self.old []) result written.new (log_behind self.new []) }
         ensures not_again { ¬ (result ≡ turn.Again) }
         ensures not_failed { ¬ (result ≡ turn.Failed) }
@@ -84,18 +84,18 @@ impl LogReader {
         }
     }
 
-    /// Where no line is held: one read.
+    /// Where no line is kept: one read.
     #[inline(never)]
     fn read_turn<L: Source>(&mut self, input: &mut L, written: &mut Record) -> Turn
         requires reading { self.old.is_ended ≡ false }
-        requires line { cut 10 self.old.held ≡ None }
-        requires short { length self.old.held ≤ 4096 }
+        requires line { cut 10 self.old.kept_bytes ≡ None }
+        requires short { length self.old.kept_bytes ≤ 4096 }
         ensures next { (came : List ℕ) × Took (L.left input.old) (L.left input.new) came
             × ((rest : List ℕ) → (self.new.is_ended ≡ true → rest ≡ [])
             → IsTurn (log_behind self.old (came ++ rest)) result written.new
             (log_behind self.new rest)) }
         ensures used { (came : List ℕ) × Took (L.left input.old) (L.left input.new) came
-            × Uses (buses_of self.old) (place_of self.old) (self.old.held ++ came)
+            × Uses (buses_of self.old) (place_of self.old) (self.old.kept_bytes ++ came)
             (IsBeforeTurn result written.new self.new) }
         ensures again { result ≡ turn.Again → (self.new.room < self.old.room)
             × (self.new.is_ended ≡ false) }
@@ -103,7 +103,7 @@ impl LogReader {
         ensures input { ¬ (result ≡ turn.Refused error.Failed) }
         ensures end { self.new.is_ended ≡ true → IsAtEnd (L.left input.new) }
         ensures failed { result ≡ turn.Failed → Rose (L.faults input.old) (L.faults input.new)
-            × (self.new.held ≡ self.old.held) }
+            × (self.new.kept_bytes ≡ self.old.kept_bytes) }
         ensures open { result ≡ turn.Failed → self.new.is_ended ≡ false }
         ensures count { ¬ (result ≡ turn.Failed) → L.faults input.new ≡ L.faults input.old }
         ensures less { result ≡ turn.Record → bytes_left self.new < bytes_left self.old }
@@ -131,7 +131,7 @@ impl LogReader {
         }
     }
 
-    /// The lines that are held, or else one read.
+    /// The lines that are kept, or else one read.
     #[inline(always)]
     pub fn turn<L: Source>(&mut self, input: &mut L, written: &mut Record) -> Turn
         ensures next { (came : List ℕ) × Took (L.left input.old) (L.left input.new) came
@@ -139,7 +139,7 @@ impl LogReader {
             → IsTurn (log_behind self.old (came ++ rest)) result written.new
             (log_behind self.new rest)) }
         ensures used { (came : List ℕ) × Took (L.left input.old) (L.left input.new) came
-            × Uses (buses_of self.old) (place_of self.old) (self.old.held ++ came)
+            × Uses (buses_of self.old) (place_of self.old) (self.old.kept_bytes ++ came)
             (IsBeforeTurn result written.new self.new) }
         ensures again { result ≡ turn.Again → (self.new.room < self.old.room)
             × (self.new.is_ended ≡ false) }
@@ -148,7 +148,7 @@ impl LogReader {
         ensures end { self.old.is_ended ≡ false → self.new.is_ended ≡ true
             → IsAtEnd (L.left input.new) }
         ensures failed { result ≡ turn.Failed → Rose (L.faults input.old) (L.faults input.new)
-            × (cut 10 self.new.held ≡ None) × (length self.new.held ≤ 4096) }
+            × (cut 10 self.new.kept_bytes ≡ None) × (length self.new.kept_bytes ≤ 4096) }
         ensures open { result ≡ turn.Failed → self.new.is_ended ≡ false }
         ensures ended { self.old.is_ended ≡ true → (input.new ≡ input.old)
             × (self.new.is_ended ≡ true)
@@ -159,12 +159,12 @@ impl LogReader {
         ensures at { result ≡ turn.Record → IsAt written.new (place_of self.new) }
         ensures same { (self.new.buses ≡ self.old.buses) × (self.new.done ≡ self.old.done) }
     {
-        match self.from_held(written) {
+        match self.from_kept(written) {
             Step::Record => return Turn::Record,
             Step::Refused(e) => return Turn::Refused(e),
             Step::Skipped | Step::NoLine => {}
         }
-        if self.held.as_slice().len() > 4096 {
+        if self.kept_bytes.as_slice().len() > 4096 {
             return Turn::Refused(LogError::BadLine { n: self.lines + 1 });
         }
         if self.is_ended {

@@ -4,7 +4,7 @@ use Rattle.frame_log.specs.Reader.{bytes_left}
 use Rattle.frame_log.specs.declared.reader.LogReader.{LogReader}
 use Rattle.log_loop.specs.Next.{ReadsOn, handed}
 use Rattle.log_loop.specs.declared.next.Stop.{Stop}
-use Rattle.log_loop.proofs.Comes.{goes_held, comes_held, goes_refused, comes_refused, comes_later}
+use Rattle.log_loop.proofs.Comes.{goes_kept, comes_kept, goes_refused, comes_refused, comes_later}
 use Rattle.log_loop.proofs.next.next.Goals as goal
 
 reads_later : (old mid new : LogReader) (result : Result (Option Record) Stop) → bytes_left mid ≤ bytes_left old → ReadsOn mid new result → ReadsOn old new result
@@ -14,26 +14,26 @@ reads_later old mid new (Err stop) h r = tt
 
 pub returns-in-Ok-false-clause-reader : goal.returns-in-Ok-false-clause-reader
 returns-in-Ok-false-clause-reader g c =
-    reads_later c.args.reader.now c.next_held_into.new.self c.next_read.new.reader (handed c.next_read.new.written c.next_read.result) c.next_held_into.ensures.within c.next_read.ensures.reader
+    reads_later c.args.reader.now c.next_kept_into.new.self c.next_read.new.reader (handed c.next_read.new.written c.next_read.result) c.next_kept_into.ensures.within c.next_read.ensures.reader
 
 pub returns-in-Ok-clause-log : goal.returns-in-Ok-clause-log
 returns-in-Ok-clause-log g c =
-    goes_held c.args.reader.now c.next_held_into.new.self (g.L.Source.left c.args.input.now) c.next_held_into.new.written (rw c.in-Ok-true.field-0-test at c.in-Ok-true.ensures.next c.requires) c.next_held_into.ensures.end
+    goes_kept c.args.reader.now c.next_kept_into.new.self (g.L.Source.left c.args.input.now) c.next_kept_into.new.written (rw c.in-Ok-true.field-0-test at c.in-Ok-true.ensures.next c.requires) c.next_kept_into.ensures.end
 
 pub returns-in-Ok-clause-came : goal.returns-in-Ok-clause-came
 returns-in-Ok-clause-came g c =
-    comes_held c.args.reader.now c.next_held_into.new.self (g.L.Source.left c.args.input.now) _ c.next_held_into.new.written (rw c.in-Ok-true.field-0-test at c.in-Ok-true.ensures.used c.requires)
+    comes_kept c.args.reader.now c.next_kept_into.new.self (g.L.Source.left c.args.input.now) _ c.next_kept_into.new.written (rw c.in-Ok-true.field-0-test at c.in-Ok-true.ensures.used c.requires)
 
 pub returns-in-Ok-false-clause-came : goal.returns-in-Ok-false-clause-came
 returns-in-Ok-false-clause-came g c =
     let left = g.L.Source.left in
-    comes_later c.args.reader.now c.next_held_into.new.self c.next_read.new.reader (left c.args.input.now) (left c.next_read.new.input) _ (handed c.next_read.new.written c.next_read.result)
-    (rw c.in-Ok-false.field-0-test at c.in-Ok-false.ensures.used c.requires) c.next_held_into.ensures.same c.next_held_into.ensures.end c.next_read.ensures.came
+    comes_later c.args.reader.now c.next_kept_into.new.self c.next_read.new.reader (left c.args.input.now) (left c.next_read.new.input) _ (handed c.next_read.new.written c.next_read.result)
+    (rw c.in-Ok-false.field-0-test at c.in-Ok-false.ensures.used c.requires) c.next_kept_into.ensures.same c.next_kept_into.ensures.end c.next_read.ensures.came
 
 pub returns-in-Ok-flush-clause-log : goal.returns-in-Ok-flush-clause-log
 returns-in-Ok-flush-clause-log g c =
-    goes_refused c.args.reader.now c.next_held_into.new.self (g.L.Source.left c.args.input.now) c.in-Err.error (c.in-Err.ensures.next c.requires) c.next_held_into.ensures.end
+    goes_refused c.args.reader.now c.next_kept_into.new.self (g.L.Source.left c.args.input.now) c.in-Err.error (c.in-Err.ensures.next c.requires) c.next_kept_into.ensures.end
 
 pub returns-in-Ok-flush-clause-came : goal.returns-in-Ok-flush-clause-came
 returns-in-Ok-flush-clause-came g c =
-    comes_refused c.args.reader.now c.next_held_into.new.self (g.L.Source.left c.args.input.now) _ c.in-Err.error (λ e. c.in-Err.ensures.input c.requires (ap Err e)) (c.in-Err.ensures.used c.requires)
+    comes_refused c.args.reader.now c.next_kept_into.new.self (g.L.Source.left c.args.input.now) _ c.in-Err.error (λ e. c.in-Err.ensures.input c.requires (ap Err e)) (c.in-Err.ensures.used c.requires)

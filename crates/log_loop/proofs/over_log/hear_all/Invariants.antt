@@ -1,5 +1,5 @@
 use Rattle.std.proofs.Common.{◌≡◌, ◌≤◌, ◌+◌, ◌^◌, List, None, map}
-use Rattle.frame_log.specs.Reader.{answer_of, bytes_left, buses_of}
+use Rattle.frame_log.specs.Reader.{settled_answer, bytes_left, buses_of}
 use Rattle.line_text.specs.Buffer.{text_of}
 use Rattle.log_loop.specs.Gathered.{Gathered}
 use Rattle.log_loop.specs.Voice.{MayCome, said}
@@ -14,7 +14,7 @@ invariant-records g l = let s = g.L.Source in let o = g.O.Sink in let m = g.M.Li
   may : MayCome v past;
   reads : Reads names (s.left l.fn.input) (s.left l.input) l.reader (map v.record_of past);
   streams : Streams names v (s.left l.fn.input) (s.left l.input) l.reader past (o.written l.fn.out) (o.written l.out);
-  reading : answer_of l.reader ≡ None;
+  reading : settled_answer l.reader ≡ None;
   heard : m.heard l.fn.listener l.listener past;
   latest : m.latest l.listener ≤ latest_of (map v.record_of past);
   count : m.count l.listener + bytes_left l.reader ≤ 2 ^ 28;

@@ -4,7 +4,7 @@ use Rattle.frame_log.specs.declared.reader.turn.Turn.{Turn}
 use Rattle.frame_log.specs.declared.reader.turn.Turn.TheVariants as turn
 use Rattle.frame_log.specs.Log.{with_record}
 use Rattle.frame_log.specs.Steps.{IsTurn}
-use Rattle.frame_log.specs.Reader.{log_behind, place_of, buses_of, held_of, bytes_left}
+use Rattle.frame_log.specs.Reader.{log_behind, place_of, buses_of, kept_bytes_of, bytes_left}
 use Rattle.frame_log.specs.Used.{IsBefore}
 use Rattle.frame_log.specs.UsedSteps.{IsBeforeTurn}
 use Rattle.frame_log.proofs.LogLemmas.{came-turn}
@@ -27,10 +27,10 @@ turns-preserved g c =
     let m = came-turn (s.left c.args.input.now) (s.left c.turns.input) (s.left c.turn.new.input) old (log_behind c.turns.self) new (λ rest. c.turn.new.self.is_ended ≡ true → rest ≡ []) c.turn.result w
     c.turns.invariant.next c.turn.ensures.next in
     let mid = c.turns.self in
-    let u = came-later (s.left c.args.input.now) (s.left c.turns.input) (s.left c.turn.new.input) (buses_of c.args.self.now) (buses_of mid) (place_of c.args.self.now) (place_of mid) (held_of c.args.self.now) (held_of mid)
+    let u = came-later (s.left c.args.input.now) (s.left c.turns.input) (s.left c.turn.new.input) (buses_of c.args.self.now) (buses_of mid) (place_of c.args.self.now) (place_of mid) (kept_bytes_of c.args.self.now) (kept_bytes_of mid)
     (IsBeforeTurn turn.Again w c.turn.new.self) (IsBeforeTurn turn.Again w c.turn.new.self) c.turns.invariant.buses c.turns.invariant.used c.in-Again.ensures.used (λ at bytes t. t) in record {
       next = (m.0, m.1, λ rest. subst (λ (t : Turn). IsTurn (old (m.0 ++ rest)) t w (new rest)) c.in-Again.is (m.2 rest (open_rest c.turn.new.self.is_ended rest again.1)));
-      used = (u.0, u.1, passes-to (buses_of c.args.self.now) (place_of c.args.self.now) (place_of c.turn.new.self) (held_of c.args.self.now ++ u.0) (held_of c.turn.new.self) u.2);
+      used = (u.0, u.1, passes-to (buses_of c.args.self.now) (place_of c.args.self.now) (place_of c.turn.new.self) (kept_bytes_of c.args.self.now ++ u.0) (kept_bytes_of c.turn.new.self) u.2);
       ended = λ is_ended. let fixed = c.turns.invariant.ended is_ended in
           let here : c.turns.self.is_ended ≡ true = ap (λ (r : LogReader). r.is_ended) fixed.0 ∙ is_ended in
           let bad : true ≡ false = sym (c.turn.ensures.ended here).1 ∙ again.1 in absurd cc;
@@ -90,7 +90,7 @@ returns-in-Record-clause-order g c =
     let m = came-turn (s.left c.args.input.now) (s.left c.turns.input) (s.left c.turn.new.input) old (log_behind c.turns.self) new (λ rest. c.turn.new.self.is_ended ≡ true → rest ≡ []) c.turn.result w
     c.turns.invariant.next c.turn.ensures.next in
     let is : old (m.0 ++ []) ≡ with_record w (new []) = subst (λ (t : Turn). IsTurn (old (m.0 ++ [])) t w (new [])) c.in-Record.is (m.2 [] (λ _. refl)) in
-    ahead-first self.last self.lines (old (m.0 ++ [])) (new []) w (ahead-from (buses_of self) (bytes_left self) (held_of self ++ (m.0 ++ [])) (place_of self)) is
+    ahead-first self.last self.lines (old (m.0 ++ [])) (new []) w (ahead-from (buses_of self) (bytes_left self) (kept_bytes_of self ++ (m.0 ++ [])) (place_of self)) is
 
 pub returns-in-Record-clause-fit : goal.returns-in-Record-clause-fit
 returns-in-Record-clause-fit g c =
@@ -103,7 +103,7 @@ returns-in-Record-clause-fit g c =
     c.turns.invariant.next c.turn.ensures.next in
     let is : old (m.0 ++ []) ≡ with_record w (new []) = subst (λ (t : Turn). IsTurn (old (m.0 ++ [])) t w (new [])) c.in-Record.is (m.2 [] (λ _. refl)) in
     let at = c.turn.ensures.at c.in-Record.is in (
-      fit-first (buses_of self) (old (m.0 ++ [])) (new []) w (fit-from (buses_of self) (bytes_left self) (held_of self ++ (m.0 ++ [])) (place_of self)) is,
+      fit-first (buses_of self) (old (m.0 ++ [])) (new []) w (fit-from (buses_of self) (bytes_left self) (kept_bytes_of self ++ (m.0 ++ [])) (place_of self)) is,
       omega (arith, at.0, c.turn.new.self.within),
     )
 
@@ -114,7 +114,7 @@ returns-in-Record-clause-used g c _ =
     let mid = c.turns.self in
     let new = c.turn.new.self in
     let w = c.turn.new.written in
-    came-later (left c.args.input.now) (left c.turns.input) (left c.turn.new.input) (buses_of old) (buses_of mid) (place_of old) (place_of mid) (held_of old) (held_of mid)
+    came-later (left c.args.input.now) (left c.turns.input) (left c.turn.new.input) (buses_of old) (buses_of mid) (place_of old) (place_of mid) (kept_bytes_of old) (kept_bytes_of mid)
     (IsBeforeTurn turn.Record w new) (IsBefore (Ok (Some w)) new) c.turns.invariant.buses c.turns.invariant.used c.in-Record.ensures.used
     (λ at bytes t. t)
 
@@ -125,7 +125,7 @@ returns-in-Whole-turn-clause-used g c _ =
     let mid = c.turns.self in
     let new = c.turn.new.self in
     let w = c.turn.new.written in
-    came-later (left c.args.input.now) (left c.turns.input) (left c.turn.new.input) (buses_of old) (buses_of mid) (place_of old) (place_of mid) (held_of old) (held_of mid)
+    came-later (left c.args.input.now) (left c.turns.input) (left c.turn.new.input) (buses_of old) (buses_of mid) (place_of old) (place_of mid) (kept_bytes_of old) (kept_bytes_of mid)
     (IsBeforeTurn turn.Whole w new) _ c.turns.invariant.buses c.turns.invariant.used c.in-Whole-turn.ensures.used
     (λ at bytes t. tt)
 
@@ -136,7 +136,7 @@ returns-in-Refused-turn-clause-used g c _ =
     let mid = c.turns.self in
     let new = c.turn.new.self in
     let w = c.turn.new.written in
-    came-later (left c.args.input.now) (left c.turns.input) (left c.turn.new.input) (buses_of old) (buses_of mid) (place_of old) (place_of mid) (held_of old) (held_of mid)
+    came-later (left c.args.input.now) (left c.turns.input) (left c.turn.new.input) (buses_of old) (buses_of mid) (place_of old) (place_of mid) (kept_bytes_of old) (kept_bytes_of mid)
     (IsBeforeTurn (turn.Refused c.in-Refused-turn.e) w new) _ c.turns.invariant.buses c.turns.invariant.used c.in-Refused-turn.ensures.used
     (λ at bytes t. before-refused c.in-Refused-turn.e _ at bytes (λ e. c.turn.ensures.input (c.in-Refused-turn.is ∙ ap turn.Refused e)))
 
@@ -147,6 +147,6 @@ returns-in-Failed-clause-used g c _ =
     let mid = c.turns.self in
     let new = c.turn.new.self in
     let w = c.turn.new.written in
-    came-later (left c.args.input.now) (left c.turns.input) (left c.turn.new.input) (buses_of old) (buses_of mid) (place_of old) (place_of mid) (held_of old) (held_of mid)
+    came-later (left c.args.input.now) (left c.turns.input) (left c.turn.new.input) (buses_of old) (buses_of mid) (place_of old) (place_of mid) (kept_bytes_of old) (kept_bytes_of mid)
     (IsBeforeTurn turn.Failed w new) _ c.turns.invariant.buses c.turns.invariant.used c.in-Failed.ensures.used
     (λ at bytes t. t)

@@ -10,7 +10,7 @@ use Rattle.frame_log.proofs.UsedLemmas.{used-given}
 use Rattle.frame_log.proofs.reader.LogReader.step_line.Goals as goal
 
 -- the step is what the first line gives
-first : (c : goal.After-accept) → IsGiven (given c.args.self.now.buses (place_of c.args.self.now) (take c.in-Some.i c.args.self.now.held)) c.accept.result c.accept.new.written (place_of c.accept.new.self)
+first : (c : goal.After-accept) → IsGiven (given c.args.self.now.buses (place_of c.args.self.now) (take c.in-Some.i c.args.self.now.kept_bytes)) c.accept.result c.accept.new.written (place_of c.accept.new.self)
 first c =
     let old = c.args.self.now in
     let mid = c.first_line.new.self in
@@ -26,12 +26,12 @@ returns-clause-next c rest =
     let old = c.args.self.now in
     let new = c.accept.new.self in
     let i = c.in-Some.i in
-    let stepped : IsStep (log_behind old rest) c.accept.result c.accept.new.written (log_from old.buses (old.room + length (drop (i + 1) old.held)) (drop (i + 1) old.held ++ rest) (place_of new)) =
-    step-given (given old.buses (place_of old) (take i old.held)) c.accept.result c.accept.new.written (place_of new)
-    (λ p. log_from old.buses (old.room + length (drop (i + 1) old.held)) (drop (i + 1) old.held ++ rest) p) (log_behind old rest) (first c)
-    (log_from-line old.buses old.room old.held rest i (place_of old) c.in-Some.ensures.line.line) in
+    let stepped : IsStep (log_behind old rest) c.accept.result c.accept.new.written (log_from old.buses (old.room + length (drop (i + 1) old.kept_bytes)) (drop (i + 1) old.kept_bytes ++ rest) (place_of new)) =
+    step-given (given old.buses (place_of old) (take i old.kept_bytes)) c.accept.result c.accept.new.written (place_of new)
+    (λ p. log_from old.buses (old.room + length (drop (i + 1) old.kept_bytes)) (drop (i + 1) old.kept_bytes ++ rest) p) (log_behind old rest) (first c)
+    (log_from-line old.buses old.room old.kept_bytes rest i (place_of old) c.in-Some.ensures.line.line) in
     subst (λ (l : Log). IsStep (log_behind old rest) c.accept.result c.accept.new.written l)
-    (log_from-same old.buses new.buses old.room new.room (drop (i + 1) old.held) new.held rest (place_of new) (c.accept.ensures.same.0 ∙ c.first_line.ensures.same.0) (c.accept.ensures.same.2 ∙ c.first_line.ensures.same.2) (c.accept.ensures.same.1 ∙ c.skip.ensures ∙ ap (λ (h : List ℕ). drop (i + 1) h) c.first_line.ensures.same.1))
+    (log_from-same old.buses new.buses old.room new.room (drop (i + 1) old.kept_bytes) new.kept_bytes rest (place_of new) (c.accept.ensures.same.0 ∙ c.first_line.ensures.same.0) (c.accept.ensures.same.2 ∙ c.first_line.ensures.same.2) (c.accept.ensures.same.1 ∙ c.skip.ensures ∙ ap (λ (h : List ℕ). drop (i + 1) h) c.first_line.ensures.same.1))
     stepped
 
 pub returns-clause-used : goal.returns-clause-used
@@ -39,5 +39,5 @@ returns-clause-used c =
     let old = c.args.self.now in
     let new = c.accept.new.self in
     let i = c.in-Some.i in
-    subst (λ (b : List ℕ). IsUsed old.buses (place_of old) old.held c.accept.result c.accept.new.written (place_of new) b) (sym (c.accept.ensures.same.1 ∙ c.skip.ensures ∙ ap (λ (h : List ℕ). drop (i + 1) h) c.first_line.ensures.same.1))
-    (used-given (given old.buses (place_of old) (take i old.held)) c.accept.result c.accept.new.written old.buses (place_of old) (place_of new) old.held (take i old.held) (drop (i + 1) old.held) c.in-Some.ensures.line.line.1 refl (first c))
+    subst (λ (b : List ℕ). IsUsed old.buses (place_of old) old.kept_bytes c.accept.result c.accept.new.written (place_of new) b) (sym (c.accept.ensures.same.1 ∙ c.skip.ensures ∙ ap (λ (h : List ℕ). drop (i + 1) h) c.first_line.ensures.same.1))
+    (used-given (given old.buses (place_of old) (take i old.kept_bytes)) c.accept.result c.accept.new.written old.buses (place_of old) (place_of new) old.kept_bytes (take i old.kept_bytes) (drop (i + 1) old.kept_bytes) c.in-Some.ensures.line.line.1 refl (first c))

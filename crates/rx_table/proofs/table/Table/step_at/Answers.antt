@@ -7,7 +7,7 @@ use Rattle.rx_table.specs.Places.{grown}
 use Rattle.rx_table.specs.Table.{entries_of, held_in}
 use Rattle.rx_table.proofs.Buffered.{held_in-set, capped-more}
 use Rattle.rx_table.proofs.SubjectPlaces.{places-set}
-use Rattle.rx_table.proofs.NthPorts.{heard-nth, set-ports, set-shapes, set-same, set-met, set-fed, fed_answer-nth, Adds-nth}
+use Rattle.rx_table.proofs.NthPorts.{heard-nth, set-ports, set-shapes, set-same, set-met, set-fed, port_answer-nth, Adds-nth}
 use Rattle.rx_table.proofs.table.Table.step_at.Goals as goal
 
 pub meet-requires : goal.meet-requires
@@ -37,7 +37,7 @@ returns-in-Ok-clause-answer g c =
     let ports = c.args.self.now.ports.items in
     let at = slice_get_read ports (length ports) c.args.place c.index_mut-port.result.now refl c.requires.within c.index_mut-port.ensures.value in
     set-met (extent_bytes g.S.Shape.shape) ports c.args.place c.index_mut-port.result.now c.meet.new.self c.in-Ok.met at
-    ∙ (c.in-Ok.ensures.answer ∙ fed_answer-nth (extent_bytes g.S.Shape.shape) c.args.self.now.timeout c.args.source (record_of c.args.frame.now) ports c.args.place c.index_mut-port.result.now at)
+    ∙ (c.in-Ok.ensures.answer ∙ port_answer-nth (extent_bytes g.S.Shape.shape) c.args.self.now.timeout c.args.source (record_of c.args.frame.now) ports c.args.place c.index_mut-port.result.now at)
 
 pub returns-in-Err-clause-keeps : goal.returns-in-Err-clause-keeps
 returns-in-Err-clause-keeps g c =
