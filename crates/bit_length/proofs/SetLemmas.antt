@@ -372,6 +372,10 @@ own_runs s t others last v set view at = subst (λ u. AreRunsOf u (others ++ las
       let w = subst (λ l. Same (Has l) (InSome s (others ++ last ∷ []))) view (members_are s (others ++ last ∷ []) (omega (arith, (last_run s others last set).0)) set.each) n in (w.1, w.0);
 })
 
+-- the runs of a set, where its step is known as another number
+pub wide_runs : (s w : ℕ) (runs : List Run) (S : Numbers) → w ≡ s → AreRunsOf s runs S → AreRunsOf w runs S
+wide_runs s w runs S e r = subst (λ u. AreRunsOf u runs S) (sym e) r
+
 -- a number and 0
 pub zero_and : (k : ℕ) (S T : Numbers) → Same (Only k) S → Same (Only 0) T → Same (InRun k (record { residue = 0; first = 0; last = 1 })) (Joins S T)
 zero_and k S T a b n = (there, back)

@@ -189,6 +189,14 @@ pub sum_short : (s : ℕ) (a b : Run) → ((m n : ℕ) → InRun s a m → InRun
 sum_short s a b short oa ob =
     short (a.residue + s * a.last) (b.residue + s * b.last) (a.last, oa, omega arith, refl) (b.last, ob, omega arith, refl)
 
+pub factor_positive : (a b c : ℕ) → a * b ≡ c → 0 < c → 0 < b
+factor_positive a zero c e p = absurd (omega arith)
+factor_positive a (suc b) c e p = omega arith
+
+pub wide_short : (s w : ℕ) (a b : Run) → ((m n : ℕ) → InRun s a m → InRun w b n → m + n ≤ 2 ^ 32) → a.first ≤ a.last → b.first ≤ b.last → a.residue + s * a.last + (b.residue + w * b.last) ≤ 2 ^ 32
+wide_short s w a b short oa ob =
+    short (a.residue + s * a.last) (b.residue + w * b.last) (a.last, oa, omega arith, refl) (b.last, ob, omega arith, refl)
+
 pub pad_short : (s to : ℕ) (runs : List Run) (i : ℕ) → i < length runs → All (IsRun s) runs → ((n : ℕ) → Pads (InSome s runs) to n → n ≤ 2 ^ 32) → padded to ((get_or runs i no_run).residue + s * (get_or runs i no_run).last) ≤ 2 ^ 32
 pad_short s to runs i lt all short =
     let r : Run = get_or runs i no_run in

@@ -12,7 +12,7 @@ use crate::residues::{residues, unmarked};
 use crate::run::Run;
 use crate::search::run_with;
 use crate::steps::{common_divisor, common_multiple};
-use crate::sums::{moved, pads, sums};
+use crate::sums::{moved, pads, sums, wide_sums};
 use crate::{LONGEST, LengthError};
 use cy_bits::{List, NoMemory, TryCopy};
 use std::alloc::Global;
@@ -428,7 +428,12 @@ impl LengthSet {
             let others = self.others.as_slice();
             return moved(self.alloc(), step, one, others, &self.last);
         }
-        sums(self.alloc(), step, &[*one], &self.runs_at(step)?)
+        match classes(step, self.step) {
+            Some(many) if many <= one.count() => {
+                wide_sums(self.alloc(), step, many, one, &self.runs_at(self.step)?)
+            }
+            _ => sums(self.alloc(), step, &[*one], &self.runs_at(step)?),
+        }
     }
 
     /// The runs of all sums of a member each, at a step.
