@@ -2,7 +2,7 @@
 use Rattle.std.proofs.Common.{◌≡◌, ℕ, zero, suc, ◌+◌, ◌-◌, ◌*◌, ◌/◌, ◌%◌, ◌^◌, ◌<◌, ◌≤◌, ◌⊎◌, ◌↔◌, inl, inr, refl, sym, ap, ◌∙◌, subst, arith, min, max, Option, Some, None}
 use Rattle.std.proofs.lemmas.Bool.{cases_lt}
 use Rattle.std.proofs.lemmas.Nat.{mod-mul-add}
-use Rattle.std.proofs.Math.Nat.{mul-le-mul_left, mul-le-mul_right}
+use Rattle.std.proofs.Math.Nat.{mul-le-mul_left, mul-le-mul_right, mul-div-le, le-div_iff_mul-le}
 use Rattle.bit_length.specs.declared.run.Run.{Run}
 use Rattle.bit_length.specs.Lengths.{Same, Only, Sums, Repeats, IsNext}
 use Rattle.bit_length.specs.Runs.{IsRun, InRun}
@@ -238,3 +238,68 @@ times_repeats s r n (a, b, c) k = (
   where
     carry : Same (InRun s (times_carried s r n)) (InRun s (times r n))
     carry = carried s (times_carried s r n) (times r n) (r.residue * n / s) (omega arith) refl refl
+
+-- ---- the sums of a run and one of a multiple of its step
+
+-- nothing carried over
+abbrev wide : ℕ → Run → Run → Run
+wide m a o = record {
+  residue = a.residue + o.residue;
+  first = a.first + m * o.first;
+  last = a.last + m * o.last;
+}
+
+-- each quotient between the ends is a sum: where the first run has no fewer members than the step
+-- is wider, they leave no gap
+wide_sums : (s m : ℕ) (a o : Run) → 0 < m → a.first + m ≤ a.last + 1 → o.first ≤ o.last → Same (InRun s (wide m a o)) (Sums (InRun s a) (InRun (s * m) o))
+wide_sums s m a o pm long oo n = (there, back)
+  where
+    at : (t p q : ℕ) → n ≡ a.residue + o.residue + s * t → t ≡ p + m * q → a.first ≤ p → p ≤ a.last → o.first ≤ q → q ≤ o.last → Sums (InRun s a) (InRun (s * m) o) n
+    at t p q e f la ha lo ho = (
+      a.residue + s * p,
+      o.residue + s * m * q,
+      (p, la, ha, refl),
+      (q, lo, ho, refl),
+      let g : s * t ≡ s * (p + m * q) = ap (λ x. s * x) f in omega arith,
+    )
+
+    there : InRun s (wide m a o) n → Sums (InRun s a) (InRun (s * m) o) n
+    there (t, low, high, e) = elim (cases_lt o.last ((t - a.first) / m)) [
+      | inl h ↦
+          let i : o.last * m ≤ t - a.first = (le-div_iff_mul-le pm).0 (omega arith) in
+          at t (t - m * o.last) o.last e (omega arith) (omega arith) (omega arith) oo (omega arith)
+      | inr h ↦
+          let d : m * ((t - a.first) / m) ≤ t - a.first = mul-div-le (t - a.first) m in
+          let r : (t - a.first) % m < m = omega arith in
+          let w : t - a.first ≡ m * ((t - a.first) / m) + (t - a.first) % m = omega arith in
+          let l : o.first ≤ (t - a.first) / m = (le-div_iff_mul-le pm).1 (omega arith) in
+          at t (t - m * ((t - a.first) / m)) ((t - a.first) / m) e (omega arith) (omega arith) (omega arith) l h
+    ]
+
+    back : Sums (InRun s a) (InRun (s * m) o) n → InRun s (wide m a o) n
+    back (x, y, (p, lp, hp, ep), (q, lq, hq, eq), e) =
+        let f : m * o.first ≤ m * q = mul-le-mul_left m lq in
+        let g : m * q ≤ m * o.last = mul-le-mul_left m hq in
+        let h : s * m * q ≡ s * (m * q) = omega arith in (p + m * q, omega arith, omega arith, omega arith)
+
+abbrev pub wide_carried : ℕ → ℕ → Run → Run → Run
+wide_carried s m a o = record {
+  residue = (a.residue + o.residue) % s;
+  first = a.first + m * o.first + (a.residue + o.residue) / s;
+  last = a.last + m * o.last + (a.residue + o.residue) / s;
+}
+
+pub wide_carried_sums : (s m : ℕ) (a o : Run) → 0 < s → 0 < m → a.first + m ≤ a.last + 1 → o.first ≤ o.last → Same (InRun s (wide_carried s m a o)) (Sums (InRun s a) (InRun (s * m) o))
+wide_carried_sums s m a o ps pm long oo n = (
+  λ h. (wide_sums s m a o pm long oo n).0 ((carry n).0 h),
+  λ h. (carry n).1 ((wide_sums s m a o pm long oo n).1 h),
+)
+  where
+    carry : Same (InRun s (wide_carried s m a o)) (InRun s (wide m a o))
+    carry = carried s (wide_carried s m a o) (wide m a o) ((a.residue + o.residue) / s) (omega arith) refl refl
+
+pub wide_last : (s m : ℕ) (a o : Run) → 0 < s → a.residue + s * a.last + (o.residue + s * m * o.last) ≤ 2 ^ 32 → a.last + m * o.last + (a.residue + o.residue) / s ≤ 2 ^ 32
+wide_last s m a o p short =
+    let one : 1 * (a.last + m * o.last + (a.residue + o.residue) / s) ≤ s * (a.last + m * o.last + (a.residue + o.residue) / s) = mul-le-mul_right (a.last + m * o.last + (a.residue + o.residue) / s) (omega arith) in
+    let d : s * ((a.residue + o.residue) / s) ≤ a.residue + o.residue = mul-div-le (a.residue + o.residue) s in
+    omega arith

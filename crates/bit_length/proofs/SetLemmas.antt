@@ -244,6 +244,15 @@ sums_only n S T e = sums_alike (Only n) T S S e (λ k. (λ x. x, λ x. x))
 pub sums_only_right : (n : ℕ) (S T : Numbers) → Same (Only n) T → Same (Sums (Only n) S) (Sums S T)
 sums_only_right n S T e = same_join (Sums (Only n) S) (Sums T S) (Sums S T) (sums_only n S T e) (sums_turned T S)
 
+pub sums_left : (R S T : Numbers) → Same R T → Same (Sums R S) (Sums T S)
+sums_left R S T e = sums_alike R T S S e (λ k. (λ x. x, λ x. x))
+
+pub sums_right : (R S T : Numbers) → Same R T → Same (Sums R S) (Sums S T)
+sums_right R S T e = same_join (Sums R S) (Sums T S) (Sums S T) (sums_left R S T e) (sums_turned T S)
+
+pub runs_same : (s : ℕ) (runs : List Run) (S T : Numbers) → Same S T → AreRunsOf s runs S → AreRunsOf s runs T
+runs_same s runs S T e r = record { each = r.each; same = same_join (InSome s runs) S T r.same e }
+
 pub pads_alike : (S S' : Numbers) (to : ℕ) → Same S S' → Same (Pads S to) (Pads S' to)
 pads_alike S S' to e n = (λ (a, x, g). (a, (e a).0 x, g), λ (a, x, g). (a, (e a).1 x, g))
 
@@ -350,6 +359,22 @@ one_member s m others last v set view none one is n = (
       let same : q ≡ last.last = omega arith in
       e ∙ ap (λ x. last.residue + s * x) same ∙ sym is,
 )
+
+-- the runs of a set at its own step
+pub own_parts : (s t : ℕ) (others : List Run) (last : Run) (v : List ℕ) → AreRuns s (others ++ last ∷ []) → members_of s (others ++ last ∷ []) ≡ v → s ≡ t → Same (Has v) (InSome t (last ∷ others))
+own_parts s t others last v set view at =
+    subst (λ u. Same (Has v) (InSome u (last ∷ others))) at (value_parts s others last v set view)
+
+pub own_runs : (s t : ℕ) (others : List Run) (last : Run) (v : List ℕ) → AreRuns s (others ++ last ∷ []) → members_of s (others ++ last ∷ []) ≡ v → s ≡ t → AreRunsOf t (others ++ last ∷ []) (Has v)
+own_runs s t others last v set view at = subst (λ u. AreRunsOf u (others ++ last ∷ []) (Has v)) at (record {
+  each = set.each;
+  same = λ n.
+      let w = subst (λ l. Same (Has l) (InSome s (others ++ last ∷ []))) view (members_are s (others ++ last ∷ []) (omega (arith, (last_run s others last set).0)) set.each) n in (w.1, w.0);
+})
+
+-- the runs of a set, where its step is known as another number
+pub wide_runs : (s w : ℕ) (runs : List Run) (S : Numbers) → w ≡ s → AreRunsOf s runs S → AreRunsOf w runs S
+wide_runs s w runs S e r = subst (λ u. AreRunsOf u runs S) (sym e) r
 
 -- a number and 0
 pub zero_and : (k : ℕ) (S T : Numbers) → Same (Only k) S → Same (Only 0) T → Same (InRun k (record { residue = 0; first = 0; last = 1 })) (Joins S T)

@@ -6,10 +6,10 @@ use Rattle.std.proofs.lemmas.List.{take_more, take-append-drop}
 use Rattle.std.proofs.Math.Nat.{mul-le-mul_left, add-mul-div_right, add-mul-mod_self_left, mod-mod_of_dvd}
 use Rattle.std.proofs.lemmas.Nat.Gcd.{dvd_of_mod-eq-zero}
 use Rattle.bit_length.specs.declared.run.Run.{Run}
-use Rattle.bit_length.specs.Lengths.{Numbers, Same, Sums, Joins, Pads, padded, SomeLeaves}
-use Rattle.bit_length.specs.Runs.{IsRun, InRun, InSome, Adds, AreRunsOf}
-use Rattle.bit_length.proofs.MemberLemmas.{InSome-push, Adds-push, Adds-join, Adds-same}
-use Rattle.bit_length.proofs.SetLemmas.{no_run, InSome-at, append_means}
+use Rattle.bit_length.specs.Lengths.{Numbers, Has, Same, Sums, Joins, Pads, padded, SomeLeaves}
+use Rattle.bit_length.specs.Runs.{IsRun, InRun, InSome, Adds, AreRuns, AreRunsOf, members_of}
+use Rattle.bit_length.proofs.MemberLemmas.{quotient_of, InSome-push, Adds-push, Adds-join, Adds-same}
+use Rattle.bit_length.proofs.SetLemmas.{no_run, InSome-at, append_means, value_parts}
 
 -- a multiple of `to` passes through padding
 pub padded_past : (to x k : ℕ) → 0 < to → padded to (x + to * k) ≡ padded to x + to * k
@@ -189,7 +189,52 @@ pub sum_short : (s : ℕ) (a b : Run) → ((m n : ℕ) → InRun s a m → InRun
 sum_short s a b short oa ob =
     short (a.residue + s * a.last) (b.residue + s * b.last) (a.last, oa, omega arith, refl) (b.last, ob, omega arith, refl)
 
+pub factor_positive : (a b c : ℕ) → a * b ≡ c → 0 < c → 0 < b
+factor_positive a zero c e p = absurd (omega arith)
+factor_positive a (suc b) c e p = omega arith
+
+pub wide_short : (s w : ℕ) (a b : Run) → ((m n : ℕ) → InRun s a m → InRun w b n → m + n ≤ 2 ^ 32) → a.first ≤ a.last → b.first ≤ b.last → a.residue + s * a.last + (b.residue + w * b.last) ≤ 2 ^ 32
+wide_short s w a b short oa ob =
+    short (a.residue + s * a.last) (b.residue + w * b.last) (a.last, oa, omega arith, refl) (b.last, ob, omega arith, refl)
+
 pub pad_short : (s to : ℕ) (runs : List Run) (i : ℕ) → i < length runs → All (IsRun s) runs → ((n : ℕ) → Pads (InSome s runs) to n → n ≤ 2 ^ 32) → padded to ((get_or runs i no_run).residue + s * (get_or runs i no_run).last) ≤ 2 ^ 32
 pad_short s to runs i lt all short =
     let r : Run = get_or runs i no_run in
     short (padded to ((get_or runs i no_run).residue + s * (get_or runs i no_run).last)) ((get_or runs i no_run).residue + s * (get_or runs i no_run).last, InSome-at s runs i ((get_or runs i no_run).residue + s * (get_or runs i no_run).last) lt ((get_or runs i no_run).last, (All-get_or (IsRun s) runs i no_run lt all).1, omega arith, refl), refl)
+
+-- ---- members that are multiples
+
+multiple_of : (s to r q : ℕ) → s % to ≡ 0 → r % to ≡ 0 → (r + s * q) % to ≡ 0
+multiple_of s to r q a b =
+    let e : s ≡ to * (s / to) = omega arith in
+    let f : s * q ≡ to * (s / to * q) = ap (λ t. t * q) e ∙ omega arith in
+    ap (λ t. (r + t) % to) f ∙ add-mul-mod_self_left r to (s / to * q) ∙ b
+
+padded_multiple : (to n : ℕ) → 0 < to → n % to ≡ 0 → padded to n ≡ n
+padded_multiple to n p m =
+    let e : n ≡ to * (n / to) = omega arith in
+    let f : n + (to - 1) ≡ to - 1 + to * (n / to) = omega arith in
+    ap (λ t. t * to) (quotient_of (to - 1) to (n / to) (n + (to - 1)) (omega arith) f) ∙ omega arith
+
+all_multiples : (s to : ℕ) (runs : List Run) → s % to ≡ 0 → ((k : ℕ) → k < length runs → (get_or runs k no_run).residue % to ≡ 0) → (n : ℕ) → InSome s runs n → n % to ≡ 0
+all_multiples s to [] a each n h = absurd h
+all_multiples s to (r ∷ runs) a each n (inl (q, low, high, e)) =
+    ap (λ x. x % to) e ∙ multiple_of s to r.residue q a (each 0 (omega arith))
+all_multiples s to (r ∷ runs) a each n (inr h) =
+    all_multiples s to runs a (λ k lt. each (suc k) (omega arith)) n h
+
+pads_nothing : (S : Numbers) (to : ℕ) → 0 < to → ((n : ℕ) → S n → n % to ≡ 0) → Same S (Pads S to)
+pads_nothing S to p all n = (
+  λ h. (n, h, sym (padded_multiple to n p (all n h))),
+  λ (m, h, e). subst S (sym (e ∙ padded_multiple to m p (all m h))) h,
+)
+
+-- where the step and all residues are multiples of `to`
+pub all_padded : (s to : ℕ) (others : List Run) (last : Run) (v : List ℕ) → AreRuns s (others ++ last ∷ []) → members_of s (others ++ last ∷ []) ≡ v → 0 < to → s % to ≡ 0 → last.residue % to ≡ 0 →
+    ((k : ℕ) → k < length others → (get_or others k no_run).residue % to ≡ 0) → Same (Has v) (Pads (Has v) to)
+all_padded s to others last v set view p a b each =
+    pads_nothing (Has v) to p (λ n h. all_multiples s to (last ∷ others) a every n ((value_parts s others last v set view n).0 h))
+  where
+    every : (k : ℕ) → k < length (last ∷ others) → (get_or (last ∷ others) k no_run).residue % to ≡ 0
+    every zero lt = b
+    every (suc k) lt = each k (omega arith)

@@ -76,7 +76,7 @@ fn stretches(alloc: Global, runs: &[Run], step: u64, finer: u64) -> Result<Vec<S
     requires runs { All (IsRun step) runs.now }
     requires positive { 0 < finer }
 {
-    let mut stretches = Vec::new(alloc);
+    let mut stretches = Vec::with_capacity(alloc, runs.len())?;
     for run in runs {
         stretches.push(Stretch {
             class: run.residue % finer,
@@ -91,7 +91,7 @@ fn stretches(alloc: Global, runs: &[Run], step: u64, finer: u64) -> Result<Vec<S
 
 /// The longest stretch of each residue.
 fn longest(alloc: Global, stretches: &[Stretch]) -> Result<Vec<Stretch>, NoMemory> {
-    let mut longest: Vec<Stretch> = Vec::new(alloc);
+    let mut longest: Vec<Stretch> = Vec::with_capacity(alloc, stretches.len())?;
     for stretch in stretches {
         match longest.pop() {
             Some(last) if last.residue == stretch.residue => longest.push(last.longer(*stretch))?,

@@ -1,4 +1,4 @@
-ghost use Rattle.std.specs.Prelude.{◌≡◌, ℕ, ◌+◌, ◌*◌, ◌^◌, ◌<◌, ◌≤◌, OnOk};
+ghost use Rattle.std.specs.Prelude.{◌≡◌, ℕ, ◌+◌, ◌*◌, ◌^◌, ◌<◌, ◌≤◌, IfSome, OnOk};
 ghost use Rattle.bit_length.specs.Runs.{IsRun, InRun, Adds};
 
 use crate::run::Run;
@@ -38,15 +38,27 @@ fn push_singles(parts: &mut Vec<Run>, run: &Run, step: u64, wide: u64) -> Result
     Ok(())
 }
 
-/// How many runs of another step a run of one step becomes.
-pub fn parts_of(run: &Run, step: u64, wide: u64) -> u64
-    requires { IsRun step run.now }
+/// How many classes a run of one step has at another, where the other is a multiple.
+pub fn classes(step: u64, wide: u64) -> Option<u64>
+    requires { 0 < step }
+    ensures { IfSome result (λ many. step * many ≡ wide) }
+{
+    if wide % step == 0 {
+        Some(wide / step)
+    } else {
+        None
+    }
+}
+
+/// How many runs of another step a run of one step becomes, with so many classes.
+pub fn parts_of(run: &Run, classes: Option<u64>) -> u64
+    requires order { run.now.first ≤ run.now.last }
+    requires short { run.now.last ≤ 2 ^ 32 }
 {
     let count = run.count();
-    if wide % step == 0 {
-        count.min(wide / step)
-    } else {
-        count
+    match classes {
+        Some(many) => count.min(many),
+        None => count,
     }
 }
 
@@ -57,12 +69,12 @@ pub fn push_parts(parts: &mut Vec<Run>, run: &Run, step: u64, wide: u64) -> Resu
     requires wide { 0 < wide }
     ensures { OnOk result (Adds wide parts.old.items parts.new.items (InRun step run.now)) }
 {
-    if parts_of(run, step, wide) > MOST_PARTS.saturating_sub(parts.len() as u64) {
+    let classes = classes(step, wide);
+    if parts_of(run, classes) > MOST_PARTS.saturating_sub(parts.len() as u64) {
         return Err(NoMemory);
     }
-    let many = wide / step;
-    if wide % step == 0 && many <= run.count() {
-        return push_classes(parts, run, step, many);
+    match classes {
+        Some(many) if many <= run.count() => push_classes(parts, run, step, many),
+        _ => push_singles(parts, run, step, wide),
     }
-    push_singles(parts, run, step, wide)
 }

@@ -116,6 +116,28 @@ impl Run {
         }
     }
 
+    /// The run of all sums of a member of this run and of one of the step `step * many`, where this
+    /// run has no fewer members than `many`, so that the sums leave no gap.
+    pub fn plus_wide(&self, step: u64, many: u64, o: &Run) -> Run
+        requires run { IsRun step self.now }
+        requires positive { 0 < many }
+        requires long { self.now.first + many ≤ self.now.last + 1 }
+        requires other { IsRun (step * many) o.now }
+        requires short { self.now.residue + step * self.now.last
+            + (o.now.residue + step * many * o.now.last) ≤ 2 ^ 32 }
+        ensures run { IsRun step result }
+        ensures sums { Same (InRun step result)
+            (Sums (InRun step self.now) (InRun (step * many) o.now)) }
+    {
+        let residue = self.residue + o.residue;
+        let carry = residue / step;
+        Run {
+            residue: residue % step,
+            first: self.first + many * o.first + carry,
+            last: self.last + many * o.last + carry,
+        }
+    }
+
     /// The run of all sums of `n` members, at a step.
     pub fn times(&self, step: u64, n: u32) -> Run
         requires run { IsRun step self.now }

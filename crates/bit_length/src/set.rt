@@ -7,12 +7,12 @@ ghost use Rattle.bit_length.specs.Members.{lesser_of};
 
 use crate::coarse::coarse_runs;
 use crate::merge::{Merged, merge_runs};
-use crate::parts::{MOST_PARTS, parts_of, push_parts};
+use crate::parts::{MOST_PARTS, classes, parts_of, push_parts};
 use crate::residues::{residues, unmarked};
 use crate::run::Run;
 use crate::search::run_with;
 use crate::steps::{common_divisor, common_multiple};
-use crate::sums::{moved, pads, sums};
+use crate::sums::{moved, pads, sums, wide_sums};
 use crate::{LONGEST, LengthError};
 use cy_bits::{List, NoMemory, TryCopy};
 use std::alloc::Global;
@@ -185,6 +185,11 @@ impl LengthSet {
         ensures some { IfOk result (λ _. (n : ℕ) × Has self.now n) }
     {
         let mut parts = Vec::with_capacity(self.alloc(), self.parts_at(step)?)?;
+        if step == self.step {
+            parts.extend_from_slice(self.others.as_slice())?;
+            parts.push(self.last)?;
+            return Ok(parts);
+        }
         for run in &self.others {
             push_parts(&mut parts, run, self.step, step)?;
         }
@@ -203,9 +208,10 @@ impl LengthSet {
 
     /// How many runs of a step `runs_at` would make.
     fn cost(&self, step: u64) -> u64 {
-        let mut cost = parts_of(&self.last, self.step, step);
+        let classes = classes(self.step, step);
+        let mut cost = parts_of(&self.last, classes);
         for run in &self.others {
-            cost = cost.saturating_add(parts_of(run, self.step, step));
+            cost = cost.saturating_add(parts_of(run, classes));
         }
         cost
     }
@@ -244,6 +250,9 @@ impl LengthSet {
     fn common_step(&self, o: &LengthSet) -> u64
         ensures { 0 < result }
     {
+        if self.step == o.step {
+            return self.step;
+        }
         if self.is_single() {
             return o.step;
         }
@@ -283,8 +292,7 @@ impl LengthSet {
         if finer == 0 || !self.meets_all(finer) {
             return Ok(None);
         }
-        let mut runs = Vec::from_slice(self.alloc(), self.others.as_slice())?;
-        runs.push(self.last)?;
+        let runs = self.runs_at(self.step)?;
         let coarse = coarse_runs(self.alloc(), runs.as_slice(), self.step, finer)?;
         let Some(coarse) = coarse else {
             return Ok(None);
@@ -408,6 +416,41 @@ impl LengthSet {
         LengthSet::merged(self.step, runs)
     }
 
+    /// The runs of all sums of a member of a run and a member of the set, at a step: in order where
+    /// the step is the set's.
+    fn sums_with(&self, step: u64, one: &Run) -> Result<Vec<Run>, NoMemory>
+        requires run { IsRun step one.now }
+        requires short { (n : ℕ) → Sums (InRun step one.now) (Has self.now) n → n ≤ 2 ^ 32 }
+        ensures { IfOk result
+            (λ r. AreRunsOf step r.items (Sums (InRun step one.now) (Has self.now))) }
+    {
+        if self.step == step {
+            let others = self.others.as_slice();
+            return moved(self.alloc(), step, one, others, &self.last);
+        }
+        match classes(step, self.step) {
+            Some(many) if many <= one.count() => {
+                wide_sums(self.alloc(), step, many, one, &self.runs_at(self.step)?)
+            }
+            _ => sums(self.alloc(), step, &[*one], &self.runs_at(step)?),
+        }
+    }
+
+    /// The runs of all sums of a member each, at a step.
+    fn sums_at(&self, step: u64, o: &LengthSet) -> Result<Vec<Run>, NoMemory>
+        requires positive { 0 < step }
+        requires short { (n : ℕ) → Sums (Has self.now) (Has o.now) n → n ≤ 2 ^ 32 }
+        ensures { IfOk result (λ r. AreRunsOf step r.items (Sums (Has self.now) (Has o.now))) }
+    {
+        if let Some(run) = o.as_run(step) {
+            return self.sums_with(step, &run);
+        }
+        if let Some(run) = self.as_run(step) {
+            return o.sums_with(step, &run);
+        }
+        sums(self.alloc(), step, &self.runs_at(step)?, &o.runs_at(step)?)
+    }
+
     /// All sums of a member each.
     fn sum_within(&self, o: &LengthSet) -> Result<LengthSet, NoMemory>
         requires { (n : ℕ) → Sums (Has self.now) (Has o.now) n → n ≤ 2 ^ 32 }
@@ -423,7 +466,7 @@ impl LengthSet {
         if let Some(n) = self.single() {
             return o.moved(n);
         }
-        let runs = sums(self.alloc(), step, &self.runs_at(step)?, &o.runs_at(step)?)?;
+        let runs = self.sums_at(step, o)?;
         LengthSet::from_runs(step, runs, common_divisor(self.step, o.step))
     }
 
@@ -465,12 +508,31 @@ impl LengthSet {
         }
     }
 
+    /// Whether the step and all residues are multiples of `to`, so that all members are.
+    fn is_padded(&self, to: u64) -> bool
+        requires { 0 < to }
+        ensures { IsTrue result → Same (Has self.now) (Pads (Has self.now) to) }
+    {
+        if self.step % to != 0 || self.last.residue % to != 0 {
+            return false;
+        }
+        for run in &self.others {
+            if run.residue % to != 0 {
+                return false;
+            }
+        }
+        true
+    }
+
     /// Each member, brought up to a multiple of `to`.
     fn pad_within(&self, to: u64) -> Result<LengthSet, NoMemory>
         requires positive { 0 < to }
         requires short { (n : ℕ) → Pads (Has self.now) to n → n ≤ 2 ^ 32 }
         ensures { IfOk result (λ s. Same (Has s) (Pads (Has self.now) to)) }
     {
+        if self.is_padded(to) {
+            return self.copy_to(self.alloc());
+        }
         let step = self.step_for(to);
         if let Some(run) = self.as_run(step) {
             return Ok(LengthSet::one(self.alloc(), step, run.padded(step, to)));

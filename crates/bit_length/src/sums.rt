@@ -41,6 +41,31 @@ pub fn sums(alloc: Global, step: u64, a: &[Run], b: &[Run]) -> Result<Vec<Run>, 
     Ok(sums)
 }
 
+/// The runs of all sums of a member of one run and of some runs of the step `step * many`, where the
+/// one has no fewer members than `many`: one run for each of some.
+pub fn wide_sums(
+    alloc: Global,
+    step: u64,
+    many: u64,
+    one: &Run,
+    runs: &[Run],
+) -> Result<Vec<Run>, NoMemory>
+    requires one { IsRun step one.now }
+    requires positive { 0 < many }
+    requires long { one.now.first + many ≤ one.now.last + 1 }
+    requires runs { All (IsRun (step * many)) runs.now }
+    requires short { (m n : ℕ) → InRun step one.now m → InSome (step * many) runs.now n
+        → m + n ≤ 2 ^ 32 }
+    ensures { IfOk result
+        (λ r. AreRunsOf step r.items (Sums (InRun step one.now) (InSome (step * many) runs.now))) }
+{
+    let mut sums = Vec::with_capacity(alloc, runs.len())?;
+    for run in runs {
+        sums.push(one.plus_wide(step, many, run))?;
+    }
+    Ok(sums)
+}
+
 /// How many of some runs in order come behind the last of all, where a number is added that brings
 /// those of this residue and above past the step: those below it, if it brings the last past.
 fn behind_last(others: &[Run], last: &Run, residue: u64) -> usize

@@ -1,5 +1,6 @@
-use Rattle.std.proofs.Common.{◌+◌, ◌*◌, refl, arith}
-use Rattle.bit_length.specs.Lengths.{Has, Pads, padded}
+use Rattle.std.proofs.Common.{◌≡◌, ◌+◌, ◌*◌, refl, rules, sym, subst, arith}
+use Rattle.std.proofs.lemmas.Result.{IfOk-weaker}
+use Rattle.bit_length.specs.Lengths.{Has, Same, Pads, padded}
 use Rattle.bit_length.specs.Runs.{InRun, InSome}
 use Rattle.bit_length.proofs.SetLemmas.{done, some_of, pads_alike, some_pad, same_join}
 use Rattle.bit_length.proofs.set.LengthSet.pad_within.Goals as goal
@@ -34,3 +35,9 @@ returns-in-Some c =
     same_join (Has c.one.result) (InRun s c.padded.result) (Pads (Has c.args.self.now) c.args.to) c.one.ensures
     (same_join (InRun s c.padded.result) (Pads (InRun s c.in-Some.run') c.args.to) (Pads (Has c.args.self.now) c.args.to) c.padded.ensures.pads
     (pads_alike (InRun s c.in-Some.run') (Has c.args.self.now) c.args.to c.in-Some.ensures.members))
+
+pub returns-then-is_padded : goal.returns-then-is_padded
+returns-then-is_padded c =
+    let has = Has c.args.self.now in
+    IfOk-weaker c.copy_to.result (λ s. s ≡ c.args.self.now) (λ s. Same (Has s) (Pads has c.args.to))
+    (λ s e. subst (λ l. Same (Has l) (Pads has c.args.to)) (sym e) (c.if-is_padded.ensures (search rules))) c.copy_to.ensures

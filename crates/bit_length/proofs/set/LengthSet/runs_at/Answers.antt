@@ -1,7 +1,7 @@
-use Rattle.std.proofs.Common.{◌+◌, take, get_or, []}
+use Rattle.std.proofs.Common.{◌+◌, sym, take, get_or, []}
 use Rattle.bit_length.specs.Lengths.{Has, Joins}
 use Rattle.bit_length.specs.Runs.{InRun, InSome}
-use Rattle.bit_length.proofs.SetLemmas.{no_run, value_turned, other_run, last_run, some_member}
+use Rattle.bit_length.proofs.SetLemmas.{no_run, own_runs, value_turned, other_run, last_run, some_member}
 use Rattle.bit_length.proofs.MemberLemmas.{Adds-join, Adds-none, Adds-same}
 use Rattle.bit_length.proofs.SumLemmas.{taken_more, from_nothing}
 use Rattle.bit_length.proofs.set.LengthSet.runs_at.Goals as goal
@@ -40,3 +40,11 @@ returns-clause-runs c =
     let i = c.loop-run.run-index in
     let done = rw c.deref-run-items.ensures.value at c.loop-run-test.false in
     from_nothing c.args.step c.push_parts-2.new.parts.items (Has c.args.self.now) (Adds-same c.args.step [] c.push_parts-2.new.parts.items (Joins (InSome s (take i others)) (InRun s last)) (Has c.args.self.now) (Adds-join c.args.step [] c.loop-run.parts.items c.push_parts-2.new.parts.items (InSome s (take i others)) (InRun s last) c.loop-run.invariant c.in_ok-push_parts-2.ensures) (value_turned s others last c.args.self.now i c.self.invariant c.self.view_is done))
+
+pub returns-then-step-self-clause-runs : goal.returns-then-step-self-clause-runs
+returns-then-step-self-clause-runs c =
+    rw (c.in_ok-push.ensures.items, c.in_ok-extend_from_slice.ensures.items, c.in_ok-parts.ensures.items, c.as_slice.ensures.value) (own_runs c.self.inside.step c.args.step c.self.inside.others.items c.self.inside.last c.args.self.now c.self.invariant c.self.view_is (sym c.if-step-self.true))
+
+pub returns-then-step-self-clause-some : goal.returns-then-step-self-clause-some
+returns-then-step-self-clause-some c =
+    some_member c.self.inside.step c.self.inside.others.items c.self.inside.last c.args.self.now c.self.invariant c.self.view_is
