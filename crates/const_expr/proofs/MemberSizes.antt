@@ -1,7 +1,7 @@
 -- The test of a length and the relation agree
 use Rattle.std.proofs.Common.{◌≡◌, ℕ, zero, suc, ◌+◌, ◌*◌, ◌-◌, ◌≤◌, ◌==◌, ◌&&◌, ◌||◌, nat_le, Bool, true, false, ◌⊎◌, inl, inr, refl, subst, arith}
 use Rattle.std.proofs.lemmas.Bool.{cases_lt}
-use Rattle.dsdl_types.specs.Schemas.{Sch, Flds, Simple, Fixed, Var, Struct, Union, End, Pad, Field, is_aligned, is_delimited, extent_of, prefix, width, variants}
+use Rattle.dsdl_types.specs.Schemas.{Sch, Flds, Simple, Fixed, Var, Struct, Union, End, Pad, Field, is_aligned, is_delimited, extent_of, length_field_bits, tag_bits, width, variants}
 use Rattle.dsdl_types.specs.Greatest.{up, from_lead}
 use Rattle.dsdl_types.specs.Lengths.{AsPart, InRow, Length, EndsAt, VariantLength, Size}
 use Rattle.const_expr.specs.Sizes.{some_to, is_part, in_row, is_length, ends_at, is_variant, is_size}
@@ -85,20 +85,20 @@ mutual
   length_tells (Var s cap) n =
       let size = is_part (is_delimited s) (extent_of s) (λ m. is_length s m) in
       let P = AsPart (is_delimited s) (extent_of s) (λ m. Length s m) in
-      along _ ((prefix cap ≤ n) × ((k : ℕ) × (k ≤ cap) × InRow P k (n - prefix cap))) (Length (Var s cap) n)
-      (both_tell (nat_le (prefix cap) n) (some_to cap (λ k. in_row size k (n - prefix cap))) (prefix cap ≤ n) ((k : ℕ) × (k ≤ cap) × InRow P k (n - prefix cap))
-      (most_tells (prefix cap) n)
-      (some_tells cap (λ k. in_row size k (n - prefix cap)) (λ k. InRow P k (n - prefix cap))
-      (λ k. row_tells size P (part_tells (is_delimited s) (extent_of s) (λ m. is_length s m) (λ m. Length s m) (λ m. length_tells s m)) k (n - prefix cap))))
-      (λ (le, (k, few, r)). (k, n - prefix cap, few, r, omega arith))
-      (λ (k, m, few, r, e). let d : m ≡ n - prefix cap = omega arith in (omega arith, (k, few, subst (InRow P k) d r)))
+      along _ ((length_field_bits cap ≤ n) × ((k : ℕ) × (k ≤ cap) × InRow P k (n - length_field_bits cap))) (Length (Var s cap) n)
+      (both_tell (nat_le (length_field_bits cap) n) (some_to cap (λ k. in_row size k (n - length_field_bits cap))) (length_field_bits cap ≤ n) ((k : ℕ) × (k ≤ cap) × InRow P k (n - length_field_bits cap))
+      (most_tells (length_field_bits cap) n)
+      (some_tells cap (λ k. in_row size k (n - length_field_bits cap)) (λ k. InRow P k (n - length_field_bits cap))
+      (λ k. row_tells size P (part_tells (is_delimited s) (extent_of s) (λ m. is_length s m) (λ m. Length s m) (λ m. length_tells s m)) k (n - length_field_bits cap))))
+      (λ (le, (k, few, r)). (k, n - length_field_bits cap, few, r, omega arith))
+      (λ (k, m, few, r, e). let d : m ≡ n - length_field_bits cap = omega arith in (omega arith, (k, few, subst (InRow P k) d r)))
   length_tells (Struct fs o) n =
       along _ ((m : ℕ) × (m ≤ n) × (EndsAt fs 0 m × (n ≡ up m))) (Length (Struct fs o) n)
       (some_tells n (λ m. ends_at fs 0 m && (n == up m)) (λ m. EndsAt fs 0 m × (n ≡ up m))
       (λ m. both_tell (ends_at fs 0 m) (n == up m) (EndsAt fs 0 m) (n ≡ up m) (ends_tell fs 0 m) (equal_tells n (up m))))
       (λ (m, le, (h, e)). (m, h, e)) (λ (m, h, e). (m, omega arith, (h, e)))
   length_tells (Union fs o) n =
-      let tag = prefix (variants fs - 1) in
+      let tag = tag_bits (variants fs) in
       along _ ((m : ℕ) × (m ≤ n) × (VariantLength fs m × (n ≡ up (tag + m)))) (Length (Union fs o) n)
       (some_tells n (λ m. is_variant fs m && (n == up (tag + m))) (λ m. VariantLength fs m × (n ≡ up (tag + m)))
       (λ m. both_tell (is_variant fs m) (n == up (tag + m)) (VariantLength fs m) (n ≡ up (tag + m)) (variant_tells fs m) (equal_tells n (up (tag + m)))))

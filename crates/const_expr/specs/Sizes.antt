@@ -1,7 +1,7 @@
 -- The lengths of a schema as a list.
 use Rattle.std.specs.Prelude.{ℕ, zero, suc, ◌+◌, ◌*◌, ◌-◌, ◌^◌, ◌==◌, ◌&&◌, ◌||◌, nat_le, Bool, true, false, List}
 use Rattle.bit_length.specs.Runs.{numbers_below}
-use Rattle.dsdl_types.specs.Schemas.{Sch, Flds, Simple, Fixed, Var, Struct, Union, End, Pad, Field, is_aligned, is_delimited, extent_of, prefix, width, variants}
+use Rattle.dsdl_types.specs.Schemas.{Sch, Flds, Simple, Fixed, Var, Struct, Union, End, Pad, Field, is_aligned, is_delimited, extent_of, length_field_bits, tag_bits, width, variants}
 use Rattle.dsdl_types.specs.Greatest.{up, from_lead}
 
 -- whether some number up to n passes a test
@@ -25,9 +25,9 @@ abbrev mutual
   pub is_length : Sch → ℕ → Bool
   is_length (Simple t) n = n == width t
   is_length (Fixed s k) n = in_row (is_part (is_delimited s) (extent_of s) (λ m. is_length s m)) k n
-  is_length (Var s cap) n = nat_le (prefix cap) n && some_to cap (λ k. in_row (is_part (is_delimited s) (extent_of s) (λ m. is_length s m)) k (n - prefix cap))
+  is_length (Var s cap) n = nat_le (length_field_bits cap) n && some_to cap (λ k. in_row (is_part (is_delimited s) (extent_of s) (λ m. is_length s m)) k (n - length_field_bits cap))
   is_length (Struct fs o) n = some_to n (λ m. ends_at fs 0 m && (n == up m))
-  is_length (Union fs o) n = some_to n (λ m. is_variant fs m && (n == up (prefix (variants fs - 1) + m)))
+  is_length (Union fs o) n = some_to n (λ m. is_variant fs m && (n == up (tag_bits (variants fs) + m)))
 
   -- whether fields that begin at the place p can end at n
   pub ends_at : Flds → ℕ → ℕ → Bool

@@ -81,7 +81,8 @@ fn set_in_set(xs: &[Const], ys: &[Const]) -> bool
 
 /// The length that a number is.
 fn length_of(x: Ratio) -> Option<u64>
-    ensures { MatchOption result ((n : ℕ) → n ≤ 2 ^ 32 → order_of x (whole (pos n)) ≢ Equal)
+    ensures { MatchOption result
+        ((n : ℕ) → n ≤ 2 ^ 32 → order_of x (whole (pos n)) ≢ Equal)
         (λ n. x ≡ whole (pos n)) }
 {
     if x.den() == 1 && 0 <= x.num() && x.num() < 1 << 64 {

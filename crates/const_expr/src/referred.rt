@@ -16,7 +16,8 @@ use std::alloc::Global;
 
 /// The namespaces of a full name: what stands in front of its last point.
 fn folders(name: &FullName) -> &[u8]
-    ensures { (short : List ℕ) → beside (cut_last 46 name.now) short ≡ result.now ++ 46 ∷ short }
+    ensures { (short : List ℕ) →
+        beside (cut_last 46 name.now) short ≡ result.now ++ 46 ∷ short }
 {
     let text = name.as_bytes();
     let mut i = text.len();

@@ -43,7 +43,9 @@ fn placed(answer: Result<Const, Why>, span: Span) -> Result<Const, ExprError>
 
 /// The left operand of a binary operator, or what stands in front of a point.
 fn left_of(expr: &Expr) -> Option<&Expr>
-    ensures { MatchOption result (has_left expr.now ≡ false) (λ left. IsLeftOf left.now expr.now) }
+    ensures { MatchOption result
+        (has_left expr.now ≡ false)
+        (λ left. IsLeftOf left.now expr.now) }
 {
     match &expr.node {
         ExprNode::Binary(_, left, _) | ExprNode::Member(left, _) => Some(left.get()),

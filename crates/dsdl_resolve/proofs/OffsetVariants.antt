@@ -6,7 +6,7 @@ use Rattle.bit_length.specs.declared.LengthError.{LengthError}
 use Rattle.dsdl_types.specs.Greatest.{longest_variant}
 use Rattle.dsdl_types.specs.Lengths.{VariantLength, Size}
 use Rattle.dsdl_types.specs.Rules.{AreFormed, IsFormed, NoPadding}
-use Rattle.dsdl_types.specs.Schemas.{Sch, Flds, End, Pad, Field, prefix, variants}
+use Rattle.dsdl_types.specs.Schemas.{Sch, Flds, End, Pad, Field, tag_bits, variants}
 use Rattle.dsdl_types.specs.Views.{Kind, Typed, Padding, with_field, in_order, named, flds, kind_of, sch, type_of}
 use Rattle.dsdl_types.specs.declared.schema.Field.{Field as FieldOf, out-Field}
 use Rattle.dsdl_types.proofs.Greatest.{variant_most}
@@ -132,8 +132,8 @@ pub all_variants : (fields : List FieldOf) (i : ℕ) (joined : List ℕ) → len
 all_variants fields i joined le same = subst (λ l. Same (Has joined) (VariantLength (flds l))) (take_all i fields le) same
 
 -- ---- the tag and a variant
-module _ (fields : List FieldOf) (tag joined : List ℕ) (v : ℕ) (count : v ≡ variants (flds fields)) (tags : Same (Has tag) (Only (prefix (v - 1)))) (same : Same (Has joined) (VariantLength (flds fields)))
-    (short : prefix (v - 1) + longest_variant (flds fields) ≤ 2 ^ 32) where
+module _ (fields : List FieldOf) (tag joined : List ℕ) (v : ℕ) (count : v ≡ variants (flds fields)) (tags : Same (Has tag) (Only (tag_bits v))) (same : Same (Has joined) (VariantLength (flds fields)))
+    (short : tag_bits v + longest_variant (flds fields) ≤ 2 ^ 32) where
   within_sum : (n : ℕ) → Sums (Has tag) (Has joined) n → n ≤ 2 ^ 32
   within_sum n (a, b, x, y, e) = omega (arith, (tags a).0 x, variant_most (flds fields) b ((same b).0 y), e, short)
 
@@ -141,21 +141,21 @@ module _ (fields : List FieldOf) (tag joined : List ℕ) (v : ℕ) (count : v �
   sum_short n h = within_sum n h
 
   abbrev IsSum : ℕ → Type 0
-  IsSum n = (m : ℕ) × (m ≤ n) × (VariantLength (flds fields) m × (n ≡ prefix (variants (flds fields) - 1) + m))
+  IsSum n = (m : ℕ) × (m ≤ n) × (VariantLength (flds fields) m × (n ≡ tag_bits (variants (flds fields)) + m))
 
   sum_tells : (n : ℕ) → Tells (is_offset true (flds fields) n) (IsSum n)
   sum_tells n =
-      some_tells n (λ m. is_variant (flds fields) m && (n == prefix (variants (flds fields) - 1) + m)) (λ m. VariantLength (flds fields) m × (n ≡ prefix (variants (flds fields) - 1) + m))
-      (λ m. both_tell (is_variant (flds fields) m) (n == prefix (variants (flds fields) - 1) + m) (VariantLength (flds fields) m) (n ≡ prefix (variants (flds fields) - 1) + m)
-      (variant_tells (flds fields) m) (equal_tells n (prefix (variants (flds fields) - 1) + m)))
+      some_tells n (λ m. is_variant (flds fields) m && (n == tag_bits (variants (flds fields)) + m)) (λ m. VariantLength (flds fields) m × (n ≡ tag_bits (variants (flds fields)) + m))
+      (λ m. both_tell (is_variant (flds fields) m) (n == tag_bits (variants (flds fields)) + m) (VariantLength (flds fields) m) (n ≡ tag_bits (variants (flds fields)) + m)
+      (variant_tells (flds fields) m) (equal_tells n (tag_bits (variants (flds fields)) + m)))
 
   there : (n : ℕ) → Sums (Has tag) (Has joined) n → IsSum n
   there n (a, b, x, y, e) =
-      let tag_is : a ≡ prefix (variants (flds fields) - 1) = (tags a).0 x ∙ ap (λ w. prefix (w - 1)) count in
+      let tag_is : a ≡ tag_bits (variants (flds fields)) = (tags a).0 x ∙ ap tag_bits count in
       (b, omega arith, ((same b).0 y, e ∙ ap (λ t. t + b) tag_is))
 
   back : (n : ℕ) → IsSum n → Sums (Has tag) (Has joined) n
-  back n (m, le, (x, e)) = (prefix (v - 1), m, (tags (prefix (v - 1))).1 refl, (same m).1 x, e ∙ ap (λ w. prefix (w - 1) + m) (sym count))
+  back n (m, le, (x, e)) = (tag_bits v, m, (tags (tag_bits v)).1 refl, (same m).1 x, e ∙ ap (λ w. tag_bits w + m) (sym count))
 
   pub are_union_offsets : (ns : List ℕ) → Ascend ns → Same (Has ns) (Sums (Has tag) (Has joined)) → ns ≡ offsets true fields
   are_union_offsets ns up sums =

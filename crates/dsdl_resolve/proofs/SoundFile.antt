@@ -15,7 +15,7 @@ use Rattle.dsdl_parse.specs.declared.statement.Statement.TheVariants as statemen
 use Rattle.dsdl_types.specs.Definitions.{IsDefinition, IsType, typed_count}
 use Rattle.dsdl_types.specs.Greatest.{up, longest_variant}
 use Rattle.dsdl_types.specs.Rules.{IsSchema, IsExtent}
-use Rattle.dsdl_types.specs.Schemas.{Flds, Struct, Union, prefix, variants, is_composite}
+use Rattle.dsdl_types.specs.Schemas.{Flds, Struct, Union, tag_bits, variants, is_composite}
 use Rattle.dsdl_types.specs.Views.{sch, flds, type_of}
 use Rattle.dsdl_types.specs.declared.namespace.Print.{Print}
 use Rattle.dsdl_types.specs.declared.schema.Body.{roll-Body}
@@ -85,14 +85,14 @@ module _ (fields : List Field) (n : ℕ) (sealed : Bool) (short : n ≤ 2 ^ 32) 
       let same : sch (struct_of fields n sealed) ≡ Struct (flds fields) (record { extent = n; sealed = sealed }) = ap type_of (kind_struct fields n sealed) in
       ((subst IsSchema (sym same) (((fits, short), h.formed), h.flat, omega (arith, h.few), (h.named, h.inner)), ap is_composite same), ap typed_count same)
 
-  union_greatest : (k : ℕ) (fs : Flds) → 2 ≤ k → greatest_union k fs ≡ up (prefix (k - 1) + longest_variant fs)
+  union_greatest : (k : ℕ) (fs : Flds) → 2 ≤ k → greatest_union k fs ≡ up (tag_bits k + longest_variant fs)
   union_greatest zero fs le = absurd (omega arith)
-  union_greatest (suc k) fs le = let e : k ≡ suc k - 1 = omega arith in ap (λ j. up (prefix j + longest_variant fs)) e
+  union_greatest (suc k) fs le = refl
 
   union_type : AreFine true fields → 2 ≤ variants (flds fields) → IsExtent sealed (greatest true fields) n → IsComposite (union_of fields n sealed) fields
   union_type h two fits =
       let same : sch (union_of fields n sealed) ≡ Union (flds fields) (record { extent = n; sealed = sealed }) = ap type_of (kind_union fields n sealed) in
-      let held : IsExtent sealed (up (prefix (variants (flds fields) - 1) + longest_variant (flds fields))) n = subst (λ g. IsExtent sealed g n) (union_greatest (variants (flds fields)) (flds fields) two) fits in
+      let held : IsExtent sealed (up (tag_bits (variants (flds fields)) + longest_variant (flds fields))) n = subst (λ g. IsExtent sealed g n) (union_greatest (variants (flds fields)) (flds fields) two) fits in
       ((subst IsSchema (sym same) (((held, short), two, h.packed refl, h.formed), h.flat, omega (arith, h.few), (h.named, h.inner)), ap is_composite same), ap typed_count same)
 
 enough : (ss : List Statement) (said : Said) → IsSound ss said → has_too_few_variants ss ≡ false → said.union ≡ true → 2 ≤ variants (flds said.fields)

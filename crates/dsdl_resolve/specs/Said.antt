@@ -5,7 +5,7 @@ use Rattle.const_expr.specs.Sizes.{some_to, ends_at, is_variant}
 use Rattle.const_expr.specs.declared.scope.NamedConst.{NamedConst}
 use Rattle.dsdl_types.specs.Greatest.{up, longest_fields, longest_variant}
 use Rattle.dsdl_types.specs.Rules.{nodes_of, nesting_of}
-use Rattle.dsdl_types.specs.Schemas.{Flds, prefix, variants}
+use Rattle.dsdl_types.specs.Schemas.{Flds, tag_bits, variants}
 use Rattle.dsdl_types.specs.Views.{flds}
 use Rattle.dsdl_types.specs.declared.schema.Field.{Field}
 
@@ -21,7 +21,7 @@ pub record Said : Type 0 where
 -- the greatest length of a union: of one without variants 0
 abbrev pub greatest_union : ℕ → Flds → ℕ
 greatest_union zero fs = 0
-greatest_union (suc k) fs = up (prefix k + longest_variant fs)
+greatest_union (suc k) fs = up (tag_bits (suc k) + longest_variant fs)
 
 -- the greatest length of a section with these fields
 abbrev pub greatest_in : Bool → Flds → ℕ
@@ -33,7 +33,7 @@ greatest union fields = greatest_in union (flds fields)
 
 -- whether n is one of the lengths, before padding: of a union the tag and a variant
 abbrev pub is_offset : Bool → Flds → ℕ → Bool
-is_offset true fs n = some_to n (λ m. is_variant fs m && (n == prefix (variants fs - 1) + m))
+is_offset true fs n = some_to n (λ m. is_variant fs m && (n == tag_bits (variants fs) + m))
 is_offset false fs n = ends_at fs 0 n
 
 -- the lengths that a section with these fields can have, before padding, ascending

@@ -72,7 +72,8 @@ pub fn judge_padding(before: &Before, digits: &str) -> Result<Judged, StatementE
     requires { AreWithin before.now.totals }
     ensures judged { IfOk result (λ j. (scope : ScopeOf) (vs : ValuesOf) →
         Judges scope before.now (statement.Padding digits.now) vs j) }
-    ensures refused { IfErr result (IsStatementRefusal (λ why. (scope : ScopeOf) (vs : ValuesOf) →
+    ensures refused { IfErr result (IsStatementRefusal (λ why.
+        (scope : ScopeOf) (vs : ValuesOf) →
         Refuses scope before.now (statement.Padding digits.now) vs why)) }
 {
     if before.standing.extent {

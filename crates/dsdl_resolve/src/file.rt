@@ -47,7 +47,8 @@ pub struct OpenFile {
 
 /// The refusal of a statement, or want of memory, at this line.
 fn at(line: u32, error: StatementError) -> FileError
-    ensures { IsFileRefusal (λ n why. (n ≡ line) × (error ≡ StatementError.Refused why)) result }
+    ensures { IsFileRefusal
+        (λ n why. (n ≡ line) × (error ≡ StatementError.Refused why)) result }
 {
     match error {
         StatementError::Refused(why) => FileError::Refused(Refused { line, why }),
@@ -125,7 +126,8 @@ impl OpenFile {
             scope.old ≡ between S scope.old.constants → WellSpelled statement.now →
             line ≡ length front + 1 →
             MatchResult result
-            (λ _. IsStepped self.old self.new scope.new.constants S path.now front statement.now behind.now)
+            (λ _. IsStepped self.old self.new scope.new.constants S path.now
+            front statement.now behind.now)
             (IsFileRefusal (λ n why. (n ≡ line) ×
             (refusal_at S (place front statement.now behind.now) ≡ Some why))) }
         ensures scope { scope.new ≡ record scope.old { constants = scope.new.constants } }

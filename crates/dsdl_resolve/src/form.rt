@@ -176,7 +176,8 @@ fn item_of(
 
 /// Appends the bound of an array.
 fn push_bound(text: &mut String, sign: BoundSign, items: u32) -> Result<(), NoMemory>
-    ensures { OnOk result (string_bytes text.new ≡ string_bytes text.old ++ bound_text sign items) }
+    ensures { OnOk result
+        (string_bytes text.new ≡ string_bytes text.old ++ bound_text sign items) }
 {
     match sign {
         BoundSign::Exact => text.push_str("[")?,

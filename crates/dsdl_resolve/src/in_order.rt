@@ -15,11 +15,14 @@ use std::alloc::Global;
 /// The types of so many valued files in path order, and what `@print` wrote.
 pub fn namespace_of(alloc: Global, count: usize, valued: Progress) -> Result<Namespace, NoMemory>
     requires { AreBeside valued }
-    ensures definitions { IfOk result (λ names. (sources : ListOf SourceOf) (done : ListOf Done) →
+    ensures definitions { IfOk result (λ names.
+        (sources : ListOf SourceOf) (done : ListOf Done) →
         Holds sources done valued → names.definitions ≡ in_path_order count done) }
-    ensures prints { IfOk result (λ names. (sources : ListOf SourceOf) (done : ListOf Done) →
+    ensures prints { IfOk result (λ names.
+        (sources : ListOf SourceOf) (done : ListOf Done) →
         Holds sources done valued → names.prints ≡ prints_of done) }
-    ensures sound { IfOk result (λ names. (sources : ListOf SourceOf) (done : ListOf Done) →
+    ensures sound { IfOk result (λ names.
+        (sources : ListOf SourceOf) (done : ListOf Done) →
         Holds sources done valued → IsSound valued → IsNamespace names) }
 {
     let Progress {

@@ -2,7 +2,7 @@
 ghost use Rattle.std.specs.Prelude.{◌≡◌, ◌≤◌, ◌^◌, ◌+◌, ◌*◌, false};
 ghost use Rattle.dsdl_types.specs.Rules.{IsFormed, AreFormed, IsItem, IsSchema, nesting, nesting_of, nodes, nodes_of};
 ghost use Rattle.dsdl_types.specs.Greatest.{as_part, longest};
-ghost use Rattle.dsdl_types.specs.Schemas.{extent_of, is_aligned, is_delimited, prefix};
+ghost use Rattle.dsdl_types.specs.Schemas.{extent_of, is_aligned, is_delimited, length_field_bits};
 ghost use Rattle.dsdl_types.specs.Views.{body_of, is_padding, kind_of, sch};
 ghost use Rattle.dsdl_resolve.specs.Totals.{IsMeasure, IsPartType, IsSmall};
 
@@ -86,7 +86,8 @@ fn longest(schema: &Schema) -> u64
     requires rules { IsSchema (sch schema.now) }
     requires item { IsItem (sch schema.now) }
     requires typed { is_padding (kind_of schema.now) ≡ false }
-    ensures longest { result ≡ as_part (is_delimited (sch schema.now)) (extent_of (sch schema.now))
+    ensures longest { result ≡
+        as_part (is_delimited (sch schema.now)) (extent_of (sch schema.now))
         (longest (sch schema.now)) }
     ensures short { result ≤ 2 ^ 33 }
 {
@@ -132,9 +133,9 @@ fn measure_item(schema: &Schema) -> Measure
     }
 }
 
-/// The bits of the count of an array's items, by its capacity.
-fn count_bits(capacity: u32) -> u64
-    ensures { result ≡ prefix capacity }
+/// The bits of an array's length field, by its capacity.
+fn length_field_bits(capacity: u32) -> u64
+    ensures { result ≡ length_field_bits capacity }
 {
     match capacity {
         0..0x100 => 8,
@@ -177,7 +178,7 @@ pub fn measure_of(schema: &Schema) -> Measure
     match schema {
         Schema::Fixed { item, len: items } => measure_item(item.get()).repeated(*items, 0),
         Schema::Var { item, cap: items } => {
-            measure_item(item.get()).repeated(*items, count_bits(*items))
+            measure_item(item.get()).repeated(*items, length_field_bits(*items))
         }
         _ => measure_item(schema),
     }

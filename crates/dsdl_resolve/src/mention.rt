@@ -13,7 +13,8 @@ const OFFSET: &str = "_offset_";
 
 /// Whether the bound of an array names `_offset_`.
 fn bound_names_offset(alloc: Global, array: &Option<Bound>) -> Result<bool, NoMemory>
-    ensures { IfOk result (λ found. found ≡ list_any (λ x. names_it x (codes "_offset_")) (of_bound array.now)) }
+    ensures { IfOk result (λ found.
+        found ≡ list_any (λ x. names_it x (codes "_offset_")) (of_bound array.now)) }
 {
     match array {
         Some(bound) => names_it(alloc, &bound.expr, OFFSET),

@@ -30,7 +30,8 @@ pub fn names_of(alloc: Global, files: &[DsdlFile]) -> Result<List<FileName>, Dsd
 
 /// The refusal of a file whose path is no name.
 fn refused(alloc: Global, file: &DsdlFile, error: NameError) -> DsdlError
-    ensures { IsRefusal (λ path line why. (error ≢ NameError.NoMemory) × (path ≡ file.now.path) ×
+    ensures { IsRefusal (λ path line why.
+        (error ≢ NameError.NoMemory) × (path ≡ file.now.path) ×
         (line ≡ 0) × (why ≡ DsdlWhy.Name error)) result }
 {
     match error {

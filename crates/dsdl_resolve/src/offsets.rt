@@ -4,7 +4,7 @@ ghost use Rattle.bit_length.specs.Lengths.{Has, Same};
 ghost use Rattle.dsdl_types.specs.Greatest.{longest_fields, longest_variant};
 ghost use Rattle.dsdl_types.specs.Lengths.{VariantLength};
 ghost use Rattle.dsdl_types.specs.Rules.{AreFormed, NoPadding};
-ghost use Rattle.dsdl_types.specs.Schemas.{prefix, variants};
+ghost use Rattle.dsdl_types.specs.Schemas.{tag_bits, variants};
 ghost use Rattle.dsdl_types.specs.Views.{flds};
 ghost use Rattle.dsdl_resolve.specs.Opens.{AreOffsets};
 ghost use Rattle.dsdl_resolve.specs.Said.{offsets};
@@ -80,10 +80,10 @@ fn of_union(alloc: Global, fields: &[Field], count: u64) -> Result<LengthSet, No
     requires count { count ≡ variants (flds fields.now) }
     requires formed { AreFormed (flds fields.now) }
     requires packed { NoPadding (flds fields.now) }
-    requires greatest { prefix (count - 1) + longest_variant (flds fields.now) ≤ 2 ^ 32 }
+    requires greatest { tag_bits count + longest_variant (flds fields.now) ≤ 2 ^ 32 }
     ensures { IfOk result (λ s. s ≡ offsets true fields.now) }
 {
-    let tag = short(LengthSet::of(alloc, tag_bits(count - 1)))?;
+    let tag = short(LengthSet::of(alloc, tag_bits(count)))?;
     let joined = variants_of(alloc, fields)?;
     let lengths = short(tag.sum(&joined))?;
     // `count` says that the members ascend.

@@ -294,8 +294,10 @@ impl OpenSection {
         ensures taken { (S : ScopeOf) (front back : ListOf StatementOf) →
             IsOpen self.old scope.old.constants S front (statement.now ∷ back) →
             scope.old ≡ between S scope.old.constants → WellSpelled statement.now →
-            MatchResult result (λ vs. IsTaken S front back statement.now vs self.new scope.new.constants)
-            (IsStatementRefusal (λ why. refusal_at S (place front statement.now back) ≡ Some why)) }
+            MatchResult result
+            (λ vs. IsTaken S front back statement.now vs self.new scope.new.constants)
+            (IsStatementRefusal (λ why.
+            refusal_at S (place front statement.now back) ≡ Some why)) }
         ensures scope { scope.new ≡ record scope.old { constants = scope.new.constants } }
     {
         let values = match self.worth(alloc, scope, statement) {

@@ -88,7 +88,8 @@ fn source_of(alloc: Global, file: &DsdlFile, name: &FileName) -> Result<Parsed, 
     requires named { file_name_of file.now.path ≡ Ok name.now }
     ensures source { IfOk result (λ parsed. IsSource file.now name.now parsed.source) }
     ensures ast { IfOk result (λ parsed. IsAst file.now.text parsed.ast.lines) }
-    ensures refused { (line : ℕ) → result ≡ Err (Syntax line) → FirstBad file.now.text line }
+    ensures refused { (line : ℕ) →
+        result ≡ Err (Syntax line) → FirstBad file.now.text line }
 {
     let ast = parse(alloc, file.text.as_slice())?;
     let source = Source {

@@ -42,8 +42,8 @@ pub fn judge_split(before: &Before) -> Result<Judged, StatementError>
     requires { AreWithin before.now.totals }
     ensures judged { IfOk result (λ j. (scope : ScopeOf) (vs : ValuesOf) →
         Judges scope before.now statement.Split vs j) }
-    ensures refused { IfErr result (IsStatementRefusal (λ why. (scope : ScopeOf) (vs : ValuesOf) →
-        Refuses scope before.now statement.Split vs why)) }
+    ensures refused { IfErr result (IsStatementRefusal (λ why.
+        (scope : ScopeOf) (vs : ValuesOf) → Refuses scope before.now statement.Split vs why)) }
 {
     let standing = before.standing;
     if standing.split {

@@ -1,7 +1,7 @@
 //! How large a section is.
 ghost use Rattle.std.specs.Prelude.{◌≡◌, ◌≤◌, ◌^◌, ◌+◌, ◌++◌, ◌∷◌, [], Bool, false, List, if◌then◌else◌};
 ghost use Rattle.dsdl_types.specs.Greatest.{up};
-ghost use Rattle.dsdl_types.specs.Schemas.{Flds, End, prefix};
+ghost use Rattle.dsdl_types.specs.Schemas.{Flds, End, tag_bits};
 ghost use Rattle.dsdl_types.specs.Views.{Padding, flds, is_padding, named, type_of};
 ghost use Rattle.dsdl_types.specs.declared.schema.Field.{Field};
 ghost use Rattle.dsdl_resolve.specs.Said.{greatest_in};
@@ -25,11 +25,11 @@ pub struct Totals {
     pub nesting: u32,
 }
 
-/// The bits of the tag of a union, by the number of its variants less one.
-pub fn tag_bits(greatest: u64) -> u64
-    ensures { result ≡ prefix greatest }
+/// The bits of a union's tag, by the number of its variants.
+pub fn tag_bits(variants: u64) -> u64
+    ensures { result ≡ tag_bits variants }
 {
-    match greatest {
+    match variants.saturating_sub(1) {
         0..0x100 => 8,
         0x100..0x1_0000 => 16,
         0x1_0000..0x1_0000_0000 => 32,
@@ -130,7 +130,7 @@ impl Totals {
         if self.variants == 0 {
             return 0;
         }
-        whole_bytes(tag_bits(self.variants - 1) + self.end)
+        whole_bytes(tag_bits(self.variants) + self.end)
     }
 }
 

@@ -54,7 +54,8 @@ fn directive_value(
 /// The values of a statement's expressions, or the first refusal: a bound comes before a value.
 pub fn values_of(alloc: Global, scope: &Scope, statement: &Statement) -> Result<Values, ExprError>
     requires { IsScope scope.now }
-    ensures values { result ≢ Err ExprError.NoMemory → result ≡ values scope.now statement.now }
+    ensures values { result ≢ Err ExprError.NoMemory →
+        result ≡ values scope.now statement.now }
     ensures kept { IfOk result (λ vs. IfSome vs.value IsConst) }
 {
     match statement {

@@ -48,7 +48,8 @@ pub fn value_files(
     requires kept { AreKept files.now kept.now }
     requires firsts { (reads : ListOf Read) → AreRead files.now reads →
         firsts.now ≡ first_numbers (sources_of reads) }
-    requires within { (k : ℕ) → k < length order.now → slice_index order.now k < length files.now }
+    requires within { (k : ℕ) → k < length order.now →
+        slice_index order.now k < length files.now }
     ensures valued { IfOk result (λ p. (reads : ListOf Read) → AreRead files.now reads →
         IsValuedTo reads order.now p) }
     ensures sound { IfOk result IsSound }
@@ -80,8 +81,8 @@ pub fn value_files(
 /// The refusal of a file.
 fn refused(alloc: Global, file: &DsdlFile, error: FileError) -> DsdlError
     ensures { IsRefusal (λ path line why.
-        (error ≡ FileError.Refused (record { line = line; why = why })) × (path ≡ file.now.path))
-        result }
+        (error ≡ FileError.Refused (record { line = line; why = why })) ×
+        (path ≡ file.now.path)) result }
 {
     match error {
         FileError::Refused(Refused { line, why }) => at(alloc, file, line, why),

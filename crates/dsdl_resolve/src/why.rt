@@ -11,8 +11,8 @@ pub enum DsdlWhy {
     Unresolved(TypeId),
     /// The file reaches itself through references. No line is named.
     Cycle,
-    /// The line breaks the rule of this number, which is the least one that it breaks. `rules` names
-    /// them.
+    /// The line breaks the rule of this number, which is the least one that it breaks. `rules`
+    /// names them.
     Rule(u8),
     /// An expression of the line is worth nothing.
     Expr(ExprWhy),

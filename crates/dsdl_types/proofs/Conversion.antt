@@ -4,17 +4,17 @@ use Rattle.std.specs.Prelude.{nat_lt}
 use Rattle.std.proofs.lemmas.Bool.{ltb-true, true≢false}
 use Rattle.std.proofs.lemmas.List.{append-nil, length-replicate, drop_at}
 use Rattle.cy_bits.specs.Bits.{number, bits_of, zeros, gap}
-use Rattle.dsdl_types.specs.Schemas.{Prim, Sch, Flds, Outline, Simple, Fixed, Var, Struct, Union, End, Pad, Field, is_aligned, is_delimited, prefix, width, variants}
+use Rattle.dsdl_types.specs.Schemas.{Prim, Sch, Flds, Outline, Simple, Fixed, Var, Struct, Union, End, Pad, Field, is_aligned, is_delimited, holding_bits, length_field_bits, tag_bits, width, variants}
 use Rattle.dsdl_types.specs.Values.{Val, Vals, Items, Parts, Tagged, Empty, More, count, on_items}
 use Rattle.dsdl_types.specs.Reading.{Read, Got, Name, Index, value_of, and_then, under, delimited, aligned, align, own, fields, variant, part, row}
-use Rattle.dsdl_types.specs.Encoding.{own_bits, field_bits, variant_bits, part_bits, each, counted, padded, lead, simple_bits, raw}
+use Rattle.dsdl_types.specs.Encoding.{own_bits, field_bits, variant_bits, part_bits, each, with_header, padded, lead, simple_bits, raw}
 use Rattle.dsdl_types.specs.Cast.{cast_simple, cast, cast_fields, cast_variant}
 use Rattle.dsdl_types.specs.Fits.{Fits, FitFields, FitsVariant, AllOf, FitsSimple}
 use Rattle.dsdl_types.specs.Sound.{IsSound, AreSound, IsSoundPrim}
 use Rattle.dsdl_types.specs.Newer.{convert, convert_fields, convert_variant}
 use Rattle.cy_bits.proofs.BitFacts.{length_bits_of, take_bits, drop_bits, zeros-append}
 use Rattle.dsdl_types.proofs.Primitives.{raw_fits, raw_is}
-use Rattle.dsdl_types.proofs.Lengths.{gap_same, sum_whole, own_whole, part_whole, counted_length, prefix_whole, own_most, length_padded}
+use Rattle.dsdl_types.proofs.Lengths.{gap_same, sum_whole, own_whole, part_whole, with_header_length, holding_bits_whole, own_most, length_padded}
 use Rattle.dsdl_types.proofs.Steps.{step_is, under_is, counted_is, union_is, var_is}
 use Rattle.dsdl_types.proofs.ZeroReads.{zero_fields_read}
 use Rattle.dsdl_types.proofs.Akins.{Akin, AkinFields, akin_simple, akin_fixed, akin_var, akin_struct, akin_union, akin_end, akin_pad, akin_field, fewer, more, akin_aligned, akin_delimited, akin_variants}
@@ -41,7 +41,7 @@ ends_more true g tail h = (g + h.0, ap (λ x. zeros g ++ x) h.1 ∙ zeros-append
 -- a part, from its own bits
 pub part_from : (d : Bool) (P : ℕ → Type 0) (f : ℕ → List Bool → Read Val) (l : List Bool) (v : Val) → (d ≡ true → (length l % 8 ≡ 0) × (length l < 2 ^ 35)) → P 0 →
     ((p : ℕ) (tail : List Bool) → P p → Ends d tail → ReadsTo (f p (l ++ tail)) v d (p + length l) tail) →
-    (p : ℕ) (tail : List Bool) → P p → delimited d f p (counted d l ++ tail) ≡ Got v (p + length (counted d l)) tail
+    (p : ℕ) (tail : List Bool) → P p → delimited d f p (with_header d l ++ tail) ≡ Got v (p + length (with_header d l)) tail
 part_from false P f l v b o h p tail hp = exactly (f p (l ++ tail)) v (p + length l) tail (h p tail hp tt)
 part_from true P f l v b o h p tail hp =
     let c = length l / 8 in
@@ -49,7 +49,7 @@ part_from true P f l v b o h p tail hp =
     let z = h 0 [] o (0, refl) in
     let whole : length l ≡ 8 * c = omega (arith, bounds.0) in
     let small : c < 2 ^ 32 = omega (arith, bounds.1) in
-    let place : p + 32 + 8 * c ≡ p + length (counted true l) = omega (arith, counted_length true l) in
+    let place : p + 32 + 8 * c ≡ p + length (with_header true l) = omega (arith, with_header_length true l) in
     ap (λ x. delimited true f p x) (append_assoc (bits_of 32 c) l tail)
     ∙ counted_is f p c l tail v z.to z.left whole small (ap (λ x. f 0 x) (sym (append-nil l)) ∙ z.is)
     ∙ ap (λ n. Got v n tail) place
@@ -123,8 +123,8 @@ below_if : (b : Bool) (x y t : ℕ) → (b ≡ true → t < 2 ^ x) → (b ≡ fa
 below_if true x y t h k = h refl
 below_if false x y t h k = k refl
 
-below_prefix : (m t : ℕ) → t ≤ m → m ≤ 2 ^ 20 → t < 2 ^ prefix m
-below_prefix m t h k =
+holding_bits_hold : (m t : ℕ) → t ≤ m → m ≤ 2 ^ 20 → t < 2 ^ holding_bits m
+holding_bits_hold m t h k =
     below_if (nat_lt m 256) 8 _ t (λ e. let lt : m < 256 = ltb-true m 256 e in omega arith) (λ _.
     below_if (nat_lt m 65536) 16 _ t (λ e. let lt : m < 65536 = ltb-true m 65536 e in omega arith) (λ _.
     below_if (nat_lt m 4294967296) 32 64 t (λ _. omega arith) (λ _. omega arith)))
@@ -172,7 +172,7 @@ padded_reads r a k l p bs tail whole h ends =
 loosen : {A : Type 0} (l : Bool) (r : Read A) (a : A) (place : ℕ) (tail : List Bool) → ReadsTo r a false place tail → ReadsTo r a l place tail
 loosen l r a place tail z = record { to = z.to; left = z.left; is = z.is; exact = λ _. z.exact refl }
 
-union_reads : (gs : Flds) (f : Outline) (w t p : ℕ) (here tail : List Bool) (u : Val) → w ≡ prefix (variants gs - 1) → t < 2 ^ w → p % 8 ≡ 0 →
+union_reads : (gs : Flds) (f : Outline) (w t p : ℕ) (here tail : List Bool) (u : Val) → w ≡ tag_bits (variants gs) → t < 2 ^ w → p % 8 ≡ 0 →
     ((end : List Bool) → variant gs t t (p + w) (here ++ end) ≡ Got u (p + w + length here) end) →
     ReadsTo (own (Union gs f) p (padded (bits_of w t ++ here) ++ tail)) (Tagged t u) false (p + length (padded (bits_of w t ++ here))) tail
 union_reads gs f w t p here tail u e small whole h =
@@ -210,11 +210,11 @@ mutual
       }
   own_reads _ _ (akin_fixed k) i j v h p tail at ends = absurd h
   own_reads _ _ (akin_var {a = a} {b = b} {n = n} k) i j (Items vs) h p tail at ends =
-      let w = prefix n in
+      let w = length_field_bits n in
       let c = count vs in
       let more = each (part_bits a) vs in
-      let small : c < 2 ^ w = below_prefix n c h.0 i.0 in
-      let e = items_read a b (part_reads a b k i.1 (own_reads a b k i.1 j.1)) vs h.1 c (p + w) tail refl (λ al. sum_whole p w (at al) (prefix_whole n)) in
+      let small : c < 2 ^ w = holding_bits_hold n c h.0 i.0 in
+      let e = items_read a b (part_reads a b k i.1 (own_reads a b k i.1 j.1)) vs h.1 c (p + w) tail refl (λ al. sum_whole p w (at al) (holding_bits_whole n)) in
       let place : p + w + length more ≡ p + length (bits_of w c ++ more) = omega (arith, length-append (bits_of w c) more, length_bits_of w c) in
       record {
         to = p + w + length more;
@@ -231,12 +231,12 @@ mutual
       (λ end e. fields_read (not f.sealed) fs gs k i.1 j.1 vs h p 0 end (at refl) e) ends
   own_reads _ _ (akin_struct k) i j v h p tail at ends = absurd h
   own_reads _ _ (akin_union {fs = fs} {gs = gs} {f = f} k) i j (Tagged t v) h p tail at ends =
-      let w = prefix (variants fs - 1) in
+      let w = tag_bits (variants fs) in
       let here = variant_bits fs t v in
-      let small : t < 2 ^ w = below_prefix (variants fs - 1) t (omega (arith, variant_below fs t v h)) (omega (arith, i.1)) in
+      let small : t < 2 ^ w = holding_bits_hold (variants fs - 1) t (omega (arith, variant_below fs t v h)) (omega (arith, i.1)) in
       loosen (not f.sealed) _ _ _ _
-      (union_reads gs f w t p here tail (convert_variant fs gs t (cast_variant fs t v)) (ap (λ n. prefix (n - 1)) (akin_variants fs gs k)) small (at refl)
-      (λ end. variant_read fs gs k i.2 j.2 t t v h (p + w) end (sum_whole p w (at refl) (prefix_whole (variants fs - 1)))))
+      (union_reads gs f w t p here tail (convert_variant fs gs t (cast_variant fs t v)) (ap tag_bits (akin_variants fs gs k)) small (at refl)
+      (λ end. variant_read fs gs k i.2 j.2 t t v h (p + w) end (sum_whole p w (at refl) (holding_bits_whole (variants fs - 1)))))
   own_reads _ _ (akin_union k) i j v h p tail at ends = absurd h
 
   pub fields_read : (l : Bool) (fs gs : Flds) → AkinFields l fs gs → AreSound fs → AreSound gs → (vs : Vals) → FitFields fs vs → (p q : ℕ) (tail : List Bool) → p % 8 ≡ q % 8 → Ends l tail →

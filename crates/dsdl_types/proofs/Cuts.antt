@@ -5,12 +5,12 @@ use Rattle.std.specs.Prelude.{nat_lt}
 use Rattle.std.proofs.lemmas.Bool.{cond-true, cases_lt, lt-ltb, true≢false}
 use Rattle.std.proofs.lemmas.List.{take-take, drop-take}
 use Rattle.cy_bits.specs.Bits.{number, gap}
-use Rattle.dsdl_types.specs.Schemas.{Prim, Sch, Flds, Simple, Fixed, Var, Struct, Union, End, Pad, Field, is_aligned, is_delimited, prefix, width, variants, extent_of}
+use Rattle.dsdl_types.specs.Schemas.{Prim, Sch, Flds, Simple, Fixed, Var, Struct, Union, End, Pad, Field, is_aligned, is_delimited, length_field_bits, tag_bits, width, variants, extent_of}
 use Rattle.dsdl_types.specs.Values.{Val, Vals, Items, Parts, Tagged, Empty, More}
 use Rattle.dsdl_types.specs.Reading.{Read, Got, Bad, Step, Name, Index, BadDelimiter, BadLength, value_of, and_then, under, within, delimited, aligned, align, own, fields, variant, part, row}
 use Rattle.dsdl_types.specs.Greatest.{longest, longest_fields, longest_variant, as_part, up, from_lead}
 use Rattle.dsdl_types.specs.DelimiterCounts.{on_got, count_fits, at_aligned, row_fits, CountsFit, FieldsFit, VariantFits}
-use Rattle.dsdl_types.proofs.Lengths.{up_whole, up_most, sum_whole, prefix_whole, delimited_aligned}
+use Rattle.dsdl_types.proofs.Lengths.{up_whole, up_most, sum_whole, holding_bits_whole, delimited_aligned}
 use Rattle.dsdl_types.proofs.Steps.{delimited_is, union_is, var_is}
 use Rattle.dsdl_types.proofs.Longer.{under_got}
 
@@ -176,11 +176,11 @@ cut_simple t p e x h = (
       ∙ ap (λ z. Got (value_of t (number (take (width t) x))) (p + width t) z) (drop_cut (width t) p e x h),
 )
 
-cut_var : (s : Sch) (c p e n : ℕ) (x : List Bool) → number (take (prefix c) x) ≡ n → p + prefix c ≤ e → (b : ℕ) (P : ℕ → Type 0) →
-    (n ≤ c → CutTo e b P (row (part s) n 0 (p + prefix c) (drop (prefix c) x)) (row (part s) n 0 (p + prefix c) (take (e - (p + prefix c)) (drop (prefix c) x)))) →
+cut_var : (s : Sch) (c p e n : ℕ) (x : List Bool) → number (take (length_field_bits c) x) ≡ n → p + length_field_bits c ≤ e → (b : ℕ) (P : ℕ → Type 0) →
+    (n ≤ c → CutTo e b P (row (part s) n 0 (p + length_field_bits c) (drop (length_field_bits c) x)) (row (part s) n 0 (p + length_field_bits c) (take (e - (p + length_field_bits c)) (drop (length_field_bits c) x)))) →
     CutTo e b P (own (Var s c) p x) (own (Var s c) p (take (e - p) x))
 cut_var s c p e n x is room b P h =
-    let w = prefix c in
+    let w = length_field_bits c in
     let x' = take (e - p) x in
     let is' : number (take w x') ≡ n = ap number (take_cut w p e x room) ∙ is in
     elim (cases_lt c n) [
@@ -194,9 +194,9 @@ cut_var s c p e n x is room b P h =
           (cut_map e b P (λ vs. Items vs) (row (part s) n 0 (p + w) (drop w x)) (row (part s) n 0 (p + w) (take (e - (p + w)) (drop w x))) (h short)))
     ]
   where
-    refused : (n : ℕ) (y : List Bool) → number (take (prefix c) y) ≡ n → c < n → own (Var s c) p y ≡ Bad [] (BadLength n)
+    refused : (n : ℕ) (y : List Bool) → number (take (length_field_bits c) y) ≡ n → c < n → own (Var s c) p y ≡ Bad [] (BadLength n)
     refused n y is long =
-        ap (λ n. cond (nat_lt c n) (Bad [] (BadLength n)) (and_then (row (part s) n 0 (p + prefix c) (drop (prefix c) y)) (λ vs. Got (Items vs)))) is
+        ap (λ n. cond (nat_lt c n) (Bad [] (BadLength n)) (and_then (row (part s) n 0 (p + length_field_bits c) (drop (length_field_bits c) y)) (λ vs. Got (Items vs)))) is
         ∙ cond-true _ (Bad [] (BadLength n)) _ (lt-ltb _ _ long)
 
 -- align behind what was read
@@ -216,14 +216,14 @@ mutual
       cut_map e (p + n * part_longest s) (AtBy (is_aligned s)) (λ vs. Items vs) (row (part s) n 0 p x) (row (part s) n 0 p (take (e - p) x))
       (cuts_row (part s) (part_fits s) (AtBy (is_aligned s)) (part_longest s) (cuts_part s (cuts_own s)) n 0 p e x at w b)
   cuts_own (Var s c) = λ p e x at w b.
-      let n = number (take (prefix c) x) in
-      cut_var s c p e n x refl (omega arith) (p + (prefix c + c * part_longest s)) (AtBy (is_aligned s))
+      let n = number (take (length_field_bits c) x) in
+      cut_var s c p e n x refl (omega arith) (p + (length_field_bits c + c * part_longest s)) (AtBy (is_aligned s))
       (λ short.
       let m : n * part_longest s ≤ c * part_longest s = mul-le-mul_right (part_longest s) short in
-      cut_more e (p + prefix c + n * part_longest s) (p + (prefix c + c * part_longest s)) (AtBy (is_aligned s)) (AtBy (is_aligned s))
-      (row (part s) n 0 (p + prefix c) (drop (prefix c) x)) (row (part s) n 0 (p + prefix c) (take (e - (p + prefix c)) (drop (prefix c) x))) (omega arith) (λ q a. a)
-      (cuts_row (part s) (part_fits s) (AtBy (is_aligned s)) (part_longest s) (cuts_part s (cuts_own s)) n 0 (p + prefix c) e (drop (prefix c) x)
-      (λ al. sum_whole p (prefix c) (at al) (prefix_whole c)) (w short) (omega arith)))
+      cut_more e (p + length_field_bits c + n * part_longest s) (p + (length_field_bits c + c * part_longest s)) (AtBy (is_aligned s)) (AtBy (is_aligned s))
+      (row (part s) n 0 (p + length_field_bits c) (drop (length_field_bits c) x)) (row (part s) n 0 (p + length_field_bits c) (take (e - (p + length_field_bits c)) (drop (length_field_bits c) x))) (omega arith) (λ q a. a)
+      (cuts_row (part s) (part_fits s) (AtBy (is_aligned s)) (part_longest s) (cuts_part s (cuts_own s)) n 0 (p + length_field_bits c) e (drop (length_field_bits c) x)
+      (λ al. sum_whole p (length_field_bits c) (at al) (holding_bits_whole c)) (w short) (omega arith)))
   cuts_own (Struct fs f) = λ p e x at w b.
       let m : longest_fields fs (p + 0) ≡ p + longest_fields fs 0 = fields_shift fs p 0 (at refl) in
       let z : p + 0 ≡ p = omega arith in
@@ -233,7 +233,7 @@ mutual
       at_end e (up (longest_fields fs p)) (p + up (longest_fields fs 0)) true (own (Struct fs f) p x) (own (Struct fs f) p (take (e - p) x)) (omega arith)
       (cut_end e (longest_fields fs p) (λ vs. Parts vs) (λ _. Unit {0}) (fields fs p x) (fields fs p (take (e - p) x)) (omega arith) (cuts_fields fs p e x tt w (omega arith)))
   cuts_own (Union fs f) = λ p e x at w b.
-      let k = prefix (variants fs - 1) in
+      let k = tag_bits (variants fs) in
       let n = number (take k x) in
       let whole : p % 8 ≡ 0 = at refl in
       let top : up (p + k + longest_variant fs) ≡ p + up (k + longest_variant fs) = (let z : p + k + longest_variant fs ≡ p + (k + longest_variant fs) = omega arith in ap up z) ∙ lead_shift true p (k + longest_variant fs) whole in
@@ -242,7 +242,7 @@ mutual
       (subst (λ r. CutTo e (up (p + k + longest_variant fs)) (λ q. q % 8 ≡ 0) (own (Union fs f) p x) r)
       (sym (union_is fs f p (take (e - p) x) n (ap number (take_cut k p e x room)) ∙ ap (λ z. and_then (variant fs n n (p + k) z) (λ v. align (Tagged n v))) (drop_cut k p e x room)))
       (cut_end e (p + k + longest_variant fs) (λ v. Tagged n v) (λ _. Unit {0}) (variant fs n n (p + k) (drop k x)) (variant fs n n (p + k) (take (e - (p + k)) (drop k x))) (omega arith)
-      (cuts_variant fs n n (p + k) e (drop k x) (sum_whole p k whole (prefix_whole (variants fs - 1))) w (omega arith))))
+      (cuts_variant fs n n (p + k) e (drop k x) (sum_whole p k whole (holding_bits_whole (variants fs - 1))) w (omega arith))))
 
   pub cuts_fields : (fs : Flds) → Cuts (fields fs) (FieldsFit fs) (λ _. Unit {0}) (λ _. Unit {0}) (λ p. longest_fields fs p)
   cuts_fields End = λ p e x at w b. cut_got e p (λ _. Unit {0}) Empty x tt

@@ -1,7 +1,7 @@
 -- No length is above `longest`
 use Rattle.std.proofs.Common.{◌≡◌, ℕ, zero, suc, ◌+◌, ◌*◌, ◌-◌, ◌≤◌, Bool, true, false, arith, inl, inr}
 use Rattle.std.proofs.Math.Nat.{mul-le-mul_right}
-use Rattle.dsdl_types.specs.Schemas.{Prim, Sch, Flds, Simple, Fixed, Var, Struct, Union, End, Pad, Field, is_aligned, is_delimited, prefix, variants, extent_of}
+use Rattle.dsdl_types.specs.Schemas.{Prim, Sch, Flds, Simple, Fixed, Var, Struct, Union, End, Pad, Field, is_aligned, is_delimited, tag_bits, variants, extent_of}
 use Rattle.dsdl_types.specs.Greatest.{from_lead, longest, longest_fields, longest_variant, as_part}
 use Rattle.dsdl_types.specs.Lengths.{AsPart, InRow, Length, EndsAt, VariantLength, Size}
 use Rattle.dsdl_types.proofs.Lengths.{up_most}
@@ -26,7 +26,7 @@ mutual
       omega (arith, row_at_most (Size s) m (part_at_most (is_delimited s) (extent_of s) (longest s) (Length s) (at_most s)) h.0 h.1 h.3, mul-le-mul_right m h.2, h.4)
   at_most (Struct fs f) n h = omega (arith, h.2, up_most h.0 (longest_fields fs 0) (ends_most fs 0 0 h.0 (omega arith) h.1))
   at_most (Union fs f) n h =
-      let w = prefix (variants fs - 1) in
+      let w = tag_bits (variants fs) in
       let v : w + h.0 ≤ w + longest_variant fs = omega (arith, variant_most fs h.0 h.1) in
       omega (arith, h.2, up_most (w + h.0) (w + longest_variant fs) v)
 

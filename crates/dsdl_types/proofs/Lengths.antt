@@ -4,9 +4,9 @@ use Rattle.std.proofs.lemmas.List.{length-replicate}
 use Rattle.std.proofs.Math.Nat.{mul-le-mul_right}
 use Rattle.std.specs.Prelude.{nat_lt}
 use Rattle.cy_bits.specs.Bits.{bits_of, zeros, gap}
-use Rattle.dsdl_types.specs.Schemas.{Prim, Sch, Flds, Simple, Fixed, Var, Struct, Union, End, Pad, Field, is_aligned, is_delimited, prefix, width, variants, extent_of}
+use Rattle.dsdl_types.specs.Schemas.{Prim, Sch, Flds, Simple, Fixed, Var, Struct, Union, End, Pad, Field, is_aligned, is_delimited, holding_bits, length_field_bits, tag_bits, width, variants, extent_of}
 use Rattle.dsdl_types.specs.Values.{Val, Vals, Items, Parts, Tagged, Empty, More, count, items_of, parts_of, tag_of, inner_of}
-use Rattle.dsdl_types.specs.Encoding.{own_bits, field_bits, variant_bits, part_bits, each, counted, padded, lead, raw}
+use Rattle.dsdl_types.specs.Encoding.{own_bits, field_bits, variant_bits, part_bits, each, with_header, padded, lead, raw}
 use Rattle.dsdl_types.specs.Fits.{Fits, FitFields, FitsVariant, AreItems, AllOf}
 use Rattle.dsdl_types.specs.Greatest.{longest, longest_fields, longest_variant, as_part, up, from_lead}
 use Rattle.dsdl_types.specs.Sound.{IsSound, AreSound}
@@ -38,16 +38,16 @@ whole_if : (b : Bool) (x y : ℕ) → x % 8 ≡ 0 → y % 8 ≡ 0 → cond b x y
 whole_if true x y h k = h
 whole_if false x y h k = k
 
-pub prefix_whole : (n : ℕ) → prefix n % 8 ≡ 0
-prefix_whole n = whole_if (nat_lt n 256) 8 _ refl (whole_if (nat_lt n 65536) 16 _ refl (whole_if (nat_lt n 4294967296) 32 64 refl refl))
+pub holding_bits_whole : (n : ℕ) → holding_bits n % 8 ≡ 0
+holding_bits_whole n = whole_if (nat_lt n 256) 8 _ refl (whole_if (nat_lt n 65536) 16 _ refl (whole_if (nat_lt n 4294967296) 32 64 refl refl))
 
-pub counted_length : (d : Bool) (l : List Bool) → length (counted d l) ≡ as_part d (length l) (length l)
-counted_length false l = refl
-counted_length true l = length-append (bits_of 32 (length l / 8)) l ∙ ap (λ n. n + length l) (length_bits_of 32 (length l / 8))
+pub with_header_length : (d : Bool) (l : List Bool) → length (with_header d l) ≡ as_part d (length l) (length l)
+with_header_length false l = refl
+with_header_length true l = length-append (bits_of 32 (length l / 8)) l ∙ ap (λ n. n + length l) (length_bits_of 32 (length l / 8))
 
-pub counted_whole : (d : Bool) (l : List Bool) → length l % 8 ≡ 0 → length (counted d l) % 8 ≡ 0
-counted_whole false l h = h
-counted_whole true l h = omega (arith, counted_length true l)
+pub with_header_whole : (d : Bool) (l : List Bool) → length l % 8 ≡ 0 → length (with_header d l) % 8 ≡ 0
+with_header_whole false l h = h
+with_header_whole true l h = omega (arith, with_header_length true l)
 
 pub each_whole : (f : Val → List Bool) → ((v : Val) → length (f v) % 8 ≡ 0) → (vs : Vals) → length (each f vs) % 8 ≡ 0
 each_whole f h Empty = refl
@@ -56,15 +56,15 @@ each_whole f h (More v vs) = omega (arith, length-append (f v) (each f vs), h v,
 -- what is aligned takes whole bytes
 pub own_whole : (s : Sch) (v : Val) → is_aligned s ≡ true → length (own_bits s v) % 8 ≡ 0
 own_whole (Simple t) v h = cc
-own_whole (Fixed s n) v h = each_whole (part_bits s) (λ x. counted_whole (is_delimited s) (own_bits s x) (own_whole s x h)) (items_of v)
+own_whole (Fixed s n) v h = each_whole (part_bits s) (λ x. with_header_whole (is_delimited s) (own_bits s x) (own_whole s x h)) (items_of v)
 own_whole (Var s c) v h =
-    let e = each_whole (part_bits s) (λ x. counted_whole (is_delimited s) (own_bits s x) (own_whole s x h)) (items_of v) in
-    omega (arith, length-append (bits_of (prefix c) (count (items_of v))) (each (part_bits s) (items_of v)), length_bits_of (prefix c) (count (items_of v)), prefix_whole c)
+    let e = each_whole (part_bits s) (λ x. with_header_whole (is_delimited s) (own_bits s x) (own_whole s x h)) (items_of v) in
+    omega (arith, length-append (bits_of (length_field_bits c) (count (items_of v))) (each (part_bits s) (items_of v)), length_bits_of (length_field_bits c) (count (items_of v)), holding_bits_whole c)
 own_whole (Struct fs f) v h = padded_whole (field_bits fs 0 (parts_of v))
-own_whole (Union fs f) v h = padded_whole (bits_of (prefix (variants fs - 1)) (tag_of v) ++ variant_bits fs (tag_of v) (inner_of v))
+own_whole (Union fs f) v h = padded_whole (bits_of (tag_bits (variants fs)) (tag_of v) ++ variant_bits fs (tag_of v) (inner_of v))
 
 pub part_whole : (s : Sch) (v : Val) → is_aligned s ≡ true → length (part_bits s v) % 8 ≡ 0
-part_whole s v h = counted_whole (is_delimited s) (own_bits s v) (own_whole s v h)
+part_whole s v h = with_header_whole (is_delimited s) (own_bits s v) (own_whole s v h)
 
 pub delimited_aligned : (s : Sch) → is_delimited s ≡ true → is_aligned s ≡ true
 delimited_aligned (Simple t) h = cc
@@ -80,9 +80,9 @@ longest_extent (Var s n) i h = cc
 longest_extent (Struct fs f) i h = i.0.0
 longest_extent (Union fs f) i h = i.0.0
 
-as_part_most : (d : Bool) (e m : ℕ) (l : List Bool) → (d ≡ true → m ≤ e) → length l ≤ m → length (counted d l) ≤ as_part d e m
+as_part_most : (d : Bool) (e m : ℕ) (l : List Bool) → (d ≡ true → m ≤ e) → length l ≤ m → length (with_header d l) ≤ as_part d e m
 as_part_most false e m l h k = k
-as_part_most true e m l h k = let h' : m ≤ e = h refl in omega (arith, counted_length true l)
+as_part_most true e m l h k = let h' : m ≤ e = h refl in omega (arith, with_header_length true l)
 
 part_most : (s : Sch) (v : Val) → IsSound s → length (own_bits s v) ≤ longest s → length (part_bits s v) ≤ as_part (is_delimited s) (extent_of s) (longest s)
 part_most s v i h = as_part_most (is_delimited s) (extent_of s) (longest s) (own_bits s v) (longest_extent s i) h
@@ -108,15 +108,15 @@ mutual
   own_most (Fixed s n) v i h = items_most (part_bits s) (Fits s) (λ k. k ≡ n) (as_part (is_delimited s) (extent_of s) (longest s)) n (λ x fx. part_most s x i (own_most s x i fx)) (λ k e. omega arith) v h
   own_most (Var s c) v i h =
       let e = items_most (part_bits s) (Fits s) (λ k. k ≤ c) (as_part (is_delimited s) (extent_of s) (longest s)) c (λ x fx. part_most s x i.1 (own_most s x i.1 fx)) (λ k e. e) v h in
-      omega (arith, length-append (bits_of (prefix c) (count (items_of v))) (each (part_bits s) (items_of v)), length_bits_of (prefix c) (count (items_of v)))
+      omega (arith, length-append (bits_of (length_field_bits c) (count (items_of v))) (each (part_bits s) (items_of v)), length_bits_of (length_field_bits c) (count (items_of v)))
   own_most (Struct fs f) (Parts vs) i h = omega (arith, length_padded (field_bits fs 0 vs), fields_most fs 0 0 vs i.1 h (omega arith))
   own_most (Struct fs f) v i h = absurd h
   own_most (Union fs f) (Tagged t v) i h =
       omega (
         arith,
-        length_padded (bits_of (prefix (variants fs - 1)) t ++ variant_bits fs t v),
-        length-append (bits_of (prefix (variants fs - 1)) t) (variant_bits fs t v),
-        length_bits_of (prefix (variants fs - 1)) t,
+        length_padded (bits_of (tag_bits (variants fs)) t ++ variant_bits fs t v),
+        length-append (bits_of (tag_bits (variants fs)) t) (variant_bits fs t v),
+        length_bits_of (tag_bits (variants fs)) t,
         variant_most fs t v i.2 h,
       )
   own_most (Union fs f) v i h = absurd h

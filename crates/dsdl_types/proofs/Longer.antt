@@ -4,7 +4,7 @@ use Rattle.std.specs.Prelude.{nat_lt}
 use Rattle.std.proofs.lemmas.Bool.{ltb-false}
 use Rattle.std.proofs.lemmas.List.{take-append-le, drop-append-le}
 use Rattle.cy_bits.specs.Bits.{number, zeros, gap}
-use Rattle.dsdl_types.specs.Schemas.{Prim, Sch, Flds, Simple, Fixed, Var, Struct, Union, End, Pad, Field, is_aligned, is_delimited, prefix, width, variants}
+use Rattle.dsdl_types.specs.Schemas.{Prim, Sch, Flds, Simple, Fixed, Var, Struct, Union, End, Pad, Field, is_aligned, is_delimited, length_field_bits, tag_bits, width, variants}
 use Rattle.dsdl_types.specs.Values.{Val, Items, Parts, Tagged, Empty, More}
 use Rattle.dsdl_types.specs.Reading.{Read, Got, Bad, Step, Name, Index, Why, BadDelimiter, BadLength, value_of, and_then, under, within, delimited, aligned, align, own, fields, variant, part, row}
 use Rattle.cy_bits.proofs.BitFacts.{number_zeros, drop_zeros, take_zeros}
@@ -137,12 +137,12 @@ mutual
   longer_own (Simple t) = longer_number (width t) (λ n p x. Got (value_of t n) p x) (λ n. longer_got (value_of t) n)
   longer_own (Fixed s n) = longer_then (row (part s) n 0) (λ vs. Got (Items vs)) (longer_row (part s) (longer_delimited (is_delimited s) (own s) (longer_own s)) n 0) (λ vs. longer_got (λ ws. Items ws) vs)
   longer_own (Var s c) =
-      longer_number (prefix c) (λ n p x. cond (nat_lt c n) (Bad [] (BadLength n)) (and_then (row (part s) n 0 p x) (λ vs. Got (Items vs))))
+      longer_number (length_field_bits c) (λ n p x. cond (nat_lt c n) (Bad [] (BadLength n)) (and_then (row (part s) n 0 p x) (λ vs. Got (Items vs))))
       (λ n. longer_if (nat_lt c n) [] (BadLength n) (λ p x. and_then (row (part s) n 0 p x) (λ vs. Got (Items vs)))
       (longer_then (row (part s) n 0) (λ vs. Got (Items vs)) (longer_row (part s) (longer_delimited (is_delimited s) (own s) (longer_own s)) n 0) (λ vs. longer_got (λ ws. Items ws) vs)))
   longer_own (Struct fs f) = longer_then (fields fs) (λ vs. align (Parts vs)) (longer_fields fs) (λ vs. longer_align (λ ws. Parts ws) vs)
   longer_own (Union fs f) =
-      longer_number (prefix (variants fs - 1)) (λ n p x. and_then (variant fs n n p x) (λ v. align (Tagged n v)))
+      longer_number (tag_bits (variants fs)) (λ n p x. and_then (variant fs n n p x) (λ v. align (Tagged n v)))
       (λ n. longer_then (variant fs n n) (λ v. align (Tagged n v)) (longer_variant fs n n) (λ v. longer_align (λ u. Tagged n u) v))
 
   pub longer_fields : (fs : Flds) → Longer (fields fs)

@@ -4,25 +4,25 @@ use Rattle.std.proofs.lemmas.Bool.{cases_lt}
 use Rattle.std.proofs.lemmas.List.{length-replicate}
 use Rattle.cy_bits.specs.Bits.{bits_of, zeros, gap}
 use Rattle.cy_bits.proofs.BitFacts.{length_bits_of}
-use Rattle.dsdl_types.specs.Schemas.{Prim, Sch, Flds, Simple, Fixed, Var, Struct, Union, End, Pad, Field, is_aligned, is_delimited, prefix, width, variants, extent_of}
+use Rattle.dsdl_types.specs.Schemas.{Prim, Sch, Flds, Simple, Fixed, Var, Struct, Union, End, Pad, Field, is_aligned, is_delimited, length_field_bits, tag_bits, width, variants, extent_of}
 use Rattle.dsdl_types.specs.Values.{Val, Vals, Items, Parts, Tagged, Empty, More, count, items_of}
 use Rattle.dsdl_types.specs.Cast.{cast_simple}
 use Rattle.dsdl_types.specs.Fits.{Fits, FitFields, FitsVariant, AreItems, AllOf}
-use Rattle.dsdl_types.specs.Encoding.{own_bits, field_bits, variant_bits, part_bits, each, counted, lead, raw}
+use Rattle.dsdl_types.specs.Encoding.{own_bits, field_bits, variant_bits, part_bits, each, with_header, lead, raw}
 use Rattle.dsdl_types.specs.Greatest.{up, from_lead, longest, longest_fields, longest_variant, as_part}
 use Rattle.dsdl_types.specs.Lengths.{AsPart, InRow, Length, EndsAt, VariantLength, Size}
 use Rattle.dsdl_types.specs.Sound.{IsSound, AreSound}
 use Rattle.dsdl_types.specs.Rules.{IsFormed, AreFormed, IsExtent}
-use Rattle.dsdl_types.proofs.Lengths.{length_padded, counted_length, longest_extent, delimited_aligned, own_whole, own_most}
+use Rattle.dsdl_types.proofs.Lengths.{length_padded, with_header_length, longest_extent, delimited_aligned, own_whole, own_most}
 
 -- the length of a part is one of its sizes
-counted_size : (d : Bool) (e : ℕ) (P : ℕ → Type 0) (l : List Bool) → (d ≡ true → (length l % 8 ≡ 0) × (length l ≤ e)) → P (length l) → AsPart d e P (length (counted d l))
-counted_size false e P l h p = p
-counted_size true e P l h p = let k = h refl in (length l / 8, omega (arith, k.0, k.1), omega (arith, counted_length true l, k.0))
+with_header_size : (d : Bool) (e : ℕ) (P : ℕ → Type 0) (l : List Bool) → (d ≡ true → (length l % 8 ≡ 0) × (length l ≤ e)) → P (length l) → AsPart d e P (length (with_header d l))
+with_header_size false e P l h p = p
+with_header_size true e P l h p = let k = h refl in (length l / 8, omega (arith, k.0, k.1), omega (arith, with_header_length true l, k.0))
 
 part_size : (s : Sch) (v : Val) → IsSound s → Fits s v → Length s (length (own_bits s v)) → Size s (length (part_bits s v))
 part_size s v i f h =
-    counted_size (is_delimited s) (extent_of s) (Length s) (own_bits s v)
+    with_header_size (is_delimited s) (extent_of s) (Length s) (own_bits s v)
     (λ d. (own_whole s v (delimited_aligned s d), omega (arith, own_most s v i f, longest_extent s i d))) h
 
 each_in_row : (f : Val → List Bool) (P : Val → Type 0) (Q : ℕ → Type 0) → ((v : Val) → P v → Q (length (f v))) → (vs : Vals) → AllOf P vs → InRow Q (count vs) (length (each f vs))
@@ -50,14 +50,14 @@ mutual
         length (each (part_bits s) (items_of v)),
         r.0,
         r.1,
-        omega (arith, length-append (bits_of (prefix c) (count (items_of v))) (each (part_bits s) (items_of v)), length_bits_of (prefix c) (count (items_of v))),
+        omega (arith, length-append (bits_of (length_field_bits c) (count (items_of v))) (each (part_bits s) (items_of v)), length_bits_of (length_field_bits c) (count (items_of v))),
       )
   own_length (Struct fs o) (Parts vs) i h =
       let e : 0 + length (field_bits fs 0 vs) ≡ length (field_bits fs 0 vs) = omega arith in
       (length (field_bits fs 0 vs), subst (λ m. EndsAt fs 0 m) e (fields_end fs 0 vs i.1 h), length_padded (field_bits fs 0 vs))
   own_length (Struct fs o) v i h = absurd h
   own_length (Union fs o) (Tagged t v) i h =
-      let w = prefix (variants fs - 1) in
+      let w = tag_bits (variants fs) in
       let e : length (bits_of w t ++ variant_bits fs t v) ≡ w + length (variant_bits fs t v) = omega (arith, length-append (bits_of w t) (variant_bits fs t v), length_bits_of w t) in
       (length (variant_bits fs t v), variant_length fs t v i.2 h, length_padded (bits_of w t ++ variant_bits fs t v) ∙ ap (λ n. up n) e)
   own_length (Union fs o) v i h = absurd h

@@ -5,7 +5,7 @@ use Rattle.std.proofs.lemmas.Bool.{ltb-false}
 use Rattle.std.proofs.lemmas.List.{length-drop}
 use Rattle.std.proofs.Math.Nat.{mul-le-mul_right}
 use Rattle.cy_bits.specs.Bits.{number, gap}
-use Rattle.dsdl_types.specs.Schemas.{Prim, Sch, Flds, Simple, Fixed, Var, Struct, Union, End, Pad, Field, is_aligned, is_delimited, prefix, width, variants}
+use Rattle.dsdl_types.specs.Schemas.{Prim, Sch, Flds, Simple, Fixed, Var, Struct, Union, End, Pad, Field, is_aligned, is_delimited, length_field_bits, tag_bits, width, variants}
 use Rattle.dsdl_types.specs.Values.{Val, Items, Parts, Tagged, Empty, More}
 use Rattle.dsdl_types.specs.Reading.{Read, Got, Bad, Step, Name, Index, BadDelimiter, BadLength, value_of, and_then, under, within, delimited, aligned, align, own, fields, variant, part, row}
 use Rattle.dsdl_types.specs.Reach.{header_or, reach, reach_fields, reach_variant, Reaches}
@@ -82,11 +82,11 @@ mutual
       more_reach (own (Fixed s n)) (n * m + 0) (n * m) (omega arith) (reach_items (part s) m (reach_delimited (is_delimited s) (own s) (reach s) (own_reach s)) n)
   own_reach (Var s c) =
       let m = header_or (is_delimited s) (reach s) in
-      reach_number (prefix c) (λ n p x. cond (nat_lt c n) (Bad [] (BadLength n)) (and_then (row (part s) n 0 p x) (λ vs. Got (Items vs)))) (c * m)
+      reach_number (length_field_bits c) (λ n p x. cond (nat_lt c n) (Bad [] (BadLength n)) (and_then (row (part s) n 0 p x) (λ vs. Got (Items vs)))) (c * m)
       (λ n. reach_bounded (part s) m c n (reach_delimited (is_delimited s) (own s) (reach s) (own_reach s)))
   own_reach (Struct fs f) = reach_then (fields fs) (λ vs. align (Parts vs)) (reach_fields fs) 7 (fields_reach fs) (λ vs. reach_align (λ ws. Parts ws) vs)
   own_reach (Union fs f) =
-      reach_number (prefix (variants fs - 1)) (λ n p x. and_then (variant fs n n p x) (λ v. align (Tagged n v))) (reach_variant fs + 7)
+      reach_number (tag_bits (variants fs)) (λ n p x. and_then (variant fs n n p x) (λ v. align (Tagged n v))) (reach_variant fs + 7)
       (λ n. reach_then (variant fs n n) (λ v. align (Tagged n v)) (reach_variant fs) 7 (variant_reach fs n n) (λ v. reach_align (λ u. Tagged n u) v))
 
   pub fields_reach : (fs : Flds) → Reaches (fields fs) (reach_fields fs)

@@ -6,7 +6,7 @@ use Rattle.std.proofs.lemmas.Slice.Eq.{bytes_eq-Decides}
 use Rattle.dsdl_names.specs.Words.{is_name}
 use Rattle.dsdl_types.specs.Names.{IsNew, AreNamed, HasNames, HaveNames}
 use Rattle.std.proofs.lemmas.Bool.{ltb-true, and_parts, eqb-true}
-use Rattle.dsdl_types.specs.Schemas.{Prim, Sch, Flds, Outline, PBool, PUint, PInt, PFloat, Simple, Fixed, Var, Struct, Union, End, Pad, Field, prefix, variants}
+use Rattle.dsdl_types.specs.Schemas.{Prim, Sch, Flds, Outline, PBool, PUint, PInt, PFloat, Simple, Fixed, Var, Struct, Union, End, Pad, Field, tag_bits, variants}
 use Rattle.dsdl_types.specs.Greatest.{up, longest_fields, longest_variant}
 use Rattle.dsdl_types.specs.Rules.{is_float_width, IsPrim, IsExtent, IsOutline, IsItem, NoPadding, IsFormed, AreFormed, nesting, nodes, IsSchema}
 
@@ -43,7 +43,7 @@ abbrev mutual
   is_formed (Fixed s n) = is_from_to 1 1048576 n && (is_item s && is_formed s)
   is_formed (Var s cap) = is_from_to 1 1048576 cap && (is_item s && is_formed s)
   is_formed (Struct fs o) = is_outline (up (longest_fields fs 0)) o && are_formed fs
-  is_formed (Union fs o) = is_outline (up (prefix (variants fs - 1) + longest_variant fs)) o && (nat_lt 1 (variants fs) && (no_padding fs && are_formed fs))
+  is_formed (Union fs o) = is_outline (up (tag_bits (variants fs) + longest_variant fs)) o && (nat_lt 1 (variants fs) && (no_padding fs && are_formed fs))
 
   pub are_formed : Flds → Bool
   are_formed End = true
@@ -125,7 +125,7 @@ mutual
       (r.0, r.1, item_kept s q.0, formed_kept s q.1)
   formed_kept (Struct fs o) h = let p = and_parts _ _ h in (outline_kept _ o p.0, fields_kept fs p.1)
   formed_kept (Union fs o) h =
-      let p = and_parts (is_outline (up (prefix (variants fs - 1) + longest_variant fs)) o) (nat_lt 1 (variants fs) && (no_padding fs && are_formed fs)) h in
+      let p = and_parts (is_outline (up (tag_bits (variants fs) + longest_variant fs)) o) (nat_lt 1 (variants fs) && (no_padding fs && are_formed fs)) h in
       let q = and_parts (nat_lt 1 (variants fs)) (no_padding fs && are_formed fs) p.1 in
       let r = and_parts (no_padding fs) (are_formed fs) q.1 in
       (outline_kept _ o p.0, omega (arith, ltb-true 1 (variants fs) q.0), padding_kept fs r.0, fields_kept fs r.1)

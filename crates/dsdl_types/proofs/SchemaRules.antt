@@ -1,7 +1,7 @@
 -- A schema that keeps the rules is one that the laws of reading and writing hold of
 use Rattle.std.proofs.Common.{◌==◌, ◌||◌, ◌⊎◌, ◌≡◌, ◌+◌, ◌-◌, ◌%◌, refl, ℕ, zero, suc, ◌*◌, ◌^◌, ◌≤◌, Bool, true, false, inl, inr, arith}
 use Rattle.std.proofs.lemmas.Bool.{eqb-true}
-use Rattle.dsdl_types.specs.Schemas.{Prim, Sch, Flds, Outline, PBool, PUint, PInt, PFloat, Simple, Fixed, Var, Struct, Union, End, Pad, Field, variants, prefix, extent_of}
+use Rattle.dsdl_types.specs.Schemas.{Prim, Sch, Flds, Outline, PBool, PUint, PInt, PFloat, Simple, Fixed, Var, Struct, Union, End, Pad, Field, variants, tag_bits, extent_of}
 use Rattle.dsdl_types.specs.Greatest.{up, longest_fields, longest_variant}
 use Rattle.dsdl_types.proofs.Lengths.{up_whole}
 use Rattle.dsdl_types.specs.Sound.{IsSoundPrim, IsSoundOutline, IsSound, AreSound}
@@ -76,4 +76,4 @@ extent_whole (Simple t) h = refl
 extent_whole (Fixed s n) h = refl
 extent_whole (Var s cap) h = refl
 extent_whole (Struct fs o) h = whole_extent o.sealed (longest_fields fs 0) o.extent h.0.0.0
-extent_whole (Union fs o) h = whole_extent o.sealed (prefix (variants fs - 1) + longest_variant fs) o.extent h.0.0.0
+extent_whole (Union fs o) h = whole_extent o.sealed (tag_bits (variants fs) + longest_variant fs) o.extent h.0.0.0

@@ -4,7 +4,7 @@ use Rattle.std.proofs.lemmas.Bool.{cond-false, le-ltb}
 use Rattle.std.proofs.lemmas.List.{take_at, drop_at}
 use Rattle.std.specs.Prelude.{nat_lt}
 use Rattle.cy_bits.specs.Bits.{number, bits_of}
-use Rattle.dsdl_types.specs.Schemas.{Sch, Flds, Outline, Var, Union, prefix, variants}
+use Rattle.dsdl_types.specs.Schemas.{Sch, Flds, Outline, Var, Union, length_field_bits, tag_bits, variants}
 use Rattle.dsdl_types.specs.Values.{Items, Tagged}
 use Rattle.dsdl_types.specs.Reading.{Read, Got, Bad, Step, BadDelimiter, BadLength, and_then, under, within, delimited, align, own, part, row, variant}
 use Rattle.cy_bits.proofs.BitFacts.{take_bits, drop_bits}
@@ -36,13 +36,13 @@ counted_is f p c l tail v q r e b go =
     ∙ ap (λ x. within (p + 32 + 8 * c) tail (f 0 x)) (take_at l tail (8 * c) e)
     ∙ ap (λ x. within (p + 32 + 8 * c) tail x) go
 
-pub union_is : (fs : Flds) (f : Outline) (p : ℕ) (rest : List Bool) (n : ℕ) → number (take (prefix (variants fs - 1)) rest) ≡ n →
-    own (Union fs f) p rest ≡ and_then (variant fs n n (p + prefix (variants fs - 1)) (drop (prefix (variants fs - 1)) rest)) (λ v q more. align (Tagged n v) q more)
+pub union_is : (fs : Flds) (f : Outline) (p : ℕ) (rest : List Bool) (n : ℕ) → number (take (tag_bits (variants fs)) rest) ≡ n →
+    own (Union fs f) p rest ≡ and_then (variant fs n n (p + tag_bits (variants fs)) (drop (tag_bits (variants fs)) rest)) (λ v q more. align (Tagged n v) q more)
 union_is fs f p rest n e =
-    ap (λ n. and_then (variant fs n n (p + prefix (variants fs - 1)) (drop (prefix (variants fs - 1)) rest)) (λ v q more. align (Tagged n v) q more)) e
+    ap (λ n. and_then (variant fs n n (p + tag_bits (variants fs)) (drop (tag_bits (variants fs)) rest)) (λ v q more. align (Tagged n v) q more)) e
 
-pub var_is : (s : Sch) (c p : ℕ) (rest : List Bool) (n : ℕ) → number (take (prefix c) rest) ≡ n → n ≤ c →
-    own (Var s c) p rest ≡ and_then (row (part s) n 0 (p + prefix c) (drop (prefix c) rest)) (λ vs. Got (Items vs))
+pub var_is : (s : Sch) (c p : ℕ) (rest : List Bool) (n : ℕ) → number (take (length_field_bits c) rest) ≡ n → n ≤ c →
+    own (Var s c) p rest ≡ and_then (row (part s) n 0 (p + length_field_bits c) (drop (length_field_bits c) rest)) (λ vs. Got (Items vs))
 var_is s c p rest n e h =
-    ap (λ n. cond (nat_lt c n) (Bad [] (BadLength n)) (and_then (row (part s) n 0 (p + prefix c) (drop (prefix c) rest)) (λ vs. Got (Items vs)))) e
+    ap (λ n. cond (nat_lt c n) (Bad [] (BadLength n)) (and_then (row (part s) n 0 (p + length_field_bits c) (drop (length_field_bits c) rest)) (λ vs. Got (Items vs)))) e
     ∙ cond-false _ _ _ (le-ltb _ _ h)

@@ -7,7 +7,7 @@ use Rattle.std.proofs.lemmas.Nat.{pow_pos}
 use Rattle.std.proofs.Math.Nat.{pow-succ'}
 use Rattle.std.proofs.Math.Pow.{pow_mono}
 use Rattle.cy_bits.specs.Bits.{number, bits, gap}
-use Rattle.dsdl_types.specs.Schemas.{Prim, Sch, Flds, PBool, PUint, PInt, PFloat, Simple, Fixed, Var, Struct, Union, End, Pad, Field, is_aligned, is_delimited, prefix, width, variants}
+use Rattle.dsdl_types.specs.Schemas.{Prim, Sch, Flds, PBool, PUint, PInt, PFloat, Simple, Fixed, Var, Struct, Union, End, Pad, Field, is_aligned, is_delimited, length_field_bits, tag_bits, width, variants}
 use Rattle.dsdl_types.specs.Values.{Val, Vals, Truth, Num, Raw, Items, Parts, Tagged, Empty, More, count}
 use Rattle.dsdl_types.specs.Reading.{Read, Got, Bad, Step, Name, Index, value_of, and_then, under, within, delimited, aligned, own, fields, variant, part, row}
 use Rattle.dsdl_types.specs.Fits.{Fits, FitFields, FitsVariant, FitsSimple, IsNumber, AllOf, AreItems, AreParts, IsTagged, IsFirst}
@@ -100,9 +100,9 @@ mutual
       (gives_row (IsStored s) (part s) (gives_delimited (IsStored s) (is_delimited s) (own s) (own_stored s sound)) n 0 p x)
       (λ vs q y h. h)
   own_stored (Var s cap) sound p x =
-      let n = number (take (prefix cap) x) in
-      let q = p + prefix cap in
-      let y = drop (prefix cap) x in
+      let n = number (take (length_field_bits cap) x) in
+      let q = p + length_field_bits cap in
+      let y = drop (length_field_bits cap) x in
       gives_cond (IsStored (Var s cap)) (nat_lt cap n) _ _ (λ _. tt)
       (λ few. gives_then (Row (IsStored s) n) (IsStored (Var s cap)) (row (part s) n 0 q y) _
       (gives_row (IsStored s) (part s) (gives_delimited (IsStored s) (is_delimited s) (own s) (own_stored s sound.1)) n 0 q y)
@@ -110,7 +110,7 @@ mutual
   own_stored (Struct fs o) sound p x =
       gives_then (AreStored fs) (IsStored (Struct fs o)) (fields fs p x) _ (fields_stored fs sound.1 p x) (λ vs q y h. h)
   own_stored (Union fs o) sound p x =
-      let w = prefix (variants fs - 1) in
+      let w = tag_bits (variants fs) in
       let n = number (take w x) in
       gives_then (IsStoredVariant fs n) (IsStored (Union fs o)) (variant fs n n (p + w) (drop w x)) _
       (variant_stored fs sound.2 n n (p + w) (drop w x)) (λ v q y h. h)

@@ -3,7 +3,7 @@ use Rattle.std.proofs.Common.{◌≡◌, ℕ, zero, suc, ◌+◌, ◌*◌, ◌-�
 use Rattle.std.proofs.lemmas.Bool.{cond-true, lt-ltb}
 use Rattle.std.proofs.lemmas.Nat.{pow_pos}
 use Rattle.cy_bits.specs.Bits.{zeros, gap}
-use Rattle.dsdl_types.specs.Schemas.{Prim, PBool, PUint, PInt, PFloat, Sch, Flds, Simple, Fixed, Var, Struct, Union, End, Pad, Field, is_aligned, is_delimited, prefix, width, variants}
+use Rattle.dsdl_types.specs.Schemas.{Prim, PBool, PUint, PInt, PFloat, Sch, Flds, Simple, Fixed, Var, Struct, Union, End, Pad, Field, is_aligned, is_delimited, length_field_bits, tag_bits, width, variants}
 use Rattle.dsdl_types.specs.Values.{Val, Num, Items, Parts, Tagged, Empty, More, same_items, count}
 use Rattle.dsdl_types.specs.Fits.{Fits, FitFields, FitsVariant, FitsSimple, AllOf}
 use Rattle.dsdl_types.specs.Laws as Laws
@@ -67,9 +67,9 @@ mutual
       let z = zero_row (part s) (zero_of s) (zero_delimited (is_delimited s) (own s) (zero_of s) (zero_own s i)) n 0 p k in
       record { place = z.place; left = z.left; is = step_is (row (part s) n 0 p (zeros k)) (same_items n (zero_of s)) z.place (zeros z.left) (λ vs. Got (Items vs)) z.is }
   zero_own (Var s c) i p k = record {
-    place = p + prefix c;
-    left = k - prefix c;
-    is = var_is s c p (zeros k) 0 (number_take_zeros (prefix c) k) (omega arith) ∙ ap (λ x. Got (Items Empty) (p + prefix c) x) (drop_zeros (prefix c) k);
+    place = p + length_field_bits c;
+    left = k - length_field_bits c;
+    is = var_is s c p (zeros k) 0 (number_take_zeros (length_field_bits c) k) (omega arith) ∙ ap (λ x. Got (Items Empty) (p + length_field_bits c) x) (drop_zeros (length_field_bits c) k);
   }
   zero_own (Struct fs f) i p k =
       let z = zero_fields_read fs i.1 p k in
@@ -80,7 +80,7 @@ mutual
             ∙ ap (λ x. Got (Parts (zero_fields fs)) (z.place + gap z.place) x) (drop_zeros (gap z.place) z.left);
       }
   zero_own (Union fs f) i p k =
-      let w = prefix (variants fs - 1) in
+      let w = tag_bits (variants fs) in
       let z = zero_variant_read fs i.2 (omega arith) 0 (p + w) (k - w) in
       record {
         place = z.place + gap z.place;

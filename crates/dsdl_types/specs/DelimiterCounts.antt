@@ -1,7 +1,7 @@
 -- Bytes in which no delimiter header counts more than the extent of its part.
 use Rattle.std.specs.Prelude.{ℕ, zero, suc, ◌+◌, ◌*◌, ◌-◌, ◌≤◌, Bool, true, false, List, length, take, drop}
 use Rattle.cy_bits.specs.Bits.{number, gap}
-use Rattle.dsdl_types.specs.Schemas.{Prim, Sch, Flds, Simple, Fixed, Var, Struct, Union, End, Pad, Field, is_aligned, is_delimited, prefix, variants, extent_of}
+use Rattle.dsdl_types.specs.Schemas.{Prim, Sch, Flds, Simple, Fixed, Var, Struct, Union, End, Pad, Field, is_aligned, is_delimited, length_field_bits, tag_bits, variants, extent_of}
 use Rattle.dsdl_types.specs.Values.{Val}
 use Rattle.dsdl_types.specs.Reading.{Read, Got, Bad, part, aligned}
 
@@ -33,11 +33,11 @@ abbrev mutual
   CountsFit (Simple t) p x = Unit {0}
   CountsFit (Fixed s n) p x = row_fits (part s) (count_fits (is_delimited s) (extent_of s) (λ q y. CountsFit s q y)) n p x
   CountsFit (Var s c) p x =
-      let n = number (take (prefix c) x) in
-      n ≤ c → row_fits (part s) (count_fits (is_delimited s) (extent_of s) (λ q y. CountsFit s q y)) n (p + prefix c) (drop (prefix c) x)
+      let n = number (take (length_field_bits c) x) in
+      n ≤ c → row_fits (part s) (count_fits (is_delimited s) (extent_of s) (λ q y. CountsFit s q y)) n (p + length_field_bits c) (drop (length_field_bits c) x)
   CountsFit (Struct fs o) p x = FieldsFit fs p x
   CountsFit (Union fs o) p x =
-      let w = prefix (variants fs - 1) in
+      let w = tag_bits (variants fs) in
       VariantFits fs (number (take w x)) (p + w) (drop w x)
 
   pub FieldsFit : Flds → ℕ → List Bool → Type 0

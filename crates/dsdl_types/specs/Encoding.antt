@@ -1,7 +1,7 @@
 -- The serialized form of a value: a list of bits, least significant first (Cyphal Specification, section 3.7).
 use Rattle.std.specs.Prelude.{ℕ, zero, suc, ◌+◌, ◌-◌, ◌^◌, ◌/◌, Bool, true, false, List, [], ◌++◌, length, pos, negsuc}
 use Rattle.cy_bits.specs.Bits.{bits_of, zeros, gap}
-use Rattle.dsdl_types.specs.Schemas.{Prim, Sch, Flds, Simple, Fixed, Var, Struct, Union, End, Pad, Field, is_aligned, is_delimited, prefix, width, variants}
+use Rattle.dsdl_types.specs.Schemas.{Prim, Sch, Flds, Simple, Fixed, Var, Struct, Union, End, Pad, Field, is_aligned, is_delimited, length_field_bits, tag_bits, width, variants}
 use Rattle.dsdl_types.specs.Values.{Val, Vals, Truth, Num, Raw, Empty, More, count, items_of, parts_of, tag_of, inner_of, first, others}
 use Rattle.dsdl_types.specs.Cast.{cast_simple}
 
@@ -24,9 +24,9 @@ each f Empty = []
 each f (More v vs) = f v ++ each f vs
 
 -- bits behind a delimiter header, if they have one: their number of bytes, in 32 bits
-abbrev pub counted : Bool → List Bool → List Bool
-counted false l = l
-counted true l = bits_of 32 (length l / 8) ++ l
+abbrev pub with_header : Bool → List Bool → List Bool
+with_header false l = l
+with_header true l = bits_of 32 (length l / 8) ++ l
 
 -- with zeros up to a multiple of 8 at its end
 abbrev pub padded : List Bool → List Bool
@@ -43,26 +43,26 @@ lead true p = zeros (gap p)
 abbrev mutual
   pub own_bits : Sch → Val → List Bool
   own_bits (Simple t) v = simple_bits t v
-  own_bits (Fixed s n) v = each (λ x. counted (is_delimited s) (own_bits s x)) (items_of v)
-  own_bits (Var s cap) v = bits_of (prefix cap) (count (items_of v)) ++ each (λ x. counted (is_delimited s) (own_bits s x)) (items_of v)
+  own_bits (Fixed s n) v = each (λ x. with_header (is_delimited s) (own_bits s x)) (items_of v)
+  own_bits (Var s cap) v = bits_of (length_field_bits cap) (count (items_of v)) ++ each (λ x. with_header (is_delimited s) (own_bits s x)) (items_of v)
   own_bits (Struct fs o) v = padded (field_bits fs 0 (parts_of v))
-  own_bits (Union fs o) v = padded (bits_of (prefix (variants fs - 1)) (tag_of v) ++ variant_bits fs (tag_of v) (inner_of v))
+  own_bits (Union fs o) v = padded (bits_of (tag_bits (variants fs)) (tag_of v) ++ variant_bits fs (tag_of v) (inner_of v))
 
   -- the bits of fields that begin at the place p of their structure
   pub field_bits : Flds → ℕ → Vals → List Bool
   field_bits End p vs = []
   field_bits (Pad n fs) p vs = zeros n ++ field_bits fs (p + n) vs
   field_bits (Field name s fs) p vs =
-      lead (is_aligned s) p ++ (counted (is_delimited s) (own_bits s (first vs))
-      ++ field_bits fs (p + (length (lead (is_aligned s) p) + length (counted (is_delimited s) (own_bits s (first vs))))) (others vs))
+      lead (is_aligned s) p ++ (with_header (is_delimited s) (own_bits s (first vs))
+      ++ field_bits fs (p + (length (lead (is_aligned s) p) + length (with_header (is_delimited s) (own_bits s (first vs))))) (others vs))
 
   -- the bits of variant number k of these
   pub variant_bits : Flds → ℕ → Val → List Bool
   variant_bits End k v = []
   variant_bits (Pad n fs) k v = variant_bits fs k v
-  variant_bits (Field name s fs) zero v = counted (is_delimited s) (own_bits s v)
+  variant_bits (Field name s fs) zero v = with_header (is_delimited s) (own_bits s v)
   variant_bits (Field name s fs) (suc k) v = variant_bits fs k v
 
 -- a value as a part of another type: behind its delimiter header, where it has one
 abbrev pub part_bits : Sch → Val → List Bool
-part_bits s v = counted (is_delimited s) (own_bits s v)
+part_bits s v = with_header (is_delimited s) (own_bits s v)

@@ -1,7 +1,7 @@
 -- The greatest length of a schema, in bits.
 use Rattle.std.specs.Prelude.{ℕ, ◌+◌, ◌*◌, ◌-◌, max, Bool, true, false}
 use Rattle.cy_bits.specs.Bits.{gap}
-use Rattle.dsdl_types.specs.Schemas.{Sch, Flds, Simple, Fixed, Var, Struct, Union, End, Pad, Field, is_aligned, is_delimited, extent_of, prefix, width, variants}
+use Rattle.dsdl_types.specs.Schemas.{Sch, Flds, Simple, Fixed, Var, Struct, Union, End, Pad, Field, is_aligned, is_delimited, extent_of, length_field_bits, tag_bits, width, variants}
 
 -- as a part: of a delimited composite the delimiter header and the extent
 abbrev pub as_part : Bool → ℕ → ℕ → ℕ
@@ -21,9 +21,9 @@ abbrev mutual
   pub longest : Sch → ℕ
   longest (Simple t) = width t
   longest (Fixed s n) = n * as_part (is_delimited s) (extent_of s) (longest s)
-  longest (Var s cap) = prefix cap + cap * as_part (is_delimited s) (extent_of s) (longest s)
+  longest (Var s cap) = length_field_bits cap + cap * as_part (is_delimited s) (extent_of s) (longest s)
   longest (Struct fs o) = up (longest_fields fs 0)
-  longest (Union fs o) = up (prefix (variants fs - 1) + longest_variant fs)
+  longest (Union fs o) = up (tag_bits (variants fs) + longest_variant fs)
 
   -- where fields end at most that begin at the place p
   pub longest_fields : Flds → ℕ → ℕ

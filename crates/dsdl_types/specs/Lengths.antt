@@ -1,6 +1,6 @@
 -- Which lengths in bits the serialized forms of a schema have, and where a field can stand.
 use Rattle.std.specs.Prelude.{◌≡◌, ℕ, zero, suc, ◌+◌, ◌*◌, ◌-◌, ◌≤◌, ◌⊎◌, Bool, true, false}
-use Rattle.dsdl_types.specs.Schemas.{Sch, Flds, Simple, Fixed, Var, Struct, Union, End, Pad, Field, is_aligned, is_delimited, extent_of, prefix, width, variants}
+use Rattle.dsdl_types.specs.Schemas.{Sch, Flds, Simple, Fixed, Var, Struct, Union, End, Pad, Field, is_aligned, is_delimited, extent_of, length_field_bits, tag_bits, width, variants}
 use Rattle.dsdl_types.specs.Greatest.{up, from_lead}
 
 -- As a part: of a delimited composite its delimiter header and any whole bytes up to its extent, since
@@ -19,9 +19,9 @@ abbrev mutual
   pub Length : Sch → ℕ → Type 0
   Length (Simple t) n = n ≡ width t
   Length (Fixed s k) n = InRow (AsPart (is_delimited s) (extent_of s) (λ m. Length s m)) k n
-  Length (Var s cap) n = (k : ℕ) × (m : ℕ) × (k ≤ cap) × InRow (AsPart (is_delimited s) (extent_of s) (λ m. Length s m)) k m × (n ≡ prefix cap + m)
+  Length (Var s cap) n = (k : ℕ) × (m : ℕ) × (k ≤ cap) × InRow (AsPart (is_delimited s) (extent_of s) (λ m. Length s m)) k m × (n ≡ length_field_bits cap + m)
   Length (Struct fs o) n = (m : ℕ) × EndsAt fs 0 m × (n ≡ up m)
-  Length (Union fs o) n = (m : ℕ) × VariantLength fs m × (n ≡ up (prefix (variants fs - 1) + m))
+  Length (Union fs o) n = (m : ℕ) × VariantLength fs m × (n ≡ up (tag_bits (variants fs) + m))
 
   -- fields that begin at the place p can end at n
   pub EndsAt : Flds → ℕ → ℕ → Type 0
@@ -48,5 +48,5 @@ StandsAt (Field name s fs) (suc k) p o = (m : ℕ) × Size s m × StandsAt fs k 
 -- Field k of a composite can stand at o. In a union each variant stands behind the tag.
 abbrev pub At : Sch → ℕ → ℕ → Type 0
 At (Struct fs outline) k o = StandsAt fs k 0 o
-At (Union fs outline) k o = o ≡ prefix (variants fs - 1)
+At (Union fs outline) k o = o ≡ tag_bits (variants fs)
 At _ k o = ⊥

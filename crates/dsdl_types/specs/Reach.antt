@@ -1,6 +1,6 @@
 -- How far past the end of its bits reading goes.
 use Rattle.std.specs.Prelude.{◌≡◌, ℕ, ◌+◌, ◌*◌, ◌-◌, ◌≤◌, max, Bool, true, false, List, length}
-use Rattle.dsdl_types.specs.Schemas.{Prim, Sch, Flds, Simple, Fixed, Var, Struct, Union, End, Pad, Field, is_delimited, prefix, width, variants}
+use Rattle.dsdl_types.specs.Schemas.{Prim, Sch, Flds, Simple, Fixed, Var, Struct, Union, End, Pad, Field, is_delimited, length_field_bits, tag_bits, width, variants}
 use Rattle.dsdl_types.specs.Reading.{Read, Got}
 
 -- of a delimited part the header, since its window lies within the bits
@@ -13,9 +13,9 @@ abbrev mutual
   pub reach : Sch → ℕ
   reach (Simple t) = width t
   reach (Fixed s n) = n * header_or (is_delimited s) (reach s)
-  reach (Var s c) = prefix c + c * header_or (is_delimited s) (reach s)
+  reach (Var s c) = length_field_bits c + c * header_or (is_delimited s) (reach s)
   reach (Struct fs o) = reach_fields fs + 7
-  reach (Union fs o) = prefix (variants fs - 1) + (reach_variant fs + 7)
+  reach (Union fs o) = tag_bits (variants fs) + (reach_variant fs + 7)
 
   pub reach_fields : Flds → ℕ
   reach_fields End = 0

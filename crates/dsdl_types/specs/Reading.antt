@@ -2,7 +2,7 @@
 -- 3.7). Bits past the end are zeros, since `take` and `drop` give none there and the number of no bits is 0.
 use Rattle.std.specs.Prelude.{ℕ, zero, suc, ◌+◌, ◌*◌, ◌-◌, ◌^◌, ◌==◌, nat_lt, if◌then◌else◌, Bool, true, false, List, [], ◌∷◌, length, take, drop, pos, negsuc}
 use Rattle.cy_bits.specs.Bits.{number, gap}
-use Rattle.dsdl_types.specs.Schemas.{Prim, Sch, Flds, PBool, PUint, PInt, PFloat, Simple, Fixed, Var, Struct, Union, End, Pad, Field, is_aligned, is_delimited, prefix, width, variants}
+use Rattle.dsdl_types.specs.Schemas.{Prim, Sch, Flds, PBool, PUint, PInt, PFloat, Simple, Fixed, Var, Struct, Union, End, Pad, Field, is_aligned, is_delimited, length_field_bits, tag_bits, width, variants}
 use Rattle.dsdl_types.specs.Values.{Val, Vals, Truth, Num, Raw, Items, Parts, Tagged, Empty, More}
 
 -- a step of the path to a part: a field or variant by its name, or an item by its place
@@ -74,14 +74,14 @@ abbrev mutual
   own (Simple t) p rest = Got (value_of t (number (take (width t) rest))) (p + width t) (drop (width t) rest)
   own (Fixed s n) p rest = and_then (row (delimited (is_delimited s) (own s)) n 0 p rest) (λ vs. Got (Items vs))
   own (Var s cap) p rest =
-      let n = number (take (prefix cap) rest) in
+      let n = number (take (length_field_bits cap) rest) in
       if nat_lt cap n
       then Bad [] (BadLength n)
-      else and_then (row (delimited (is_delimited s) (own s)) n 0 (p + prefix cap) (drop (prefix cap) rest)) (λ vs. Got (Items vs))
+      else and_then (row (delimited (is_delimited s) (own s)) n 0 (p + length_field_bits cap) (drop (length_field_bits cap) rest)) (λ vs. Got (Items vs))
   own (Struct fs o) p rest = and_then (fields fs p rest) (λ vs q more. align (Parts vs) q more)
   own (Union fs o) p rest =
-      let n = number (take (prefix (variants fs - 1)) rest) in
-      and_then (variant fs n n (p + prefix (variants fs - 1)) (drop (prefix (variants fs - 1)) rest)) (λ v q more. align (Tagged n v) q more)
+      let n = number (take (tag_bits (variants fs)) rest) in
+      and_then (variant fs n n (p + tag_bits (variants fs)) (drop (tag_bits (variants fs)) rest)) (λ v q more. align (Tagged n v) q more)
 
   pub fields : Flds → ℕ → List Bool → Read Vals
   fields End p rest = Got Empty p rest

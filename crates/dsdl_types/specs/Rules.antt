@@ -1,6 +1,6 @@
 -- The rules that a schema keeps (Cyphal Specification, sections 3.4 and 3.6), and the limits of this compiler.
 use Rattle.std.specs.Prelude.{◌≡◌, ℕ, suc, ◌+◌, ◌*◌, ◌-◌, ◌^◌, ◌%◌, ◌≤◌, ◌==◌, ◌||◌, max, Bool, true, false}
-use Rattle.dsdl_types.specs.Schemas.{Prim, Sch, Flds, Outline, PBool, PUint, PInt, PFloat, Simple, Fixed, Var, Struct, Union, End, Pad, Field, prefix, variants}
+use Rattle.dsdl_types.specs.Schemas.{Prim, Sch, Flds, Outline, PBool, PUint, PInt, PFloat, Simple, Fixed, Var, Struct, Union, End, Pad, Field, tag_bits, variants}
 use Rattle.dsdl_types.specs.Greatest.{up, longest_fields, longest_variant}
 use Rattle.dsdl_types.specs.Names.{HasNames}
 
@@ -43,7 +43,7 @@ abbrev mutual
   IsFormed (Fixed s n) = (1 ≤ n) × (n ≤ 2 ^ 20) × IsItem s × IsFormed s
   IsFormed (Var s cap) = (1 ≤ cap) × (cap ≤ 2 ^ 20) × IsItem s × IsFormed s
   IsFormed (Struct fs o) = IsOutline (up (longest_fields fs 0)) o × AreFormed fs
-  IsFormed (Union fs o) = IsOutline (up (prefix (variants fs - 1) + longest_variant fs)) o × (2 ≤ variants fs) × NoPadding fs × AreFormed fs
+  IsFormed (Union fs o) = IsOutline (up (tag_bits (variants fs) + longest_variant fs)) o × (2 ≤ variants fs) × NoPadding fs × AreFormed fs
 
   pub AreFormed : Flds → Type 0
   AreFormed End = Unit {0}

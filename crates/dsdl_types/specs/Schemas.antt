@@ -1,5 +1,5 @@
 -- Schemas: what a data type is once all of its names are resolved (Cyphal Specification, section 3.4).
-use Rattle.std.specs.Prelude.{ℕ, suc, nat_lt, if◌then◌else◌, Bool, true, false, not, List}
+use Rattle.std.specs.Prelude.{ℕ, suc, ◌-◌, nat_lt, if◌then◌else◌, Bool, true, false, not, List}
 
 -- A primitive type: a truth value, or a number of so many bits. An unsigned integer or a float is
 -- saturated (true) or truncated (false); a signed integer is saturated.
@@ -74,10 +74,17 @@ extent_of (Var s n) = 0
 extent_of (Struct fs o) = o.extent
 extent_of (Union fs o) = o.extent
 
--- The bits of an array's length field, for its capacity, or of a union's tag, for the number of its
--- variants less one: the smallest of 8, 16, 32 and 64 that holds it.
-abbrev pub prefix : ℕ → ℕ
-prefix n = if nat_lt n 256 then 8 else if nat_lt n 65536 then 16 else if nat_lt n 4294967296 then 32 else 64
+-- of 8, 16, 32 and 64 bits the least that hold the numbers up to n
+abbrev pub holding_bits : ℕ → ℕ
+holding_bits n = if nat_lt n 256 then 8 else if nat_lt n 65536 then 16 else if nat_lt n 4294967296 then 32 else 64
+
+-- the bits of an array's length field, by its capacity: they hold the numbers up to it
+abbrev pub length_field_bits : ℕ → ℕ
+length_field_bits capacity = holding_bits capacity
+
+-- the bits of a union's tag, by the number of its variants: they hold the numbers below it
+abbrev pub tag_bits : ℕ → ℕ
+tag_bits count = holding_bits (count - 1)
 
 -- the bits of a primitive
 abbrev pub width : Prim → ℕ

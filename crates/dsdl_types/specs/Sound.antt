@@ -1,6 +1,6 @@
 -- What reading and writing rest on: the part of the rules of a schema that the laws need.
 use Rattle.std.specs.Prelude.{ℕ, ◌+◌, ◌-◌, ◌^◌, ◌≤◌}
-use Rattle.dsdl_types.specs.Schemas.{Prim, Sch, Flds, Outline, PBool, PUint, PInt, PFloat, Simple, Fixed, Var, Struct, Union, End, Pad, Field, prefix, variants}
+use Rattle.dsdl_types.specs.Schemas.{Prim, Sch, Flds, Outline, PBool, PUint, PInt, PFloat, Simple, Fixed, Var, Struct, Union, End, Pad, Field, tag_bits, variants}
 use Rattle.dsdl_types.specs.Greatest.{up, longest_fields, longest_variant}
 
 -- the extent is at least the greatest length
@@ -19,7 +19,7 @@ abbrev mutual
   IsSound (Fixed s n) = IsSound s
   IsSound (Var s cap) = (cap ≤ 2 ^ 20) × IsSound s
   IsSound (Struct fs o) = IsSoundOutline (up (longest_fields fs 0)) o × AreSound fs
-  IsSound (Union fs o) = IsSoundOutline (up (prefix (variants fs - 1) + longest_variant fs)) o × ((2 ≤ variants fs) × (variants fs ≤ 2 ^ 20)) × AreSound fs
+  IsSound (Union fs o) = IsSoundOutline (up (tag_bits (variants fs) + longest_variant fs)) o × ((2 ≤ variants fs) × (variants fs ≤ 2 ^ 20)) × AreSound fs
 
   pub AreSound : Flds → Type 0
   AreSound End = Unit {0}

@@ -78,7 +78,8 @@ pub fn comparison()
 
 /// The serialized form of a value has a length of its type.
 pub fn encoded_length()
-    ensures { (s : Sch) → IsSound s → (v : Val) → Fits s v → Length s (length (own_bits s v)) }
+    ensures { (s : Sch) → IsSound s → (v : Val) → Fits s v →
+        Length s (length (own_bits s v)) }
 {}
 
 /// The greatest length of a schema is one of its lengths, and none is above it.
@@ -113,6 +114,7 @@ pub fn same_values()
 /// What bytes read as is a value whose numbers are in the ranges in which a struct stores them, and each such
 /// value is one of the schema.
 pub fn readings_stored()
-    ensures stored { (s : Sch) → IsSound s → (b : List ℕ) (v : Val) → Reads s b v → IsStored s v }
+    ensures stored { (s : Sch) → IsSound s → (b : List ℕ) (v : Val) →
+        Reads s b v → IsStored s v }
     ensures fits { (s : Sch) (v : Val) → IsStored s v → Fits s v }
 {}

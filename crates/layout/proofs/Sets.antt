@@ -5,7 +5,7 @@ use Rattle.std.proofs.lemmas.Bool.{false≢true}
 use Rattle.bit_length.specs.Lengths.{Numbers, Has, Same, Only, Delimited, Sums, Repeats, UpTo, Pads, padded, IsLongBeyond}
 use Rattle.bit_length.specs.declared.LengthError.{LengthError}
 use Rattle.bit_length.specs.declared.LengthError.TheVariants as error
-use Rattle.dsdl_types.specs.Schemas.{Prim, Sch, Outline, width, Simple, Fixed, Var, Struct, Union, is_composite, is_delimited, extent_of, prefix, variants}
+use Rattle.dsdl_types.specs.Schemas.{Prim, Sch, Outline, width, Simple, Fixed, Var, Struct, Union, is_composite, is_delimited, extent_of, length_field_bits, tag_bits, variants}
 use Rattle.dsdl_types.specs.Rules.{IsExtent, IsOutline, IsFormed}
 use Rattle.dsdl_types.specs.Greatest.{up, longest, longest_fields, longest_variant, as_part}
 use Rattle.dsdl_types.specs.Lengths.{AsPart, InRow, Length, Size}
@@ -57,20 +57,20 @@ fixed_lengths s k S h = repeats_are S (Size s) h k
 pub fixed_short : (s : Sch) (k : ℕ) (S : Numbers) → Same S (Size s) → longest (Fixed s k) ≤ 2 ^ 32 → IsShort (Repeats S k)
 fixed_short s k S h most n x = le_trans (at_most (Fixed s k) n ((fixed_lengths s k S h n).0 x)) most
 
-pub var_lengths : (s : Sch) (cap : ℕ) (S P U : Numbers) → Same S (Size s) → Same P (Only (prefix cap)) → Same U (UpTo S cap) → Same (Sums P U) (Length (Var s cap))
+pub var_lengths : (s : Sch) (cap : ℕ) (S P U : Numbers) → Same S (Size s) → Same P (Only (length_field_bits cap)) → Same U (UpTo S cap) → Same (Sums P U) (Length (Var s cap))
 var_lengths s cap S P U h p u n = (
   λ (a, b, x, y, e).
       let (k, few, z) = (u b).0 y in
       (k, b, few, (repeats_are S (Size s) h k b).0 z, e ∙ ap (λ w. w + b) ((p a).0 x)),
-  λ (k, b, few, z, e). (prefix cap, b, (p (prefix cap)).1 refl, (u b).1 (k, few, (repeats_are S (Size s) h k b).1 z), e),
+  λ (k, b, few, z, e). (length_field_bits cap, b, (p (length_field_bits cap)).1 refl, (u b).1 (k, few, (repeats_are S (Size s) h k b).1 z), e),
 )
 
-pub var_short : (s : Sch) (cap : ℕ) (S P U : Numbers) → Same S (Size s) → Same P (Only (prefix cap)) → Same U (UpTo S cap) → longest (Var s cap) ≤ 2 ^ 32 → IsShort (Sums P U)
+pub var_short : (s : Sch) (cap : ℕ) (S P U : Numbers) → Same S (Size s) → Same P (Only (length_field_bits cap)) → Same U (UpTo S cap) → longest (Var s cap) ≤ 2 ^ 32 → IsShort (Sums P U)
 var_short s cap S P U h p u most n x = le_trans (at_most (Var s cap) n ((var_lengths s cap S P U h p u n).0 x)) most
 
 pub items_short : (s : Sch) (cap : ℕ) (S : Numbers) → Same S (Size s) → longest (Var s cap) ≤ 2 ^ 32 → IsShort (UpTo S cap)
 items_short s cap S h most n (k, few, z) =
-    let m = at_most (Var s cap) (prefix cap + n) (k, n, few, (repeats_are S (Size s) h k n).0 z, refl) in
+    let m = at_most (Var s cap) (length_field_bits cap + n) (k, n, few, (repeats_are S (Size s) h k n).0 z, refl) in
     omega (arith, m, most)
 
 -- the result of a call as the lengths of a type, along an equation of the type
@@ -108,7 +108,7 @@ delimited_whole (Simple t) h d = refl
 delimited_whole (Fixed s n) h d = refl
 delimited_whole (Var s cap) h d = refl
 delimited_whole (Struct fs o) h d = outline_whole o.sealed (up (longest_fields fs 0)) o.extent h.0.0 d
-delimited_whole (Union fs o) h d = outline_whole o.sealed (up (prefix (variants fs - 1) + longest_variant fs)) o.extent h.0.0 d
+delimited_whole (Union fs o) h d = outline_whole o.sealed (up (tag_bits (variants fs) + longest_variant fs)) o.extent h.0.0 d
 
 outline_most : (greatest : ℕ) (o : Outline) → IsOutline greatest o → greatest ≤ 2 ^ 32
 outline_most greatest o h = below o.sealed h.0
@@ -123,7 +123,7 @@ composite_short (Simple t) h c = absurd (false≢true c)
 composite_short (Fixed s n) h c = absurd (false≢true c)
 composite_short (Var s cap) h c = absurd (false≢true c)
 composite_short (Struct fs o) h c = outline_most (up (longest_fields fs 0)) o h.0
-composite_short (Union fs o) h c = outline_most (up (prefix (variants fs - 1) + longest_variant fs)) o h.0
+composite_short (Union fs o) h c = outline_most (up (tag_bits (variants fs) + longest_variant fs)) o h.0
 
 -- ---- along equations
 

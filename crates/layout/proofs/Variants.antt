@@ -1,7 +1,7 @@
 -- The way through the variants of a union
 use Rattle.std.proofs.Common.{◌≡◌, ◌⊎◌, inl, inr, ℕ, suc, ◌+◌, ◌-◌, ◌^◌, ◌<◌, ◌≤◌, List, [], ◌∷◌, ◌++◌, length, refl, sym, ap, ◌∙◌, subst, arith, append_assoc, Option, Some, None, drop, get_or}
 use Rattle.bit_length.specs.Lengths.{Has, Same, Only, Sums, Pads}
-use Rattle.dsdl_types.specs.Schemas.{Sch, Flds, Outline, Union, End, Pad, Field, is_delimited, extent_of, prefix, variants}
+use Rattle.dsdl_types.specs.Schemas.{Sch, Flds, Outline, Union, End, Pad, Field, is_delimited, extent_of, tag_bits, variants}
 use Rattle.dsdl_types.specs.Greatest.{up, longest, longest_variant, as_part}
 use Rattle.dsdl_types.specs.Lengths.{Size}
 use Rattle.dsdl_types.specs.Rules.{IsFormed, NoPadding}
@@ -33,18 +33,18 @@ joins_start fs o rest rows formed short e none =
       no_padding = formed.2;
     }
 
-pub tag_of_body : (b : Body) (tag : List ℕ) (p n : ℕ) → Same (Has tag) (Only p) → p ≡ prefix (n - 1) → n ≡ length (out-Body b).fields → IsFormed (Union (body_of b).0 (body_of b).1) →
-    Same (Has tag) (Only (prefix (variants (body_of b).0 - 1)))
+pub tag_of_body : (b : Body) (tag : List ℕ) (p n : ℕ) → Same (Has tag) (Only p) → p ≡ tag_bits n → n ≡ length (out-Body b).fields → IsFormed (Union (body_of b).0 (body_of b).1) →
+    Same (Has tag) (Only (tag_bits (variants (body_of b).0)))
 tag_of_body b tag p n h e l formed =
     let count : variants (body_of b).0 ≡ n = body_count b n l formed.2 in
-    subst (λ q. Same (Has tag) (Only q)) (e ∙ ap (λ m. prefix (m - 1)) (sym count)) h
+    subst (λ q. Same (Has tag) (Only q)) (e ∙ ap (λ m. tag_bits m) (sym count)) h
 
 pub variant_formed : (fs : Flds) (o : Outline) (name : List ℕ) (s : Sch) (rest : Flds) (rows : List Row) (lengths : Option (List ℕ)) → Joins fs o (Field name s rest) rows lengths →
     IsFormed s × (as_part (is_delimited s) (extent_of s) (longest s) ≤ 2 ^ 32)
 variant_formed fs o name s rest rows lengths j = (j.formed.0, omega (arith, j.short))
 
 pub joins_field : (fs : Flds) (o : Outline) (name : List ℕ) (s : Sch) (rest : Flds) (rows : List Row) (lengths : Option (List ℕ)) (row : Row) (new : List ℕ) → Joins fs o (Field name s rest) rows lengths →
-    row.name ≡ name → row.cast ≡ cast_of s → Same (Has row.offsets) (Only (prefix (variants fs - 1))) → Same (Has row.lengths) (Size s) →
+    row.name ≡ name → row.cast ≡ cast_of s → Same (Has row.offsets) (Only (tag_bits (variants fs))) → Same (Has row.lengths) (Size s) →
     Same (Has new) (λ n. HasIn lengths n ⊎ Has row.lengths n) → Joins fs o rest (rows ++ row ∷ []) (Some new)
 joins_field fs o name s rest rows lengths row new j named casts tag len join = record {
   done = j.done ++ (name, s) ∷ [];
@@ -67,22 +67,22 @@ joins_field fs o name s rest rows lengths row new j named casts tag len join = r
 }
 
 -- the lengths of the variants behind the tag, before the end is padded
-pub union_within : (fs : Flds) (o : Outline) (rows : List Row) (tag lengths : List ℕ) → Joins fs o End rows (Some lengths) → Same (Has tag) (Only (prefix (variants fs - 1))) →
-    (n : ℕ) → Sums (Has tag) (Has lengths) n → n ≤ prefix (variants fs - 1) + longest_variant fs
+pub union_within : (fs : Flds) (o : Outline) (rows : List Row) (tag lengths : List ℕ) → Joins fs o End rows (Some lengths) → Same (Has tag) (Only (tag_bits (variants fs))) →
+    (n : ℕ) → Sums (Has tag) (Has lengths) n → n ≤ tag_bits (variants fs) + longest_variant fs
 union_within fs o rows tag lengths j tags n (a, m, x, y, e) =
     omega (arith, e, (tags a).0 x, variant_most fs m ((j.joined m).1 (inl y)))
 
-pub union_short : (fs : Flds) (o : Outline) (rows : List Row) (tag lengths : List ℕ) → Joins fs o End rows (Some lengths) → Same (Has tag) (Only (prefix (variants fs - 1))) →
+pub union_short : (fs : Flds) (o : Outline) (rows : List Row) (tag lengths : List ℕ) → Joins fs o End rows (Some lengths) → Same (Has tag) (Only (tag_bits (variants fs))) →
     longest (Union fs o) ≤ 2 ^ 32 → IsShort (Sums (Has tag) (Has lengths))
 union_short fs o rows tag lengths j tags short n h = omega (arith, union_within fs o rows tag lengths j tags n h, short)
 
-pub union_pad_short : (fs : Flds) (o : Outline) (rows : List Row) (tag lengths sums : List ℕ) → Joins fs o End rows (Some lengths) → Same (Has tag) (Only (prefix (variants fs - 1))) →
+pub union_pad_short : (fs : Flds) (o : Outline) (rows : List Row) (tag lengths sums : List ℕ) → Joins fs o End rows (Some lengths) → Same (Has tag) (Only (tag_bits (variants fs))) →
     Same (Has sums) (Sums (Has tag) (Has lengths)) → longest (Union fs o) ≤ 2 ^ 32 → IsShort (Pads (Has sums) 8)
 union_pad_short fs o rows tag lengths sums j tags sum short n (m, x, e) =
     let most = union_within fs o rows tag lengths j tags m ((sum m).0 x) in
     omega (arith, e, padded_is_up m, most, short)
 
-pub joins_layout : (fs : Flds) (o : Outline) (rows : List Row) (tag lengths sums out : List ℕ) → Joins fs o End rows (Some lengths) → Same (Has tag) (Only (prefix (variants fs - 1))) →
+pub joins_layout : (fs : Flds) (o : Outline) (rows : List Row) (tag lengths sums out : List ℕ) → Joins fs o End rows (Some lengths) → Same (Has tag) (Only (tag_bits (variants fs))) →
     Same (Has sums) (Sums (Has tag) (Has lengths)) → Same (Has out) (Pads (Has sums) 8) → IsLayout (Union fs o) rows out
 joins_layout fs o rows tag lengths sums out j tags sum pad = record {
   each = subst (λ d. AreRows (Union fs o) 0 d rows) (sym (j.split ∙ append_none j.done)) j.each;
@@ -92,7 +92,7 @@ joins_layout fs o rows tag lengths sums out j tags sum pad = record {
         let (a, m, y, z, q_is) = (sum q).0 x in
         (m, (j.joined m).1 (inl z), e ∙ padded_is_up q ∙ ap up (q_is ∙ ap (λ t. t + m) ((tags a).0 y))),
     λ (m, h, e).
-        let t = prefix (variants fs - 1) in
+        let t = tag_bits (variants fs) in
         let z : Has lengths m = elim ((j.joined m).0 h) [ inl z ↦ z | inr w ↦ absurd w ] in
         (pad n).1 (t + m, (sum (t + m)).1 (t, m, (tags t).1 refl, z, refl), e ∙ sym (padded_is_up (t + m))),
   );

@@ -1,7 +1,7 @@
 -- What is known on the way through the fields of a composite.
 use Rattle.std.specs.Prelude.{◌≡◌, ℕ, ◌+◌, ◌-◌, ◌^◌, ◌≤◌, ◌↔◌, ◌⊎◌, List, [], ◌++◌, length, Option, MatchOption}
 use Rattle.bit_length.specs.Lengths.{Has}
-use Rattle.dsdl_types.specs.Schemas.{Sch, Flds, Outline, Struct, Union, prefix, variants}
+use Rattle.dsdl_types.specs.Schemas.{Sch, Flds, Outline, Struct, Union, tag_bits, variants}
 use Rattle.dsdl_types.specs.Greatest.{longest_fields, longest_variant}
 use Rattle.dsdl_types.specs.Lengths.{EndsAt, VariantLength, StandsAt}
 use Rattle.dsdl_types.specs.Rules.{AreFormed, NoPadding}
@@ -28,7 +28,7 @@ pub record Joins (fs : Flds) (o : Outline) (rest : Flds) (rows : List Row) (leng
   pub each : AreRows (Union fs o) 0 done rows
   pub none : MatchOption lengths (done ≡ []) (λ _. Unit {0})
   pub joined : (n : ℕ) → VariantLength fs n ↔ (HasIn lengths n ⊎ VariantLength rest n)
-  pub short : prefix (variants fs - 1) + longest_variant rest ≤ 2 ^ 32
+  pub short : tag_bits (variants fs) + longest_variant rest ≤ 2 ^ 32
   pub formed : AreFormed rest
   pub no_padding : NoPadding rest
 

@@ -7,7 +7,7 @@ ghost use Rattle.dsdl_types.specs.Rules.{IsFormed};
 ghost use Rattle.layout.specs.Bodies.{struct_of, union_of};
 
 use crate::ends::ends_after;
-use crate::lengths::{part_lengths, prefix};
+use crate::lengths::{part_lengths, tag_bits};
 use crate::within::{join, only, pad, sum};
 use bit_length::LengthSet;
 use cy_bits::NoMemory;
@@ -36,7 +36,7 @@ pub fn lengths_of_union(alloc: Global, body: &Body) -> Result<LengthSet, NoMemor
     requires short { longest (union_of body.now) ≤ 2 ^ 32 }
     ensures { IfOk result (λ s. Same (Has s) (Length (union_of body.now))) }
 {
-    let tag = only(alloc, prefix(body.fields.len() as u64 - 1))?;
+    let tag = only(alloc, tag_bits(body.fields.len() as u64))?;
     let mut lengths = None;
     for field in body.fields.as_slice() {
         let variant = part_lengths(alloc, &field.schema)?;

@@ -9,7 +9,7 @@ ghost use Rattle.layout.specs.Bodies.{struct_of, union_of};
 ghost use Rattle.layout.specs.Layouts.{IsLayout, cast_of};
 ghost use Rattle.layout.specs.Sets.{Leads, IsShort, IsShortPart};
 
-use crate::lengths::{is_aligned, padding, part_lengths, prefix};
+use crate::lengths::{is_aligned, padding, part_lengths, tag_bits};
 use crate::row::{Row, cast_of};
 use crate::within::{copy, join, only, pad, sum};
 use bit_length::LengthSet;
@@ -40,7 +40,8 @@ pub fn rows_of(alloc: Global, schema: &Schema) -> Result<Composite, NoMemory>
     }
 }
 
-/// The rows and lengths of a structure. Its fields stand in order, and zeros bring its end to a multiple of 8 bits.
+/// The rows and lengths of a structure. Its fields stand in order, and zeros bring its end to a
+/// multiple of 8 bits.
 pub fn struct_rows(alloc: Global, body: &Body) -> Result<Composite, NoMemory>
     requires formed { IsFormed (struct_of body.now) }
     requires short { longest (struct_of body.now) ≤ 2 ^ 32 }
@@ -64,13 +65,14 @@ pub fn struct_rows(alloc: Global, body: &Body) -> Result<Composite, NoMemory>
     })
 }
 
-/// The rows and lengths of a union. Each variant stands behind the tag, and zeros bring its end to a multiple of 8 bits.
+/// The rows and lengths of a union. Each variant stands behind the tag, and zeros bring its end to
+/// a multiple of 8 bits.
 pub fn union_rows(alloc: Global, body: &Body) -> Result<Composite, NoMemory>
     requires formed { IsFormed (union_of body.now) }
     requires short { longest (union_of body.now) ≤ 2 ^ 32 }
     ensures { IfOk result (λ c. IsLayout (union_of body.now) c.rows c.lengths) }
 {
-    let tag = only(alloc, prefix(body.fields.len() as u64 - 1))?;
+    let tag = only(alloc, tag_bits(body.fields.len() as u64))?;
     let mut rows = Vec::new(alloc);
     let mut lengths = None;
     for field in body.fields.as_slice() {
@@ -101,7 +103,8 @@ fn row_of(alloc: Global, field: &Field, offsets: LengthSet) -> Result<Row, NoMem
     requires short { IsShortPart (type_of (named field.now).1) }
     ensures name { IfOk result (λ r. r.name ≡ (named field.now).0) }
     ensures offsets { IfOk result (λ r. r.offsets ≡ offsets) }
-    ensures lengths { IfOk result (λ r. Same (Has r.lengths) (Size (type_of (named field.now).1))) }
+    ensures lengths { IfOk result (λ r.
+        Same (Has r.lengths) (Size (type_of (named field.now).1))) }
     ensures cast { IfOk result (λ r. r.cast ≡ cast_of (type_of (named field.now).1)) }
 {
     Ok(Row {

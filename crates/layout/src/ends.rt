@@ -12,14 +12,16 @@ use cy_bits::NoMemory;
 use dsdl_types::Field;
 use std::alloc::Global;
 
-/// Where the fields of a structure can end that has one field more, from the places where those before it can end:
-/// no padding at the structure's own end is counted.
+/// Where the fields of a structure can end that has one field more, from the places where those
+/// before it can end: no padding at the structure's own end is counted.
 #[cycle(lengths)]
 pub fn ends_after(alloc: Global, places: &LengthSet, field: &Field) -> Result<LengthSet, NoMemory>
     requires formed { AreFormed (alone (named field.now)) }
     requires small { longest_fields (alone (named field.now)) 0 ≤ 2 ^ 32 }
-    requires short { (p : ℕ) → Has places.now p → longest_fields (alone (named field.now)) p ≤ 2 ^ 32 }
-    ensures { IfOk result (λ s. Same (Has s) (EndsBehind (alone (named field.now)) (Has places.now))) }
+    requires short { (p : ℕ) → Has places.now p →
+        longest_fields (alone (named field.now)) p ≤ 2 ^ 32 }
+    ensures { IfOk result (λ s.
+        Same (Has s) (EndsBehind (alone (named field.now)) (Has places.now))) }
 {
     match padding(&field.schema) {
         Some(bits) => sum(places, &only(alloc, bits)?),

@@ -1,6 +1,6 @@
 ghost use Rattle.std.specs.Prelude.{◌≡◌, ℕ, ◌^◌, ◌≤◌, true, false, IfOk, MatchOption};
 ghost use Rattle.bit_length.specs.Lengths.{Has, Same};
-ghost use Rattle.dsdl_types.specs.Schemas.{is_aligned, is_delimited, extent_of, prefix};
+ghost use Rattle.dsdl_types.specs.Schemas.{is_aligned, is_delimited, extent_of, holding_bits, length_field_bits, tag_bits};
 ghost use Rattle.dsdl_types.specs.Greatest.{longest};
 ghost use Rattle.dsdl_types.specs.Lengths.{Length, Size};
 ghost use Rattle.dsdl_types.specs.Rules.{IsFormed};
@@ -30,15 +30,15 @@ pub fn own_lengths(alloc: Global, schema: &Schema) -> Result<LengthSet, NoMemory
         Schema::Fixed { item, len } => repeat(&part_lengths(alloc, item.get())?, *len),
         Schema::Var { item, cap } => {
             let items = up_to(&part_lengths(alloc, item.get())?, *cap)?;
-            sum(&only(alloc, prefix(u64::from(*cap)))?, &items)
+            sum(&only(alloc, length_field_bits(u64::from(*cap)))?, &items)
         }
         Schema::Struct(body) => lengths_of_struct(alloc, body),
         Schema::Union(body) => lengths_of_union(alloc, body),
     }
 }
 
-/// The lengths that a type can have as a part of another: those of a delimited type count its delimiter header, and
-/// go to its extent.
+/// The lengths that a type can have as a part of another: those of a delimited type count its
+/// delimiter header, and go to its extent.
 #[cycle(lengths)]
 pub fn part_lengths(alloc: Global, schema: &Schema) -> Result<LengthSet, NoMemory>
     requires formed { IsFormed (sch schema.now) }
@@ -65,9 +65,23 @@ fn delimited_extent(schema: &Schema) -> Option<u64>
     }
 }
 
-/// The bits of an array's length field for its capacity, or of a union's tag for its number of variants less one.
-pub fn prefix(greatest: u64) -> u64
-    ensures { result ≡ prefix greatest }
+/// The bits of an array's length field, by its capacity.
+fn length_field_bits(capacity: u64) -> u64
+    ensures { result ≡ length_field_bits capacity }
+{
+    holding_bits(capacity)
+}
+
+/// The bits of a union's tag, by the number of its variants.
+pub fn tag_bits(variants: u64) -> u64
+    ensures { result ≡ tag_bits variants }
+{
+    holding_bits(variants.saturating_sub(1))
+}
+
+/// Of 8, 16, 32 and 64 bits the least that hold the numbers up to this one.
+fn holding_bits(greatest: u64) -> u64
+    ensures { result ≡ holding_bits greatest }
 {
     match greatest {
         0..0x100 => 8,
@@ -90,7 +104,8 @@ pub fn is_aligned(schema: &Schema) -> bool
 
 /// The bits of padding; of a type none.
 pub fn padding(schema: &Schema) -> Option<u64>
-    ensures { MatchOption result (is_padding (kind_of schema.now) ≡ false) (λ n. kind_of schema.now ≡ Padding n) }
+    ensures { MatchOption result (is_padding (kind_of schema.now) ≡ false)
+        (λ n. kind_of schema.now ≡ Padding n) }
 {
     match schema {
         Schema::Void { bits } => Some(u64::from(*bits)),

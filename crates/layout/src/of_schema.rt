@@ -10,7 +10,8 @@ use cy_bits::{NoMemory, TryCopy};
 use dsdl_types::Schema;
 use std::alloc::Global;
 
-/// The rows and the lengths of a structure or a union that keeps the rules, without a copy of its schema.
+/// The rows and the lengths of a structure or a union that keeps the rules, without a copy of its
+/// schema.
 pub fn composite_of(alloc: Global, schema: &Schema) -> Result<Composite, NoMemory>
     requires rules { IsSchema (sch schema.now) }
     requires composite { is_composite (sch schema.now) ≡ true }
@@ -19,8 +20,9 @@ pub fn composite_of(alloc: Global, schema: &Schema) -> Result<Composite, NoMemor
     rows_of(alloc, schema)
 }
 
-/// The layout of a structure or a union that keeps the rules: where each field can stand, which lengths it and the
-/// whole can have (Cyphal Specification, section 3.7), and an equal schema. No length is above 2^32 bits.
+/// The layout of a structure or a union that keeps the rules: where each field can stand, which
+/// lengths it and the whole can have (Cyphal Specification, section 3.7), and an equal schema. No
+/// length is above 2^32 bits.
 pub fn layout_of(alloc: Global, schema: &Schema) -> Result<Layout, NoMemory>
     requires rules { IsSchema (sch schema.now) }
     requires composite { is_composite (sch schema.now) ≡ true }

@@ -14,11 +14,11 @@ pub struct Row {
     pub name: Text,
     /// Where it can stand, in bits from the beginning of the composite.
     pub offsets: LengthSet,
-    /// Which lengths it can have, in bits. Those of a delimited type count its delimiter header (Cyphal
-    /// Specification, section 3.7.5).
+    /// Which lengths it can have, in bits. Those of a delimited type count its delimiter header
+    /// (Cyphal Specification, section 3.7.5).
     pub lengths: LengthSet,
-    /// What is done to a number that the type doesn't hold: of an unsigned integer or a float, or of an array of
-    /// such. All other types have none.
+    /// What is done to a number that the type doesn't hold: of an unsigned integer or a float, or
+    /// of an array of such. All other types have none.
     pub cast: Option<Cast>,
 }
 

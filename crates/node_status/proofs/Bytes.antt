@@ -10,9 +10,9 @@ use Rattle.std.specs.List.{All}
 use Rattle.cy_bits.specs.Bits.{bits, bits_of, bytes, bytes_up_to, gap, zeros}
 use Rattle.cy_bits.proofs.BitFacts.{bits-append, drop_bits, take_bits}
 use Rattle.cy_bits.proofs.BitPlaces.{bits_of_low, bits_of_split, length_bits}
-use Rattle.dsdl_types.specs.Encoding.{counted, each, field_bits, lead, own_bits, padded}
+use Rattle.dsdl_types.specs.Encoding.{with_header, each, field_bits, lead, own_bits, padded}
 use Rattle.dsdl_types.specs.Laws.{encoding}
-use Rattle.dsdl_types.specs.Schemas.{Sch, Flds, Outline, End, Field, Fixed, Struct, Var, is_aligned, is_delimited, prefix}
+use Rattle.dsdl_types.specs.Schemas.{Sch, Flds, Outline, End, Field, Fixed, Struct, Var, is_aligned, is_delimited, length_field_bits}
 use Rattle.dsdl_types.specs.Values.{Val, Vals, Empty, More, Parts, count}
 use Rattle.dsdl_types.proofs.Lengths.{gap_none}
 use Rattle.std_types.specs.Held.{natural_value, naturals_value, row_of}
@@ -77,10 +77,10 @@ byte_bytes n h = record { same = ap (bits_of 8) (min-eq_left (le_ones 8 h)) ∙ 
 
 -- ---- arrays of bytes
 
-each_byte : (xs : List ℕ) → All (λ x. x < 2 ^ 8) xs → each (λ v. counted false (own_bits (uint 8) v)) (row_of natural_value xs) ≡ bits xs
+each_byte : (xs : List ℕ) → All (λ x. x < 2 ^ 8) xs → each (λ v. with_header false (own_bits (uint 8) v)) (row_of natural_value xs) ≡ bits xs
 each_byte [] h = refl
 each_byte (x ∷ xs) h =
-    ap (λ l. l ++ each (λ v. counted false (own_bits (uint 8) v)) (row_of natural_value xs)) (ap (bits_of 8) (min-eq_left (le_ones 8 (All-head (λ y. y < 2 ^ 8) x xs h))))
+    ap (λ l. l ++ each (λ v. with_header false (own_bits (uint 8) v)) (row_of natural_value xs)) (ap (bits_of 8) (min-eq_left (le_ones 8 (All-head (λ y. y < 2 ^ 8) x xs h))))
     ∙ ap (λ l. bits_of 8 x ++ l) (each_byte xs (All-tail (λ y. y < 2 ^ 8) x xs h))
 
 count_row : (xs : List ℕ) → count (row_of natural_value xs) ≡ length xs
@@ -90,10 +90,10 @@ count_row (x ∷ xs) = ap suc (count_row xs)
 pub fixed_bytes : (n : ℕ) (xs : List ℕ) → All (λ x. x < 2 ^ 8) xs → IsBytes (Fixed (uint 8) n) (naturals_value xs) xs
 fixed_bytes n xs h = record { same = each_byte xs h }
 
-pub var_bytes : (cap : ℕ) (xs : List ℕ) → prefix cap ≡ 8 → All (λ x. x < 2 ^ 8) xs → IsBytes (Var (uint 8) cap) (naturals_value xs) (length xs ∷ xs)
+pub var_bytes : (cap : ℕ) (xs : List ℕ) → length_field_bits cap ≡ 8 → All (λ x. x < 2 ^ 8) xs → IsBytes (Var (uint 8) cap) (naturals_value xs) (length xs ∷ xs)
 var_bytes cap xs e h = record {
-  same = ap (λ w. bits_of w (count (row_of natural_value xs)) ++ each (λ v. counted false (own_bits (uint 8) v)) (row_of natural_value xs)) e
-      ∙ ap (λ n. bits_of 8 n ++ each (λ v. counted false (own_bits (uint 8) v)) (row_of natural_value xs)) (count_row xs)
+  same = ap (λ w. bits_of w (count (row_of natural_value xs)) ++ each (λ v. with_header false (own_bits (uint 8) v)) (row_of natural_value xs)) e
+      ∙ ap (λ n. bits_of 8 n ++ each (λ v. with_header false (own_bits (uint 8) v)) (row_of natural_value xs)) (count_row xs)
       ∙ ap (λ l. bits_of 8 (length xs) ++ l) (each_byte xs h);
 }
 
@@ -103,7 +103,7 @@ no_lead : (aligned : Bool) (p : ℕ) → p % 8 ≡ 0 → lead aligned p ≡ []
 no_lead false p h = refl
 no_lead true p h = ap zeros (gap_none p h)
 
-not_counted : (d : Bool) (l : List Bool) → d ≡ false → counted d l ≡ l
+not_counted : (d : Bool) (l : List Bool) → d ≡ false → with_header d l ≡ l
 not_counted false l e = refl
 not_counted true l e = cc
 
@@ -122,7 +122,7 @@ no_fields = record { same = λ p whole. refl }
 pub field_bytes : {name : List ℕ} {s : Sch} {fs : Flds} {v : Val} {vs : Vals} {b c : List ℕ} → is_delimited s ≡ false →
     IsBytes s v b → AreBytes fs vs c → AreBytes (Field name s fs) (More v vs) (b ++ c)
 field_bytes {s = s} {fs = fs} {v = v} {vs = vs} {b = b} {c = c} sealed first others = record {
-  same = λ p whole. joined p (lead (is_aligned s) p) (counted (is_delimited s) (own_bits s v)) (λ q. field_bits fs q vs) b c whole
+  same = λ p whole. joined p (lead (is_aligned s) p) (with_header (is_delimited s) (own_bits s v)) (λ q. field_bits fs q vs) b c whole
       (no_lead (is_aligned s) p whole) (not_counted (is_delimited s) (own_bits s v) sealed ∙ first.same) others.same;
 }
 

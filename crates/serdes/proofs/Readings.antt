@@ -5,7 +5,7 @@ use Rattle.std.proofs.lemmas.List.{drop-drop}
 use Rattle.std.specs.Prelude.{Result, Ok, Err, OnOk, nat_lt, if◌then◌else◌}
 use Rattle.cy_bits.specs.Bits.{number, gap, bits}
 use Rattle.dsdl_types.specs.Reading.{Read, Got, Bad, Step, Why, Name, BadLength, BadDelimiter, BadTag, and_then, under, within, value_of, own, part, row, fields, variant, aligned, delimited, align}
-use Rattle.dsdl_types.specs.Schemas.{Prim, Sch, Flds, Outline, Simple, End, Pad, Field, is_aligned, is_delimited, prefix, variants, width}
+use Rattle.dsdl_types.specs.Schemas.{Prim, Sch, Flds, Outline, Simple, End, Pad, Field, is_aligned, is_delimited, length_field_bits, tag_bits, variants, width}
 use Rattle.dsdl_types.specs.Schemas as D
 use Rattle.dsdl_types.specs.Values.{Val, Vals, Empty, More, Items, Parts, Tagged, join}
 use Rattle.dsdl_types.specs.Views.{Kind, Typed, Padding, is_padding, type_of, with_field, named, flds, val, vals}
@@ -91,30 +91,30 @@ row_fails e s n i old p x all h f inv =
     fails_at e _ all (ap (λ m. with_front old (row (part s) m i p x)) b ∙ inv) f
 
 -- a row behind its length field
-pub own_var : (s : Sch) (c w n p k q : ℕ) (x z y : List Bool) (vs : Vals) → w ≡ prefix c → n ≡ number (take w x) → k ≡ p + w → z ≡ drop w x → n ≤ c → row (part s) n 0 k z ≡ Got vs q y →
+pub own_var : (s : Sch) (c w n p k q : ℕ) (x z y : List Bool) (vs : Vals) → w ≡ length_field_bits c → n ≡ number (take w x) → k ≡ p + w → z ≡ drop w x → n ≤ c → row (part s) n 0 k z ≡ Got vs q y →
     own (D.Var s c) p x ≡ Got (Items vs) q y
 own_var s c w n p k q x z y vs is_w e f g short h =
-    let a : number (take (prefix c) x) ≡ n = ap (λ m. number (take m x)) (sym is_w) ∙ sym e in
-    let b : p + prefix c ≡ k = omega (arith, f, is_w) in
-    let d : drop (prefix c) x ≡ z = ap (λ m. drop m x) (sym is_w) ∙ sym g in
+    let a : number (take (length_field_bits c) x) ≡ n = ap (λ m. number (take m x)) (sym is_w) ∙ sym e in
+    let b : p + length_field_bits c ≡ k = omega (arith, f, is_w) in
+    let d : drop (length_field_bits c) x ≡ z = ap (λ m. drop m x) (sym is_w) ∙ sym g in
     var_is s c p x n a short ∙ (λ i. and_then (row (part s) n 0 (b i) (d i)) into_items) ∙ ap (λ r. and_then r into_items) h
 
-pub own_var_fails : (e : Stop) (s : Sch) (c w n p k : ℕ) (x z : List Bool) → w ≡ prefix c → n ≡ number (take w x) → k ≡ p + w → z ≡ drop w x → n ≤ c → Fails e (row (part s) n 0 k z) →
+pub own_var_fails : (e : Stop) (s : Sch) (c w n p k : ℕ) (x z : List Bool) → w ≡ length_field_bits c → n ≡ number (take w x) → k ≡ p + w → z ≡ drop w x → n ≤ c → Fails e (row (part s) n 0 k z) →
     Fails e (own (D.Var s c) p x)
 own_var_fails e s c w n p k x z is_w f g j short h =
-    let a : number (take (prefix c) x) ≡ n = ap (λ m. number (take m x)) (sym is_w) ∙ sym f in
-    let b : k ≡ p + prefix c = omega (arith, g, is_w) in
-    let d : z ≡ drop (prefix c) x = j ∙ ap (λ m. drop m x) is_w in
+    let a : number (take (length_field_bits c) x) ≡ n = ap (λ m. number (take m x)) (sym is_w) ∙ sym f in
+    let b : k ≡ p + length_field_bits c = omega (arith, g, is_w) in
+    let d : z ≡ drop (length_field_bits c) x = j ∙ ap (λ m. drop m x) is_w in
     fails_at e _ (own (D.Var s c) p x) ((λ i. and_then (row (part s) n 0 (b i) (d i)) into_items) ∙ sym (var_is s c p x n a short)) (fails_then e (row (part s) n 0 k z) into_items h)
 
 abbrev bad : List Step → Why → Read Val
 bad path why = Bad path why
 
-pub own_var_long : (s : Sch) (c w n p : ℕ) (x : List Bool) → w ≡ prefix c → n ≡ number (take w x) → c < n → own (D.Var s c) p x ≡ Bad [] (BadLength n)
+pub own_var_long : (s : Sch) (c w n p : ℕ) (x : List Bool) → w ≡ length_field_bits c → n ≡ number (take w x) → c < n → own (D.Var s c) p x ≡ Bad [] (BadLength n)
 own_var_long s c w n p x is_w e h =
-    let a : number (take (prefix c) x) ≡ n = ap (λ m. number (take m x)) (sym is_w) ∙ sym e in
-    ap (λ n. if nat_lt c n then bad [] (BadLength n) else and_then (row (part s) n 0 (p + prefix c) (drop (prefix c) x)) into_items) a
-    ∙ cond-true (nat_lt c n) (bad [] (BadLength n)) (and_then (row (part s) n 0 (p + prefix c) (drop (prefix c) x)) into_items) (lt-ltb _ _ h)
+    let a : number (take (length_field_bits c) x) ≡ n = ap (λ m. number (take m x)) (sym is_w) ∙ sym e in
+    ap (λ n. if nat_lt c n then bad [] (BadLength n) else and_then (row (part s) n 0 (p + length_field_bits c) (drop (length_field_bits c) x)) into_items) a
+    ∙ cond-true (nat_lt c n) (bad [] (BadLength n)) (and_then (row (part s) n 0 (p + length_field_bits c) (drop (length_field_bits c) x)) into_items) (lt-ltb _ _ h)
 
 -- ---- composites
 
@@ -130,20 +130,20 @@ own_parts_fails e fs o p x h = fails_then e (fields fs p x) into_parts h
 abbrev into_tagged : ℕ → Val → ℕ → List Bool → Read Val
 into_tagged n v = align (Tagged n v)
 
-own_union : (fs : Flds) (o : Outline) (w n p k : ℕ) (x z : List Bool) → w ≡ prefix (variants fs - 1) → n ≡ number (take w x) → k ≡ p + w → z ≡ drop w x →
+own_union : (fs : Flds) (o : Outline) (w n p k : ℕ) (x z : List Bool) → w ≡ tag_bits (variants fs) → n ≡ number (take w x) → k ≡ p + w → z ≡ drop w x →
     own (D.Union fs o) p x ≡ and_then (variant fs n n k z) (into_tagged n)
 own_union fs o w n p k x z is_w e f g =
-    let a : number (take (prefix (variants fs - 1)) x) ≡ n = ap (λ m. number (take m x)) (sym is_w) ∙ sym e in
-    let b : p + prefix (variants fs - 1) ≡ k = omega (arith, f, is_w) in
-    let d : drop (prefix (variants fs - 1)) x ≡ z = ap (λ m. drop m x) (sym is_w) ∙ sym g in
+    let a : number (take (tag_bits (variants fs)) x) ≡ n = ap (λ m. number (take m x)) (sym is_w) ∙ sym e in
+    let b : p + tag_bits (variants fs) ≡ k = omega (arith, f, is_w) in
+    let d : drop (tag_bits (variants fs)) x ≡ z = ap (λ m. drop m x) (sym is_w) ∙ sym g in
     union_is fs o p x n a ∙ (λ i. and_then (variant fs n n (b i) (d i)) (into_tagged n))
 
-pub own_tagged : (fs : Flds) (o : Outline) (w n p k q j : ℕ) (x z y u : List Bool) (v : Val) → w ≡ prefix (variants fs - 1) → n ≡ number (take w x) → k ≡ p + w → z ≡ drop w x →
+pub own_tagged : (fs : Flds) (o : Outline) (w n p k q j : ℕ) (x z y u : List Bool) (v : Val) → w ≡ tag_bits (variants fs) → n ≡ number (take w x) → k ≡ p + w → z ≡ drop w x →
     variant fs n n k z ≡ Got v q y → j ≡ q + gap q → u ≡ drop (gap q) y → own (D.Union fs o) p x ≡ Got (Tagged n v) j u
 own_tagged fs o w n p k q j x z y u v is_w e f g h a b =
     own_union fs o w n p k x z is_w e f g ∙ ap (λ r. and_then r (into_tagged n)) h ∙ (λ i. Got (Tagged n v) (sym a i) (sym b i))
 
-pub own_tagged_fails : (e : Stop) (fs : Flds) (o : Outline) (w n p k : ℕ) (x z : List Bool) → w ≡ prefix (variants fs - 1) → n ≡ number (take w x) → k ≡ p + w → z ≡ drop w x →
+pub own_tagged_fails : (e : Stop) (fs : Flds) (o : Outline) (w n p k : ℕ) (x z : List Bool) → w ≡ tag_bits (variants fs) → n ≡ number (take w x) → k ≡ p + w → z ≡ drop w x →
     Fails e (variant fs n n k z) → Fails e (own (D.Union fs o) p x)
 own_tagged_fails s fs o w n p k x z is_w e f g h =
     fails_at s _ (own (D.Union fs o) p x) (sym (own_union fs o w n p k x z is_w e f g)) (fails_then s (variant fs n n k z) (into_tagged n) h)

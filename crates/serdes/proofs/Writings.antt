@@ -8,7 +8,7 @@ use Rattle.cy_bits.specs.Put.{put_bits}
 use Rattle.cy_bits.proofs.BitFacts.{length_bits_of}
 use Rattle.cy_bits.proofs.BitPlaces.{length_bits}
 use Rattle.cy_bits.proofs.BitPuts.{put_append, put_again, put_none, zero_bits}
-use Rattle.dsdl_types.specs.Encoding.{counted, field_bits, lead, own_bits, padded, part_bits, variant_bits}
+use Rattle.dsdl_types.specs.Encoding.{with_header, field_bits, lead, own_bits, padded, part_bits, variant_bits}
 use Rattle.dsdl_types.specs.Schemas.{Sch, Flds, End, Pad, is_aligned, is_delimited}
 use Rattle.dsdl_types.specs.Schemas as D
 use Rattle.dsdl_types.specs.Fits.{AllOf, AreItems, FitFields, Fits, FitsVariant, IsFirst}
@@ -90,10 +90,10 @@ pub header_room : (out : List ℕ) (p n m : ℕ) (l : List Bool) → HasRoom out
 header_room out p n m l h = record { room = omega (arith, h.room, header_length n m l); small = h.small }
 
 pub header_again : (old mid new : List ℕ) (p q r n : ℕ) (l : List Bool) → HasRoom old p (bits_of 32 0 ++ l) → Puts old p mid q (bits_of 32 0 ++ l) → Puts mid p new r (bits_of 32 n) → n ≡ length l / 8 →
-    Puts old p new q (counted true l)
+    Puts old p new q (with_header true l)
 header_again old mid new p q r n l room one two e =
     let again = put_again (bits old) p (bits_of 32 0) (bits_of 32 n) l (omega (arith, room.room, length_bits old)) (length_bits_of 32 0 ∙ sym (length_bits_of 32 n)) in
-    let same : bits_of 32 n ++ l ≡ counted true l = ap (λ k. bits_of 32 k ++ l) e in
+    let same : bits_of 32 n ++ l ≡ with_header true l = ap (λ k. bits_of 32 k ++ l) e in
     record {
       place = one.place ∙ ap (λ k. p + k) (header_length 0 (length l / 8) l);
       written = two.written ∙ ap (λ x. put_bits x p (bits_of 32 n)) one.written ∙ again ∙ ap (λ x. put_bits (bits old) p x) same;
@@ -103,8 +103,8 @@ header_again old mid new p q r n l room one two e =
 pub bytes_counted : (p q : ℕ) (l : List Bool) → q ≡ p + length (bits_of 32 0 ++ l) → (q - p - 32) / 8 ≡ length l / 8
 bytes_counted p q l e = let f : q - p - 32 ≡ length l = omega (arith, e, length-append (bits_of 32 0) l, length_bits_of 32 0) in ap (λ k. k / 8) f
 
-pub part_counted : (s : Sch) (v : Val) (d : Bool) → is_delimited s ≡ d → part_bits s v ≡ counted d (own_bits s v)
-part_counted s v d e = ap (λ x. counted x (own_bits s v)) e
+pub part_counted : (s : Sch) (v : Val) (d : Bool) → is_delimited s ≡ d → part_bits s v ≡ with_header d (own_bits s v)
+part_counted s v d e = ap (λ x. with_header x (own_bits s v)) e
 
 -- ---- places
 

@@ -3,7 +3,7 @@ use Rattle.std.specs.Prelude.{◌≡◌, ℕ, ◌+◌, ◌-◌, ◌*◌, ◌^◌
 use Rattle.cy_bits.specs.Bits.{bits, bits_of}
 use Rattle.cy_bits.specs.Put.{put_bits}
 use Rattle.dsdl_types.specs.Encoding.{each, lead, part_bits, variant_bits}
-use Rattle.dsdl_types.specs.Schemas.{Sch, Flds, is_aligned, prefix, variants}
+use Rattle.dsdl_types.specs.Schemas.{Sch, Flds, is_aligned, length_field_bits, tag_bits, variants}
 use Rattle.dsdl_types.specs.Values.{Val, Vals, count}
 use Rattle.cy_bits.specs.declared.bit_writer.BitWriter.{BitWriter}
 
@@ -26,7 +26,7 @@ PutsAt old from new to l = Puts old from.place new to.place l
 
 -- items behind their length field
 abbrev pub counted_items : Sch → ℕ → Vals → List Bool
-counted_items s cap vs = bits_of (prefix cap) (count vs) ++ each (part_bits s) vs
+counted_items s cap vs = bits_of (length_field_bits cap) (count vs) ++ each (part_bits s) vs
 
 -- a part behind the zeros in front of it, at a place
 abbrev pub led_part : Sch → ℕ → Val → List Bool
@@ -34,4 +34,4 @@ led_part s p v = lead (is_aligned s) p ++ part_bits s v
 
 -- a variant behind its tag
 abbrev pub tagged_bits : Flds → ℕ → Val → List Bool
-tagged_bits fs tag v = bits_of (prefix (variants fs - 1)) tag ++ variant_bits fs tag v
+tagged_bits fs tag v = bits_of (tag_bits (variants fs)) tag ++ variant_bits fs tag v

@@ -126,7 +126,8 @@ fn items_misfit(
 ) -> Result<Option<List<Step>>, NoMemory>
     requires rules { HasRules (sch item.now) }
     requires few { length items.now ≤ 2 ^ 20 }
-    ensures { IfOk result (λ m. found m ≡ first_misfit (misfit (sch item.now)) 0 (vals items.now)) }
+    ensures { IfOk result (λ m.
+        found m ≡ first_misfit (misfit (sch item.now)) 0 (vals items.now)) }
 {
     for i in 0..items.len() {
         let here = item_misfit(alloc, item, i as u32, &items[i])?;
@@ -160,7 +161,8 @@ fn struct_misfit(
     values: &[Value],
 ) -> Result<Option<List<Step>>, NoMemory>
     requires { HaveRules (body_of body.now).0 }
-    ensures { IfOk result (λ m. found m ≡ misfit (struct_of body.now) (Parts (vals values.now))) }
+    ensures { IfOk result (λ m.
+        found m ≡ misfit (struct_of body.now) (Parts (vals values.now))) }
 {
     if values.len() as u64 != variants(body) {
         return Ok(unless(alloc, false));
@@ -201,7 +203,8 @@ fn variant_misfit(
     value: &Value,
 ) -> Result<Option<List<Step>>, NoMemory>
     requires { HaveRules (body_of body.now).0 }
-    ensures { IfOk result (λ m. found m ≡ misfit_variant (body_of body.now).0 tag (val value.now)) }
+    ensures { IfOk result (λ m.
+        found m ≡ misfit_variant (body_of body.now).0 tag (val value.now)) }
 {
     let mut left = tag;
     for field in body.fields.as_slice() {

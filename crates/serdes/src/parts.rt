@@ -1,6 +1,6 @@
 //! What a value or a schema is made of.
 ghost use Rattle.std.specs.Prelude.{◌≡◌, ◌≤◌, ◌<◌, ◌%◌, ◌^◌, true, false, MatchOption};
-ghost use Rattle.dsdl_types.specs.Schemas.{is_aligned, is_delimited, prefix, variants};
+ghost use Rattle.dsdl_types.specs.Schemas.{is_aligned, is_delimited, holding_bits, length_field_bits, tag_bits, variants};
 ghost use Rattle.dsdl_types.specs.Views.{Padding, body_of, is_padding, kind_of, sch};
 
 use dsdl_types::{Body, Schema};
@@ -27,17 +27,35 @@ pub fn is_delimited(schema: &Schema) -> bool
     }
 }
 
-/// The bits of a length field or a tag that goes up to this number.
-pub fn prefix(most: u64) -> u32
-    ensures value { result ≡ prefix most }
+/// The bits of an array's length field, by its capacity.
+pub fn length_field_bits(capacity: u64) -> u32
+    ensures value { result ≡ length_field_bits capacity }
     ensures few { result ≤ 64 }
     ensures whole { result % 8 ≡ 0 }
 {
-    if most < 1 << 8 {
+    holding_bits(capacity)
+}
+
+/// The bits of a union's tag, by the number of its variants.
+pub fn tag_bits(variants: u64) -> u32
+    ensures value { result ≡ tag_bits variants }
+    ensures few { result ≤ 64 }
+    ensures whole { result % 8 ≡ 0 }
+{
+    holding_bits(variants.saturating_sub(1))
+}
+
+/// Of 8, 16, 32 and 64 bits the least that hold the numbers up to this one.
+fn holding_bits(greatest: u64) -> u32
+    ensures value { result ≡ holding_bits greatest }
+    ensures few { result ≤ 64 }
+    ensures whole { result % 8 ≡ 0 }
+{
+    if greatest < 1 << 8 {
         8
-    } else if most < 1 << 16 {
+    } else if greatest < 1 << 16 {
         16
-    } else if most < 1 << 32 {
+    } else if greatest < 1 << 32 {
         32
     } else {
         64

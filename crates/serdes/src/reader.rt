@@ -9,7 +9,7 @@ ghost use Rattle.serdes.specs.Forms.{type_in, union_of};
 ghost use Rattle.serdes.specs.Reads.{Answers, Goes, IsNear, IsWhole, ReadsField, ReadsItem, StaysNear, StaysWhole, alone, named_read, part_reach, skipped, window_read, with_front};
 ghost use Rattle.serdes.specs.Rules.{HasRules, HaveRules};
 
-use crate::parts::{is_aligned, is_delimited, padding, prefix, variants};
+use crate::parts::{is_aligned, is_delimited, length_field_bits, padding, tag_bits, variants};
 use crate::simple::{read_float, read_signed, read_truth, read_unsigned};
 use crate::stop::Stop;
 use crate::window::window;
@@ -58,7 +58,7 @@ fn read_var(alloc: Global, item: &Schema, cap: u32, at: &mut BitReader<'_>) -> R
     ensures same { at.new.bytes.now ≡ at.old.bytes.now }
     ensures whole { StaysWhole (is_aligned (sch item.now)) result at.new }
 {
-    let number = at.take(prefix(u64::from(cap)));
+    let number = at.take(length_field_bits(u64::from(cap)));
     if number > u64::from(cap) {
         return Err(Stop::here(alloc, ReadWhy::BadLength(number)));
     }
@@ -255,7 +255,7 @@ fn read_union(alloc: Global, body: &Body, at: &mut BitReader<'_>) -> Result<Valu
     ensures same { at.new.bytes.now ≡ at.old.bytes.now }
     ensures whole { OnOk result (at.new.place % 8 ≡ 0) }
 {
-    let tag = at.take(prefix(variants(body) - 1));
+    let tag = at.take(tag_bits(variants(body)));
     let value = read_variant(alloc, body, tag, at)?;
     at.align();
     Ok(Value::Union {

@@ -8,7 +8,7 @@ ghost use Rattle.serdes.specs.Forms.{type_in, union_of};
 ghost use Rattle.serdes.specs.Puts.{HasRoomAt, PutsAt, counted_items, led_part, tagged_bits};
 ghost use Rattle.serdes.specs.Rules.{HasRules, HaveRules};
 
-use crate::parts::{is_delimited, padding, prefix, variants};
+use crate::parts::{is_delimited, length_field_bits, padding, tag_bits, variants};
 use crate::put::{put, put_float, put_lead, put_padding, put_signed, put_truth, put_unsigned};
 use crate::value::{fields, inner, items, tag};
 use cy_bits::BitWriter;
@@ -52,7 +52,7 @@ fn write_var(item: &Schema, cap: u32, values: &[Value], out: &mut [u8], to: &mut
     ensures { PutsAt out.old to.old out.new to.new
         (counted_items (sch item.now) cap (vals values.now)) }
 {
-    put(out, to, values.len() as u64, prefix(u64::from(cap)));
+    put(out, to, values.len() as u64, length_field_bits(u64::from(cap)));
     write_items(item, values, out, to);
 }
 
@@ -137,7 +137,7 @@ fn write_union(body: &Body, tag: u32, value: &Value, out: &mut [u8], to: &mut Bi
     ensures { PutsAt out.old to.old out.new to.new
         (tagged_bits (body_of body.now).0 tag (val value.now)) }
 {
-    put(out, to, u64::from(tag), prefix(variants(body) - 1));
+    put(out, to, u64::from(tag), tag_bits(variants(body)));
     write_variant(body, tag, value, out, to);
 }
 

@@ -1,6 +1,6 @@
 -- The schemas of the standard data types, by their definitions. The names of types begin with `uavcan.`.
 use Rattle.std.specs.Prelude.{ℕ, ◌+◌, ◌-◌, true, false, codes}
-use Rattle.dsdl_types.specs.Schemas.{Prim, PBool, PUint, PInt, PFloat, Sch, Flds, Simple, Fixed, Var, Struct, Union, End, Pad, Field, prefix, variants}
+use Rattle.dsdl_types.specs.Schemas.{Prim, PBool, PUint, PInt, PFloat, Sch, Flds, Simple, Fixed, Var, Struct, Union, End, Pad, Field, tag_bits, variants}
 use Rattle.dsdl_types.specs.Greatest.{up, longest_fields, longest_variant}
 
 -- `uintN`, `truncated uintN`, `intN`, `floatN`, `bool`, `uint8[<=N]`
@@ -27,7 +27,7 @@ abbrev pub sealed : Flds → Sch
 sealed fs = Struct fs (record { extent = up (longest_fields fs 0); sealed = true })
 
 abbrev pub sealed_union : Flds → Sch
-sealed_union fs = Union fs (record { extent = up (prefix (variants fs - 1) + longest_variant fs); sealed = true })
+sealed_union fs = Union fs (record { extent = up (tag_bits (variants fs) + longest_variant fs); sealed = true })
 
 -- `@extent`, in bits
 abbrev pub of_extent : ℕ → Flds → Sch

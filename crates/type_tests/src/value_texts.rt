@@ -13,8 +13,10 @@ use value_text::{TextError, print_value, read_value};
 
 /// The fields `first` and `second`.
 fn body(alloc: Global, first: Field, second: Field) -> Result<Body, NoMemory>
-    ensures fields { IfOk result (λ b. (body_of b).0 ≡ in_order (named first ∷ named second ∷ [])) }
-    ensures outline { IfOk result (λ b. ((body_of b).1.extent ≡ 64) × ((body_of b).1.sealed ≡ false)) }
+    ensures fields { IfOk result (λ b.
+        (body_of b).0 ≡ in_order (named first ∷ named second ∷ [])) }
+    ensures outline { IfOk result (λ b.
+        ((body_of b).1.extent ≡ 64) × ((body_of b).1.sealed ≡ false)) }
 {
     let mut fields = List::empty(alloc);
     fields.push(first)?;

@@ -1,7 +1,7 @@
 use Rattle.std.proofs.Common.{refl, inl, inr, rules, ◌∷◌, ◌++◌, [], sym, ap, ◌∙◌, subst, true, false, ◌+◌, drop}
 use Rattle.std.proofs.lemmas.Result.{IfOk-weaker}
 use Rattle.bit_length.specs.Lengths.{Has, Same, Only, Delimited, Sums, Repeats, Pads}
-use Rattle.dsdl_types.specs.Schemas.{Struct, Simple, PBool, prefix}
+use Rattle.dsdl_types.specs.Schemas.{Struct, Simple, PBool, length_field_bits}
 use Rattle.dsdl_types.specs.Lengths.{Length}
 use Rattle.dsdl_types.specs.Views.{body_of, named, type_of, sch, flds}
 use Rattle.dsdl_types.specs.declared.schema.Schema.TheFolds.{the_lemmas}
@@ -38,20 +38,20 @@ pub lengths::own_lengths-sum-requires : goal.lengths::own_lengths-sum-requires
 lengths::own_lengths-sum-requires t c =
     let e = types.var_is c.args.schema.now c.in-Var.item c.get-in-Var.result.now c.in-Var.cap c.in-Var.is c.get-in-Var.ensures in
     let item = sch c.get-in-Var.result.now in
-    let prefixes : Same (Has c.in_ok-only-in-Var.field-0) (Only (prefix c.in-Var.cap)) =
-    subst (λ p. Same (Has c.in_ok-only-in-Var.field-0) (Only p)) (c.prefix.ensures ∙ ap prefix c.from.ensures) c.in_ok-only-in-Var.ensures
+    let length_field : Same (Has c.in_ok-only-in-Var.field-0) (Only (length_field_bits c.in-Var.cap)) =
+    subst (λ p. Same (Has c.in_ok-only-in-Var.field-0) (Only p)) (c.length_field_bits.ensures ∙ ap length_field_bits c.from.ensures) c.in_ok-only-in-Var.ensures
     in
-    sets.var_short item c.in-Var.cap (Has c.in_ok-part_lengths-in-Var.field-0) (Has c.in_ok-only-in-Var.field-0) (Has c.in_ok-items-in-Var.items) c.in_ok-part_lengths-in-Var.ensures prefixes c.in_ok-items-in-Var.ensures (sets.short_along _ _ e c.requires.short)
+    sets.var_short item c.in-Var.cap (Has c.in_ok-part_lengths-in-Var.field-0) (Has c.in_ok-only-in-Var.field-0) (Has c.in_ok-items-in-Var.items) c.in_ok-part_lengths-in-Var.ensures length_field c.in_ok-items-in-Var.ensures (sets.short_along _ _ e c.requires.short)
 
 pub lengths::own_lengths-returns-in_ok-only-in-Var : goal.lengths::own_lengths-returns-in_ok-only-in-Var
 lengths::own_lengths-returns-in_ok-only-in-Var t c =
     let e = types.var_is c.args.schema.now c.in-Var.item c.get-in-Var.result.now c.in-Var.cap c.in-Var.is c.get-in-Var.ensures in
     let item = sch c.get-in-Var.result.now in
-    let prefixes : Same (Has c.in_ok-only-in-Var.field-0) (Only (prefix c.in-Var.cap)) =
-    subst (λ p. Same (Has c.in_ok-only-in-Var.field-0) (Only p)) (c.prefix.ensures ∙ ap prefix c.from.ensures) c.in_ok-only-in-Var.ensures
+    let length_field : Same (Has c.in_ok-only-in-Var.field-0) (Only (length_field_bits c.in-Var.cap)) =
+    subst (λ p. Same (Has c.in_ok-only-in-Var.field-0) (Only p)) (c.length_field_bits.ensures ∙ ap length_field_bits c.from.ensures) c.in_ok-only-in-Var.ensures
     in
     sets.lengths_are c.sum-in-Var.result (Sums (Has c.in_ok-only-in-Var.field-0) (Has c.in_ok-items-in-Var.items)) _ _ c.sum-in-Var.ensures
-    (sets.var_lengths item c.in-Var.cap (Has c.in_ok-part_lengths-in-Var.field-0) (Has c.in_ok-only-in-Var.field-0) (Has c.in_ok-items-in-Var.items) c.in_ok-part_lengths-in-Var.ensures prefixes c.in_ok-items-in-Var.ensures) e
+    (sets.var_lengths item c.in-Var.cap (Has c.in_ok-part_lengths-in-Var.field-0) (Has c.in_ok-only-in-Var.field-0) (Has c.in_ok-items-in-Var.items) c.in_ok-part_lengths-in-Var.ensures length_field c.in_ok-items-in-Var.ensures) e
 
 pub lengths::own_lengths-returns-in-Bool : goal.lengths::own_lengths-returns-in-Bool
 lengths::own_lengths-returns-in-Bool t c =
@@ -197,7 +197,7 @@ bodies::lengths_of_union-loop-field-preserved t c =
     let f = named c.field-item.result in
     let (rows, joins) = c.loop-field.invariant in
     let j = variant.at_variant _ _ rows _ c.as_slice-field-items.result.now c.loop-field.field-index c.field-item.result joins c.loop-field-test.true c.field-item.is in
-    let tag = variant.tag_of_body c.args.body.now c.in_ok-tag.tag _ _ c.in_ok-tag.ensures c.prefix.ensures c.len.ensures c.requires.formed in
+    let tag = variant.tag_of_body c.args.body.now c.in_ok-tag.tag _ _ c.in_ok-tag.ensures c.tag_bits.ensures c.len.ensures c.requires.formed in
     let row : Row = record {
       name = f.0;
       offsets = c.in_ok-tag.tag;
@@ -211,7 +211,7 @@ bodies::lengths_of_union-sum-requires t c =
     let b = c.args.body.now in
     let items = c.as_slice-field-items.result.now in
     let (rows, joins) = c.loop-field.invariant in
-    let tag = variant.tag_of_body b c.in_ok-tag.tag _ _ c.in_ok-tag.ensures c.prefix.ensures c.len.ensures c.requires.formed in
+    let tag = variant.tag_of_body b c.in_ok-tag.tag _ _ c.in_ok-tag.ensures c.tag_bits.ensures c.len.ensures c.requires.formed in
     let j = variant.at_end (body_of b).0 (body_of b).1 rows _ items c.loop-field.field-index
     (subst (λ l. Joins (body_of b).0 (body_of b).1 (flds (drop c.loop-field.field-index items)) rows l) c.in-Some.is joins) c.loop-field-test.false
     in
@@ -222,7 +222,7 @@ bodies::lengths_of_union-pad-requires t c =
     let b = c.args.body.now in
     let items = c.as_slice-field-items.result.now in
     let (rows, joins) = c.loop-field.invariant in
-    let tag = variant.tag_of_body b c.in_ok-tag.tag _ _ c.in_ok-tag.ensures c.prefix.ensures c.len.ensures c.requires.formed in
+    let tag = variant.tag_of_body b c.in_ok-tag.tag _ _ c.in_ok-tag.ensures c.tag_bits.ensures c.len.ensures c.requires.formed in
     let j = variant.at_end (body_of b).0 (body_of b).1 rows _ items c.loop-field.field-index
     (subst (λ l. Joins (body_of b).0 (body_of b).1 (flds (drop c.loop-field.field-index items)) rows l) c.in-Some.is joins) c.loop-field-test.false
     in
@@ -244,7 +244,7 @@ bodies::lengths_of_union-returns t c =
     let b = c.args.body.now in
     let items = c.as_slice-field-items.result.now in
     let (rows, joins) = c.loop-field.invariant in
-    let tag = variant.tag_of_body b c.in_ok-tag.tag _ _ c.in_ok-tag.ensures c.prefix.ensures c.len.ensures c.requires.formed in
+    let tag = variant.tag_of_body b c.in_ok-tag.tag _ _ c.in_ok-tag.ensures c.tag_bits.ensures c.len.ensures c.requires.formed in
     let j = variant.at_end (body_of b).0 (body_of b).1 rows _ items c.loop-field.field-index
     (subst (λ l. Joins (body_of b).0 (body_of b).1 (flds (drop c.loop-field.field-index items)) rows l) c.in-Some.is joins) c.loop-field-test.false
     in

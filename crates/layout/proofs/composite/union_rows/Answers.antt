@@ -1,6 +1,6 @@
 use Rattle.std.proofs.Common.{rules, ◌≡◌, ◌++◌, ◌∷◌, [], sym, ◌∙◌, subst, Some, ◌+◌, ◌-◌, drop}
 use Rattle.bit_length.specs.Lengths.{Has, Same, Only}
-use Rattle.dsdl_types.specs.Schemas.{Union, prefix, variants}
+use Rattle.dsdl_types.specs.Schemas.{Union, tag_bits, variants}
 use Rattle.dsdl_types.specs.Views.{body_of, flds}
 use Rattle.layout.specs.Layouts.{IsLayout}
 use Rattle.layout.proofs.Walks.{Joins}
@@ -17,9 +17,9 @@ pub loop-field-preserved : goal.loop-field-preserved
 loop-field-preserved c =
     let b = c.args.body.now in
     let j = variant.at_variant _ _ _ _ c.as_slice-field-items.result.now c.loop-field.field-index c.field-item.result c.loop-field.invariant c.loop-field-test.true c.field-item.is in
-    let tag = variant.tag_of_body b c.in_ok-tag.tag _ _ c.in_ok-tag.ensures c.prefix.ensures c.len.ensures c.requires.formed in
+    let tag = variant.tag_of_body b c.in_ok-tag.tag _ _ c.in_ok-tag.ensures c.tag_bits.ensures c.len.ensures c.requires.formed in
     let row = c.in_ok-row.ensures in
-    let offsets = subst (λ l. Same (Has l) (Only (prefix (variants (body_of b).0 - 1)))) (sym (row.offsets ∙ c.in_ok-copy.ensures)) tag in
+    let offsets = subst (λ l. Same (Has l) (Only (tag_bits (variants (body_of b).0)))) (sym (row.offsets ∙ c.in_ok-copy.ensures)) tag in
     let pushed : c.push.new.self.items ≡ c.loop-field.rows.items ++ c.in_ok-row.row ∷ [] = search rules in
     subst (λ r. Joins (body_of b).0 (body_of b).1 (flds (drop (c.loop-field.field-index + 1) c.as_slice-field-items.result.now)) r (Some c.in_ok-join.field-0)) (sym pushed)
     (variant.joins_field _ _ _ _ _ _ _ c.in_ok-row.row _ j row.name row.cast offsets row.lengths c.in_ok-join.ensures)
@@ -27,7 +27,7 @@ loop-field-preserved c =
 pub sum-requires : goal.sum-requires
 sum-requires c =
     let b = c.args.body.now in
-    let tag = variant.tag_of_body b c.in_ok-tag.tag _ _ c.in_ok-tag.ensures c.prefix.ensures c.len.ensures c.requires.formed in
+    let tag = variant.tag_of_body b c.in_ok-tag.tag _ _ c.in_ok-tag.ensures c.tag_bits.ensures c.len.ensures c.requires.formed in
     let j = variant.at_end (body_of b).0 (body_of b).1 c.loop-field.rows.items _ c.as_slice-field-items.result.now c.loop-field.field-index
     (subst (λ l. Joins (body_of b).0 (body_of b).1 (flds (drop c.loop-field.field-index c.as_slice-field-items.result.now)) c.loop-field.rows.items l) c.in-Some.is c.loop-field.invariant) c.loop-field-test.false
     in
@@ -36,7 +36,7 @@ sum-requires c =
 pub pad-requires : goal.pad-requires
 pad-requires c =
     let b = c.args.body.now in
-    let tag = variant.tag_of_body b c.in_ok-tag.tag _ _ c.in_ok-tag.ensures c.prefix.ensures c.len.ensures c.requires.formed in
+    let tag = variant.tag_of_body b c.in_ok-tag.tag _ _ c.in_ok-tag.ensures c.tag_bits.ensures c.len.ensures c.requires.formed in
     let j = variant.at_end (body_of b).0 (body_of b).1 c.loop-field.rows.items _ c.as_slice-field-items.result.now c.loop-field.field-index
     (subst (λ l. Joins (body_of b).0 (body_of b).1 (flds (drop c.loop-field.field-index c.as_slice-field-items.result.now)) c.loop-field.rows.items l) c.in-Some.is c.loop-field.invariant) c.loop-field-test.false
     in
@@ -53,7 +53,7 @@ unreachable-requires c =
 pub returns : goal.returns
 returns c =
     let b = c.args.body.now in
-    let tag = variant.tag_of_body b c.in_ok-tag.tag _ _ c.in_ok-tag.ensures c.prefix.ensures c.len.ensures c.requires.formed in
+    let tag = variant.tag_of_body b c.in_ok-tag.tag _ _ c.in_ok-tag.ensures c.tag_bits.ensures c.len.ensures c.requires.formed in
     let j = variant.at_end (body_of b).0 (body_of b).1 c.loop-field.rows.items _ c.as_slice-field-items.result.now c.loop-field.field-index
     (subst (λ l. Joins (body_of b).0 (body_of b).1 (flds (drop c.loop-field.field-index c.as_slice-field-items.result.now)) c.loop-field.rows.items l) c.in-Some.is c.loop-field.invariant) c.loop-field-test.false
     in

@@ -2,9 +2,9 @@ use Rattle.std.proofs.Common.{◌≡◌, ◌∙◌, ◌+◌, ◌-◌, ◌/◌, �
 use Rattle.std.proofs.lemmas.Grind.{common_steps}
 use Rattle.cy_bits.specs.Bits.{bits_of, gap, zeros}
 use Rattle.cy_bits.proofs.BitFacts.{length_bits_of}
-use Rattle.dsdl_types.specs.Encoding.{each, field_bits, lead, own_bits, padded, part_bits, variant_bits, counted}
+use Rattle.dsdl_types.specs.Encoding.{each, field_bits, lead, own_bits, padded, part_bits, variant_bits, with_header}
 use Rattle.dsdl_types.specs.Fits.{AllOf, Fits, FitsVariant}
-use Rattle.dsdl_types.specs.Schemas.{is_aligned, is_delimited, prefix, variants}
+use Rattle.dsdl_types.specs.Schemas.{is_aligned, is_delimited, length_field_bits, tag_bits, variants}
 use Rattle.dsdl_types.specs.Values.{More, count}
 use Rattle.dsdl_types.specs.Views.{body_of, flds, named, sch, type_of, val, vals, with_field}
 use Rattle.dsdl_types.specs.declared.schema.Schema.TheFolds.{the_lemmas}
@@ -40,8 +40,8 @@ write_own-write_var-requires t c =
     let v = val c.args.value.now in
     let vs = vals c.items-in-Var.result.now in
     let is = var_is c.args.schema.now c.in-Var.item c.get-in-Var.result.now cap c.in-Var.is c.get-in-Var.ensures in
-    let bits_are = bits_of (prefix cap) (count vs) ++ each (λ x. part_bits inner x) vs in
-    let e : own_bits (sch c.args.schema.now) v ≡ bits_are = ap (λ s. own_bits s v) is ∙ ap (λ x. bits_of (prefix cap) (count x) ++ each (λ y. part_bits inner y) x) (sym c.items-in-Var.ensures) in (
+    let bits_are = bits_of (length_field_bits cap) (count vs) ++ each (λ x. part_bits inner x) vs in
+    let e : own_bits (sch c.args.schema.now) v ≡ bits_are = ap (λ s. own_bits s v) is ∙ ap (λ x. bits_of (length_field_bits cap) (count x) ++ each (λ y. part_bits inner y) x) (sym c.items-in-Var.ensures) in (
       search (rules, the_lemmas),
       (
         var_rules inner cap (subst (λ s. HasRules s) is c.requires.rules),
@@ -87,13 +87,13 @@ write_own-put_padding-requires-in-Union t c =
     let fs = body.0 in
     let v = val c.args.value.now in
     let tag = c.tag.result in
-    let l = bits_of (prefix (variants fs - 1)) tag ++ variant_bits fs tag (val c.inner.result.now) in
+    let l = bits_of (tag_bits (variants fs)) tag ++ variant_bits fs tag (val c.inner.result.now) in
     let p = c.args.to.now.place in
     let q = c.write_union.new.to.place in
     let out = c.args.out.now in
     let is = union_is c.args.schema.now c.in-Union.body c.in-Union.is in
     let whole : p % 8 ≡ 0 = c.requires.whole (ap (λ s. is_aligned s) is) in
-    let e : own_bits (sch c.args.schema.now) v ≡ l ++ zeros (gap q) = ap (λ s. own_bits s v) is ∙ (λ i. padded (bits_of (prefix (variants fs - 1)) (sym c.tag.ensures i) ++ variant_bits fs (sym c.tag.ensures i) (sym c.inner.ensures i))) ∙ sym (padded_here p q l whole c.write_union.ensures.place) in
+    let e : own_bits (sch c.args.schema.now) v ≡ l ++ zeros (gap q) = ap (λ s. own_bits s v) is ∙ (λ i. padded (bits_of (tag_bits (variants fs)) (sym c.tag.ensures i) ++ variant_bits fs (sym c.tag.ensures i) (sym c.inner.ensures i))) ∙ sym (padded_here p q l whole c.write_union.ensures.place) in
     room_behind out c.write_union.new.out p q l (zeros (gap q)) (room_at out p _ (l ++ zeros (gap q)) e c.requires.room) c.write_union.ensures (search rules)
 
 pub write_own-returns-in-Union : goal.write_own-returns-in-Union
@@ -102,7 +102,7 @@ write_own-returns-in-Union t c =
     let fs = body.0 in
     let v = val c.args.value.now in
     let tag = c.tag.result in
-    let l = bits_of (prefix (variants fs - 1)) tag ++ variant_bits fs tag (val c.inner.result.now) in
+    let l = bits_of (tag_bits (variants fs)) tag ++ variant_bits fs tag (val c.inner.result.now) in
     let p = c.args.to.now.place in
     let q = c.write_union.new.to.place in
     let r = c.put_padding-in-Union.new.to.place in
@@ -110,7 +110,7 @@ write_own-returns-in-Union t c =
     let new = c.put_padding-in-Union.new.out in
     let is = union_is c.args.schema.now c.in-Union.body c.in-Union.is in
     let whole : p % 8 ≡ 0 = c.requires.whole (ap (λ s. is_aligned s) is) in
-    let e : own_bits (sch c.args.schema.now) v ≡ l ++ zeros (gap q) = ap (λ s. own_bits s v) is ∙ (λ i. padded (bits_of (prefix (variants fs - 1)) (sym c.tag.ensures i) ++ variant_bits fs (sym c.tag.ensures i) (sym c.inner.ensures i))) ∙ sym (padded_here p q l whole c.write_union.ensures.place) in
+    let e : own_bits (sch c.args.schema.now) v ≡ l ++ zeros (gap q) = ap (λ s. own_bits s v) is ∙ (λ i. padded (bits_of (tag_bits (variants fs)) (sym c.tag.ensures i) ++ variant_bits fs (sym c.tag.ensures i) (sym c.inner.ensures i))) ∙ sym (padded_here p q l whole c.write_union.ensures.place) in
     puts_at out new p r (l ++ zeros (gap q)) (own_bits (sch c.args.schema.now) v) (sym e)
     (puts_both out c.write_union.new.out new p q r l (zeros (gap q)) (room_at out p _ (l ++ zeros (gap q)) e c.requires.room) c.write_union.ensures c.put_padding-in-Union.ensures)
 
@@ -121,7 +121,7 @@ write_part-put-requires-clause-room t c =
     let out = c.args.out.now in
     let p = c.args.to.now.place in
     let d : is_delimited s ≡ true = sym c.is_delimited.ensures.value ∙ c.if-not-is_delimited.false in
-    let room = header_room out p (length l / 8) 0 l (room_at out p _ (counted true l) (part_counted s (val c.args.value.now) true d) c.requires.room) in
+    let room = header_room out p (length l / 8) 0 l (room_at out p _ (with_header true l) (part_counted s (val c.args.value.now) true d) c.requires.room) in
     room_front out p (bits_of 32 0) l room
 
 pub write_part-write_own-requires-2 : goal.write_part-write_own-requires-2
@@ -132,7 +132,7 @@ write_part-write_own-requires-2 t c =
     let p = c.args.to.now.place in
     let q = c.put.new.to.place in
     let d : is_delimited s ≡ true = sym c.is_delimited.ensures.value ∙ c.if-not-is_delimited.false in
-    let room = header_room out p (length l / 8) 0 l (room_at out p _ (counted true l) (part_counted s (val c.args.value.now) true d) c.requires.room) in (
+    let room = header_room out p (length l / 8) 0 l (room_at out p _ (with_header true l) (part_counted s (val c.args.value.now) true d) c.requires.room) in (
       search (rules, the_lemmas),
       (
         c.requires.rules,
@@ -156,7 +156,7 @@ write_part-put-requires-2-clause-room t c =
     let out = c.args.out.now in
     let p = c.args.to.now.place in
     let d : is_delimited s ≡ true = sym c.is_delimited.ensures.value ∙ c.if-not-is_delimited.false in
-    let room = room_front out p (bits_of 32 (length l / 8)) l (room_at out p _ (counted true l) (part_counted s (val c.args.value.now) true d) c.requires.room) in
+    let room = room_front out p (bits_of 32 (length l / 8)) l (room_at out p _ (with_header true l) (part_counted s (val c.args.value.now) true d) c.requires.room) in
     let same : length c.write_own-2.new.out ≡ length out = search rules in
     record { room = omega (arith, room.room, same, length_bits_of 32 (length l / 8), length_bits_of 32 ((c.write_own-2.new.to.place - p - 32) / 8)); small = omega (arith, room.small, same) }
 
@@ -170,9 +170,9 @@ write_part-returns t c =
     let q = c.write_own-2.new.to.place in
     let d : is_delimited s ≡ true = sym c.is_delimited.ensures.value ∙ c.if-not-is_delimited.false in
     let e = part_counted s v true d in
-    let room = header_room out p (length l / 8) 0 l (room_at out p _ (counted true l) e c.requires.room) in
+    let room = header_room out p (length l / 8) 0 l (room_at out p _ (with_header true l) e c.requires.room) in
     let one = puts_both out c.put.new.out c.write_own-2.new.out p c.put.new.to.place q (bits_of 32 0) l room c.put.ensures c.write_own-2.ensures in
-    puts_at out c.put-2.new.out p q (counted true l) (part_bits s v) (sym e)
+    puts_at out c.put-2.new.out p q (with_header true l) (part_bits s v) (sym e)
     (header_again out c.write_own-2.new.out c.put-2.new.out p q c.put-2.new.to.place ((q - p - 32) / 8) l room one c.put-2.ensures (bytes_counted p q l one.place))
 
 pub write_union-write_variant-requires : goal.write_union-write_variant-requires
@@ -183,17 +183,17 @@ write_union-write_variant-requires t c =
     let out = c.args.out.now in
     let p = c.args.to.now.place in
     let q = c.put.new.to.place in
-    let is_w : c.prefix.result ≡ prefix (variants fs - 1) = c.prefix.ensures.value ∙ ap (λ n. prefix (n - 1)) c.variants.ensures in
-    let head : bits_of c.prefix.result c.from.result ≡ bits_of (prefix (variants fs - 1)) tag = λ i. bits_of (is_w i) (c.from.ensures i) in
-    let puts = puts_at out c.put.new.out p q (bits_of c.prefix.result c.from.result) (bits_of (prefix (variants fs - 1)) tag) head c.put.ensures in (
+    let is_w : c.tag_bits.result ≡ tag_bits (variants fs) = c.tag_bits.ensures.value ∙ ap tag_bits c.variants.ensures in
+    let head : bits_of c.tag_bits.result c.from.result ≡ bits_of (tag_bits (variants fs)) tag = λ i. bits_of (is_w i) (c.from.ensures i) in
+    let puts = puts_at out c.put.new.out p q (bits_of c.tag_bits.result c.from.result) (bits_of (tag_bits (variants fs)) tag) head c.put.ensures in (
       search (rules, the_lemmas),
       (
         union_rules fs body.1 c.requires.rules,
         (
           c.requires.fits,
           (
-            omega (arith, c.requires.whole, c.prefix.ensures.whole, c.put.ensures.place, length_bits_of c.prefix.result c.from.result),
-            room_behind out c.put.new.out p q (bits_of (prefix (variants fs - 1)) tag) (variant_bits fs tag (val c.args.value.now)) c.requires.room puts (search rules),
+            omega (arith, c.requires.whole, c.tag_bits.ensures.whole, c.put.ensures.place, length_bits_of c.tag_bits.result c.from.result),
+            room_behind out c.put.new.out p q (bits_of (tag_bits (variants fs)) tag) (variant_bits fs tag (val c.args.value.now)) c.requires.room puts (search rules),
           ),
         ),
       ),
@@ -206,19 +206,19 @@ write_union-returns t c =
     let out = c.args.out.now in
     let p = c.args.to.now.place in
     let q = c.put.new.to.place in
-    let is_w : c.prefix.result ≡ prefix (variants fs - 1) = c.prefix.ensures.value ∙ ap (λ n. prefix (n - 1)) c.variants.ensures in
-    let head : bits_of c.prefix.result c.from.result ≡ bits_of (prefix (variants fs - 1)) tag = λ i. bits_of (is_w i) (c.from.ensures i) in
-    let puts = puts_at out c.put.new.out p q (bits_of c.prefix.result c.from.result) (bits_of (prefix (variants fs - 1)) tag) head c.put.ensures in
-    puts_both out c.put.new.out c.write_variant.new.out p q c.write_variant.new.to.place (bits_of (prefix (variants fs - 1)) tag) (variant_bits fs tag (val c.args.value.now)) c.requires.room puts c.write_variant.ensures
+    let is_w : c.tag_bits.result ≡ tag_bits (variants fs) = c.tag_bits.ensures.value ∙ ap tag_bits c.variants.ensures in
+    let head : bits_of c.tag_bits.result c.from.result ≡ bits_of (tag_bits (variants fs)) tag = λ i. bits_of (is_w i) (c.from.ensures i) in
+    let puts = puts_at out c.put.new.out p q (bits_of c.tag_bits.result c.from.result) (bits_of (tag_bits (variants fs)) tag) head c.put.ensures in
+    puts_both out c.put.new.out c.write_variant.new.out p q c.write_variant.new.to.place (bits_of (tag_bits (variants fs)) tag) (variant_bits fs tag (val c.args.value.now)) c.requires.room puts c.write_variant.ensures
 
 pub write_var-put-requires-clause-room : goal.write_var-put-requires-clause-room
 write_var-put-requires-clause-room t c =
     let vs = vals c.args.values.now in
     let out = c.args.out.now in
     let p = c.args.to.now.place in
-    let is_w : c.prefix.result ≡ prefix c.args.cap = c.prefix.ensures.value ∙ ap (λ n. prefix n) c.from.ensures in
-    let head : bits_of (prefix c.args.cap) (count vs) ≡ bits_of c.prefix.result (length c.args.values.now) = λ i. bits_of (sym is_w i) (sym (count_vals c.args.values.now) i) in
-    room_at out p (bits_of (prefix c.args.cap) (count vs)) _ head (room_front out p (bits_of (prefix c.args.cap) (count vs)) (each (λ x. part_bits (sch c.args.item.now) x) vs) c.requires.room)
+    let is_w : c.length_field_bits.result ≡ length_field_bits c.args.cap = c.length_field_bits.ensures.value ∙ ap length_field_bits c.from.ensures in
+    let head : bits_of (length_field_bits c.args.cap) (count vs) ≡ bits_of c.length_field_bits.result (length c.args.values.now) = λ i. bits_of (sym is_w i) (sym (count_vals c.args.values.now) i) in
+    room_at out p (bits_of (length_field_bits c.args.cap) (count vs)) _ head (room_front out p (bits_of (length_field_bits c.args.cap) (count vs)) (each (λ x. part_bits (sch c.args.item.now) x) vs) c.requires.room)
 
 pub write_var-write_items-requires : goal.write_var-write_items-requires
 write_var-write_items-requires t c =
@@ -226,17 +226,17 @@ write_var-write_items-requires t c =
     let out = c.args.out.now in
     let p = c.args.to.now.place in
     let q = c.put.new.to.place in
-    let is_w : c.prefix.result ≡ prefix c.args.cap = c.prefix.ensures.value ∙ ap (λ n. prefix n) c.from.ensures in
-    let head : bits_of c.prefix.result (length c.args.values.now) ≡ bits_of (prefix c.args.cap) (count vs) = λ i. bits_of (is_w i) (count_vals c.args.values.now i) in
-    let puts = puts_at out c.put.new.out p q (bits_of c.prefix.result (length c.args.values.now)) (bits_of (prefix c.args.cap) (count vs)) head c.put.ensures in (
+    let is_w : c.length_field_bits.result ≡ length_field_bits c.args.cap = c.length_field_bits.ensures.value ∙ ap length_field_bits c.from.ensures in
+    let head : bits_of c.length_field_bits.result (length c.args.values.now) ≡ bits_of (length_field_bits c.args.cap) (count vs) = λ i. bits_of (is_w i) (count_vals c.args.values.now i) in
+    let puts = puts_at out c.put.new.out p q (bits_of c.length_field_bits.result (length c.args.values.now)) (bits_of (length_field_bits c.args.cap) (count vs)) head c.put.ensures in (
       search (rules, the_lemmas),
       (
         c.requires.rules,
         (
           c.requires.fits,
           (
-            λ h. let w : p % 8 ≡ 0 = c.requires.whole h in omega (arith, w, c.prefix.ensures.whole, c.put.ensures.place, length_bits_of c.prefix.result (length c.args.values.now)),
-            room_behind out c.put.new.out p q (bits_of (prefix c.args.cap) (count vs)) (each (λ x. part_bits (sch c.args.item.now) x) vs) c.requires.room puts (search rules),
+            λ h. let w : p % 8 ≡ 0 = c.requires.whole h in omega (arith, w, c.length_field_bits.ensures.whole, c.put.ensures.place, length_bits_of c.length_field_bits.result (length c.args.values.now)),
+            room_behind out c.put.new.out p q (bits_of (length_field_bits c.args.cap) (count vs)) (each (λ x. part_bits (sch c.args.item.now) x) vs) c.requires.room puts (search rules),
           ),
         ),
       ),
@@ -248,10 +248,10 @@ write_var-returns t c =
     let out = c.args.out.now in
     let p = c.args.to.now.place in
     let q = c.put.new.to.place in
-    let is_w : c.prefix.result ≡ prefix c.args.cap = c.prefix.ensures.value ∙ ap (λ n. prefix n) c.from.ensures in
-    let head : bits_of c.prefix.result (length c.args.values.now) ≡ bits_of (prefix c.args.cap) (count vs) = λ i. bits_of (is_w i) (count_vals c.args.values.now i) in
-    let puts = puts_at out c.put.new.out p q (bits_of c.prefix.result (length c.args.values.now)) (bits_of (prefix c.args.cap) (count vs)) head c.put.ensures in
-    puts_both out c.put.new.out c.write_items.new.out p q c.write_items.new.to.place (bits_of (prefix c.args.cap) (count vs)) (each (λ x. part_bits (sch c.args.item.now) x) vs) c.requires.room puts c.write_items.ensures
+    let is_w : c.length_field_bits.result ≡ length_field_bits c.args.cap = c.length_field_bits.ensures.value ∙ ap length_field_bits c.from.ensures in
+    let head : bits_of c.length_field_bits.result (length c.args.values.now) ≡ bits_of (length_field_bits c.args.cap) (count vs) = λ i. bits_of (is_w i) (count_vals c.args.values.now i) in
+    let puts = puts_at out c.put.new.out p q (bits_of c.length_field_bits.result (length c.args.values.now)) (bits_of (length_field_bits c.args.cap) (count vs)) head c.put.ensures in
+    puts_both out c.put.new.out c.write_items.new.out p q c.write_items.new.to.place (bits_of (length_field_bits c.args.cap) (count vs)) (each (λ x. part_bits (sch c.args.item.now) x) vs) c.requires.room puts c.write_items.ensures
 
 pub write_variant-write_part-requires : goal.write_variant-write_part-requires
 write_variant-write_part-requires t c =
