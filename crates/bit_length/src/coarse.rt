@@ -132,17 +132,19 @@ fn middle_of(middles: &[Middle], class: u64, all: u64) -> Option<Middle> {
     }
 }
 
-/// The middles as runs of a step, where all remainders of their classes are met.
+/// The middles as runs of a step, where all remainders of their classes are met, in room for so
+/// many runs.
 fn middle_runs(
     alloc: Global,
     middles: &[Middle],
     all: u64,
     finer: u64,
+    room: usize,
 ) -> Result<Vec<Run>, NoMemory>
     requires { 0 < finer }
     ensures { IfOk result (λ runs. All (IsRun finer) runs.items) }
 {
-    let mut runs = Vec::new(alloc);
+    let mut runs = Vec::with_capacity(alloc, room)?;
     for middle in middles {
         if middle.is_filled(all) {
             let end = (middle.greatest / finer).saturating_add(1);
@@ -227,7 +229,7 @@ pub fn coarse_runs(
     let stretches = stretches(alloc, runs, step, finer)?;
     let stretches = longest(alloc, stretches.as_slice())?;
     let middles = middles(alloc, stretches.as_slice())?;
-    let mut coarse = middle_runs(alloc, middles.as_slice(), step / finer, finer)?;
+    let mut coarse = middle_runs(alloc, middles.as_slice(), step / finer, finer, runs.len())?;
     let most = most_parts(runs.len());
     for run in runs {
         let middle = middle_of(middles.as_slice(), run.residue % finer, step / finer);
