@@ -52,7 +52,12 @@ fn write_var(item: &Schema, cap: u32, values: &[Value], out: &mut [u8], to: &mut
     ensures { PutsAt out.old to.old out.new to.new
         (counted_items (sch item.now) cap (vals values.now)) }
 {
-    put(out, to, values.len() as u64, length_field_bits(u64::from(cap)));
+    put(
+        out,
+        to,
+        values.len() as u64,
+        length_field_bits(u64::from(cap)),
+    );
     write_items(item, values, out, to);
 }
 
