@@ -17,19 +17,11 @@ mod number;
 mod path;
 mod plan_file;
 mod program;
-#[cfg(test)]
-mod reach_tests;
 mod remote_file;
 mod run_words;
 #[cfg(test)]
-mod sending_tests;
-#[cfg(test)]
 mod tests;
 mod top;
-#[cfg(test)]
-mod typed_run_tests;
-#[cfg(test)]
-mod value_line_tests;
 mod words;
 mod work;
 

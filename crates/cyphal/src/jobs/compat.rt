@@ -31,3 +31,57 @@ pub fn compat_types<T: Tree, O: Sink>(
     };
     compat(alloc, &names, new, old, out)
 }
+
+#[cfg(test)]
+mod tests {
+    use crate::calls::{CALL, Call, come_to};
+    use std::test::Fail;
+
+    const VERSIONS: &[(&str, &[u8])] = &[
+        ("types/demo/A.1.0.dsdl", b"uint8 a\n@sealed\n"),
+        ("types/demo/A.1.1.dsdl", b"uint4 a\nuint4 b\n@sealed\n"),
+        ("types/demo/B.1.0.dsdl", b"uint8 a\n@sealed\n"),
+    ];
+
+    /// A comparison of two types.
+    const COMPAT: Call = Call {
+        words: &["compat", "types", "demo.B.1.0", "demo.A.1.0"],
+        files: VERSIONS,
+        ..CALL
+    };
+
+    #[test]
+    fn types_are_compared_by_name(rt: HostRuntime) -> Result<(), Fail> {
+        let calls = [
+            Call {
+                written: b"newer\n",
+                ..COMPAT
+            },
+            Call {
+                words: &["compat", "types", "demo.A.1.1", "demo.A.1.0"],
+                code: 7,
+                line: b"cyphal: not newer at .: Sealed\n",
+                ..COMPAT
+            },
+            Call {
+                words: &["compat", "types", "demo.C.1.0", "demo.D.1.0"],
+                code: 12,
+                line: b"cyphal: not found: demo.C.1.0\n",
+                ..COMPAT
+            },
+            Call {
+                words: &["compat", "types", "demo.A.1.0", "demo.A.1.0.Request"],
+                code: 12,
+                line: b"cyphal: not found: demo.A.1.0.Request\n",
+                ..COMPAT
+            },
+            Call {
+                out: &[0],
+                code: 9,
+                line: b"cyphal: write fault\n",
+                ..COMPAT
+            },
+        ];
+        come_to(&rt, rt.alloc(), &calls)
+    }
+}

@@ -40,3 +40,60 @@ pub fn encode_lines<T: Tree, L: Source, O: Sink>(
     };
     encode(alloc, &names, name, input, out)
 }
+
+#[cfg(test)]
+mod tests {
+    use crate::calls::{CALL, Call, TYPES, come_to};
+    use std::test::Fail;
+
+    /// What the heartbeat of the first second says.
+    const FIRST: &[u8] =
+        b"{uptime: 1, health: {value: 0}, mode: {value: 0}, vendor_specific_status_code: 0}\n";
+
+    /// A command over these types.
+    const LINES: Call = Call {
+        files: TYPES,
+        ..CALL
+    };
+
+    const ENCODED: [Call; 5] = [
+        Call {
+            words: &["encode", "types", "uavcan.node.Heartbeat.1.0"],
+            text: FIRST,
+            written: b"01000000000000\n",
+            ..LINES
+        },
+        Call {
+            words: &["encode", "types", "demo.Num.1.0"],
+            text: b"{a: 1, b: 2}\n\n{a: 1, b: 2}",
+            code: 5,
+            written: b"0102\n",
+            line: b"cyphal: line 2: no value\n",
+            ..LINES
+        },
+        Call {
+            words: &["encode", "types", "demo.S.1.0.Request"],
+            text: b"{a: 7}",
+            written: b"07\n",
+            ..LINES
+        },
+        Call {
+            words: &["encode", "types", "demo.S.1.0.Response"],
+            text: b"{}\n{}\n",
+            written: b"\n\n",
+            ..LINES
+        },
+        Call {
+            words: &["encode", "types", "demo.S.1.0"],
+            text: b"{a: 7}",
+            code: 12,
+            line: b"cyphal: not found: demo.S.1.0\n",
+            ..LINES
+        },
+    ];
+
+    #[test]
+    fn each_line_is_answered_by_a_line(rt: HostRuntime) -> Result<(), Fail> {
+        come_to(&rt, rt.alloc(), &ENCODED)
+    }
+}

@@ -97,3 +97,59 @@ fn migrated_in<T: Tree>(
         Err(error) => Err(plan_refused(error)),
     }
 }
+
+#[cfg(test)]
+mod tests {
+    use crate::calls::{CALL, Call, PLANS, come_to};
+    use std::test::Fail;
+
+    /// A migration of the plan of version 1.
+    const MIGRATE: Call = Call {
+        words: &["migrate", "none", "first"],
+        files: PLANS,
+        ..CALL
+    };
+
+    const MIGRATIONS: [Call; 6] = [
+        Call {
+            input: &[0],
+            written: b"plan 2\nnode 42\nbus can0 64 4096\n\nsilent\n",
+            ..MIGRATE
+        },
+        Call {
+            words: &["migrate", "none", "bad"],
+            code: 3,
+            line: b"cyphal: plan line 1: Line\n",
+            ..MIGRATE
+        },
+        Call {
+            words: &["migrate", "none", "other"],
+            code: 12,
+            line: b"cyphal: not found: other\n",
+            ..MIGRATE
+        },
+        Call {
+            words: &["migrate", "refused", "other"],
+            code: 2,
+            line: b"cyphal: demo/A.1.0.dsdl:1: Rule 2\n",
+            ..MIGRATE
+        },
+        Call {
+            tree: &[0],
+            code: 8,
+            line: b"cyphal: read fault\n",
+            ..MIGRATE
+        },
+        Call {
+            out: &[0],
+            code: 9,
+            line: b"cyphal: write fault\n",
+            ..MIGRATE
+        },
+    ];
+
+    #[test]
+    fn a_plan_is_migrated(rt: HostRuntime) -> Result<(), Fail> {
+        come_to(&rt, rt.alloc(), &MIGRATIONS)
+    }
+}

@@ -69,3 +69,85 @@ fn heard<L: Source, O: Sink>(
         Hearing::Allocate => allocate(alloc, own.number, input, out),
     }
 }
+
+#[cfg(test)]
+mod tests {
+    use crate::calls::{CALL, Call, USAGE, come_to};
+    use std::test::Fail;
+
+    const HEARTBEAT: &[u8] = b"(0.000000) can0 107D552A#01000000000000E0\n";
+
+    /// A command that is given no file; each call of the tree would fail.
+    const HEAR: Call = Call { tree: &[0], ..CALL };
+
+    const HEARD: [Call; 4] = [
+        Call {
+            words: &["monitor", "1"],
+            text: HEARTBEAT,
+            written: b"node 42 uptime 1 health 0 mode 0 code 0 restarts 0\n\
+                  time -\n\
+                  end records 1 online 1\n",
+            ..HEAR
+        },
+        Call {
+            words: &["allocate", "1"],
+            text: b"(1.000000) can0 117FE605#01000000000000E0\n",
+            written: b"given 1.000000 125 000000000001\n\
+                  tx 1.000000 can0 107FE601 01000000000001A0\n\
+                  tx 1.000000 can0 107FE601 7D00BA6440\n\
+                  tx 1.000000 can1 107FE601 01000000000001A0\n\
+                  tx 1.000000 can1 107FE601 7D00BA6440\n\
+                  tx 1.000000 can2 107FE601 01000000000001A0\n\
+                  tx 1.000000 can2 107FE601 7D00BA6440\n\
+                  end records 1 owners 1\n",
+            ..HEAR
+        },
+        Call {
+            words: &["monitor", "1"],
+            text: b"(0.000000) can3 107D552A#01000000000000E0\n",
+            code: 4,
+            line: b"cyphal: log line 1: UnknownBus\n",
+            ..HEAR
+        },
+        Call {
+            words: &["monitor", "1"],
+            input: &[0],
+            code: 8,
+            line: b"cyphal: read fault\n",
+            ..HEAR
+        },
+    ];
+
+    #[test]
+    fn a_log_is_heard_without_a_plan(rt: HostRuntime) -> Result<(), Fail> {
+        come_to(&rt, rt.alloc(), &HEARD)
+    }
+
+    const REFUSED: [Call; 5] = [
+        Call {
+            words: &["monitor", "128"],
+            ..USAGE
+        },
+        Call {
+            words: &["monitor", "01"],
+            ..USAGE
+        },
+        Call {
+            words: &["monitor", "+1"],
+            ..USAGE
+        },
+        Call {
+            words: &["allocate", "-1"],
+            ..USAGE
+        },
+        Call {
+            words: &["allocate", "1", "2"],
+            ..USAGE
+        },
+    ];
+
+    #[test]
+    fn other_words_are_refused(rt: HostRuntime) -> Result<(), Fail> {
+        come_to(&rt, rt.alloc(), &REFUSED)
+    }
+}

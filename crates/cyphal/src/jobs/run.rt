@@ -6,6 +6,9 @@ ghost use Rattle.cyphal.specs.Job.{outcome, told_by, is_fault, NotDone};
 ghost use Rattle.cyphal.specs.Cause.{outside, HasCauseOver};
 ghost use Rattle.cyphal.specs.jobs.Run.{run_job, HasRunAt};
 
+#[cfg(test)]
+mod tests;
+
 use crate::plan_file::plan_at;
 use cy_outside::{Sink, Source, Tree};
 use node_core::{LineSink, Numbers};

@@ -1,9 +1,136 @@
-//! Runs of a plan that sends.
-use crate::calls::{CALL, Call, come_to};
+//! What runs of plans come to.
+use crate::calls::{CALL, Call, PLANS, RUN, come_to};
 use std::test::Fail;
 
+const RX: &[u8] = b"rx 0.000000 can0 msg 7509 42 4 0 1 1 01000000000000 raw\n";
+
+/// The same where a read fails.
+const RUN_UNREAD: Call = Call {
+    code: 8,
+    written: b"",
+    line: b"cyphal: read fault\n",
+    ..RUN
+};
+
+/// The same where a write fails.
+const RUN_UNWRITTEN: Call = Call {
+    code: 9,
+    written: b"",
+    line: b"cyphal: write fault\n",
+    ..RUN
+};
+
+#[test]
+fn a_fault_ends_a_run_and_leaves_a_beginning(rt: HostRuntime) -> Result<(), Fail> {
+    let calls = [
+        RUN,
+        Call {
+            tree: &[0],
+            ..RUN_UNREAD
+        },
+        Call {
+            input: &[0],
+            ..RUN_UNREAD
+        },
+        Call {
+            input: &[1],
+            written: RX,
+            ..RUN_UNREAD
+        },
+        Call {
+            out: &[0],
+            ..RUN_UNWRITTEN
+        },
+        Call {
+            out: &[1],
+            written: RX,
+            ..RUN_UNWRITTEN
+        },
+    ];
+    come_to(&rt, rt.alloc(), &calls)
+}
+
+const FIRST: &[u8] = b"(0.000000) can0 107D552A#01000000000000E0\n";
+
+const TWICE_MORE: &[u8] = b"(0.000000) can0 107D552A#01000000000000E0\n\
+      (0.000100) can0 107D552A#01000000000000E0\n\
+      (0.001100) can1 107D552A#01000000000000E0\n";
+
+const READ_ONCE: &[u8] = b"rx 0.000000 can0 msg 7509 42 4 0 1 1 01000000000000 \
+      {uptime: 1, health: {value: 0}, mode: {value: 0}, vendor_specific_status_code: 0}\n\
+      end records 1 delivered 1 badcrc 0 nosession 0 sent 0 held 12 bound 48\n";
+
+const READ_ONCE_OF_THREE: &[u8] = b"rx 0.000000 can0 msg 7509 42 4 0 1 1 01000000000000 \
+      {uptime: 1, health: {value: 0}, mode: {value: 0}, vendor_specific_status_code: 0}\n\
+      end records 3 delivered 1 badcrc 0 nosession 0 sent 0 held 12 bound 48\n";
+
+/// A run of the heartbeats' plan.
+const TYPED: Call = Call {
+    words: &["run", "types", "plan"],
+    files: PLANS,
+    ..CALL
+};
+
+const TYPED_RUNS: [Call; 9] = [
+    Call {
+        written: b"end records 0 delivered 0 badcrc 0 nosession 0 sent 0 held 0 bound 48\n",
+        ..TYPED
+    },
+    Call {
+        text: FIRST,
+        written: READ_ONCE,
+        ..TYPED
+    },
+    Call {
+        text: TWICE_MORE,
+        written: READ_ONCE_OF_THREE,
+        ..TYPED
+    },
+    Call {
+        words: &["run", "large", "big"],
+        code: 3,
+        line: b"cyphal: plan line 5: Range\n",
+        ..TYPED
+    },
+    Call {
+        words: &["run", "none", "plan"],
+        code: 3,
+        line: b"cyphal: plan line 6: UnknownType\n",
+        ..TYPED
+    },
+    Call {
+        words: &["run", "types", "other"],
+        code: 12,
+        line: b"cyphal: not found: other\n",
+        ..TYPED
+    },
+    Call {
+        words: &["run", "nowhere", "bad"],
+        code: 12,
+        line: b"cyphal: not found: nowhere\n",
+        ..TYPED
+    },
+    Call {
+        words: &["run", "refused", "other"],
+        code: 2,
+        line: b"cyphal: demo/A.1.0.dsdl:1: Rule 2\n",
+        ..TYPED
+    },
+    Call {
+        tree: &[0],
+        code: 8,
+        line: b"cyphal: read fault\n",
+        ..TYPED
+    },
+];
+
+#[test]
+fn a_plan_is_read_with_the_types_of_its_root(rt: HostRuntime) -> Result<(), Fail> {
+    come_to(&rt, rt.alloc(), &TYPED_RUNS)
+}
+
 /// A run of the plan of a node on one bus over a log with one request.
-const RUN: Call = Call {
+const SENDING: Call = Call {
     words: &["run", "none", "plan"],
     files: &[("plan", b"plan 1\nnode 42\nbus can0\n")],
     text: b"(5.000000) can0 136B957B#E1\n",
@@ -17,10 +144,10 @@ const REGISTER: Call = Call {
         b"plan 2\nnode 42\nbus can0 8 4096\nsilent\n\
           register x rw {natural16: {value: [5]}}\nlimits x 0 100\n",
     )],
-    ..RUN
+    ..SENDING
 };
 
-const ROWS: [Call; 10] = [
+const SENT: [Call; 10] = [
     // Its first heartbeat, the request, and the reply.
     Call {
         written: b"tx 5.000000 can0 107D552A 00000000000000E0\n\
@@ -31,14 +158,14 @@ const ROWS: [Call; 10] = [
               tx 5.000000 can0 126BBDAA 0000000000000001\n\
               tx 5.000000 can0 126BBDAA 00000000003EE261\n\
               end records 1 delivered 1 badcrc 0 nosession 0 sent 6 held 0 bound 0\n",
-        ..RUN
+        ..SENDING
     },
     // A request that another node's identifier names as its own.
     Call {
         text: b"(5.000000) can0 136B952A#E1\n",
         written: b"tx 5.000000 can0 107D552A 00000000000000E0\n\
               end records 1 delivered 0 badcrc 0 nosession 0 sent 1 held 0 bound 0\n",
-        ..RUN
+        ..SENDING
     },
     // Four places are too few for the reply.
     Call {
@@ -47,7 +174,7 @@ const ROWS: [Call; 10] = [
               rx 5.000000 can0 req 430 123 4 1 1 1 - {}\n\
               full 5.000000 can0 430 5 4\n\
               end records 1 delivered 1 badcrc 0 nosession 0 sent 1 held 0 bound 0\n",
-        ..RUN
+        ..SENDING
     },
     // A heartbeat each second.
     Call {
@@ -56,7 +183,7 @@ const ROWS: [Call; 10] = [
               tx 6.000000 can0 107D552A 01000000000000E1\n\
               tx 7.000000 can0 107D552A 02000000000000E2\n\
               end records 2 delivered 0 badcrc 0 nosession 0 sent 3 held 0 bound 0\n",
-        ..RUN
+        ..SENDING
     },
     // The heartbeat has the least identifier, and leaves before the rest of the reply.
     Call {
@@ -71,7 +198,7 @@ const ROWS: [Call; 10] = [
               tx 6.000000 can0 126BBDAA 0000000000000001\n\
               tx 6.000000 can0 126BBDAA 00000000003EE261\n\
               end records 2 delivered 1 badcrc 0 nosession 0 sent 7 held 0 bound 0\n",
-        ..RUN
+        ..SENDING
     },
     // Behind the log the lists of both buses are emptied in rounds.
     Call {
@@ -91,7 +218,7 @@ const ROWS: [Call; 10] = [
               tx 5.000000 can0 126BBDAA 00000000003EE261\n\
               tx 5.000000 can1 126BBDAA 00000000003EE261\n\
               end records 1 delivered 1 badcrc 0 nosession 0 sent 12 held 0 bound 0\n",
-        ..RUN
+        ..SENDING
     },
     // Frames of 8 bytes on one bus, and of 64 on the other.
     Call {
@@ -110,7 +237,7 @@ const ROWS: [Call; 10] = [
               tx 5.000000 can1 126BBDAA 010000000000000000000000000000000000000000000000\
               0000000000000000000000000000000000000000000000E1\n\
               end records 1 delivered 1 badcrc 0 nosession 0 sent 8 held 0 bound 0\n",
-        ..RUN
+        ..SENDING
     },
     // Its registers are listed: past the last there is none.
     Call {
@@ -162,5 +289,5 @@ const ROWS: [Call; 10] = [
 
 #[test]
 fn a_node_sends_heartbeats_and_replies(rt: HostRuntime) -> Result<(), Fail> {
-    come_to(&rt, rt.alloc(), &ROWS)
+    come_to(&rt, rt.alloc(), &SENT)
 }
