@@ -27,7 +27,7 @@ all_fail (s ∷ ss) t = not (t s) && all_fail ss t
 pub same_text : (text s : List ℕ) → bytes_eq text s ≡ true → text ≡ s
 same_text text s e = (bytes_eq-Decides text s).0 e
 
-apart_text : (ss : Signs) (t : List ℕ → Bool) (text : List ℕ) → all_fail ss t ≡ true → any_of ss text ≡ true → t text ≡ false
+pub apart_text : (ss : Signs) (t : List ℕ → Bool) (text : List ℕ) → all_fail ss t ≡ true → any_of ss text ≡ true → t text ≡ false
 apart_text [] t text a e = absurd (cc)
 apart_text (s ∷ ss) t text a e = (elim (or_cases (bytes_eq text s) (any_of ss text) e) [
   | inl h ↦ rw (same_text text s h) (not-true (t s) (and_parts (not (t s)) (all_fail ss t) a).0)

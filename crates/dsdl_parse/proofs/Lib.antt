@@ -16,6 +16,7 @@ pub mod Borrowed
 pub mod Strings
 pub mod Loops
 pub mod Turns
+pub mod AloneReads
 pub mod ScalarReads
 pub mod FormReads
 pub mod StatementReads

@@ -38,7 +38,7 @@ module _ (op : Signs) (inner normal : Reader Expr) where
   prefixed_plain [] h = refl
   prefixed_plain (w ∷ ws) h = cond-false (is_in op w) _ _ h
 
-abbrev stars : Signs
+abbrev pub stars : Signs
 stars = just (codes "**")
 
 module _ (below exponent : Reader Expr) where
@@ -50,7 +50,7 @@ module _ (below exponent : Reader Expr) where
       read_power below exponent ws ≡ None
   power_none ws mid new a w b e h g = bound _ _ _ _ b (ap (raise exponent a) e ∙ cond-true (is_in stars w) _ _ h ∙ bound_none _ _ g)
 
-  not_raised : (a : Expr) (mid : List Word) → first_in stars mid ≡ false → raise exponent a mid ≡ Some (a, mid)
+  pub not_raised : (a : Expr) (mid : List Word) → first_in stars mid ≡ false → raise exponent a mid ≡ Some (a, mid)
   not_raised a [] h = refl
   not_raised a (w ∷ ws) h = cond-false (is_in stars w) _ _ h
 
@@ -80,7 +80,7 @@ module _ (op : Signs) (operand : Reader Expr) where
   chain_fails ws now new a w c e h g =
       let (m, le, eq) = one_more c.most a now new w c.fits e h in c.same ∙ eq ∙ bound_none _ _ g
 
-  stopped : (n : ℕ) (a : Expr) (now : List Word) → first_in op now ≡ false → chain op operand n a now ≡ Some (a, now)
+  pub stopped : (n : ℕ) (a : Expr) (now : List Word) → first_in op now ≡ false → chain op operand n a now ≡ Some (a, now)
   stopped zero a now h = refl
   stopped (suc n) a [] h = refl
   stopped (suc n) a (w ∷ ws) h = cond-false (is_in op w) _ _ h
@@ -88,7 +88,7 @@ module _ (op : Signs) (operand : Reader Expr) where
   pub chain_ends : (ws now new : List Word) (a : Expr) → ChainLeft op operand ws a now → new ≡ now → first_in op now ≡ false → read_chain op operand ws ≡ Some (a, new)
   chain_ends ws now new a c s h = c.same ∙ stopped c.most a now h ∙ ap (λ l. Some (a, l)) (sym s)
 
-abbrev dot : Signs
+abbrev pub dot : Signs
 dot = just (codes ".")
 
 module _ (atom : Reader Expr) where
@@ -122,7 +122,7 @@ module _ (atom : Reader Expr) where
   pub members_no_word : (ws now new : List Word) (a : Expr) (w : Word) → MembersLeft atom ws a now → now ≡ w ∷ new → is_in dot w ≡ true → new ≡ [] → read_member atom ws ≡ None
   members_no_word ws now new a w c e h f = c.same ∙ unnamed c.most a now w c.fits (e ∙ ap (λ l. w ∷ l) f) h
 
-  halted : (n : ℕ) (a : Expr) (now : List Word) → first_in dot now ≡ false → members n a now ≡ Some (a, now)
+  pub halted : (n : ℕ) (a : Expr) (now : List Word) → first_in dot now ≡ false → members n a now ≡ Some (a, now)
   halted zero a now h = refl
   halted (suc n) a [] h = refl
   halted (suc n) a (w ∷ []) h = cond-false (is_in dot w) _ _ h
@@ -166,13 +166,13 @@ module _ (item : Reader Expr) where
       let (m, eq, step) = item_read c.most xs now c.fits in
       c.same ∙ step ∙ bound _ _ _ _ g (no_comma (items item m) (xs ++ x ∷ []) mid h ∙ ap (λ l. Some (xs ++ x ∷ [], l)) (sym s))
 
-abbrev opens : Signs
+abbrev pub opens : Signs
 opens = just (codes "(")
 
 abbrev closes : Signs
 closes = just (codes ")")
 
-abbrev opens_set : Signs
+abbrev pub opens_set : Signs
 opens_set = just (codes "{")
 
 abbrev closes_set : Signs

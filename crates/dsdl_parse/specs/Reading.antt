@@ -91,6 +91,11 @@ in_parens inner ws = inner ws >>= λ r. close (just (codes ")")) r.0 r.1 >>= end
 abbrev pub braces_where : Bool → Reader Expr → Word → Reader Expr
 braces_where room inner o ws = if room then in_braces inner o ws else None
 
+-- the first word as a leaf
+abbrev pub read_one : Reader Expr
+read_one [] = None
+read_one (w ∷ ws) = read_leaf w >>= λ x. Some (x, ws)
+
 abbrev pub read_atom : Bool → Reader Expr → Reader Expr
 read_atom room inner [] = None
 read_atom room inner (w ∷ ws) =

@@ -1,5 +1,5 @@
 -- Words: the tokens of a line with their bytes, and which of them are signs.
-use Rattle.std.specs.Prelude.{ℕ, ◌≤◌, Bool, false, ◌||◌, List, [], ◌∷◌, length, map, codes}
+use Rattle.std.specs.Prelude.{ℕ, ◌≤◌, Bool, true, false, ◌&&◌, ◌||◌, List, [], ◌∷◌, length, map, codes}
 use Rattle.std.specs.List.{slice_range}
 use Rattle.std.specs.Str.{bytes_eq}
 use Rattle.dsdl_lex.specs.declared.token.Token.{Token}
@@ -69,3 +69,29 @@ plus_minus = codes "+" ∷ codes "-" ∷ []
 
 abbrev pub times : Signs
 times = codes "*" ∷ codes "/" ∷ codes "%" ∷ []
+
+-- a word of this kind is a number, a string or a name
+abbrev pub is_plain_kind : TokenKind → Bool
+is_plain_kind k.Number = true
+is_plain_kind k.Str = true
+is_plain_kind k.Name = true
+is_plain_kind _ = false
+
+-- the signs that end an expression around which they stand
+abbrev pub closing : Signs
+closing = codes "]" ∷ codes "," ∷ codes "}" ∷ codes ")" ∷ []
+
+-- no operator and no point: no sign at all, or one of those
+abbrev pub may_follow : TokenKind → List ℕ → Bool
+may_follow k.Sign text = any_of closing text
+may_follow _ text = true
+
+-- an expression in front of these words doesn't go on with them
+abbrev pub at_end : List Word → Bool
+at_end [] = true
+at_end (w ∷ ws) = may_follow w.kind w.text
+
+-- the first word is an expression and does not go on
+abbrev pub alone : List Word → Bool
+alone [] = false
+alone (w ∷ ws) = is_plain_kind w.kind && at_end ws

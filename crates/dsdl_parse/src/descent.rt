@@ -1,7 +1,8 @@
 //! Reading expressions by descent: each function reads one rule of the grammar from the front of the
 //! words. `depth` is the number of levels of nesting that may still be opened.
-ghost use Rattle.std.specs.Prelude.{◌≡◌, ◌≤◌, length};
-ghost use Rattle.dsdl_parse.specs.Words.{seen};
+ghost use Rattle.std.specs.Prelude.{◌≡◌, ◌≤◌, length, true};
+ghost use Rattle.std.specs.Bool.{OnTrue};
+ghost use Rattle.dsdl_parse.specs.Words.{alone, seen};
 ghost use Rattle.dsdl_parse.specs.Reading as r;
 ghost use Rattle.dsdl_parse.specs.Levels.{operand_of, level_of, Deeper};
 ghost use Rattle.dsdl_parse.specs.Answers.{Gives};
@@ -49,7 +50,32 @@ fn chain(alloc: Global, words: &mut Words<'_>, depth: u32, level: Level) -> Resu
     Ok(left)
 }
 
-/// What stands between the operators of a level.
+/// The next word as a leaf.
+fn one(alloc: Global, words: &mut Words<'_>) -> Result<Expr, ReadError>
+    ensures value { Gives (r.read_one words.old) result words.new }
+    ensures shorter { length words.new ≤ length words.old }
+{
+    let Some(first) = words.next() else {
+        return Err(ReadError::Syntax);
+    };
+    match leaf(alloc, first)? {
+        Some(x) => Ok(x),
+        None => Err(ReadError::Syntax),
+    }
+}
+
+/// Whether what stands between the operators of a level is the next word alone. Asked only where an
+/// expression begins and beside a comparison, so that the links of a long chain cost no more.
+fn is_one(words: &Words<'_>, level: Level) -> bool
+    ensures { OnTrue result (alone words.now ≡ true) }
+{
+    match level {
+        Level::Logic | Level::Order => words.is_alone(),
+        _ => false,
+    }
+}
+
+/// What stands between the operators of a level. A word that stands alone is read at once.
 #[cycle(descent)]
 fn operand(
     alloc: Global,
@@ -60,6 +86,9 @@ fn operand(
     ensures value { Gives (operand_of (r.within depth) level words.old) result words.new }
     ensures shorter { length words.new ≤ length words.old }
 {
+    if is_one(words, level) {
+        return one(alloc, words);
+    }
     match level {
         Level::Logic => not(alloc, words, depth),
         Level::Order => chain(alloc, words, depth, Level::Bits),
@@ -149,13 +178,7 @@ fn atom(alloc: Global, words: &mut Words<'_>, depth: u32) -> Result<Expr, ReadEr
     if let Some(from) = words.take_sign(b"{") {
         return braces(alloc, words, depth, from);
     }
-    let Some(first) = words.next() else {
-        return Err(ReadError::Syntax);
-    };
-    match leaf(alloc, first)? {
-        Some(x) => Ok(x),
-        None => Err(ReadError::Syntax),
-    }
+    one(alloc, words)
 }
 
 /// What stands behind a `(`, with its `)`.

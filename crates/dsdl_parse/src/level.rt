@@ -1,12 +1,11 @@
 //! The binary operators that group from the left.
 ghost use Rattle.std.specs.Prelude.{◌≡◌, IfSome};
-ghost use Rattle.std.specs.Str.{bytes_eq};
 ghost use Rattle.dsdl_lex.specs.Tokens.{IsKind};
 ghost use Rattle.dsdl_parse.specs.Words.{any_of, first_in, orders};
 ghost use Rattle.dsdl_parse.specs.Taking.{Takes};
 ghost use Rattle.dsdl_parse.specs.Levels.{signs_of};
 
-use crate::words::{WordRef, Words};
+use crate::words::{WordRef, Words, same};
 use dsdl_lex::TokenKind;
 
 /// A level of binary operators, from the loosest to the tightest.
@@ -22,12 +21,6 @@ pub enum Level {
     Sum,
     /// `*`, `/` and `%`.
     Product,
-}
-
-fn same(text: &[u8], sign: &[u8]) -> bool
-    ensures { result ≡ bytes_eq text.now sign.now }
-{
-    text == sign
 }
 
 fn is_order(text: &[u8]) -> bool

@@ -1,7 +1,9 @@
 //! The words of a line that are left.
 ghost use Rattle.std.specs.Prelude.{◌≡◌, ◌≤◌, IfOk, IfSome, length};
+ghost use Rattle.std.specs.Str.{bytes_eq};
 ghost use Rattle.dsdl_lex.specs.Tokens.{IsKind, Lexes};
-ghost use Rattle.dsdl_parse.specs.Words.{words, on_sign, just, first_in};
+ghost use Rattle.dsdl_parse.specs.Words.{words, on_sign, any_of, just, first_in};
+ghost use Rattle.dsdl_parse.specs.Words.{is_plain_kind, closing, may_follow, at_end, alone};
 ghost use Rattle.dsdl_parse.specs.Taking.{IsFirst, Takes, TakesNext};
 
 use crate::expr::Span;
@@ -109,6 +111,61 @@ impl<'a> Words<'a> {
     {
         if self.is(sign) { self.next() } else { None }
     }
+
+    /// Whether no expression in front of these words goes on with them.
+    fn is_at_end(&self) -> bool
+        ensures { result ≡ at_end self.now }
+    {
+        match self.peek() {
+            Some(word) => may_follow(word.kind, word.text),
+            None => true,
+        }
+    }
+
+    /// Whether the next word is a number, a string or a name behind which no operator stands.
+    pub fn is_alone(&self) -> bool
+        ensures { result ≡ alone self.now }
+    {
+        let mut behind = Words {
+            line: self.line,
+            rest: self.rest,
+        };
+        match behind.next() {
+            Some(word) => is_plain(word.kind) && behind.is_at_end(),
+            None => false,
+        }
+    }
+}
+
+fn is_plain(kind: TokenKind) -> bool
+    ensures { result ≡ is_plain_kind kind }
+{
+    match kind {
+        TokenKind::Number | TokenKind::Str | TokenKind::Name => true,
+        _ => false,
+    }
+}
+
+fn is_closing(text: &[u8]) -> bool
+    ensures { result ≡ any_of closing text.now }
+{
+    same(text, b"]") || same(text, b",") || same(text, b"}") || same(text, b")")
+}
+
+fn may_follow(kind: TokenKind, text: &[u8]) -> bool
+    ensures { result ≡ may_follow kind text.now }
+{
+    match kind {
+        TokenKind::Sign => is_closing(text),
+        _ => true,
+    }
+}
+
+/// Whether a text is this one.
+pub fn same(text: &[u8], sign: &[u8]) -> bool
+    ensures { result ≡ bytes_eq text.now sign.now }
+{
+    text == sign
 }
 
 fn is_sign(kind: TokenKind, text: &[u8], sign: &[u8]) -> bool

@@ -1,9 +1,11 @@
 use Rattle.std.proofs.Common.{true, Some, codes, refl, ap, sym, ◌∙◌}
+use Rattle.std.proofs.lemmas.Bool.{OnTrue_at}
 use Rattle.std.proofs.lemmas.Result.{err_from_is_err_and}
 use Rattle.dsdl_parse.specs.Words.{seen, just, plus_minus}
 use Rattle.dsdl_parse.specs.Trees.{set_of}
 use Rattle.dsdl_parse.specs.Reading as r
 use Rattle.dsdl_parse.proofs.Turns as turns
+use Rattle.dsdl_parse.proofs.AloneReads.{alone_operand}
 use Rattle.dsdl_parse.proofs.descent.+descent.Goals as goal
 
 pub braces-returns-in_default-clause-value : goal.braces-returns-in_default-clause-value
@@ -136,3 +138,7 @@ member-loop-words-preserved t c =
     rw c.in_ok-left-2.ensures
     (turns.members_go_on (r.atom_of (r.within c.args.depth)) c.args.words.now c.loop-words.words _ _ c.loop-words.left (seen c.in-Some.field-0) (seen c.in-Some-next.name)
     c.loop-words.invariant c.in-Some.ensures.taken.0 c.in-Some.ensures.taken.1 c.in-Some-next.ensures.taken (sym c.is_name.ensures ∙ c.if-not-is_name.false))
+
+pub operand-returns-then-is_one-clause-value : goal.operand-returns-then-is_one-clause-value
+operand-returns-then-is_one-clause-value t c =
+    rw (alone_operand (r.within c.args.depth) c.args.level c.args.words.now (OnTrue_at c.if-is_one.true c.is_one.ensures)) c.one.ensures.value
