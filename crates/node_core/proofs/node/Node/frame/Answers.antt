@@ -1,7 +1,9 @@
-use Rattle.std.proofs.Common.{◌≡◌, ◌∙◌, ◌∷◌, length, take, ap}
+use Rattle.std.proofs.Common.{◌≡◌, ◌∙◌, ◌∷◌, inl, inr, length, take, ap}
 use Rattle.std.proofs.Math.Seq.{take-length}
+use Rattle.node_core.specs.Stands.{TakesOrNot}
 use Rattle.node_core.specs.Told.{told_lines}
 use Rattle.node_core.proofs.Frames.{cut_again, did_step}
+use Rattle.node_core.proofs.Steps.{on_err}
 use Rattle.node_core.proofs.node.Node.frame.Goals as goal
 
 pub returns-in-Err-clause-behind : goal.returns-in-Err-clause-behind
@@ -26,3 +28,19 @@ returns-in-Ok-clause-did g c =
     c.in_ok-came.ensures.plan c.in_ok-came.ensures.keeps c.in_ok-request.ensures c.in_ok-came.ensures.request
     (λ past s. c.told-told.ensures ∙ c.in_ok-came.ensures.lines past s)
     (g.T.Tree.files c.args.tree.now) c.args.lines.now c.push_told.new.lines c.answer.new.lines c.in-Ok.failed c.in_ok-push_told.ensures.ok c.in-Ok.ensures.did
+
+pub returns-in_err-came-clause-memory : goal.returns-in_err-came-clause-memory
+returns-in_err-came-clause-memory g c =
+    on_err (TakesOrNot c.args.rec.now c.args.self.now c.step.new.self) c.from_residual.result (λ past s. inl (c.in_err-came.ensures.err past s))
+
+-- the record was taken
+pub returns-in_err-request-clause-memory : goal.returns-in_err-request-clause-memory
+returns-in_err-request-clause-memory g c =
+    on_err (TakesOrNot c.args.rec.now c.args.self.now c.step.new.self) c.from_residual-in_err-request.result (λ past s. inr (c.in_ok-came.ensures.stands past s))
+
+pub returns-in_err-push_told-clause-memory : goal.returns-in_err-push_told-clause-memory
+returns-in_err-push_told-clause-memory g c =
+    on_err (TakesOrNot c.args.rec.now c.args.self.now c.step.new.self) c.from_residual-in_err-push_told.result (λ past s. inr (c.in_ok-came.ensures.stands past s))
+
+pub returns-in-Err-clause-memory : goal.returns-in-Err-clause-memory
+returns-in-Err-clause-memory g c = λ past s. inr (c.in-Err.ensures.stands (c.args.rec.now ∷ past) (c.in_ok-came.ensures.stands past s))
