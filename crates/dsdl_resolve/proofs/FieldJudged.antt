@@ -1,8 +1,12 @@
 -- What a field is refused for, and what it adds.
-use Rattle.std.proofs.Common.{◌≡◌, ℕ, suc, ◌+◌, ◌^◌, Bool, true, false, List, [], ◌∷◌, ◌++◌, Option, Some, None, if◌then◌else◌, refl, sym, ap, ◌∙◌, subst}
-use Rattle.std.specs.Prelude.{max, nat_lt}
+use Rattle.std.proofs.Common.{◌≡◌, ℕ, suc, ◌+◌, ◌^◌, Bool, true, false, List, [], ◌∷◌, ◌++◌, Option, Some, None, if◌then◌else◌, ◌⊎◌, inl, inr, refl, sym, ap, ◌∙◌, subst}
+use Rattle.std.specs.Prelude.{is_none, max, nat_lt}
 use Rattle.std.specs.Option.{option_map, option_or}
+use Rattle.std.proofs.lemmas.Bool.{cases_Bool}
+use Rattle.std.proofs.lemmas.Option.{none-some, option_and_then_some}
 use Rattle.dsdl_parse.specs.declared.statement.Form.{Form}
+use Rattle.dsdl_parse.specs.declared.statement.Scalar.{Scalar}
+use Rattle.dsdl_parse.specs.declared.statement.Scalar.TheVariants as scalar
 use Rattle.dsdl_parse.specs.declared.statement.Statement.TheVariants as statement
 use Rattle.dsdl_types.specs.Rules.{nodes, nodes_of, nesting, nesting_of}
 use Rattle.dsdl_types.specs.Schemas.{Flds}
@@ -15,21 +19,24 @@ use Rattle.const_expr.specs.declared.scope.Scope.{Scope}
 use Rattle.dsdl_resolve.specs.declared.addition.Addition.TheVariants as addition
 use Rattle.dsdl_resolve.specs.declared.measure.Measure.{Measure}
 use Rattle.dsdl_resolve.specs.declared.totals.Totals.{Totals}
+use Rattle.dsdl_resolve.specs.declared.typed.Counted.{Counted}
 use Rattle.dsdl_resolve.specs.declared.typed.Typed as of_form
 use Rattle.dsdl_resolve.specs.declared.values.Values.{Values}
 use Rattle.dsdl_resolve.specs.declared.why.DsdlWhy.{DsdlWhy}
 use Rattle.dsdl_resolve.specs.declared.why.DsdlWhy.TheVariants as why
 use Rattle.dsdl_resolve.specs.Additions.{size_refusal, with_addition, name_of, IsJudged}
+use Rattle.dsdl_resolve.specs.Counts.{IsCountedType}
 use Rattle.dsdl_resolve.specs.Forms as forms
 use Rattle.dsdl_resolve.specs.Judged.{above_limit, assert_at, long_at, refusal_valued}
 use Rattle.dsdl_resolve.specs.Place.{Place}
 use Rattle.dsdl_resolve.specs.RuleNumbers.{not_a_message, nested_too_deep, too_many_nodes}
-use Rattle.dsdl_resolve.specs.Rules.{Tests, least, rules_of, named_rules, is_no_message, is_nested_too_deep, has_too_many_nodes}
+use Rattle.dsdl_resolve.specs.Rules.{Tests, least, rules_of, named_rules, has_wrong_capacity, has_wrong_width, is_no_message, is_nested_too_deep, has_too_many_nodes}
 use Rattle.dsdl_resolve.specs.Said.{Said, greatest}
 use Rattle.dsdl_resolve.specs.Says.{attribute_of}
 use Rattle.dsdl_resolve.specs.Totals.{AreTotals, AreWithin, IsMeasure}
 use Rattle.dsdl_resolve.specs.Values.{added, with_field}
 use Rattle.dsdl_resolve.proofs.FormTypes.{IsFieldType}
+use Rattle.dsdl_resolve.proofs.SoundSection.{type_some}
 use Rattle.dsdl_resolve.proofs.Onto as O
 use Rattle.dsdl_resolve.proofs.Onto.{onto, flds_more}
 
@@ -48,6 +55,31 @@ least_or (t ∷ ts) us = go t.1 t.0 (least_or ts us)
 -- the same with the value of the bound
 pub at_bound : (p : Place) (form : Form) (name : List ℕ) {b u : Option Const} {r : Option ℕ} → b ≡ u → r ≡ least (named_rules p u form name []) → r ≡ least (named_rules p b form name [])
 at_bound p form name same h = h ∙ ap (λ o. least (named_rules p o form name [])) (sym same)
+
+-- ---- whether a form has a type
+item_messaged : (scope : Scope) (s : Scalar) (t : of_form.Typed) → forms.item_of scope s ≡ Some t → is_no_message scope true s ≡ false
+item_messaged scope (scalar.Primitive word name) t e = refl
+item_messaged scope (scalar.Reference r) t e = ap is_none e
+item_messaged scope (scalar.Void digits) t e = absurd (none-some t e)
+
+pub type_messaged : (scope : Scope) (form : Form) (u : Option Const) (t : of_form.Typed) → forms.type_of scope form u ≡ Some t → is_no_message scope true form.scalar ≡ false
+type_messaged scope form u t e = option_and_then_some (forms.in_bound form.array u) (forms.item_of scope form.scalar) t e (λ item at is. item_messaged scope form.scalar item at)
+
+pub type_missing : (scope : Scope) (form : Form) (u : Option Const) → has_wrong_width form.scalar ≡ false → has_wrong_capacity form.array u ≡ false → forms.type_of scope form u ≡ None →
+    is_no_message scope true form.scalar ≡ true
+type_missing scope form u wide count none = at (cases_Bool (is_no_message scope true form.scalar))
+  where
+    at : (is_no_message scope true form.scalar ≡ true) ⊎ (is_no_message scope true form.scalar ≡ false) → is_no_message scope true form.scalar ≡ true
+    at (inl e) = e
+    at (inr e) = let (t, is) = type_some scope form u wide count e in absurd (none-some t (sym none ∙ is))
+
+-- what is said of a type that was found, or of none
+pub type_none : (scope : Scope) (form : Form) (u : Option Const) (found : Option Counted) → IsCountedType scope form u found → ((t : Counted) → found ≡ Some t → ⊥) → forms.type_of scope form u ≡ None
+type_none scope form u None h other = h
+type_none scope form u (Some t) h other = absurd (other t refl)
+
+pub type_found : (scope : Scope) (form : Form) (u : Option Const) (found : Option Counted) (t : Counted) → IsCountedType scope form u found → found ≡ Some t → IsCountedType scope form u (Some t)
+type_found scope form u found t h is = subst (IsCountedType scope form u) is h
 
 -- a field of a name and a type
 abbrev pub made : List ℕ → Schema → Field

@@ -39,7 +39,8 @@ use Rattle.const_expr.specs.Text.{id_text}
 use Rattle.dsdl_resolve.specs.declared.typed.Typed as of_form
 use Rattle.dsdl_resolve.specs.Forms as forms
 use Rattle.dsdl_resolve.specs.Forms.{at_least, width_in, float_width, cast_of, primitive_of, schema_of, of_primitive, message_in, message, of_message, referred, item_of, within, most_items, items_of, count_of, capacity, array_schema, array_of, bounded, in_bound}
-use Rattle.dsdl_resolve.specs.Totals.{IsPartType}
+use Rattle.dsdl_resolve.specs.Totals.{AreCountsOf, IsPartType, item_type}
+use Rattle.dsdl_resolve.specs.declared.counts.Counts.{Counts}
 use Rattle.dsdl_resolve.specs.declared.primitive.Primitive.{Primitive}
 use Rattle.dsdl_resolve.specs.declared.primitive.Primitive.TheVariants as primitive
 
@@ -258,3 +259,29 @@ module _ (scope : Scope) (sound : All IsDefinition scope.namespace.definitions) 
   type_fine form u t e =
       option_and_then_some (in_bound form.array u) (item_of scope form.scalar) t e
       (λ item at is. bound_fine form.array u item t (item_fine form.scalar item at) is)
+
+  -- ---- how large an item of an array is
+  item_self : (s : Sch) → IsItem s → item_type s ≡ s
+  item_self (Simple t) h = refl
+  item_self (Fixed s n) h = absurd h
+  item_self (Var s n) h = absurd h
+  item_self (Struct fs o) h = refl
+  item_self (Union fs o) h = refl
+
+  array_counts : (counts : Counts) (sign : BoundSign) (s : Schema) (n : ℕ) → AreCountsOf counts (sch s) → AreCountsOf counts (item_type (sch (array_schema sign s n)))
+  array_counts counts Exact s n h = subst (λ x. AreCountsOf counts (item_type x)) (sym (ap type_of (kind_fixed s n))) h
+  array_counts counts AtMost s n h = subst (λ x. AreCountsOf counts (item_type x)) (sym (ap type_of (kind_var s n))) h
+  array_counts counts Below s n h = subst (λ x. AreCountsOf counts (item_type x)) (sym (ap type_of (kind_var s n))) h
+
+  bound_counts : (counts : Counts) (b : Option Bound) (u : Option Const) (item t : of_form.Typed) → IsItem (sch item.schema) → AreCountsOf counts (sch item.schema) → in_bound b u item ≡ Some t → AreCountsOf counts (item_type (sch t.schema))
+  bound_counts counts None u item t plain h e =
+      subst (λ (v : of_form.Typed). AreCountsOf counts (item_type (sch v.schema))) (same_Some item t e) (subst (AreCountsOf counts) (sym (item_self (sch item.schema) plain)) h)
+  bound_counts counts (Some b) u item t plain h e =
+      mapped (array_of b.sign item) (bounded b.sign u) t e
+      (λ n at same. subst (λ (v : of_form.Typed). AreCountsOf counts (item_type (sch v.schema))) same (array_counts counts b.sign item.schema n h))
+
+  pub type_counts : (counts : Counts) (form : Form) (u : Option Const) (t : of_form.Typed) → forms.type_of scope form u ≡ Some t →
+      ((item : of_form.Typed) → item_of scope form.scalar ≡ Some item → AreCountsOf counts (sch item.schema)) → AreCountsOf counts (item_type (sch t.schema))
+  type_counts counts form u t e large =
+      option_and_then_some (in_bound form.array u) (item_of scope form.scalar) t e
+      (λ item at is. bound_counts counts form.array u item t (item_fine form.scalar item at).item (large item at) is)

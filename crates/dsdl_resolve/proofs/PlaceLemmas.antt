@@ -12,14 +12,15 @@ use Rattle.std.specs.Cmp.Lexicographic.{slice_cmp}
 use Rattle.std.specs.Cmp.{unsigned_ties}
 use Rattle.std.specs.Str.{bytes_eq}
 use Rattle.std.proofs.lemmas.Bool.{and_parts, cases_Bool, eqb-true, false≢true}
-use Rattle.std.proofs.lemmas.Option.{slice_get_past, slice_get-get_or}
+use Rattle.std.proofs.lemmas.Option.{none-some, same_Some, slice_get_past, slice_get-get_or}
 use Rattle.std.proofs.lemmas.Map.Text.{is_eq-slice_cmp}
 use Rattle.std.proofs.lemmas.Slice.Eq.{bytes_eq-Decides}
 use Rattle.dsdl_names.specs.Types.{type_order}
 use Rattle.dsdl_names.specs.declared.TypeId.{TypeId}
 use Rattle.dsdl_types.specs.Finding.{definition_of, same_id}
 use Rattle.dsdl_types.specs.declared.definition.Definition.{Definition}
-use Rattle.dsdl_resolve.specs.Places.{is_of, ArePlaces}
+use Rattle.dsdl_resolve.specs.Places.{AreCountsIn, ArePlaces, is_of, place_of}
+use Rattle.dsdl_resolve.specs.declared.finding.Known.{Known}
 
 -- ---- what a place has
 pub record Stands (ds : List Definition) (id : TypeId) (i n : ℕ) : Type 0 where
@@ -55,14 +56,14 @@ pub lent : {X : Type 0} (xs : List X) (i : ℕ) (r : Option (Bor X)) → IsItemA
 lent xs i None h = sym (slice_get_past xs i h.3)
 lent xs i (Some x) h = sym (slice_get-get_or xs i x.now h.3.0 ∙ ap Some (sym h.1))
 
-pub place_found : (ds : List Definition) (places : BTreeMap TypeId ℕ) (id : TypeId) (n : ℕ) → ArePlaces ds places → get type_order places id ≡ Some n → slice_get ds n ≡ definition_of ds id
-place_found ds places id n are h =
-    let s = at_place ds id 0 n (sym (are.at id) ∙ h) in
-    let same : n ≡ s.place = (let p = s.is in omega arith) in
+pub place_found : (ds : List Definition) (places : BTreeMap TypeId Known) (id : TypeId) (known : Known) → ArePlaces ds places → get type_order places id ≡ Some known → slice_get ds known.place ≡ definition_of ds id
+place_found ds places id known are h =
+    let s = at_place ds id 0 known.place (sym (are.at id) ∙ ap place_of h) in
+    let same : known.place ≡ s.place = (let p = s.is in omega arith) in
     ap (slice_get ds) same ∙ s.found
 
-pub place_missing : (ds : List Definition) (places : BTreeMap TypeId ℕ) (id : TypeId) → ArePlaces ds places → get type_order places id ≡ None → definition_of ds id ≡ None
-place_missing ds places id are h = none_placed ds id 0 (sym (are.at id) ∙ h)
+pub place_missing : (ds : List Definition) (places : BTreeMap TypeId Known) (id : TypeId) → ArePlaces ds places → get type_order places id ≡ None → definition_of ds id ≡ None
+place_missing ds places id are h = none_placed ds id 0 (sym (are.at id) ∙ ap place_of h)
 
 -- ---- one definition more
 placed_still : (p : Definition → Bool) (i n : ℕ) (ds : List Definition) (d : Definition) → position_from p i ds ≡ Some n → position_from p i (ds ++ d ∷ []) ≡ Some n
@@ -89,6 +90,29 @@ placed_last p i (x ∷ ds) d h e = at (p x) refl (λ g. placed_last p (i + 1) ds
 placed_apart : (p : Definition → Bool) (i : ℕ) (ds : List Definition) (d : Definition) → p d ≡ false → position_from p i (ds ++ d ∷ []) ≡ position_from p i ds
 placed_apart p i [] d e = ap (λ b. cond b (Some i) (position_from p (i + 1) [])) e
 placed_apart p i (x ∷ ds) d e = ap (λ o. cond (p x) (Some i) o) (placed_apart p (i + 1) ds d e)
+
+-- the definition of a type with one definition more
+found_still : (id : TypeId) (i n : ℕ) (ds : List Definition) (d : Definition) → position_from (is_of id) i ds ≡ Some n → definition_of (ds ++ d ∷ []) id ≡ definition_of ds id
+found_still id i n [] d h = absurd (cc)
+found_still id i n (x ∷ ds) d h = at (is_of id x) refl (found_still id (i + 1) n ds d)
+  where
+    at : (b : Bool) → is_of id x ≡ b → (position_from (is_of id) (i + 1) ds ≡ Some n → definition_of (ds ++ d ∷ []) id ≡ definition_of ds id) → definition_of (x ∷ ds ++ d ∷ []) id ≡ definition_of (x ∷ ds) id
+    at true e behind = ap (λ b. cond b (Some x) (definition_of (ds ++ d ∷ []) id)) e ∙ sym (ap (λ b. cond b (Some x) (definition_of ds id)) e)
+    at false e behind = ap (λ o. cond (is_of id x) (Some x) o) (behind (ap (λ b. cond b (Some i) (position_from (is_of id) (i + 1) ds)) (sym e) ∙ h))
+
+found_last : (id : TypeId) (i : ℕ) (ds : List Definition) (d : Definition) → position_from (is_of id) i ds ≡ None → is_of id d ≡ true → definition_of (ds ++ d ∷ []) id ≡ Some d
+found_last id i [] d h e = ap (λ b. cond b (Some d) None) e
+found_last id i (x ∷ ds) d h e = at (is_of id x) refl (λ g. found_last id (i + 1) ds d g e)
+  where
+    at : (b : Bool) → is_of id x ≡ b → (position_from (is_of id) (i + 1) ds ≡ None → definition_of (ds ++ d ∷ []) id ≡ Some d) → definition_of (x ∷ ds ++ d ∷ []) id ≡ Some d
+    at true f behind = let s : Some i ≡ None = ap (λ b. cond b (Some i) (position_from (is_of id) (i + 1) ds)) (sym f) ∙ h in absurd (cc)
+    at false f behind =
+        ap (λ b. cond b (Some x) (definition_of (ds ++ d ∷ []) id)) f
+        ∙ behind (ap (λ b. cond b (Some i) (position_from (is_of id) (i + 1) ds)) (sym f) ∙ h)
+
+found_apart : (id : TypeId) (ds : List Definition) (d : Definition) → is_of id d ≡ false → definition_of (ds ++ d ∷ []) id ≡ definition_of ds id
+found_apart id [] d e = ap (λ b. cond b (Some d) None) e
+found_apart id (x ∷ ds) d e = ap (λ o. cond (is_of id x) (Some x) o) (found_apart id ds d e)
 
 -- ---- types by their order
 both_equal : (o p : Ordering) → is_eq (ordering_then o p) ≡ (is_eq o && is_eq p)
@@ -117,33 +141,62 @@ same_type a b h =
     ∙ ap (λ n. let t : TypeId = record { name = b.name; major = b.major; minor = n } in t) minor
 
 -- ---- the places with one definition more
-pub is_none : (o : Option ℕ) → is_some o ≡ false → o ≡ None
+pub is_none : {A : Type 0} (o : Option A) → is_some o ≡ false → o ≡ None
 is_none None h = refl
-is_none (Some n) h = absurd (false≢true (sym h))
+is_none (Some x) h = absurd (false≢true (sym h))
 
-pub is_some_of : (o : Option ℕ) → is_some o ≡ true → (n : ℕ) × (o ≡ Some n)
+pub is_some_of : {A : Type 0} (o : Option A) → is_some o ≡ true → (x : A) × (o ≡ Some x)
 is_some_of None h = absurd (false≢true h)
-is_some_of (Some n) h = (n, refl)
+is_some_of (Some x) h = (x, refl)
 
-pub places_none : (places : BTreeMap TypeId ℕ) → places.entries ≡ [] → ArePlaces [] places
-places_none places none = record { at = λ id. ap (Rattle.std.specs.Map.lookup (λ k. is_eq (type_order id k))) none }
+pub places_none : (places : BTreeMap TypeId Known) → places.entries ≡ [] → ArePlaces [] places
+places_none places none = record {
+  at = λ id. ap (λ es. place_of (Rattle.std.specs.Map.lookup (λ k. is_eq (type_order id k)) es)) none;
+  counts = λ id known d has is. absurd (none-some d is);
+}
 
-module _ (ds : List Definition) (d : Definition) (old : BTreeMap TypeId ℕ) (are : ArePlaces ds old) where
-  pub places_kept : (n : ℕ) → get type_order old d.id ≡ Some n → ArePlaces (ds ++ d ∷ []) old
-  places_kept n has = record { at = λ id. at id (cases_Bool (is_of id d)) }
+module _ (ds : List Definition) (d : Definition) (old : BTreeMap TypeId Known) (are : ArePlaces ds old) where
+  pub places_kept : (known : Known) → get type_order old d.id ≡ Some known → ArePlaces (ds ++ d ∷ []) old
+  places_kept known has = record {
+    at = λ id. at id (cases_Bool (is_of id d));
+    counts = λ id k e there is. are.counts id k e there (sym (same id (cases_Bool (is_of id d))) ∙ is);
+  }
     where
-      at : (id : TypeId) → (is_of id d ≡ true) ⊎ (is_of id d ≡ false) → get type_order old id ≡ position_from (is_of id) 0 (ds ++ d ∷ [])
-      at id (inl e) =
-          let here : get type_order old id ≡ Some n = ap (get type_order old) (sym (same_type d.id id e)) ∙ has in
-          here ∙ sym (placed_still (is_of id) 0 n ds d (sym (are.at id) ∙ here))
+      placed : (id : TypeId) → is_of id d ≡ true → position_from (is_of id) 0 ds ≡ Some known.place
+      placed id e = sym (are.at id) ∙ ap place_of (ap (get type_order old) (sym (same_type d.id id e)) ∙ has)
+
+      at : (id : TypeId) → (is_of id d ≡ true) ⊎ (is_of id d ≡ false) → place_of (get type_order old id) ≡ position_from (is_of id) 0 (ds ++ d ∷ [])
+      at id (inl e) = are.at id ∙ placed id e ∙ sym (placed_still (is_of id) 0 known.place ds d (placed id e))
       at id (inr e) = are.at id ∙ sym (placed_apart (is_of id) 0 ds d e)
 
-  pub places_more : (new : BTreeMap TypeId ℕ) → get type_order old d.id ≡ None → Updates type_order old new d.id (Some (length ds)) → ArePlaces (ds ++ d ∷ []) new
-  places_more new none u = record { at = λ id. u.0 id ∙ ap (λ b. cond b (Some (length ds)) (get type_order old id)) (ties d.id id) ∙ at id (cases_Bool (is_of id d)) }
+      same : (id : TypeId) → (is_of id d ≡ true) ⊎ (is_of id d ≡ false) → definition_of (ds ++ d ∷ []) id ≡ definition_of ds id
+      same id (inl e) = found_still id 0 known.place ds d (placed id e)
+      same id (inr e) = found_apart id ds d e
+
+  pub places_more : (new : BTreeMap TypeId Known) (known : Known) → known.place ≡ length ds → AreCountsIn known.counts d.parts → get type_order old d.id ≡ None → Updates type_order old new d.id (Some known) →
+      ArePlaces (ds ++ d ∷ []) new
+  places_more new known last large none u = record {
+    at = λ id. ap place_of (new_is id) ∙ at id (cases_Bool (is_of id d));
+    counts = λ id k e has is. counts id k e (sym (new_is id) ∙ has) is (cases_Bool (is_of id d));
+  }
     where
-      at : (id : TypeId) → (is_of id d ≡ true) ⊎ (is_of id d ≡ false) → cond (is_of id d) (Some (length ds)) (get type_order old id) ≡ position_from (is_of id) 0 (ds ++ d ∷ [])
+      new_is : (id : TypeId) → get type_order new id ≡ cond (is_of id d) (Some known) (get type_order old id)
+      new_is id = u.0 id ∙ ap (λ b. cond b (Some known) (get type_order old id)) (ties d.id id)
+
+      missing : (id : TypeId) → is_of id d ≡ true → position_from (is_of id) 0 ds ≡ None
+      missing id e = sym (are.at id) ∙ ap place_of (ap (get type_order old) (sym (same_type d.id id e)) ∙ none)
+
+      at : (id : TypeId) → (is_of id d ≡ true) ⊎ (is_of id d ≡ false) → place_of (cond (is_of id d) (Some known) (get type_order old id)) ≡ position_from (is_of id) 0 (ds ++ d ∷ [])
       at id (inl e) =
-          ap (λ b. cond b (Some (length ds)) (get type_order old id)) e
-          ∙ ap Some (let n : length ds ≡ 0 + length ds = omega arith in n)
-          ∙ sym (placed_last (is_of id) 0 ds d (sym (are.at id) ∙ ap (get type_order old) (sym (same_type d.id id e)) ∙ none) e)
-      at id (inr e) = ap (λ b. cond b (Some (length ds)) (get type_order old id)) e ∙ are.at id ∙ sym (placed_apart (is_of id) 0 ds d e)
+          ap (λ b. place_of (cond b (Some known) (get type_order old id))) e
+          ∙ ap Some (let n : known.place ≡ 0 + length ds = omega (arith, last) in n)
+          ∙ sym (placed_last (is_of id) 0 ds d (missing id e) e)
+      at id (inr e) = ap (λ b. place_of (cond b (Some known) (get type_order old id))) e ∙ are.at id ∙ sym (placed_apart (is_of id) 0 ds d e)
+
+      counts : (id : TypeId) (k : Known) (e : Definition) → cond (is_of id d) (Some known) (get type_order old id) ≡ Some k → definition_of (ds ++ d ∷ []) id ≡ Some e → (is_of id d ≡ true) ⊎ (is_of id d ≡ false) →
+          AreCountsIn k.counts e.parts
+      counts id k e has is (inl f) =
+          let known_is : known ≡ k = same_Some known k (sym (ap (λ b. cond b (Some known) (get type_order old id)) f) ∙ has) in
+          let definition_is : d ≡ e = same_Some d e (sym (found_last id 0 ds d (missing id f) f) ∙ is) in
+          subst (λ (x : Definition). AreCountsIn k.counts x.parts) definition_is (subst (λ (x : Known). AreCountsIn x.counts d.parts) known_is large)
+      counts id k e has is (inr f) = are.counts id k e (sym (ap (λ b. cond b (Some known) (get type_order old id)) f) ∙ has) (sym (found_apart id ds d f) ∙ is)

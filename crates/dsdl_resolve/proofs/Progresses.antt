@@ -10,7 +10,8 @@ use Rattle.const_expr.specs.declared.scope.TypeConsts.{TypeConsts}
 use Rattle.dsdl_types.specs.Definitions.{IsDefinition}
 use Rattle.dsdl_types.specs.declared.definition.Definition.{Definition}
 use Rattle.dsdl_types.specs.declared.namespace.Print.{Print}
-use Rattle.dsdl_resolve.specs.Places.{ArePlacesIn}
+use Rattle.dsdl_resolve.specs.Places.{AreCountsIn, ArePlacesIn}
+use Rattle.dsdl_resolve.specs.declared.counts.Counts.{Counts}
 use Rattle.dsdl_links.specs.declared.source.Source.{Source}
 use Rattle.dsdl_resolve.specs.Progressing.{Holds, IsSound, WithDouble, WithType, doubled}
 use Rattle.dsdl_resolve.specs.Valuing.{Done, definition_of, is_first, is_meant, meant, members_of, prints_of, with_done}
@@ -18,13 +19,14 @@ use Rattle.dsdl_resolve.specs.declared.outcome.Outcome.{Outcome}
 use Rattle.dsdl_resolve.specs.declared.progress.Progress.{Progress}
 use Rattle.dsdl_resolve.proofs.Lists.{all_more}
 
-pub sound_type : (old new : Progress) (number : ℕ) (d : Definition) (constants : List NamedConst) → WithType old new number d constants → IsSound old → IsDefinition d → AreConstants constants → IsSound new
-sound_type old new number d constants w s keeps ascend = record {
+pub sound_type : (old new : Progress) (number : ℕ) (d : Definition) (constants : List NamedConst) (counts : Counts) → WithType old new number d constants counts → IsSound old → IsDefinition d → AreConstants constants →
+    AreCountsIn counts d.parts → IsSound new
+sound_type old new number d constants counts w s keeps ascend large = record {
   definitions = subst (All IsDefinition) (sym w.definitions) (all_more IsDefinition old.scope.namespace.definitions d s.definitions keeps);
   members = let entry : TypeConsts = record { id = d.id; constants = constants } in
       subst (All (λ (t : TypeConsts). AreConstants t.constants)) (sym w.members) (all_more (λ (t : TypeConsts). AreConstants t.constants) old.scope.members entry s.members ascend);
   doubles = subst (All IsDefinition) (sym w.doubles) s.doubles;
-  places = w.places s.places;
+  places = w.places large s.places;
 }
 
 pub sound_double : (old new : Progress) (number : ℕ) (d : Definition) → WithDouble old new number d → IsSound old → IsDefinition d → IsSound new
@@ -60,8 +62,8 @@ module _ (sources : List Source) (before : List Done) (old mid : Progress) (numb
   printed : mid.prints ≡ old.prints → prints ≡ prints_of (before ++ done ∷ [])
   printed same = more ∙ ap (λ l. l ++ o.prints) (same ∙ h.prints) ∙ flat_map_more (λ (d : Done). d.outcome.prints) [] before done
 
-  pub holds_type : WithType old mid number o.definition o.constants → is_first sources number ≡ true → Holds sources (with_done before number o) (record mid { prints = prints })
-  holds_type w first = record {
+  pub holds_type : (counts : Counts) → WithType old mid number o.definition o.constants counts → is_first sources number ≡ true → Holds sources (with_done before number o) (record mid { prints = prints })
+  holds_type counts w first = record {
     types = record {
       definitions = w.definitions ∙ ap (λ l. l ++ o.definition ∷ []) h.types.definitions ∙ sym (map_push definition_of (meant sources before) done) ∙ ap (map definition_of) (sym same);
       members = w.members ∙ ap (λ l. l ++ members_of done ∷ []) h.types.members ∙ sym (map_push members_of (meant sources before) done) ∙ ap (map members_of) (sym same);

@@ -34,6 +34,7 @@ use Rattle.dsdl_resolve.specs.Reread.{WereRead, HasStatements, scope_in, IsValue
 use Rattle.dsdl_resolve.specs.Valuing.{Done, definition_of, is_first, is_number, meant, scope_of, outcome_behind, valued, valued_behind, with_done, with_file, with_outcome}
 use Rattle.dsdl_resolve.specs.declared.outcome.FileError.{FileError}
 use Rattle.dsdl_resolve.specs.declared.outcome.Outcome.{Outcome}
+use Rattle.dsdl_resolve.specs.declared.outcome.Valued.{Valued}
 use Rattle.dsdl_resolve.specs.declared.progress.Progress.{Progress}
 use Rattle.dsdl_resolve.specs.declared.why.DsdlWhy.{DsdlWhy}
 use Rattle.dsdl_resolve.proofs.Lists.{zip_at, zip_long}
@@ -47,7 +48,7 @@ abbrev pub set_up : Scope → List NamedConst → List ℕ → Scope
 set_up scope constants own = record { constants = constants; offset = None; namespace = scope.namespace; own = own; members = scope.members }
 
 pub answers_read : IsParsedOneWay → (file : DsdlFile) (r : Read) → IsRead file r → (name : FileName) → file_name_of file.path ≡ Ok name → (lines given : List Statement) → IsAst file.text lines → given ≡ lines →
-    (scope : Scope) (constants : List NamedConst) (own : List ℕ) → constants ≡ [] → own ≡ name.id.name → (answer : Result Outcome FileError) →
+    (scope : Scope) (constants : List NamedConst) (own : List ℕ) → constants ≡ [] → own ≡ name.id.name → (answer : Result Valued FileError) →
     Answers (outcome (set_up scope constants own) file.path name given) answer → Answers (outcome (scope_in scope r) r.path r.name r.lines) answer
 answers_read law file r is name named lines given ast same scope constants own none mine answer h =
     let called : name ≡ r.name = same_name name r.name (sym named ∙ is.named) in

@@ -16,6 +16,7 @@ pub mod Standing
 pub mod Totals
 pub mod Additions
 pub mod Answers
+pub mod Counts
 pub mod Files
 pub mod Kept
 pub mod Namespaces

@@ -6,7 +6,8 @@ use Rattle.dsdl_links.specs.declared.source.Source.{Source}
 use Rattle.dsdl_types.specs.Definitions.{IsDefinition}
 use Rattle.dsdl_types.specs.declared.definition.Definition.{Definition}
 use Rattle.dsdl_resolve.specs.Valuing.{Done, is_meant, meant, definition_of, members_of, prints_of}
-use Rattle.dsdl_resolve.specs.Places.{ArePlacesIn}
+use Rattle.dsdl_resolve.specs.Places.{AreCountsIn, ArePlacesIn}
+use Rattle.dsdl_resolve.specs.declared.counts.Counts.{Counts}
 use Rattle.dsdl_resolve.specs.declared.progress.Progress.{Progress}
 
 -- those that no reference means, in the order of valuing
@@ -27,12 +28,12 @@ pub record Holds (sources : List Source) (done : List Done) (p : Progress) : Typ
   pub types : HoldsTypes sources done p
   pub prints : p.prints ≡ prints_of done
 
--- one type more that references mean, and nothing else
-pub record WithType (old new : Progress) (number : ℕ) (d : Definition) (constants : List NamedConst) : Type 0 where
+-- one type more that references mean, and nothing else; its message is so large
+pub record WithType (old new : Progress) (number : ℕ) (d : Definition) (constants : List NamedConst) (counts : Counts) : Type 0 where
   pub definitions : new.scope.namespace.definitions ≡ old.scope.namespace.definitions ++ d ∷ []
   pub members : new.scope.members ≡ old.scope.members ++ record { id = d.id; constants = constants } ∷ []
   pub no_prints : new.scope.namespace.prints ≡ old.scope.namespace.prints
-  pub places : ArePlacesIn old.scope old.places → ArePlacesIn new.scope new.places
+  pub places : AreCountsIn counts d.parts → ArePlacesIn old.scope old.places → ArePlacesIn new.scope new.places
   pub numbers : new.numbers.items ≡ old.numbers.items ++ number ∷ []
   pub doubles : new.doubles.items ≡ old.doubles.items
   pub double_numbers : new.double_numbers.items ≡ old.double_numbers.items

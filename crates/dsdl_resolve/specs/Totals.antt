@@ -3,8 +3,20 @@ use Rattle.std.specs.Prelude.{◌≡◌, ℕ, ◌+◌, ◌^◌, ◌≤◌, max, 
 use Rattle.dsdl_types.specs.Greatest.{from_lead, longest, longest_fields, longest_variant, as_part}
 use Rattle.dsdl_types.specs.Rules.{IsSchema, IsItem, nodes, nodes_of, nesting, nesting_of}
 use Rattle.dsdl_types.specs.Schemas.{Sch, Flds, Fixed, Var, is_aligned, is_delimited, extent_of, variants}
+use Rattle.dsdl_resolve.specs.declared.counts.Counts.{Counts}
 use Rattle.dsdl_resolve.specs.declared.measure.Measure.{Measure}
 use Rattle.dsdl_resolve.specs.declared.totals.Totals.{Totals}
+
+-- how large a type is
+pub record AreCountsOf (counts : Counts) (s : Sch) : Type 0 where
+  pub nodes : counts.nodes ≡ nodes s
+  pub nesting : counts.nesting ≡ nesting s
+
+-- the type of an array's items; a type that is no array itself
+abbrev pub item_type : Sch → Sch
+item_type (Fixed s n) = s
+item_type (Var s n) = s
+item_type s = s
 
 -- the numbers of a type as a part of another
 pub record IsMeasure (m : Measure) (s : Sch) : Type 0 where

@@ -14,8 +14,9 @@ use crate::finding::Places;
 use crate::form::type_of;
 use crate::limits::{above_limit, size_refusal};
 use crate::measure::measure_of;
-use crate::naming::{is_no_message, named_rule};
+use crate::naming::named_rule;
 use crate::rules::{BEHIND_EXTENT, NOT_A_MESSAGE, PADDING_IN_UNION, WRONG_WIDTH};
+use crate::typed::Counted;
 use crate::why::DsdlWhy;
 use crate::width::width_in;
 use const_expr::{Const, Scope};
@@ -51,13 +52,11 @@ pub fn judge_field(
     if let Some(number) = named_rule(before, form, name, bound) {
         return Err(StatementError::Refused(DsdlWhy::Rule(number)));
     }
-    if is_no_message(alloc, scope, places, true, &form.scalar)? {
+    let Some(found) = type_of(alloc, scope, places, form, bound)? else {
         return Err(StatementError::Refused(DsdlWhy::Rule(NOT_A_MESSAGE)));
-    }
-    let Some(typed) = type_of(alloc, scope, places, form, bound)? else {
-        unreachable!();
     };
-    let totals = before.totals.with_field(measure_of(&typed.schema));
+    let Counted { typed, counts } = found;
+    let totals = before.totals.with_field(measure_of(&typed.schema, counts));
     match size_refusal(totals) {
         Some(why) => Err(StatementError::Refused(why)),
         None => Ok(Judged {

@@ -2,6 +2,7 @@
 ghost use Rattle.std.specs.Prelude.{◌≡◌, ◌<◌, ◌^◌, ◌+◌, ◌∷◌, ◌++◌, [], drop, length, List as ListOf, IfOk, OnOk, MatchResult, None, Some, All};
 ghost use Rattle.std.specs.Option.{option_to_list};
 ghost use Rattle.const_expr.specs.Member.{AreConstants, IsScope};
+ghost use Rattle.const_expr.specs.declared.scope.NamedConst.{NamedConst as NamedConstOf};
 ghost use Rattle.const_expr.specs.declared.scope.Scope.{Scope as ScopeOf};
 ghost use Rattle.dsdl_parse.specs.Spelling.{WellSpelled};
 ghost use Rattle.dsdl_parse.specs.declared.statement.Statement.{Statement as StatementOf};
@@ -10,16 +11,16 @@ ghost use Rattle.dsdl_types.specs.Definitions.{IsDefinition, IsNamespace};
 ghost use Rattle.dsdl_resolve.specs.Answers.{Answers};
 ghost use Rattle.dsdl_resolve.specs.Additions.{IsStatementRefusal};
 ghost use Rattle.dsdl_resolve.specs.Files.{IsFile, IsFileRefusal, IsStepped};
-ghost use Rattle.dsdl_resolve.specs.Judged.{finished, outcome, refusal_at};
-ghost use Rattle.dsdl_resolve.specs.Opens.{IsReady, between};
+ghost use Rattle.dsdl_resolve.specs.Judged.{composite_of, finished, outcome, refusal_at};
+ghost use Rattle.dsdl_resolve.specs.Opens.{IsReady, between, said_of};
 ghost use Rattle.dsdl_resolve.specs.Place.{place};
-ghost use Rattle.dsdl_resolve.specs.Places.{ArePlacesIn};
+ghost use Rattle.dsdl_resolve.specs.Places.{AreCountsIn, ArePlacesIn, IsMessageOf};
 ghost use Rattle.dsdl_resolve.specs.Totals.{AreWithin};
 
 use crate::addition::StatementError;
 use crate::finding::Places;
 use crate::open_section::{Half, OpenSection};
-use crate::outcome::{FileError, Outcome, Refused};
+use crate::outcome::{FileError, Outcome, Refused, Valued};
 use crate::printing::print_of;
 use crate::room::reserve;
 use crate::soundness::definitions_keep_rules;
@@ -155,6 +156,8 @@ impl OpenFile {
         ensures done { (S : ScopeOf) (lines : ListOf StatementOf) →
             IsFile self scope.old.constants S lines [] →
             IfOk result (λ done. done ≡ finished S name.now lines self.prints) }
+        ensures parts { (constants : ListOf NamedConstOf) → IfOk result (λ done.
+            IsMessageOf (composite_of (said_of self.section constants)) done.definition.parts) }
         ensures rest { scope.new ≡ record scope.old { constants = scope.new.constants } }
     {
         let OpenFile {
@@ -232,18 +235,21 @@ pub fn value_file(
     scope: &mut Scope,
     places: &Places,
     room: &mut u32,
-) -> Result<Outcome, FileError>
+) -> Result<Valued, FileError>
     requires scope { IsScope scope.old }
     requires places { ArePlacesIn scope.old places.now }
     requires spelled { All WellSpelled lines.now }
     requires few { length lines.now < 2 ^ 32 }
     ensures value { Answers (outcome scope.old path.now name.now lines.now) result }
-    ensures sound { IfOk result (λ o. IsDefinition o.definition) }
-    ensures constants { IfOk result (λ o. AreConstants o.constants) }
+    ensures sound { IfOk result (λ done. IsDefinition done.outcome.definition) }
+    ensures constants { IfOk result (λ done. AreConstants done.outcome.constants) }
+    ensures counts { IfOk result (λ done.
+        AreCountsIn done.counts done.outcome.definition.parts) }
     ensures namespace { scope.new.namespace ≡ scope.old.namespace }
     ensures members { scope.new.members ≡ scope.old.members }
 {
     definitions_keep_rules();
+    let room_before = *room;
     scope.own = name.id.name.copy(alloc)?;
     scope.constants = List::empty(alloc);
     scope.offset = None;
@@ -262,6 +268,10 @@ pub fn value_file(
             line: lines.len() as u32,
             why: DsdlWhy::Rule(rule),
         })),
-        None => Ok(file.finish(name, alloc, scope)?),
+        None => {
+            let counts = file.section.counts(room_before.saturating_sub(*room));
+            let outcome = file.finish(name, alloc, scope)?;
+            Ok(Valued { outcome, counts })
+        }
     }
 }

@@ -1,13 +1,16 @@
 //! Which type is written.
 ghost use Rattle.std.specs.Prelude.{◌≡◌, ◌++◌, string_bytes, is_some, Some, IfOk, OnOk, MatchOption};
-ghost use Rattle.std.specs.Option.{option_copied};
 ghost use Rattle.const_expr.specs.Text.{id_text};
+ghost use Rattle.dsdl_types.specs.Views.{sch};
+ghost use Rattle.dsdl_resolve.specs.Counts.{IsCounted, IsCountedType};
 ghost use Rattle.dsdl_resolve.specs.Places.{ArePlacesIn};
-ghost use Rattle.dsdl_resolve.specs.Forms.{array_of, array_schema, bound_text, bounded, capacity, in_bound, item_of, items_of, message, message_in, of_message, of_primitive, referred, type_of, within};
+ghost use Rattle.dsdl_resolve.specs.Totals.{AreCountsOf};
+ghost use Rattle.dsdl_resolve.specs.Forms.{array_of, array_schema, bound_text, bounded, capacity, in_bound, item_of, items_of, message, of_message, of_primitive, referred, type_of, within};
 
+use crate::counts::Counts;
 use crate::finding::{Places, find};
-use crate::primitive::{primitive_of, push_number};
-use crate::typed::Typed;
+use crate::primitive::{Primitive, primitive_of, push_number};
+use crate::typed::{Counted, Typed};
 use const_expr::{Const, Scope, print_text};
 use cy_bits::{Boxed, NoMemory, Text, TryCopy};
 use dsdl_links::type_of as named_type;
@@ -70,23 +73,19 @@ pub fn bounded(sign: BoundSign, value: &Option<Const>) -> Option<u32>
     }
 }
 
-/// The schema of a message.
-fn message_in(parts: &Parts) -> Option<&Schema>
-    ensures { option_copied result ≡ message_in parts.now }
-{
-    match parts {
-        Parts::Message(schema) => Some(schema),
-        Parts::Service { .. } => None,
-    }
-}
-
-/// The schema of a type that is a message.
-pub fn message<'a>(scope: &'a Scope, places: &Places, id: &TypeId) -> Option<&'a Schema>
+/// The schema of a type that is a message, and how large it is.
+pub fn message<'a>(scope: &'a Scope, places: &Places, id: &TypeId) -> Option<(&'a Schema, Counts)>
     requires { ArePlacesIn scope.now places.now }
-    ensures { option_copied result ≡ message scope.now id.now }
+    ensures { MatchOption result
+        (message scope.now id.now ≡ None)
+        (λ found. (message scope.now id.now ≡ Some found.0.now)
+        × AreCountsOf found.1 (sch found.0.now)) }
 {
     match find(scope.namespace.definitions.as_slice(), places, id) {
-        Some(definition) => message_in(&definition.parts),
+        Some((definition, counts)) => match &definition.parts {
+            Parts::Message(schema) => Some((schema, counts)),
+            Parts::Service { .. } => None,
+        },
         None => None,
     }
 }
@@ -107,16 +106,19 @@ fn of_message(
     scope: &Scope,
     places: &Places,
     id: TypeId,
-) -> Result<Option<Typed>, NoMemory>
+) -> Result<Option<Counted>, NoMemory>
     requires { ArePlacesIn scope.now places.now }
-    ensures { IfOk result (λ t. t ≡ of_message scope.now id) }
+    ensures { IfOk result (IsCounted (of_message scope.now id)) }
 {
-    let Some(schema) = message(scope, places, &id) else {
+    let Some((schema, counts)) = message(scope, places, &id) else {
         return Ok(None);
     };
     let schema = schema.copy(alloc)?;
     let text = id_text(alloc, id)?;
-    Ok(Some(Typed { schema, text }))
+    Ok(Some(Counted {
+        typed: Typed { schema, text },
+        counts,
+    }))
 }
 
 /// The message that a reference means.
@@ -125,9 +127,9 @@ fn referred(
     scope: &Scope,
     places: &Places,
     reference: &Reference,
-) -> Result<Option<Typed>, NoMemory>
+) -> Result<Option<Counted>, NoMemory>
     requires { ArePlacesIn scope.now places.now }
-    ensures { IfOk result (λ t. t ≡ referred scope.now reference.now) }
+    ensures { IfOk result (IsCounted (referred scope.now reference.now)) }
 {
     match named_type(alloc, &scope.own, reference)? {
         Some(id) => of_message(alloc, scope, places, id),
@@ -151,22 +153,36 @@ pub fn is_message(
     }
 }
 
+/// A primitive type, with its text.
+fn of_primitive(alloc: Global, primitive: Primitive) -> Result<Counted, NoMemory>
+    ensures { IfOk result (λ t. IsCounted (Some (of_primitive primitive)) (Some t)) }
+{
+    Ok(Counted {
+        typed: Typed {
+            schema: primitive.schema(),
+            text: primitive.text(alloc)?,
+        },
+        counts: Counts {
+            nodes: 1,
+            nesting: 0,
+            fields: 0,
+        },
+    })
+}
+
 /// The type of an item, or of a value alone. `void` is none.
 fn item_of(
     alloc: Global,
     scope: &Scope,
     places: &Places,
     scalar: &Scalar,
-) -> Result<Option<Typed>, NoMemory>
+) -> Result<Option<Counted>, NoMemory>
     requires { ArePlacesIn scope.now places.now }
-    ensures { IfOk result (λ t. t ≡ item_of scope.now scalar.now) }
+    ensures { IfOk result (IsCounted (item_of scope.now scalar.now)) }
 {
     match scalar {
         Scalar::Primitive { prefix, name } => match primitive_of(*prefix, name.as_str()) {
-            Some(primitive) => Ok(Some(Typed {
-                schema: primitive.schema(),
-                text: primitive.text(alloc)?,
-            })),
+            Some(primitive) => Ok(Some(of_primitive(alloc, primitive)?)),
             None => Ok(None),
         },
         Scalar::Reference(reference) => referred(alloc, scope, places, reference),
@@ -242,12 +258,16 @@ pub fn type_of(
     places: &Places,
     form: &Form,
     bound: &Option<Const>,
-) -> Result<Option<Typed>, NoMemory>
+) -> Result<Option<Counted>, NoMemory>
     requires { ArePlacesIn scope.now places.now }
-    ensures { IfOk result (λ t. t ≡ type_of scope.now form.now bound.now) }
+    ensures { IfOk result (IsCountedType scope.now form.now bound.now) }
 {
-    match item_of(alloc, scope, places, &form.scalar)? {
-        Some(item) => in_bound(alloc, &form.array, bound, item),
+    let Some(item) = item_of(alloc, scope, places, &form.scalar)? else {
+        return Ok(None);
+    };
+    let Counted { typed, counts } = item;
+    match in_bound(alloc, &form.array, bound, typed)? {
+        Some(typed) => Ok(Some(Counted { typed, counts })),
         None => Ok(None),
     }
 }

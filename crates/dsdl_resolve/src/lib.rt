@@ -8,7 +8,7 @@ mod attributes;
 mod before;
 mod clashes;
 mod constant;
-mod count;
+mod counts;
 mod directive;
 mod entry;
 mod error;

@@ -1,12 +1,13 @@
 //! How large types are.
 ghost use Rattle.std.specs.Prelude.{◌≡◌, ◌≤◌, ◌^◌, ◌+◌, ◌*◌, false};
-ghost use Rattle.dsdl_types.specs.Rules.{IsFormed, AreFormed, IsItem, IsSchema, nesting, nesting_of, nodes, nodes_of};
+ghost use Rattle.dsdl_types.specs.Rules.{IsItem, IsSchema};
 ghost use Rattle.dsdl_types.specs.Greatest.{as_part, longest};
 ghost use Rattle.dsdl_types.specs.Schemas.{extent_of, is_aligned, is_delimited, length_field_bits};
-ghost use Rattle.dsdl_types.specs.Views.{body_of, is_padding, kind_of, sch};
-ghost use Rattle.dsdl_resolve.specs.Totals.{IsMeasure, IsPartType, IsSmall};
+ghost use Rattle.dsdl_types.specs.Views.{is_padding, kind_of, sch};
+ghost use Rattle.dsdl_resolve.specs.Totals.{AreCountsOf, IsMeasure, IsPartType, IsSmall, item_type};
 
-use dsdl_types::{Body, Schema};
+use crate::counts::Counts;
+use dsdl_types::Schema;
 
 /// The numbers of a type as a part of another.
 #[derive(Clone, Copy, Debug, Drop)]
@@ -19,66 +20,6 @@ pub struct Measure {
     pub nodes: u64,
     /// How deep arrays and composites nest in it.
     pub nesting: u32,
-}
-
-/// The most nodes of the values of a type.
-#[cycle(nodes)]
-fn nodes(schema: &Schema) -> u64
-    requires formed { IsFormed (sch schema.now) }
-    requires few { nodes (sch schema.now) ≤ 2 ^ 20 }
-    ensures { result ≡ nodes (sch schema.now) }
-{
-    match schema {
-        Schema::Fixed { item, len: items } | Schema::Var { item, cap: items } => {
-            1 + u64::from(*items) * nodes(item.get())
-        }
-        Schema::Struct(body) | Schema::Union(body) => 1 + nodes_of(body),
-        _ => 1,
-    }
-}
-
-/// The most nodes of the values of all fields.
-#[cycle(nodes)]
-fn nodes_of(body: &Body) -> u64
-    requires formed { AreFormed (body_of body.now).0 }
-    requires few { nodes_of (body_of body.now).0 ≤ 2 ^ 20 }
-    ensures { result ≡ nodes_of (body_of body.now).0 }
-{
-    let mut sum = 0;
-    for field in body.fields.as_slice() {
-        if !field.schema.is_padding() {
-            sum += nodes(&field.schema);
-        }
-    }
-    sum
-}
-
-/// How deep arrays and composites nest in a type.
-#[cycle(nesting)]
-fn nesting(schema: &Schema) -> u32
-    requires { nesting (sch schema.now) ≤ 32 }
-    ensures { result ≡ nesting (sch schema.now) }
-{
-    match schema {
-        Schema::Fixed { item, .. } | Schema::Var { item, .. } => 1 + nesting(item.get()),
-        Schema::Struct(body) | Schema::Union(body) => 1 + nesting_of(body),
-        _ => 0,
-    }
-}
-
-/// How deep arrays and composites nest in fields.
-#[cycle(nesting)]
-fn nesting_of(body: &Body) -> u32
-    requires { nesting_of (body_of body.now).0 ≤ 32 }
-    ensures { result ≡ nesting_of (body_of body.now).0 }
-{
-    let mut deepest = 0;
-    for field in body.fields.as_slice() {
-        if !field.schema.is_padding() {
-            deepest = nesting(&field.schema).max(deepest);
-        }
-    }
-    deepest
 }
 
 /// The greatest length in bits of a type that is no array, as a part of another.
@@ -116,9 +57,10 @@ fn is_aligned(schema: &Schema) -> bool
 }
 
 /// The numbers of a type that is no array.
-fn measure_item(schema: &Schema) -> Measure
+fn measure_item(schema: &Schema, counts: Counts) -> Measure
     requires rules { IsSchema (sch schema.now) }
     requires item { IsItem (sch schema.now) }
+    requires counts { AreCountsOf counts (sch schema.now) }
     requires typed { is_padding (kind_of schema.now) ≡ false }
     ensures measure { IsMeasure result (sch schema.now) }
     ensures longest { result.longest ≤ 2 ^ 33 }
@@ -128,8 +70,8 @@ fn measure_item(schema: &Schema) -> Measure
     Measure {
         longest: longest(schema),
         aligned: is_aligned(schema),
-        nodes: nodes(schema),
-        nesting: nesting(schema),
+        nodes: counts.nodes,
+        nesting: counts.nesting,
     }
 }
 
@@ -168,18 +110,19 @@ impl Measure {
     }
 }
 
-/// The numbers of a type.
-pub fn measure_of(schema: &Schema) -> Measure
+/// The numbers of a type, of which these are known, or of an array of such items.
+pub fn measure_of(schema: &Schema, counts: Counts) -> Measure
     requires part { IsPartType (sch schema.now) }
     requires typed { is_padding (kind_of schema.now) ≡ false }
+    requires counts { AreCountsOf counts (item_type (sch schema.now)) }
     ensures measure { IsMeasure result (sch schema.now) }
     ensures small { IsSmall result }
 {
     match schema {
-        Schema::Fixed { item, len: items } => measure_item(item.get()).repeated(*items, 0),
+        Schema::Fixed { item, len: items } => measure_item(item.get(), counts).repeated(*items, 0),
         Schema::Var { item, cap: items } => {
-            measure_item(item.get()).repeated(*items, length_field_bits(*items))
+            measure_item(item.get(), counts).repeated(*items, length_field_bits(*items))
         }
-        _ => measure_item(schema),
+        _ => measure_item(schema, counts),
     }
 }

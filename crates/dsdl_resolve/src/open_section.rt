@@ -10,6 +10,7 @@ ghost use Rattle.dsdl_parse.specs.declared.statement.Statement.{Statement as Sta
 ghost use Rattle.dsdl_resolve.specs.Additions.{AreValuesOf, IsStatementRefusal, name_of, with_addition};
 ghost use Rattle.dsdl_resolve.specs.Judged.{body_of, cause_of, composite_of, refusal_at};
 ghost use Rattle.dsdl_resolve.specs.Said.{Said as SaidOf, greatest as greatest_of};
+ghost use Rattle.dsdl_types.specs.Views.{sch};
 ghost use Rattle.dsdl_types.specs.declared.schema.Schema.TheVariants as schema;
 ghost use Rattle.dsdl_resolve.specs.Opens.{AreOffsets, IsOpen, IsReady, IsTaken, between, is_early, kept_offsets, of_values, on_name, said_of, value_refusal, with_offset};
 ghost use Rattle.dsdl_resolve.specs.Place.{last_section, place};
@@ -18,6 +19,7 @@ ghost use Rattle.dsdl_resolve.specs.Rules.{is_used};
 ghost use Rattle.dsdl_resolve.specs.Says.{attribute_of, is_split, names_offset};
 ghost use Rattle.dsdl_resolve.specs.SoundSections.{KeepsRules};
 ghost use Rattle.dsdl_resolve.specs.Standing.{Stands};
+ghost use Rattle.dsdl_resolve.specs.Totals.{AreCountsOf};
 ghost use Rattle.dsdl_resolve.specs.Values.{values, with_field};
 ghost use Rattle.std.specs.Option.{option_copied};
 ghost use Rattle.dsdl_resolve.specs.declared.typed.Typed.{Typed as TypedOf};
@@ -25,6 +27,7 @@ ghost use Rattle.dsdl_resolve.specs.declared.typed.Typed.{Typed as TypedOf};
 use crate::addition::{Addition, Judged, StatementError};
 use crate::attributes::Attributes;
 use crate::before::Before;
+use crate::counts::Counts;
 use crate::finding::Places;
 use crate::judge::judge;
 use crate::mention::names_offset;
@@ -311,6 +314,20 @@ impl OpenSection {
         self.add(alloc, &mut scope.constants, attribute_of(statement), judged)?;
         self.before.standing = self.before.standing.with(statement);
         Ok(values)
+    }
+
+    /// How large the structure or the union is, whose fields and paddings are so many.
+    pub fn counts(&self, fields: u32) -> Counts
+        requires ready { IsReady self.now }
+        ensures { (constants : ListOf NamedConstOf) →
+            AreCountsOf result (sch (composite_of (said_of self.now constants))) }
+    {
+        let totals = self.before.totals;
+        Counts {
+            nodes: 1 + totals.nodes,
+            nesting: 1 + totals.nesting,
+            fields,
+        }
     }
 
     /// The section at its end.

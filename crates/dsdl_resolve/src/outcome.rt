@@ -1,3 +1,4 @@
+use crate::counts::Counts;
 use crate::why::DsdlWhy;
 use const_expr::NamedConst;
 use cy_bits::{List, NoMemory};
@@ -12,6 +13,15 @@ pub struct Outcome {
     pub constants: List<NamedConst>,
     /// What its `@print` wrote, in order.
     pub prints: List<Print>,
+}
+
+/// What a file defines and prints, and how large the message is that it defines.
+#[derive(Drop)]
+pub struct Valued {
+    /// What it defines and prints.
+    pub outcome: Outcome,
+    /// How large its message is.
+    pub counts: Counts,
 }
 
 /// Why a file is refused, and where.

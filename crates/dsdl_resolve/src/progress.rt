@@ -3,11 +3,13 @@ ghost use Rattle.std.specs.Prelude.{◌≡◌, ◌++◌, ◌∷◌, [], List as 
 ghost use Rattle.dsdl_links.specs.declared.source.Source.{Source as SourceOf};
 ghost use Rattle.const_expr.specs.Member.{AreConstants};
 ghost use Rattle.dsdl_types.specs.Definitions.{IsDefinition};
+ghost use Rattle.dsdl_resolve.specs.Places.{AreCountsIn};
 ghost use Rattle.dsdl_resolve.specs.Progressing.{Holds, IsSound, WithDouble, WithType};
 ghost use Rattle.dsdl_resolve.specs.Valuing.{Done, is_first, with_done};
 
-use crate::finding::{Places, add_place};
-use crate::outcome::Outcome;
+use crate::counts::Counts;
+use crate::finding::{Known, Places, add_place};
+use crate::outcome::{Outcome, Valued};
 use const_expr::{NamedConst, Scope, TypeConsts};
 use cy_bits::{Bytes, List, NoMemory, TryCopy};
 use dsdl_names::FullName;
@@ -64,21 +66,23 @@ impl Progress {
         alloc: Global,
         number: usize,
         first: bool,
-        done: Outcome,
+        done: Valued,
     ) -> Result<(), NoMemory>
         ensures holds { OnOk result ((sources : ListOf SourceOf) (before : ListOf Done) →
             first ≡ is_first sources number → Holds sources before self.old →
-            Holds sources (with_done before number done) self.new) }
-        ensures sound { OnOk result (IsSound self.old → IsDefinition done.definition →
-            AreConstants done.constants → IsSound self.new) }
+            Holds sources (with_done before number done.outcome) self.new) }
+        ensures sound { OnOk result (IsSound self.old → IsDefinition done.outcome.definition →
+            AreConstants done.outcome.constants →
+            AreCountsIn done.counts done.outcome.definition.parts → IsSound self.new) }
     {
+        let Valued { outcome, counts } = done;
         let Outcome {
             definition,
             constants,
             prints,
-        } = done;
+        } = outcome;
         if first {
-            self.add_type(alloc, number, definition, constants)?;
+            self.add_type(alloc, number, definition, constants, counts)?;
         } else {
             self.add_double(number, definition)?;
         }
@@ -92,11 +96,13 @@ impl Progress {
         number: usize,
         definition: Definition,
         constants: List<NamedConst>,
+        counts: Counts,
     ) -> Result<(), NoMemory>
-        ensures { OnOk result (WithType self.old self.new number definition constants) }
+        ensures { OnOk result (WithType self.old self.new number definition constants counts) }
     {
         let place = self.scope.namespace.definitions.len();
-        add_place(&mut self.places, definition.id.copy(alloc)?, place)?;
+        let known = Known { place, counts };
+        add_place(&mut self.places, definition.id.copy(alloc)?, known)?;
         self.scope.members.push(TypeConsts {
             id: definition.id.copy(alloc)?,
             constants,

@@ -1,7 +1,6 @@
 //! The room that is left for the fields of a namespace.
 ghost use Rattle.dsdl_resolve.specs.Places.{ArePlacesIn};
 
-use crate::count::take_room;
 use crate::finding::Places;
 use crate::form::message;
 use const_expr::Scope;
@@ -10,12 +9,12 @@ use dsdl_links::type_of;
 use dsdl_parse::{Reference, Scalar, Statement};
 use std::alloc::Global;
 
-/// Takes one field or padding from the room that is left.
-fn take_one(room: &mut u32) -> Result<(), NoMemory> {
-    if *room == 0 {
+/// Takes so many fields and paddings from the room that is left.
+fn take(fields: u32, room: &mut u32) -> Result<(), NoMemory> {
+    if fields > *room {
         return Err(NoMemory);
     }
-    *room -= 1;
+    *room -= fields;
     Ok(())
 }
 
@@ -33,13 +32,9 @@ fn take_message(
     let Some(id) = type_of(alloc, &scope.own, reference)? else {
         return Ok(());
     };
-    let Some(schema) = message(scope, places, &id) else {
-        return Ok(());
-    };
-    if take_room(schema, room) {
-        Ok(())
-    } else {
-        Err(NoMemory)
+    match message(scope, places, &id) {
+        Some((_, counts)) => take(counts.fields, room),
+        None => Ok(()),
     }
 }
 
@@ -56,9 +51,9 @@ pub fn reserve(
     requires { ArePlacesIn scope.now places.now }
 {
     match statement {
-        Statement::Padding { .. } => take_one(room),
+        Statement::Padding { .. } => take(1, room),
         Statement::Field { form, name: _ } => {
-            take_one(room)?;
+            take(1, room)?;
             match &form.scalar {
                 Scalar::Reference(reference) => take_message(alloc, scope, places, reference, room),
                 _ => Ok(()),

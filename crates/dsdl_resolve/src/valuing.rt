@@ -9,7 +9,7 @@ ghost use Rattle.dsdl_resolve.specs.Answers.{Answers};
 ghost use Rattle.dsdl_resolve.specs.Judged.{outcome};
 ghost use Rattle.dsdl_resolve.specs.Kept.{AreKept, IsKept};
 ghost use Rattle.dsdl_resolve.specs.Passes.{StopsAt};
-ghost use Rattle.dsdl_resolve.specs.Places.{ArePlacesIn};
+ghost use Rattle.dsdl_resolve.specs.Places.{AreCountsIn, ArePlacesIn};
 ghost use Rattle.dsdl_resolve.specs.Progressing.{IsSound};
 ghost use Rattle.dsdl_resolve.specs.Reads.{Read, IsRead, AreRead, sources_of};
 ghost use Rattle.dsdl_resolve.specs.Refusals.{IsRefusal};
@@ -19,7 +19,7 @@ use crate::DsdlError;
 use crate::at::at;
 use crate::file::value_file;
 use crate::finding::Places;
-use crate::outcome::{FileError, Outcome, Refused};
+use crate::outcome::{FileError, Refused, Valued};
 use crate::progress::Progress;
 use const_expr::Scope;
 use cy_bits::{List, NoMemory, TryCopy};
@@ -100,7 +100,7 @@ fn value_one(
     scope: &mut Scope,
     places: &Places,
     room: &mut u32,
-) -> Result<Outcome, FileError>
+) -> Result<Valued, FileError>
     requires short { length file.now.text < 2 ^ 32 }
     requires named { file_name_of file.now.path ≡ Ok name.now }
     requires text { HasStatements file.now.text }
@@ -110,8 +110,10 @@ fn value_one(
     requires members { All (λ t. AreConstants t.constants) scope.old.members }
     ensures value { (r : Read) → IsRead file.now r →
         Answers (outcome (scope_in scope.old r) r.path r.name r.lines) result }
-    ensures sound { IfOk result (λ o. IsDefinition o.definition) }
-    ensures constants { IfOk result (λ o. AreConstants o.constants) }
+    ensures sound { IfOk result (λ done. IsDefinition done.outcome.definition) }
+    ensures constants { IfOk result (λ done. AreConstants done.outcome.constants) }
+    ensures counts { IfOk result (λ done.
+        AreCountsIn done.counts done.outcome.definition.parts) }
     ensures namespace { scope.new.namespace ≡ scope.old.namespace }
     ensures members { scope.new.members ≡ scope.old.members }
 {
@@ -133,7 +135,7 @@ fn value_lines(
     scope: &mut Scope,
     places: &Places,
     room: &mut u32,
-) -> Result<Outcome, FileError>
+) -> Result<Valued, FileError>
     requires short { length file.now.text < 2 ^ 32 }
     requires named { file_name_of file.now.path ≡ Ok name.now }
     requires text { IsAst file.now.text lines.now }
@@ -142,8 +144,10 @@ fn value_lines(
     requires members { All (λ t. AreConstants t.constants) scope.old.members }
     ensures value { (r : Read) → IsRead file.now r →
         Answers (outcome (scope_in scope.old r) r.path r.name r.lines) result }
-    ensures sound { IfOk result (λ o. IsDefinition o.definition) }
-    ensures constants { IfOk result (λ o. AreConstants o.constants) }
+    ensures sound { IfOk result (λ done. IsDefinition done.outcome.definition) }
+    ensures constants { IfOk result (λ done. AreConstants done.outcome.constants) }
+    ensures counts { IfOk result (λ done.
+        AreCountsIn done.counts done.outcome.definition.parts) }
     ensures namespace { scope.new.namespace ≡ scope.old.namespace }
     ensures members { scope.new.members ≡ scope.old.members }
 {

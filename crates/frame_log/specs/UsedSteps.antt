@@ -1,14 +1,15 @@
 -- What the steps of a reader use of its bytes.
-use Rattle.std.specs.Prelude.{◌≡◌, ℕ, false, List, ⊤}
+use Rattle.std.specs.Prelude.{◌≡◌, ◌++◌, ℕ, false, List, Option, ⊤}
 use Rattle.tail_frame.specs.declared.logged.Record.{Record}
 use Rattle.frame_log.specs.declared.reader.LogReader.{LogReader}
 use Rattle.frame_log.specs.declared.reader.step.Step.{Step}
 use Rattle.frame_log.specs.declared.reader.step.Step.TheVariants as step
 use Rattle.frame_log.specs.declared.reader.turn.Turn.{Turn}
 use Rattle.frame_log.specs.declared.reader.turn.Turn.TheVariants as turn
+use Rattle.frame_log.specs.Input.{Took}
 use Rattle.frame_log.specs.Log.{Place}
 use Rattle.frame_log.specs.Reader.{buses_of, place_of, kept_bytes_of, saw_end}
-use Rattle.frame_log.specs.Used.{Passes, Gives}
+use Rattle.frame_log.specs.Used.{Passes, Gives, Uses}
 
 -- the first line of these bytes is used, where it is no refusal
 abbrev pub IsUsed : List (List ℕ) → Place → List ℕ → Step → Record → Place → List ℕ → Type 0
@@ -28,3 +29,9 @@ IsBeforeTurn turn.Again written new at bytes = (at ≡ place_of new) × (bytes �
 IsBeforeTurn turn.Failed written new at bytes = (at ≡ place_of new) × (bytes ≡ kept_bytes_of new)
 IsBeforeTurn turn.Record written new at bytes = saw_end new ≡ false → Gives (buses_of new) at bytes written (place_of new) (kept_bytes_of new)
 IsBeforeTurn other written new at bytes = ⊤
+
+-- the turn uses lines that give no record, of the bytes that were kept and of those that came in it, up to what it found
+abbrev pub TurnUses : (old new : LogReader) (before after : Option (List ℕ)) → Turn → Record → Type 0
+TurnUses old new before after turn written =
+    (came : List ℕ) × Took before after came
+    × Uses (buses_of old) (place_of old) (kept_bytes_of old ++ came) (IsBeforeTurn turn written new)

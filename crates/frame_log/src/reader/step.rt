@@ -3,7 +3,7 @@ ghost use Rattle.std.specs.Prelude.{◌≡◌, ◌≤◌, ◌<◌, ◌+◌, ◌+
 ghost use Rattle.frame_log.specs.Line.{cut};
 ghost use Rattle.frame_log.specs.Found.{said_by};
 ghost use Rattle.frame_log.specs.Log.{given_by, ended};
-ghost use Rattle.frame_log.specs.Steps.{IsLine, IsFound, IsGiven, IsStep, IsAt};
+ghost use Rattle.frame_log.specs.Steps.{IsLine, IsFound, IsGiven, IsStep, IsAt, KeepsBytes, KeepsFewer};
 ghost use Rattle.frame_log.specs.Reader.{place_of, buses_of, log_behind, bytes_left};
 ghost use Rattle.frame_log.specs.Used.{Uses};
 ghost use Rattle.frame_log.specs.UsedSteps.{IsUsed, IsBeforeStep};
@@ -35,7 +35,8 @@ impl LogReader {
     /// The end of the first line that is kept.
     #[inline(always)]
     fn line_end(&self) -> Option<usize>
-        ensures { MatchOption result (cut 10 self.now.kept_bytes ≡ None) (λ i. IsLine self.now.kept_bytes i) }
+        ensures { MatchOption result (cut 10 self.now.kept_bytes ≡ None)
+            (λ i. IsLine self.now.kept_bytes i) }
     {
         memchr(b'\n', self.kept_bytes.as_slice())
     }
@@ -49,9 +50,7 @@ impl LogReader {
             (given_by (place_of self.old) (self.old.lines + 1) (said_by found written.old.bytes))
             result written.new (place_of self.new) }
         ensures at { result ≡ step.Record → IsAt written.new (place_of self.new) }
-        ensures same { (self.new.buses ≡ self.old.buses) × (self.new.kept_bytes ≡ self.old.kept_bytes)
-            × (self.new.room ≡ self.old.room) × (self.new.is_ended ≡ self.old.is_ended)
-            × (self.new.done ≡ self.old.done) }
+        ensures same { KeepsBytes self.old self.new }
     {
         let n = self.lines + 1;
         match found {
@@ -88,9 +87,7 @@ impl LogReader {
         ensures line { MatchOption result (cut 10 self.old.kept_bytes ≡ None)
             (λ p. IsFound self.old.buses self.old.kept_bytes p.0 p.1 written.new.bytes) }
         ensures place { place_of self.new ≡ place_of self.old }
-        ensures same { (self.new.buses ≡ self.old.buses) × (self.new.kept_bytes ≡ self.old.kept_bytes)
-            × (self.new.room ≡ self.old.room) × (self.new.is_ended ≡ self.old.is_ended)
-            × (self.new.done ≡ self.old.done) }
+        ensures same { KeepsBytes self.old self.new }
     {
         let i = self.line_end()?;
         written.bytes.clear();
@@ -108,9 +105,7 @@ impl LogReader {
         ensures line { MatchOption result (cut 10 self.old.kept_bytes ≡ None)
             (λ p. IsFound self.old.buses self.old.kept_bytes p.0 p.1 written.new.bytes) }
         ensures place { place_of self.new ≡ place_of self.old }
-        ensures same { (self.new.buses ≡ self.old.buses) × (self.new.kept_bytes ≡ self.old.kept_bytes)
-            × (self.new.room ≡ self.old.room) × (self.new.is_ended ≡ self.old.is_ended)
-            × (self.new.done ≡ self.old.done) }
+        ensures same { KeepsBytes self.old self.new }
     {
         written.bytes.clear();
         if let Some(seen) = quick(
@@ -137,11 +132,13 @@ impl LogReader {
         ensures next { (rest : List ℕ)
             → IsStep (log_behind self.old rest) result written.new (log_behind self.new rest) }
         ensures used { IsUsed (buses_of self.old)
-            (place_of self.old) self.old.kept_bytes result written.new (place_of self.new) self.new.kept_bytes }
+            (place_of self.old) self.old.kept_bytes result written.new
+            (place_of self.new) self.new.kept_bytes }
         ensures none { result ≡ step.NoLine → (cut 10 self.new.kept_bytes ≡ None)
-            × (place_of self.new ≡ place_of self.old) × (self.new.kept_bytes ≡ self.old.kept_bytes) }
-        ensures less { result ≡ step.Record → length self.new.kept_bytes < length self.old.kept_bytes }
-        ensures skipped { result ≡ step.Skipped → length self.new.kept_bytes < length self.old.kept_bytes }
+            × (place_of self.new ≡ place_of self.old)
+            × (self.new.kept_bytes ≡ self.old.kept_bytes) }
+        ensures less { result ≡ step.Record → KeepsFewer self.old self.new }
+        ensures skipped { result ≡ step.Skipped → KeepsFewer self.old self.new }
         ensures within { length self.new.kept_bytes ≤ length self.old.kept_bytes }
         ensures input { ¬ (result ≡ step.Refused error.Failed) }
         ensures at { result ≡ step.Record → IsAt written.new (place_of self.new) }
@@ -164,7 +161,7 @@ impl LogReader {
             (IsBeforeStep result written.new self.new) }
         ensures none { result ≡ step.NoLine → cut 10 self.new.kept_bytes ≡ None }
         ensures whole { ¬ (result ≡ step.Skipped) }
-        ensures less { result ≡ step.Record → length self.new.kept_bytes < length self.old.kept_bytes }
+        ensures less { result ≡ step.Record → KeepsFewer self.old self.new }
         ensures within { length self.new.kept_bytes ≤ length self.old.kept_bytes }
         ensures input { ¬ (result ≡ step.Refused error.Failed) }
         ensures at { result ≡ step.Record → IsAt written.new (place_of self.new) }
@@ -187,7 +184,7 @@ impl LogReader {
         ensures next { IsStep (log_behind self.old []) result written.new (log_behind self.new []) }
         ensures none { result ≡ step.NoLine → log_behind self.old [] ≡ ended None }
         ensures skipped { result ≡ step.Skipped → log_behind self.old [] ≡ ended None }
-        ensures less { result ≡ step.Record → length self.new.kept_bytes < length self.old.kept_bytes }
+        ensures less { result ≡ step.Record → KeepsFewer self.old self.new }
         ensures within { length self.new.kept_bytes ≤ length self.old.kept_bytes }
         ensures input { ¬ (result ≡ step.Refused error.Failed) }
         ensures at { result ≡ step.Record → IsAt written.new (place_of self.new) }

@@ -3,10 +3,9 @@ ghost use Rattle.std.specs.Prelude.{◌≡◌, ◌≤◌, ◌<◌, ◌+◌, ◌+
 ghost use Rattle.cy_outside.specs.Outside.{Rose};
 ghost use Rattle.frame_log.specs.Input.{Took, IsAtEnd};
 ghost use Rattle.frame_log.specs.Line.{cut};
-ghost use Rattle.frame_log.specs.Steps.{IsTurn, IsAt};
+ghost use Rattle.frame_log.specs.Steps.{IsTurn, IsAt, TurnsNext};
 ghost use Rattle.frame_log.specs.Reader.{place_of, buses_of, log_behind, bytes_left};
-ghost use Rattle.frame_log.specs.Used.{Uses};
-ghost use Rattle.frame_log.specs.UsedSteps.{IsBeforeTurn};
+ghost use Rattle.frame_log.specs.UsedSteps.{TurnUses};
 ghost use Rattle.frame_log.specs.declared.error.LogError.TheVariants as error;
 ghost use Rattle.frame_log.specs.declared.reader.turn.Turn.TheVariants as turn;
 
@@ -38,7 +37,8 @@ impl LogReader {
     fn fill<L: Source>(&mut self, input: &mut L) -> Result<usize, Failed>
         requires short { length self.old.kept_bytes ≤ 4096 }
         ensures came { OnOk result
-            (self.new.kept_bytes ≡ self.old.kept_bytes ++ drop (length self.old.kept_bytes) self.new.kept_bytes) }
+            (self.new.kept_bytes
+            ≡ self.old.kept_bytes ++ drop (length self.old.kept_bytes) self.new.kept_bytes) }
         ensures room { IfOk result
             (λ n. (self.new.room + n ≡ self.old.room)
             × (length self.new.kept_bytes ≡ length self.old.kept_bytes + n)) }
@@ -90,13 +90,10 @@ impl LogReader {
         requires reading { self.old.is_ended ≡ false }
         requires line { cut 10 self.old.kept_bytes ≡ None }
         requires short { length self.old.kept_bytes ≤ 4096 }
-        ensures next { (came : List ℕ) × Took (L.left input.old) (L.left input.new) came
-            × ((rest : List ℕ) → (self.new.is_ended ≡ true → rest ≡ [])
-            → IsTurn (log_behind self.old (came ++ rest)) result written.new
-            (log_behind self.new rest)) }
-        ensures used { (came : List ℕ) × Took (L.left input.old) (L.left input.new) came
-            × Uses (buses_of self.old) (place_of self.old) (self.old.kept_bytes ++ came)
-            (IsBeforeTurn result written.new self.new) }
+        ensures next { TurnsNext self.old self.new (L.left input.old) (L.left input.new)
+            result written.new }
+        ensures used { TurnUses self.old self.new (L.left input.old) (L.left input.new)
+            result written.new }
         ensures again { result ≡ turn.Again → (self.new.room < self.old.room)
             × (self.new.is_ended ≡ false) }
         ensures whole { result ≡ turn.Whole → self.new.is_ended ≡ true }
@@ -134,13 +131,10 @@ impl LogReader {
     /// The lines that are kept, or else one read.
     #[inline(always)]
     pub fn turn<L: Source>(&mut self, input: &mut L, written: &mut Record) -> Turn
-        ensures next { (came : List ℕ) × Took (L.left input.old) (L.left input.new) came
-            × ((rest : List ℕ) → (self.new.is_ended ≡ true → rest ≡ [])
-            → IsTurn (log_behind self.old (came ++ rest)) result written.new
-            (log_behind self.new rest)) }
-        ensures used { (came : List ℕ) × Took (L.left input.old) (L.left input.new) came
-            × Uses (buses_of self.old) (place_of self.old) (self.old.kept_bytes ++ came)
-            (IsBeforeTurn result written.new self.new) }
+        ensures next { TurnsNext self.old self.new (L.left input.old) (L.left input.new)
+            result written.new }
+        ensures used { TurnUses self.old self.new (L.left input.old) (L.left input.new)
+            result written.new }
         ensures again { result ≡ turn.Again → (self.new.room < self.old.room)
             × (self.new.is_ended ≡ false) }
         ensures whole { result ≡ turn.Whole → self.new.is_ended ≡ true }

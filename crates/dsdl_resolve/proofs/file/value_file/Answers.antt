@@ -4,7 +4,9 @@ use Rattle.std.proofs.lemmas.List.Elements.{All-get_or}
 use Rattle.const_expr.specs.declared.scope.Scope.{Scope}
 use Rattle.dsdl_parse.specs.Spelling.{WellSpelled}
 use Rattle.dsdl_resolve.specs.Files.{IsFile, IsFileRefusal, IsStepped}
-use Rattle.dsdl_resolve.specs.Judged.{in_file, outcome, refusal_at}
+use Rattle.dsdl_resolve.specs.Opens.{said_of}
+use Rattle.dsdl_resolve.proofs.Counting.{parts_counted}
+use Rattle.dsdl_resolve.specs.Judged.{composite_of, in_file, outcome, refusal_at}
 use Rattle.dsdl_resolve.specs.Place.{last_section, place}
 use Rattle.dsdl_resolve.specs.Places.{ArePlacesIn}
 use Rattle.dsdl_resolve.proofs.Filing as filing
@@ -69,20 +71,25 @@ returns-in-Some-clause-value c =
     filing.end_refused S c.args.scope.now c.args.name.now c.args.path.now c.args.lines.now c.loop-i.i le c.loop-i.file c.loop-i.scope.constants refl c.loop-i.invariant.filed c.in-Some.rule
     (c.in-Some.ensures c.args.lines.now (last_section c.args.lines.now) file.section.standing)
 
-pub returns-in_ok-finish-in-None-clause-value : goal.returns-in_ok-finish-in-None-clause-value
-returns-in_ok-finish-in-None-clause-value c =
+pub returns-in_ok-outcome-in-None-clause-value : goal.returns-in_ok-outcome-in-None-clause-value
+returns-in_ok-outcome-in-None-clause-value c =
     let S = in_file c.args.scope.now c.args.name.now in
     let le : length c.args.lines.now ≤ c.loop-i.i = omega (arith, c.loop-i-test.false) in
     let file = filing.file_end S c.args.name.now.port c.args.path.now c.args.lines.now c.loop-i.i le c.loop-i.file c.loop-i.scope.constants c.loop-i.invariant.filed in
-    filing.end_done S c.args.scope.now c.args.name.now c.args.path.now c.args.lines.now c.loop-i.i le c.loop-i.file c.loop-i.scope.constants c.in_ok-finish-in-None.field-0 refl c.loop-i.invariant.filed
-    (c.in-None.ensures c.args.lines.now (last_section c.args.lines.now) file.section.standing) (c.in_ok-finish-in-None.ensures.done S c.args.lines.now file)
+    filing.end_done S c.args.scope.now c.args.name.now c.args.path.now c.args.lines.now c.loop-i.i le c.loop-i.file c.loop-i.scope.constants c.in_ok-outcome-in-None.outcome refl c.loop-i.invariant.filed
+    (c.in-None.ensures c.args.lines.now (last_section c.args.lines.now) file.section.standing) (c.in_ok-outcome-in-None.ensures.done S c.args.lines.now file)
 
-pub returns-in_ok-finish-in-None-clause-sound : goal.returns-in_ok-finish-in-None-clause-sound
-returns-in_ok-finish-in-None-clause-sound c =
+pub returns-in_ok-outcome-in-None-clause-sound : goal.returns-in_ok-outcome-in-None-clause-sound
+returns-in_ok-outcome-in-None-clause-sound c =
     let S = in_file c.args.scope.now c.args.name.now in
     let le : length c.args.lines.now ≤ c.loop-i.i = omega (arith, c.loop-i-test.false) in
     let file = filing.file_end S c.args.name.now.port c.args.path.now c.args.lines.now c.loop-i.i le c.loop-i.file c.loop-i.scope.constants c.loop-i.invariant.filed in
-    let value : outcome c.args.scope.now c.args.path.now c.args.name.now c.args.lines.now ≡ Ok c.in_ok-finish-in-None.field-0 =
-    filing.end_done S c.args.scope.now c.args.name.now c.args.path.now c.args.lines.now c.loop-i.i le c.loop-i.file c.loop-i.scope.constants c.in_ok-finish-in-None.field-0 refl c.loop-i.invariant.filed
-    (c.in-None.ensures c.args.lines.now (last_section c.args.lines.now) file.section.standing) (c.in_ok-finish-in-None.ensures.done S c.args.lines.now file) in
-    c.definitions_keep_rules.ensures c.args.scope.now c.args.path.now c.args.name.now c.args.lines.now c.in_ok-finish-in-None.field-0 c.requires.scope.types c.requires.spelled value
+    let value : outcome c.args.scope.now c.args.path.now c.args.name.now c.args.lines.now ≡ Ok c.in_ok-outcome-in-None.outcome =
+    filing.end_done S c.args.scope.now c.args.name.now c.args.path.now c.args.lines.now c.loop-i.i le c.loop-i.file c.loop-i.scope.constants c.in_ok-outcome-in-None.outcome refl c.loop-i.invariant.filed
+    (c.in-None.ensures c.args.lines.now (last_section c.args.lines.now) file.section.standing) (c.in_ok-outcome-in-None.ensures.done S c.args.lines.now file) in
+    c.definitions_keep_rules.ensures c.args.scope.now c.args.path.now c.args.name.now c.args.lines.now c.in_ok-outcome-in-None.outcome c.requires.scope.types c.requires.spelled value
+
+pub returns-in_ok-outcome-in-None-clause-counts : goal.returns-in_ok-outcome-in-None-clause-counts
+returns-in_ok-outcome-in-None-clause-counts c =
+    parts_counted c.counts-counts.result (composite_of (said_of c.loop-i.file.section c.loop-i.scope.constants)) c.in_ok-outcome-in-None.outcome.definition.parts
+    (c.in_ok-outcome-in-None.ensures.parts c.loop-i.scope.constants) (c.counts-counts.ensures c.loop-i.scope.constants)

@@ -47,10 +47,10 @@ loop-k-preserved c =
     record {
       so_far = λ reads h.
           one_more c.args.files.now reads h c.args.firsts.now (c.requires.firsts reads h) c.args.order.now c.loop-k.k n c.index-files-number.result c.loop-k.progress c.add.new.self
-          c.value_one.new.scope c.in-Ok.done (c.loop-k.invariant.so_far reads h) c.loop-k-test.true refl (c.requires.within c.loop-k.k c.loop-k-test.true) c.index-files-number.is
+          c.value_one.new.scope c.in-Ok.done.outcome (c.loop-k.invariant.so_far reads h) c.loop-k-test.true refl (c.requires.within c.loop-k.k c.loop-k-test.true) c.index-files-number.is
           c.in-Ok.ensures.value c.in-Ok.ensures.namespace c.in-Ok.ensures.members c.in_ok-add-in-Ok.ensures.holds;
       sound = c.in_ok-add-in-Ok.ensures.sound (moved_sound c.loop-k.progress c.value_one.new.scope c.in-Ok.ensures.namespace c.in-Ok.ensures.members c.loop-k.invariant.sound) c.in-Ok.ensures.sound
-          c.in-Ok.ensures.constants;
+          c.in-Ok.ensures.constants c.in-Ok.ensures.counts;
     }
 
 pub returns-in-Err-clause-refused : goal.returns-in-Err-clause-refused

@@ -21,3 +21,6 @@ returns-in-None-clause-kept c = subst AreConstants (sym c.replace-constants.ensu
 
 pub returns-in_ok-joined-in-Some-clause-kept : goal.returns-in_ok-joined-in-Some-clause-kept
 returns-in_ok-joined-in-Some-clause-kept c = subst AreConstants (sym c.empty-in-Some.ensures) none_kept
+
+pub returns-in-None-clause-parts : goal.returns-in-None-clause-parts
+returns-in-None-clause-parts c = λ constants. c.in_ok-schema.ensures.schema constants

@@ -9,14 +9,14 @@ use Rattle.dsdl_resolve.proofs.progress.Progress.add.Goals.{then-first+in_ok-add
 pub returns-clause-holds : goal.returns-clause-holds
 returns-clause-holds c =
     let number = c.args.number in
-    let done = c.args.done in
+    let done = c.args.done.outcome in
     let prints = c.append.new.prints in
     on_ok_from c.append.result c.append.ensures
     (λ more sources before first holds.
     elim c.if-first.branch [
       | then-first+in_ok-add_type w ↦
           subst (λ (p : Progress). Holds sources (with_done before number done) (record p { prints = prints })) (sym w.self-is)
-          (holds_type sources before c.args.self.now w.add_type.new.self number done prints holds (more ∙ ap (λ (p : Progress). p.prints ++ done.prints) w.self-is) w.in_ok-add_type.ensures (sym first ∙ w.if-first.true))
+          (holds_type sources before c.args.self.now w.add_type.new.self number done prints holds (more ∙ ap (λ (p : Progress). p.prints ++ done.prints) w.self-is) c.args.done.counts w.in_ok-add_type.ensures (sym first ∙ w.if-first.true))
       | else-first+in_ok-add_double w ↦
           subst (λ (p : Progress). Holds sources (with_done before number done) (record p { prints = prints })) (sym w.self-is)
           (holds_double sources before c.args.self.now w.add_double.new.self number done prints holds (more ∙ ap (λ (p : Progress). p.prints ++ done.prints) w.self-is) w.in_ok-add_double.ensures (sym first ∙ w.if-first.false))
@@ -25,9 +25,9 @@ returns-clause-holds c =
 pub returns-clause-sound : goal.returns-clause-sound
 returns-clause-sound c =
     on_ok c.append.result
-    (λ sound keeps ascend.
+    (λ sound keeps ascend large.
     sound_prints c.if-first.self c.append.new.prints
     (elim c.if-first.branch [
-      | then-first+in_ok-add_type w ↦ subst IsSound (sym w.self-is) (sound_type c.args.self.now w.add_type.new.self c.args.number c.args.done.definition c.args.done.constants w.in_ok-add_type.ensures sound keeps ascend)
-      | else-first+in_ok-add_double w ↦ subst IsSound (sym w.self-is) (sound_double c.args.self.now w.add_double.new.self c.args.number c.args.done.definition w.in_ok-add_double.ensures sound keeps)
+      | then-first+in_ok-add_type w ↦ subst IsSound (sym w.self-is) (sound_type c.args.self.now w.add_type.new.self c.args.number c.args.done.outcome.definition c.args.done.outcome.constants c.args.done.counts w.in_ok-add_type.ensures sound keeps ascend large)
+      | else-first+in_ok-add_double w ↦ subst IsSound (sym w.self-is) (sound_double c.args.self.now w.add_double.new.self c.args.number c.args.done.outcome.definition w.in_ok-add_double.ensures sound keeps)
     ]))
