@@ -44,3 +44,9 @@ bench:
 	test -x build/cyphal || $(MAKE) build
 	bench/run --short build/cyphal
 	bench/values build/cyphal 1
+	bench/compile build/cyphal 1
+	bench/registers build/cyphal 1000
+	bench/files build/cyphal 1000
+	bench/reader
+	bench/run --short build/count
+	bench/table

@@ -1,7 +1,7 @@
 //! Lines of a file and what each comes to: the line that is refused and the cause.
 
 /// Sections, their ends, unions and the order of statements: Rules 1 to 8.
-pub const SECTIONS: [(&str, &str); 41] = [
+pub const SECTIONS: [(&str, &str); 42] = [
     ("@sealed\n---\n@sealed\n---\n@sealed", "4 Rule 1"),
     ("@sealed\n---\n---", "3 Rule 1"),
     ("uint8 a\n---\n@sealed", "2 Rule 2"),
@@ -10,6 +10,7 @@ pub const SECTIONS: [(&str, &str); 41] = [
     ("", "0 Rule 2"),
     ("@sealed\n@sealed", "2 Rule 3"),
     ("@sealed\n@extent 64", "2 Rule 3"),
+    ("uint8 a\n@sealed\n@extent 64", "3 Rule 3"),
     ("@extent 64\n@sealed", "2 Rule 3"),
     ("@extent 64\n@extent 64", "2 Rule 3"),
     ("@sealed\n---\n@extent 0", "ok"),
@@ -141,7 +142,7 @@ pub const ATTRIBUTES: [(&str, &str); 70] = [
 ];
 
 /// Directives, `_offset_` in unions, and the order of causes: Rules 17 to 24, Assert and Long.
-pub const DIRECTIVES: [(&str, &str); 57] = [
+pub const DIRECTIVES: [(&str, &str); 59] = [
     ("@final\n@sealed", "1 Rule 17"),
     ("@Sealed", "1 Rule 17"),
     ("@assert\n@sealed", "1 Rule 18"),
@@ -209,6 +210,11 @@ pub const DIRECTIVES: [(&str, &str); 57] = [
     ("@assert 1 / 0 == 1\n@sealed", "1 Expr Zero"),
     ("@assert 1 + true\n@sealed", "1 Expr Kind"),
     ("@print 2 ** 127\n@sealed", "1 Expr Range"),
+    (
+        "@print 170141183460469231731687303715884105728\n@sealed",
+        "1 Expr Range",
+    ),
+    ("@print uint8\n@sealed", "1 Expr Unknown"),
     ("@assert nothing\n@sealed", "1 Expr Unknown"),
     ("uint8[<=4096] a\n@print _offset_\n@sealed", "2 Expr Large"),
     ("uint8[1 / 0] a = nothing\n@sealed", "1 Expr Zero"),

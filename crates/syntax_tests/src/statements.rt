@@ -80,7 +80,7 @@ fn statements_of(alloc: Global, definition: &str) -> Result<String, AllocError> 
 
 #[test]
 fn lines_give_their_statements(rt: HostRuntime) -> Result<(), AllocError> {
-    let rows: [(&str, &str); 56] = [
+    let rows: [(&str, &str); 57] = [
         ("  \t", "empty;"),
         ("# \u{1}\u{7f}\u{e4} @", "empty;"),
         ("uint8[<=2] x # any", "field uint8[<=8..9] x;"),
@@ -138,6 +138,7 @@ fn lines_give_their_statements(rt: HostRuntime) -> Result<(), AllocError> {
         ("saturated x", "line 1"),
         ("saturated", "line 1"),
         ("A.1.256 x", "line 1"),
+        ("A.256.0 x", "line 1"),
         ("1 x", "line 1"),
         ("uint8 a $", "line 1"),
     ];

@@ -149,6 +149,26 @@ fn ends(set: Result<LengthSet, LengthError>) -> Result<(u64, u64, u64), LengthEr
     Ok((set.min(), set.max(), set.count()))
 }
 
+/// Sets with each of their members.
+#[test]
+fn listed_sets(rt: HostRuntime) {
+    let alloc = rt.alloc();
+    let eight = LengthSet::of(alloc, 8).expect(&rt, "no memory is taken");
+    let some = eight.up_to(3).expect(&rt, "memory");
+    let rows: [(Result<LengthSet, LengthError>, &[u64]); 5] = [
+        (some.pad(1), &[0, 8, 16, 24]),
+        (some.pad(16), &[0, 16, 32]),
+        (LengthSet::delimited(alloc, 16), &[32, 40, 48]),
+        (eight.repeat(65536), &[524288]),
+        (eight.repeat(65537), &[524296]),
+    ];
+    for (set, want) in rows {
+        let set = set.expect(&rt, "memory");
+        let members = set.members(alloc).expect(&rt, "memory");
+        assert!(rt; members.as_slice() == want, "not {want:?}");
+    }
+}
+
 /// Sets whose members don't fit in memory, and refusals.
 #[test]
 fn large_sets(rt: HostRuntime) {

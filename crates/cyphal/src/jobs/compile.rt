@@ -40,6 +40,35 @@ mod tests {
           field a saturated uint8 at {0} size {8}\n\
           field b saturated uint12 at {8} size {12}\n";
 
+    const NESTED: &[(&str, &[u8])] = &[
+        ("types/demo/Inner.1.0.dsdl", b"uint8 a\n@extent 64\n"),
+        (
+            "types/demo/Outer.1.0.dsdl",
+            b"Inner.1.0 inner\nuint8 z\n@extent 128\n",
+        ),
+    ];
+
+    const NESTED_LAYOUTS: &[u8] = b"type demo.Inner.1.0 message - extent 64 delimited lengths {8}\n\
+          field a saturated uint8 at {0} size {8}\n\
+          type demo.Outer.1.0 message - extent 128 delimited lengths \
+          {40, 48, 56, 64, 72, 80, 88, 96, 104}\n\
+          field inner demo.Inner.1.0 at {0} size {32, 40, 48, 56, 64, 72, 80, 88, 96}\n\
+          field z saturated uint8 at {32, 40, 48, 56, 64, 72, 80, 88, 96} size {8}\n";
+
+    const SERVICE: &[(&str, &[u8])] = &[(
+        "types/demo/S.1.0.dsdl",
+        b"uint8 a\n@sealed\n---\n@sealed\n",
+    )];
+
+    const HALVES: &[u8] = b"type demo.S.1.0.Request service - extent 8 sealed lengths {8}\n\
+          field a saturated uint8 at {0} size {8}\n\
+          type demo.S.1.0.Response service - extent 0 sealed lengths {0}\n";
+
+    const CYCLE: &[(&str, &[u8])] = &[
+        ("types/demo/A.1.0.dsdl", b"B.1.0 b\n@sealed\n"),
+        ("types/demo/B.1.0.dsdl", b"A.1.0 a\n@sealed\n"),
+    ];
+
     /// A compilation of a folder with one file.
     const COMPILE: Call = Call {
         words: &["compile", "types"],
@@ -52,6 +81,28 @@ mod tests {
         let calls = [
             Call {
                 written: LAYOUTS,
+                ..COMPILE
+            },
+            Call {
+                files: NESTED,
+                written: NESTED_LAYOUTS,
+                ..COMPILE
+            },
+            Call {
+                files: SERVICE,
+                written: HALVES,
+                ..COMPILE
+            },
+            Call {
+                files: &[CYCLE[0]],
+                code: 2,
+                line: b"cyphal: demo/A.1.0.dsdl:1: Unresolved demo.B.1.0\n",
+                ..COMPILE
+            },
+            Call {
+                files: CYCLE,
+                code: 2,
+                line: b"cyphal: demo/A.1.0.dsdl:0: Cycle\n",
                 ..COMPILE
             },
             Call {
