@@ -55,7 +55,9 @@ fn a_real_tree_reads_the_systems_files(rt: HostRuntime) -> Result<(), Fail> {
         _ => assert!(rt; false),
     }
     assert_eq!(rt; tree.size("a\0b"), Err(TreeError::Failed));
-    assert_eq!(rt; tree.faults, 1);
+    assert_eq!(rt; tree.read_at("a\0b", 0, &mut buf), Err(TreeError::Failed));
+    assert!(rt; matches!(tree.list(rt.alloc(), "a\0b"), Err(TreeError::Failed)));
+    assert_eq!(rt; tree.faults, 3);
     fs::remove_dir_all(&rt, "a-tree")?;
     Ok(())
 }
