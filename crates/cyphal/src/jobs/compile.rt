@@ -94,7 +94,7 @@ mod tests {
                 ..COMPILE
             },
             Call {
-                files: &[CYCLE[0]],
+                files: &[("types/demo/A.1.0.dsdl", b"B.1.0 b\n@sealed\n")],
                 code: 2,
                 line: b"cyphal: demo/A.1.0.dsdl:1: Unresolved demo.B.1.0\n",
                 ..COMPILE
