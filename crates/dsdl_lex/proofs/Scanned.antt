@@ -1,12 +1,14 @@
 -- What the scan's loop keeps.
 use Rattle.std.proofs.Common.{◌≡◌, ℕ, ◌+◌, ◌<◌, Bool, true, false, ◌&&◌, cond, List, length, take, drop, get_or, Option, Some, None, refl, sym, ap, ◌∙◌, subst, inl, inr, arith}
-use Rattle.std.proofs.lemmas.Bool.{cases_lt}
+use Rattle.std.proofs.lemmas.Bool.{cases_lt, cond-true, false≢true}
 use Rattle.dsdl_lex.specs.declared.token.TokenKind.{TokenKind}
+use Rattle.dsdl_lex.specs.declared.token.TokenKind.TheVariants as k
 use Rattle.dsdl_lex.specs.declared.state.State.{State}
-use Rattle.dsdl_lex.specs.declared.state.State.TheVariants.{Dead}
-use Rattle.dsdl_lex.specs.Bytes.{begins_name}
+use Rattle.dsdl_lex.specs.declared.state.State.TheVariants.{Start, Plain, Dead, Word, Number, Inside, Closed, Point, Sign, Pair}
+use Rattle.dsdl_lex.specs.declared.word.WordState.TheVariants as w
+use Rattle.dsdl_lex.specs.Bytes.{begins_name, is_word}
 use Rattle.dsdl_lex.specs.Steps.{run, step, kind_of, is_dead, is_pointed}
-use Rattle.dsdl_lex.specs.Scans.{kind_before, front_kind, IsBest, IsAlive}
+use Rattle.dsdl_lex.specs.Scans.{kind_before, front_kind, IsBest, IsAlive, is_in_name}
 use Rattle.dsdl_lex.proofs.Runs.{run_more, stays_dead, dead_is}
 
 pub record Scanned (start : State) (text : List ℕ) (i : ℕ) (state : State) (best : Option (TokenKind × ℕ)) : Type 0 where
@@ -69,3 +71,27 @@ module _ (start : State) (text : List ℕ) (i : ℕ) (lt : i < length text) (sta
 
   pub dead_reach : IsAlive start text i
   dead_reach = (omega arith, subst (λ v. is_dead v ≡ false) s.at s.alive)
+
+-- a name goes on, and is a name
+name_on : (state : State) (b : ℕ) (behind : List ℕ) → is_in_name state ≡ true → is_word b ≡ true → (state ≡ step state b) × (kind_before state behind ≡ Some k.Name)
+name_on (Word w.Plain) b behind n h = (sym (cond-true (is_word b) _ _ h), refl)
+name_on (Word w.First) b behind n h = (sym (cond-true (is_word b) _ _ h), refl)
+name_on Start b behind n h = absurd (false≢true n)
+name_on Plain b behind n h = absurd (false≢true n)
+name_on Dead b behind n h = absurd (false≢true n)
+name_on (Word w.Later) b behind n h = absurd (false≢true n)
+name_on (Word w.Point) b behind n h = absurd (false≢true n)
+name_on (Word (w.Major m)) b behind n h = absurd (false≢true n)
+name_on (Word (w.MajorPoint m)) b behind n h = absurd (false≢true n)
+name_on (Word (w.Minor m l)) b behind n h = absurd (false≢true n)
+name_on (Number s) b behind n h = absurd (false≢true n)
+name_on (Inside q) b behind n h = absurd (false≢true n)
+name_on Closed b behind n h = absurd (false≢true n)
+name_on Point b behind n h = absurd (false≢true n)
+name_on Sign b behind n h = absurd (false≢true n)
+name_on (Pair q) b behind n h = absurd (false≢true n)
+
+pub scan_name : (start : State) (text : List ℕ) (i : ℕ) → i < length text → (state : State) (best : Option (TokenKind × ℕ)) → Scanned start text i state best →
+    is_in_name state ≡ true → is_word (get_or text i 0) ≡ true → Scanned start text (i + 1) state (Some (k.Name, i + 1))
+scan_name start text i lt state best s n h =
+    let p = name_on state (get_or text i 0) (drop (i + 1) text) n h in scan_better start text i lt state state best s p.0 k.Name s.alive p.1

@@ -1,7 +1,9 @@
 -- What a scan finds at the front of a text.
-use Rattle.std.specs.Prelude.{◌≡◌, ℕ, ◌+◌, ◌<◌, ◌≤◌, Bool, false, ◌&&◌, if◌then◌else◌, List, length, take, drop, slice_index, true, Option, Some, None}
+use Rattle.std.specs.Prelude.{◌≡◌, ℕ, ◌+◌, ◌<◌, ◌≤◌, Bool, true, false, ◌&&◌, if◌then◌else◌, List, length, take, drop, slice_index, Option, Some, None}
 use Rattle.dsdl_lex.specs.declared.token.TokenKind.{TokenKind}
 use Rattle.dsdl_lex.specs.declared.state.State.{State}
+use Rattle.dsdl_lex.specs.declared.state.State.TheVariants.{Word}
+use Rattle.dsdl_lex.specs.declared.word.WordState.TheVariants as w
 use Rattle.dsdl_lex.specs.Bytes.{is_blank, begins_name}
 use Rattle.dsdl_lex.specs.Steps.{run, kind_of, is_pointed, is_dead}
 use Rattle.dsdl_lex.specs.Tokens.{IsToken}
@@ -63,3 +65,9 @@ is_name_kind k.Sign = false
 abbrev pub clear_after : Option (TokenKind × ℕ) → ℕ → ℕ → ℕ → ℕ
 clear_after None at reach clear = clear
 clear_after (Some found) at reach clear = if is_name_kind found.0 then at + reach else clear
+
+-- whether a scan stands in a name that more bytes of names leave a name
+abbrev pub is_in_name : State → Bool
+is_in_name (Word w.Plain) = true
+is_in_name (Word w.First) = true
+is_in_name _ = false

@@ -13,5 +13,5 @@ mod token;
 mod word;
 
 pub use laws::{ascii, kinds, one_reading};
-pub use line::{LexError, tokens_of};
+pub use line::{LexError, lex_line, tokens_of};
 pub use token::{Token, TokenKind};

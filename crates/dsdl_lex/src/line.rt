@@ -1,4 +1,4 @@
-ghost use Rattle.std.specs.Prelude.{◌≡◌, ℕ, ◌+◌, ◌≤◌, ◌<◌, ◌^◌, length, Err, IfOk, IfSome, IfNone};
+ghost use Rattle.std.specs.Prelude.{◌≡◌, ℕ, ◌+◌, ◌≤◌, ◌<◌, ◌^◌, length, Err, IfOk, OnOk, IfSome, IfNone};
 ghost use Rattle.dsdl_lex.specs.Tokens.{Lexes, Stuck, IsLongest, NoToken};
 ghost use Rattle.dsdl_lex.specs.Scans.{IsClear, NoSplit, is_name_kind, clear_after};
 ghost use Rattle.dsdl_lex.specs.declared.line.LexError.TheVariants.{Lex};
@@ -78,20 +78,31 @@ pub fn tokens_of(alloc: Global, line: &[u8]) -> Result<List<Token>, LexError>
     ensures refused { (column : ℕ) → result ≡ Err (Lex column) → Stuck line.now 0 column }
 {
     let mut tokens = List::empty(alloc);
+    lex_line(line, &mut tokens)?;
+    Ok(tokens)
+}
+
+/// The same in place of what a list held, which takes memory only where the list has too little.
+pub fn lex_line(line: &[u8], tokens: &mut List<Token>) -> Result<(), LexError>
+    requires { length line.now < 2 ^ 32 }
+    ensures tokens { OnOk result (Lexes line.now 0 tokens.new) }
+    ensures refused { (column : ℕ) → result ≡ Err (Lex column) → Stuck line.now 0 column }
+{
+    tokens.cut_back(0);
     if let Some((at, n)) = split_of(line) {
         tokens.push(Token {
             kind: TokenKind::Split,
             from: at as u32,
             to: (at + n) as u32,
         })?;
-        return Ok(tokens);
+        return Ok(());
     }
     let mut at = 0;
     let mut clear = 0;
     while at < line.len() {
         let b = line[at];
         if b == b'#' {
-            return Ok(tokens);
+            return Ok(());
         }
         if is_blank(b) {
             at += 1;
@@ -109,5 +120,5 @@ pub fn tokens_of(alloc: Global, line: &[u8]) -> Result<List<Token>, LexError>
             None => return Err(LexError::Lex { column: at as u32 }),
         }
     }
-    Ok(tokens)
+    Ok(())
 }

@@ -3,8 +3,8 @@ ghost use Rattle.dsdl_lex.specs.Steps as steps;
 ghost use Rattle.dsdl_lex.specs.Scans.{IsBest, IsAlive, kind_before};
 ghost use Rattle.std.specs.Prelude.{◌≤◌, drop};
 
-use crate::bytes::begins_name;
-use crate::state::{State, is_dead, is_pointed, kind_of, step};
+use crate::bytes::{begins_name, is_word};
+use crate::state::{State, is_dead, is_in_name, is_pointed, kind_of, step};
 use crate::token::TokenKind;
 
 /// What a scan found at the front of a text.
@@ -38,6 +38,10 @@ pub fn scan(start: State, text: &[u8]) -> Found
     let mut state = start;
     let mut best = None;
     for (i, b) in text.iter().enumerate() {
+        if is_in_name(state) && is_word(*b) {
+            best = Some((TokenKind::Name, i + 1));
+            continue;
+        }
         state = step(state, *b);
         if is_dead(state) {
             return Found { best, reach: i };

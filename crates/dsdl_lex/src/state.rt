@@ -1,5 +1,6 @@
 ghost use Rattle.std.specs.Prelude.{◌≡◌};
 ghost use Rattle.dsdl_lex.specs.Steps as spec;
+ghost use Rattle.dsdl_lex.specs.Scans.{is_in_name};
 
 use crate::bytes::{is_digit, is_inside, is_letter, is_quote};
 use crate::number::{Digits, NumberState, number_kind, number_step};
@@ -164,6 +165,16 @@ pub fn is_pointed(state: State) -> bool
 {
     match state {
         State::Number(NumberState::WholePoint) => true,
+        _ => false,
+    }
+}
+
+/// Whether a scan stands in a name that more bytes of names leave a name.
+pub fn is_in_name(state: State) -> bool
+    ensures { result ≡ is_in_name state }
+{
+    match state {
+        State::Word(WordState::Plain | WordState::First) => true,
         _ => false,
     }
 }

@@ -1,15 +1,16 @@
 -- The leaves of an expression, taken with a stack of the expressions that are left.
-use Rattle.std.proofs.Common.{◌≡◌, ℕ, suc, ◌+◌, ◌<◌, true, false, List, [], ◌∷◌, ◌++◌, map, reverse, refl, sym, ap, ◌∙◌, arith, append_assoc, rules}
-use Rattle.std.specs.List.{flat_map}
+use Rattle.std.proofs.Common.{◌≡◌, ℕ, suc, ◌+◌, ◌<◌, Bool, true, false, ◌||◌, List, [], ◌∷◌, ◌++◌, map, reverse, refl, sym, ap, ◌∙◌, arith, append_assoc, rules}
+use Rattle.std.specs.List.{flat_map, list_any}
 use Rattle.std.proofs.lemmas.List.{append-nil, reverse-append, reverse-reverse}
 use Rattle.std.proofs.lemmas.List.Concat.{flat_map-append}
+use Rattle.std.proofs.lemmas.List.Folds.{list_any-append}
 use Rattle.std.proofs.lemmas.Bool.{false≢true}
 use Rattle.dsdl_parse.specs.declared.expr.Expr.{Expr, Expr-F, out-Expr}
 use Rattle.dsdl_parse.specs.declared.expr.ExprNode.{ExprNode, out-ExprNode, roll-ExprNode, roll-out-ExprNode}
 use Rattle.dsdl_parse.specs.declared.expr.ExprNode.TheVariants as v
 use Rattle.dsdl_parse.specs.declared.expr.ExprNode.TheOpen as e
 use Rattle.dsdl_parse.specs.declared.expr.ExprNode.TheFolds.{fold-Expr, fold-ExprNode, fold_out-Expr, fold_out-ExprNode, map-ExprNode, the_lemmas}
-use Rattle.dsdl_parse.specs.LeavesOf.{leaves_at, leaves_in, leaves_of, parts_at, parts_of, is_leaf_at, is_leaf}
+use Rattle.dsdl_parse.specs.LeavesOf.{leaves_at, leaves_in, leaves_of, parts_at, parts_of, is_leaf_at, is_leaf, is_name_at, names_it}
 
 -- ---- the leaves, layer by layer
 joined : (xs : List Expr) → flat_map (λ (leaves : List ExprNode). leaves) (map leaves_of xs) ≡ flat_map leaves_of xs
@@ -140,17 +141,50 @@ walk_leaf root x taken stack w l = record {
       ∙ ap (λ m. taken ++ m) (ap (λ m. m ++ flat_map leaves_of (reverse stack)) (sym (leaf_leaves x l)) ∙ sym (last_first stack x)) ∙ w.all;
 }
 
+-- the expressions right in one take its place
+parts_on_stack : (stack : List Expr) (x : Expr) → is_leaf (out-Expr x).node ≡ false → flat_map leaves_of (reverse (stack ++ reverse (parts_of x))) ≡ flat_map leaves_of (reverse (stack ++ x ∷ []))
+parts_on_stack stack x l =
+    ap (flat_map leaves_of) (reverse-append stack (reverse (parts_of x)) ∙ ap (λ m. m ++ reverse stack) (reverse-reverse (parts_of x)))
+    ∙ flat_map-append leaves_of (parts_of x) (reverse stack)
+    ∙ ap (λ m. m ++ flat_map leaves_of (reverse stack)) (sym (part_leaves x l)) ∙ sym (last_first stack x)
+
 pub walk_parts : (root x : Expr) (taken : List ExprNode) (stack : List Expr) → Walks root taken (stack ++ x ∷ []) → is_leaf (out-Expr x).node ≡ false →
     Walks root taken (stack ++ reverse (parts_of x))
-walk_parts root x taken stack w l = record {
-  all = ap (λ m. taken ++ m)
-      (ap (flat_map leaves_of) (reverse-append stack (reverse (parts_of x)) ∙ ap (λ m. m ++ reverse stack) (reverse-reverse (parts_of x)))
-      ∙ flat_map-append leaves_of (parts_of x) (reverse stack)
-      ∙ ap (λ m. m ++ flat_map leaves_of (reverse stack)) (sym (part_leaves x l)) ∙ sym (last_first stack x)) ∙ w.all;
-}
+walk_parts root x taken stack w l = record { all = ap (λ m. taken ++ m) (parts_on_stack stack x l) ∙ w.all }
 
 pub walk_end : (root : Expr) (taken : List ExprNode) → Walks root taken [] → taken ≡ leaves_of root
 walk_end root taken w = sym (append-nil taken) ∙ w.all
+
+-- ---- a name among the leaves
+or_false : (b : Bool) → (b || false) ≡ b
+or_false true = refl
+or_false false = refl
+
+pub leaf_names : (x : Expr) (leaf : ExprNode) (name : List ℕ) → leaves_of x ≡ leaf ∷ [] → is_name_at name leaf ≡ names_it x name
+leaf_names x leaf name h = sym (ap (list_any (is_name_at name)) h ∙ or_false (is_name_at name leaf))
+
+-- whether an expression on the stack names it
+pub stack_names : List ℕ → List Expr → Bool
+stack_names name stack = list_any (is_name_at name) (flat_map leaves_of (reverse stack))
+
+pub names_start : (name : List ℕ) (root : Expr) → stack_names name (root ∷ []) ≡ names_it root name
+unfolding stack_names
+names_start name root = ap (list_any (is_name_at name)) (append-nil (leaves_of root))
+
+names_first : (name : List ℕ) (stack : List Expr) (x : Expr) → stack_names name (stack ++ x ∷ []) ≡ (names_it x name || stack_names name stack)
+unfolding stack_names
+names_first name stack x = ap (list_any (is_name_at name)) (last_first stack x) ∙ list_any-append (is_name_at name) (leaves_of x) (flat_map leaves_of (reverse stack))
+
+pub names_leaf : (name : List ℕ) (stack : List Expr) (x : Expr) → is_leaf (out-Expr x).node ≡ true → stack_names name (stack ++ x ∷ []) ≡ (is_name_at name (out-Expr x).node || stack_names name stack)
+names_leaf name stack x l = names_first name stack x ∙ ap (λ b. b || stack_names name stack) (sym (leaf_names x (out-Expr x).node name (leaf_leaves x l)))
+
+pub names_parts : (name : List ℕ) (stack : List Expr) (x : Expr) → is_leaf (out-Expr x).node ≡ false → stack_names name (stack ++ x ∷ []) ≡ stack_names name (stack ++ reverse (parts_of x))
+unfolding stack_names
+names_parts name stack x l = ap (list_any (is_name_at name)) (sym (parts_on_stack stack x l))
+
+pub names_end : (name : List ℕ) → stack_names name [] ≡ false
+unfolding stack_names
+names_end name = refl
 
 -- it gets smaller
 pub fewer_leaf : (stack : List Expr) (x : Expr) → count_all stack < count_all (stack ++ x ∷ [])

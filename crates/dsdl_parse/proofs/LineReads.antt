@@ -20,7 +20,7 @@ syntax_refused Syntax o h e = h
 syntax_refused NoMemory o h e = absurd (cc)
 
 module _ (one_way : IsReadOneWay) (line : List ℕ) where
-  pub no_tokens : (why : LexError) → without_tokens why ≡ Syntax → ((column : ℕ) → ◌≡◌ {A = Result (List Token) LexError} (Err why) (Err (lex.Lex column)) → Stuck line 0 column) →
+  pub no_tokens : (why : LexError) → without_tokens why ≡ Syntax → ((column : ℕ) → ◌≡◌ {A = Result (Unit {0}) LexError} (Err why) (Err (lex.Lex column)) → Stuck line 0 column) →
       (x : Statement) → IsLine line x → ⊥
   no_tokens (lex.Lex column) e h x (tokens, d, is) = one_way.not_both line column tokens (h column refl) d
   no_tokens lex.NoMemory e h x d = absurd (cc)

@@ -25,5 +25,5 @@ pub use laws::{one_parsing, one_tree, well_spelled};
 pub use read_error::ReadError;
 pub use statement::{Bound, BoundSign, Form, Prefix, Scalar, Statement};
 pub use syntax::{Ast, SyntaxError, parse};
-pub use walk::{leaves, names_it};
+pub use walk::{as_leaf, leaves, names_it};
 pub use whole::parse_expression;

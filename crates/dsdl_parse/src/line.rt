@@ -14,8 +14,8 @@ use crate::form::form;
 use crate::read_error::ReadError;
 use crate::statement::{Form, Scalar, Statement};
 use crate::words::{WordRef, Words};
-use cy_bits::Text;
-use dsdl_lex::{TokenKind, one_reading, tokens_of};
+use cy_bits::{List, Text};
+use dsdl_lex::{Token, TokenKind, lex_line, one_reading};
 use std::alloc::Global;
 
 /// Reads a name.
@@ -96,14 +96,15 @@ fn statement(alloc: Global, words: &mut Words<'_>) -> Result<Statement, ReadErro
     }
 }
 
-/// The statement of a line; `Syntax` exactly where it is no line of the grammar.
-pub fn line_of(alloc: Global, line: &[u8]) -> Result<Statement, ReadError>
+/// The statement of a line; `Syntax` exactly where it is no line of the grammar. The line's tokens
+/// stand in the list for so long, in place of what it held.
+pub fn line_of(alloc: Global, line: &[u8], tokens: &mut List<Token>) -> Result<Statement, ReadError>
     requires { length line.now < 2 ^ 32 }
     ensures statement { IfOk result (λ s. IsLine line.now s) }
     ensures refused { result ≡ Err error.Syntax → (s : Said) → IsLine line.now s → ⊥ }
 {
     one_reading();
-    let tokens = tokens_of(alloc, line)?;
+    lex_line(line, tokens)?;
     let mut words = Words::new(line, tokens.as_slice());
     let statement = statement(alloc, &mut words)?;
     if words.len() == 0 {

@@ -59,9 +59,10 @@ pub fn parse(alloc: Global, text: &[u8]) -> Result<Ast, SyntaxError>
     ensures refused { (line : ℕ) → result ≡ Err (Syntax line) → FirstBad text.now line }
 {
     let mut lines = List::empty(alloc);
+    let mut tokens = List::empty(alloc);
     let mut rest = text;
     while let Some((line, behind)) = first_line(rest) {
-        match line_of(alloc, line) {
+        match line_of(alloc, line, &mut tokens) {
             Ok(statement) => lines.push(statement)?,
             Err(error) => return Err(at_line(error, lines.len() as u32 + 1)),
         }

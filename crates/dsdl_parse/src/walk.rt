@@ -1,5 +1,5 @@
 //! The leaves of an expression, without a recursion.
-ghost use Rattle.std.specs.Prelude.{◌≡◌, ◌++◌, map, reverse, IfOk, OnOk};
+ghost use Rattle.std.specs.Prelude.{◌≡◌, ◌++◌, ◌∷◌, [], map, reverse, IfOk, IfSome, OnOk};
 ghost use Rattle.dsdl_parse.specs.LeavesOf.{leaves_of, parts_of, is_leaf, is_name_at, names_it};
 
 use crate::expr::{Expr, ExprNode};
@@ -68,13 +68,41 @@ fn stack_all<'a>(exprs: &'a [Expr], stack: &mut Vec<&'a Expr>) -> Result<(), NoM
     Ok(())
 }
 
-/// Whether an expression names this, as `_offset_`; names behind a point don't count.
+/// What an expression is that has no others in it.
+pub fn as_leaf<'a>(expr: &'a Expr) -> Option<&'a ExprNode>
+    ensures { IfSome result (λ leaf. leaves_of expr.now ≡ leaf.now ∷ []) }
+{
+    if is_leaf(&expr.node) {
+        Some(&expr.node)
+    } else {
+        None
+    }
+}
+
+/// Whether an expression names this, as `_offset_`; names behind a point don't count. Takes memory
+/// only where the expression has others in it.
+#[tactic(auto, using(crate::proofs::LeafWalk::leaf_names))]
 pub fn names_it(alloc: Global, expr: &Expr, name: &str) -> Result<bool, NoMemory>
     ensures { IfOk result (λ found. found ≡ names_it expr.now name.now) }
 {
-    let leaves = leaves(alloc, expr)?;
-    for leaf in &leaves {
-        if is_name(leaf, name) {
+    if let Some(leaf) = as_leaf(expr) {
+        return Ok(is_name(leaf, name));
+    }
+    some_names_it(alloc, expr, name)
+}
+
+/// Whether one of the leaves of an expression is this name.
+fn some_names_it(alloc: Global, expr: &Expr, name: &str) -> Result<bool, NoMemory>
+    ensures { IfOk result (λ found. found ≡ names_it expr.now name.now) }
+{
+    let mut waiting = Vec::new(alloc);
+    waiting.push(expr)?;
+    while let Some(next) = waiting.pop() {
+        if !is_leaf(&next.node) {
+            stack_parts(next, &mut waiting)?;
+            continue;
+        }
+        if is_name(&next.node, name) {
             return Ok(true);
         }
     }

@@ -15,6 +15,10 @@ pub returns-then-is_dead-clause-reach : goal.returns-then-is_dead-clause-reach
 returns-then-is_dead-clause-reach c =
     scanned.dead_reach c.args.start c.args.text.now c.loop-i.i c.loop-i-test.true c.loop-i.state c.step-state.result c.loop-i.best c.loop-i.invariant c.step-state.ensures
 
+pub loop-i-preserved-then-is_word : goal.loop-i-preserved-then-is_word
+loop-i-preserved-then-is_word c =
+    scanned.scan_name c.args.start c.args.text.now c.loop-i.i c.loop-i-test.true c.loop-i.state c.loop-i.best c.loop-i.invariant (sym c.is_in_name.ensures ∙ c.if-is_in_name.true) (sym c.is_word.ensures ∙ c.if-is_word.true)
+
 pub loop-i-preserved : goal.loop-i-preserved
 loop-i-preserved c = elim c.match-kind_at.branch [
   | in-Some w ↦ subst (Scanned c.args.start c.args.text.now (c.loop-i.i + 1) c.step-state.result) (sym w.best-is)
