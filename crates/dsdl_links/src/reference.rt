@@ -1,5 +1,6 @@
 //! The references in statements, and the types that they mean.
 ghost use Rattle.std.specs.Prelude.{◌≡◌, ◌++◌, ◌∷◌, ◌<◌, [], ℕ, List, None, Some, length, map, IfOk, OnOk, MatchOption};
+ghost use Rattle.std.specs.List.{cons_option};
 ghost use Rattle.std.specs.Option.{option_copied};
 ghost use Rattle.dsdl_names.specs.Parts.{cut_last, dotted};
 ghost use Rattle.dsdl_parse.specs.declared.expr.ExprNode.{out-ExprNode};
@@ -8,7 +9,7 @@ ghost use Rattle.dsdl_links.specs.Mentions.{beside, in_bound, in_scalar, referen
 
 use cy_bits::{Bytes, NoMemory, Text};
 use dsdl_names::{FullName, TypeId};
-use dsdl_parse::{Expr, ExprNode, Form, Reference, Scalar, Statement, leaves};
+use dsdl_parse::{Expr, ExprNode, Form, Reference, Scalar, Statement, as_leaf, leaves};
 use std::alloc::Global;
 
 /// The references in a statement, in the order of the text.
@@ -65,11 +66,23 @@ fn add_value<'a>(
     ensures { OnOk result (map (λ r. r.now) found.new.items ≡ map (λ r. r.now) found.old.items
         ++ references_of expr.now) }
 {
+    if let Some(leaf) = as_leaf(expr) {
+        return add_leaf(leaf, found);
+    }
     let leaves = leaves(alloc, expr)?;
     for leaf in &leaves {
-        if let Some(reference) = reference_in(leaf) {
-            found.push(reference)?;
-        }
+        add_leaf(leaf, found)?;
+    }
+    Ok(())
+}
+
+/// Adds the reference that a leaf is.
+fn add_leaf<'a>(leaf: &'a ExprNode, found: &mut Vec<&'a Reference>) -> Result<(), NoMemory>
+    ensures { OnOk result (map (λ r. r.now) found.new.items ≡ map (λ r. r.now) found.old.items
+        ++ cons_option (reference_in (out-ExprNode leaf.now)) []) }
+{
+    if let Some(reference) = reference_in(leaf) {
+        found.push(reference)?;
     }
     Ok(())
 }
