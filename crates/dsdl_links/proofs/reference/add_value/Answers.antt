@@ -1,4 +1,4 @@
-use Rattle.std.proofs.Common.{◌≡◌, ◌∷◌, ◌++◌, [], List, Bor, map, take, ap, sym, ◌∙◌, append_assoc}
+use Rattle.std.proofs.Common.{◌∷◌, ◌++◌, [], List, Bor, map, take, ap, sym, ◌∙◌, append_assoc}
 use Rattle.std.specs.List.{filter_map}
 use Rattle.dsdl_parse.specs.declared.expr.Reference.{Reference}
 use Rattle.dsdl_parse.specs.declared.expr.ExprNode.{ExprNode, out-ExprNode}
