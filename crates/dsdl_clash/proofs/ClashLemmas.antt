@@ -1,7 +1,8 @@
 -- The first definition that clashes with one before it
 use Rattle.std.proofs.Common.{◌≡◌, ℕ, ◌<◌, ◌≤◌, ◌+◌, ◌==◌, ◌&&◌, ◌||◌, not, Bool, true, false, List, [], ◌∷◌, ◌++◌, length, get_or, take, drop, Option, Some, None, cond, refl, sym, ap, ◌∙◌, arith}
 use Rattle.std.proofs.lemmas.List.{drop_more, drop_all, take_more, length-take-le, get_or_default, length_push}
-use Rattle.std.specs.List.{HoldsAt}
+use Rattle.std.specs.Prelude.{is_none}
+use Rattle.std.specs.List.{HoldsAt, list_all}
 use Rattle.dsdl_types.specs.declared.definition.Definition.{Definition}
 use Rattle.dsdl_clash.specs.Clashes.{Clash, clashes_with, first_clash, first_clash_behind, ports_clash, same_kind, same_name, same_port}
 
@@ -33,7 +34,7 @@ some_definition [] lt = absurd (omega arith)
 some_definition (d ∷ ds) lt = d
 
 -- what is known of the definition at a place is known of one that stands there
-at_place : (ds : List Definition) (i : ℕ) → i < length ds → (d : Definition) × (d ≡ get_or ds i d)
+pub at_place : (ds : List Definition) (i : ℕ) → i < length ds → (d : Definition) × (d ≡ get_or ds i d)
 at_place ds i lt =
     let d = some_definition ds (omega arith) in
     (get_or ds i d, get_or_default ds i d (get_or ds i d) lt)
@@ -75,3 +76,14 @@ no_port a b none = ap (λ p. same_port a.port p && rest) none ∙ at a.port
 pub clashes_never : (clash : Clash) (before : List Definition) (d : Definition) → ((a : Definition) → clash a d ≡ false) → clashes_with clash before d ≡ false
 clashes_never clash [] d never = refl
 clashes_never clash (a ∷ before) d never = ap (λ b. b || clashes_with clash before d) (never a) ∙ clashes_never clash before d never
+
+-- definitions without ports don't clash by them
+pub no_ports : (before ds : List Definition) → list_all (λ (d : Definition). is_none d.port) ds ≡ true → first_clash_behind ports_clash before ds ≡ None
+no_ports before [] all = refl
+no_ports before (d ∷ ds) all = at d.port refl (no_ports (before ++ d ∷ []) ds)
+  where
+    at : (p : Option ℕ) → d.port ≡ p → (list_all (λ (e : Definition). is_none e.port) ds ≡ true → first_clash_behind ports_clash (before ++ d ∷ []) ds ≡ None) → first_clash_behind ports_clash before (d ∷ ds) ≡ None
+    at (Some n) e rest = absurd (let no : false ≡ true = ap (λ p. is_none p && list_all (λ (e : Definition). is_none e.port) ds) (sym e) ∙ all in cc)
+    at None e rest =
+        ap (λ b. cond b (Some (length before)) (first_clash_behind ports_clash (before ++ d ∷ []) ds)) (clashes_never ports_clash before d (λ a. no_port a d e))
+        ∙ rest (ap (λ p. is_none p && list_all (λ (e : Definition). is_none e.port) ds) (sym e) ∙ all)

@@ -45,10 +45,10 @@ decide : (b : Bool) → (b ≡ true) ⊎ (b ≡ false)
 decide true = inl refl
 decide false = inr refl
 
-equal_names : (m n : List ℕ) → bytes_eq m n ≡ true → m ≡ n
+pub equal_names : (m n : List ℕ) → bytes_eq m n ≡ true → m ≡ n
 equal_names m n h = (bytes_eq-Decides m n).0 h
 
-names_equal : (m n : List ℕ) → m ≡ n → bytes_eq m n ≡ true
+pub names_equal : (m n : List ℕ) → m ≡ n → bytes_eq m n ≡ true
 names_equal m n h = (bytes_eq-Decides m n).1 h
 
 differ : (m n : List ℕ) → bytes_eq m n ≡ false → bytes_eq n m ≡ false

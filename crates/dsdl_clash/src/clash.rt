@@ -1,6 +1,6 @@
 //! The first definition that clashes with one before it.
-ghost use Rattle.std.specs.Prelude.{◌≡◌, ◌<◌, ◌≤◌, ℕ, true, false, length, take, slice_index, IfOk};
-ghost use Rattle.std.specs.List.{HoldsAt};
+ghost use Rattle.std.specs.Prelude.{◌≡◌, ◌<◌, ◌≤◌, ℕ, true, false, length, take, slice_index, is_none, IfOk};
+ghost use Rattle.std.specs.List.{HoldsAt, list_all};
 ghost use Rattle.dsdl_clash.specs.Clashes.{clashes_with, first_clash, same_name, versions_clash, ports_clash};
 ghost use Rattle.dsdl_clash.specs.Kinds.{clash_of, first_rival};
 ghost use Rattle.dsdl_clash.specs.Names.{name_numbers};
@@ -48,7 +48,19 @@ pub fn first_port_clash(
 ) -> Result<Option<usize>, NoMemory>
     ensures { IfOk result (λ found. found ≡ first_clash ports_clash definitions.now) }
 {
+    if have_no_port(definitions) {
+        return Ok(None);
+    }
     first_clash(alloc, By::Port, definitions)
+}
+
+/// Whether no definition has a port.
+fn have_no_port(definitions: &[Definition]) -> bool
+    ensures { result ≡ list_all (λ d. is_none d.port) definitions.now }
+{
+    definitions
+        .iter()
+        .all(|definition| definition.port.is_none())
 }
 
 /// The first definition that clashes with one before it.

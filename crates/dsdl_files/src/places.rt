@@ -30,8 +30,9 @@ fn rest_in<'a>(folder: &str, path: &'a str) -> Option<&'a str>
 pub fn inside(alloc: Global, folder: &str, name: &str) -> Result<String, NoMemory>
     ensures { IfOk result (λ path. string_bytes path ≡ folder.now ++ 47 ∷ name.now) }
 {
-    let mut path = String::from_str(alloc, folder)?;
-    path.push('/')?;
+    let mut path = String::with_capacity(alloc, folder.len() + 1 + name.len())?;
+    path.push_str(folder)?;
+    path.push_str("/")?;
     path.push_str(name)?;
     Ok(path)
 }

@@ -92,7 +92,7 @@ impl Primitive {
     pub fn text(self, alloc: Global) -> Result<Text, NoMemory>
         ensures { IfOk result (λ text. text ≡ primitive_text self) }
     {
-        let mut text = String::new(alloc);
+        let mut text = String::with_capacity(alloc, 24)?;
         match self {
             Primitive::Bool => text.push_str("bool")?,
             Primitive::Uint { bits, cast } => push_sized(&mut text, cast_text(cast), "uint", bits)?,
