@@ -9,7 +9,6 @@ pub mod SoundSection
 pub mod SoundFile
 pub mod NumberTo
 pub mod Counting
-pub mod Mentions
 pub mod MoreTotals
 pub mod TypeTexts
 pub mod WithinLimits
