@@ -8,8 +8,8 @@ ghost use Rattle.bit_length.specs.Ascending.{Ascend};
 ghost use Rattle.layout_text.specs.Sets.{set_text};
 ghost use Rattle.layout_text.specs.Words.{spaced};
 
-use crate::set::push_some;
-use crate::words::{push_byte, push_bytes, push_number};
+use crate::set::push_set;
+use crate::words::{push_bytes, push_number};
 use cy_bits::{NoMemory, Text};
 use dsdl_types::Schema;
 use layout::Row;
@@ -58,11 +58,11 @@ fn push_field(
 {
     push_name(text, union, tag, row.name.as_str())?;
     push_bytes(text, of_type.as_str().as_bytes())?;
-    push_bytes(text, b" at {")?;
-    push_some(text, &row.offsets)?;
-    push_bytes(text, b"} size {")?;
-    push_some(text, &row.lengths)?;
-    push_bytes(text, b"}\n")
+    push_bytes(text, b" at ")?;
+    push_set(text, &row.offsets)?;
+    push_bytes(text, b" size ")?;
+    push_set(text, &row.lengths)?;
+    push_bytes(text, b"\n")
 }
 
 /// Appends the name of a field, or the name and the tag of a variant.
@@ -73,8 +73,8 @@ fn push_name(text: &mut Vec<u8>, union: bool, tag: usize, name: &str) -> Result<
     push_bytes(text, if union { b"variant " } else { b"field " })?;
     push_bytes(text, name.as_bytes())?;
     if union {
-        push_byte(text, b' ')?;
+        push_bytes(text, b" ")?;
         push_number(text, tag as u64)?;
     }
-    push_byte(text, b' ')
+    push_bytes(text, b" ")
 }

@@ -1,5 +1,5 @@
 //! The first line of a composite.
-ghost use Rattle.std.specs.Prelude.{◌≡◌, [], ◌∷◌, ◌++◌, OnOk, codes};
+ghost use Rattle.std.specs.Prelude.{◌≡◌, [], ◌∷◌, ◌++◌, OnOk};
 ghost use Rattle.dsdl_types.specs.Schemas.{extent_of, is_delimited};
 ghost use Rattle.dsdl_types.specs.Views.{sch};
 ghost use Rattle.layout_text.specs.Heads.{half_text, kind_text, named_words, outline_words, port_text, sealing_text, type_name};
@@ -7,8 +7,8 @@ ghost use Rattle.bit_length.specs.Ascending.{Ascend};
 ghost use Rattle.layout_text.specs.Sets.{set_text};
 ghost use Rattle.layout_text.specs.Words.{line_of, spaced};
 
-use crate::set::push_some;
-use crate::words::{push_byte, push_bytes, push_number};
+use crate::set::push_set;
+use crate::words::{push_bytes, push_number};
 use bit_length::LengthSet;
 use cy_bits::NoMemory;
 use dsdl_names::TypeId;
@@ -39,7 +39,7 @@ pub fn push_named(
     push_id(text, id)?;
     push_bytes(text, label(role))?;
     push_port(text, port)?;
-    push_byte(text, b' ')
+    push_bytes(text, b" ")
 }
 
 /// What stands between the name and the port.
@@ -58,9 +58,9 @@ fn push_id(text: &mut Vec<u8>, id: &TypeId) -> Result<(), NoMemory>
     ensures { OnOk result (text.new.items ≡ text.old.items ++ type_name id.now) }
 {
     push_bytes(text, id.name.as_bytes())?;
-    push_byte(text, b'.')?;
+    push_bytes(text, b".")?;
     push_number(text, id.major as u64)?;
-    push_byte(text, b'.')?;
+    push_bytes(text, b".")?;
     push_number(text, id.minor as u64)
 }
 
@@ -70,7 +70,7 @@ fn push_port(text: &mut Vec<u8>, port: Option<u16>) -> Result<(), NoMemory>
 {
     match port {
         Some(port) => push_number(text, port as u64),
-        None => push_byte(text, b'-'),
+        None => push_bytes(text, b"-"),
     }
 }
 
@@ -88,18 +88,19 @@ pub fn push_outline(
     push_bytes(text, b"extent ")?;
     push_number(text, extent(schema))?;
     push_bytes(text, sealing(is_delimited(schema)))?;
-    push_some(text, lengths)?;
-    push_bytes(text, b"}\n")
+    push_bytes(text, b"lengths ")?;
+    push_set(text, lengths)?;
+    push_bytes(text, b"\n")
 }
 
-/// Whether a composite is sealed, and what stands behind that up to the first of its lengths.
+/// Whether a composite is sealed, as a word.
 fn sealing(delimited: bool) -> &'static [u8]
-    ensures { result.now ≡ 32 ∷ (sealing_text delimited ++ codes " lengths {") }
+    ensures { result.now ≡ 32 ∷ (sealing_text delimited ++ 32 ∷ []) }
 {
     if delimited {
-        b" delimited lengths {"
+        b" delimited "
     } else {
-        b" sealed lengths {"
+        b" sealed "
     }
 }
 

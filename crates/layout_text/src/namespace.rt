@@ -7,7 +7,7 @@ ghost use Rattle.layout_text.specs.Namespaces.{IsNamespaceText, print_line};
 
 use crate::by_name::by_name;
 use crate::definition::push_definition;
-use crate::words::{push_byte, push_bytes, push_number};
+use crate::words::{push_bytes, push_number};
 use cy_bits::NoMemory;
 use dsdl_types::{Definition, Namespace, Print};
 use std::alloc::Global;
@@ -41,14 +41,14 @@ fn push_print(text: &mut Vec<u8>, print: &Print) -> Result<(), NoMemory>
 {
     push_bytes(text, b"print ")?;
     push_bytes(text, print.file.as_str().as_bytes())?;
-    push_byte(text, b' ')?;
+    push_bytes(text, b" ")?;
     push_number(text, print.line as u64)?;
     let value = print.text.as_str().as_bytes();
     if !value.is_empty() {
-        push_byte(text, b' ')?;
+        push_bytes(text, b" ")?;
         push_bytes(text, value)?;
     }
-    push_byte(text, b'\n')
+    push_bytes(text, b"\n")
 }
 
 /// Appends the texts of definitions, in order.

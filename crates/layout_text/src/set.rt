@@ -1,7 +1,7 @@
 //! The text of a set of lengths.
 ghost use Rattle.std.specs.Prelude.{◌≡◌, ◌++◌, OnOk, length};
 ghost use Rattle.bit_length.specs.Ascending.{Ascend};
-ghost use Rattle.layout_text.specs.Sets.{ends_text, listed, member_text, members_text, range_text};
+ghost use Rattle.layout_text.specs.Sets.{ends_text, listed, member_text, members_text, range_text, set_text};
 
 use crate::words::{push_bytes, push_number};
 use bit_length::LengthSet;
@@ -10,8 +10,19 @@ use cy_bits::NoMemory;
 /// The greatest number of members that are listed.
 const MOST: u64 = 16;
 
-/// Appends the members, or, where they are more than 16, the least, the greatest and their number.
-pub fn push_some(text: &mut Vec<u8>, set: &LengthSet) -> Result<(), NoMemory>
+/// Appends the text of a set: its members, or, where they are more than 16, the least, the greatest and their number.
+pub fn push_set(text: &mut Vec<u8>, set: &LengthSet) -> Result<(), NoMemory>
+    ensures text { OnOk result (text.new.items ≡ text.old.items ++ set_text set.now) }
+    ensures ascending { OnOk result (Ascend set.now) }
+{
+    text.push(b'{')?;
+    push_some(text, set)?;
+    text.push(b'}')?;
+    Ok(())
+}
+
+/// Appends the members, or the least, the greatest and their number.
+fn push_some(text: &mut Vec<u8>, set: &LengthSet) -> Result<(), NoMemory>
     ensures text { OnOk result (text.new.items ≡ text.old.items ++ members_text set.now) }
     ensures ascending { Ascend set.now }
 {
@@ -62,8 +73,5 @@ fn push_member(text: &mut Vec<u8>, n: u64, last: bool) -> Result<(), NoMemory>
     ensures { OnOk result (text.new.items ≡ text.old.items ++ member_text n last) }
 {
     push_number(text, n)?;
-    if last {
-        return Ok(());
-    }
-    push_bytes(text, b", ")
+    push_bytes(text, if last { b"" } else { b", " })
 }
