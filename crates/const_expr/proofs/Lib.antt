@@ -11,5 +11,6 @@ pub mod EvalWalk
 pub mod EvalSpine
 pub mod MemberSizes
 pub mod MemberFinds
+pub mod PlaceLemmas
 pub mod MemberLists
 pub mod MemberNames

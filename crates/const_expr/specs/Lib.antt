@@ -7,6 +7,7 @@ pub mod Binary
 pub mod Unary
 pub mod Sizes
 pub mod Member
+pub mod Places
 pub mod Value
 pub mod Text
 pub mod Steps

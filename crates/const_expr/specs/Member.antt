@@ -83,16 +83,16 @@ constants_of (t ∷ ts) id = if same_id t.id id then t.constants else constants_
 abbrev pub lengths_of : Sch → Result Const Why
 lengths_of s = if nat_lt (2 ^ 32) (as_part (is_delimited s) (extent_of s) (longest s)) then Err why.Kind else Ok (c.Lengths (sizes s))
 
--- a member of a message
-abbrev pub of_message : Scope → TypeId → Sch → List ℕ → Result Const Why
-of_message scope id s name =
+-- a member of a message with these constants
+abbrev pub of_message : Sch → List NamedConst → List ℕ → Result Const Why
+of_message s ks name =
     if bytes_eq name (codes "_bit_length_") then lengths_of s
     else if bytes_eq name (codes "_extent_") then Ok (natural (extent_of s))
-    else named_in (constants_of scope.members id) name
+    else named_in ks name
 
 -- a service has no members
 abbrev pub of_parts : Scope → TypeId → Parts → List ℕ → Result Const Why
-of_parts scope id (parts.Message s) name = of_message scope id (sch s) name
+of_parts scope id (parts.Message s) name = of_message (sch s) (constants_of scope.members id) name
 of_parts scope id (parts.Service request response) name = Err why.Kind
 
 -- a member of a type that the scope may have

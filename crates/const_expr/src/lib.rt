@@ -13,6 +13,7 @@ mod literal;
 mod member;
 mod operator;
 mod order;
+mod places;
 mod referred;
 mod residues;
 mod scope;
@@ -26,6 +27,7 @@ mod why;
 
 pub use constant::Const;
 pub use error::ExprError;
+pub use places::{TypePlaces, add_place, find};
 pub use scope::{NamedConst, Scope, TypeConsts};
 pub use text::print_text;
 pub use value::eval;

@@ -5,9 +5,11 @@ ghost use Rattle.const_expr.specs.declared.constant.Const.{out-Const};
 ghost use Rattle.const_expr.specs.declared.constant.Const.TheOpen as layer;
 ghost use Rattle.const_expr.specs.Constants.{IsConst, IsAscending, naturals};
 ghost use Rattle.const_expr.specs.Member.{named, named_in, offset_of, a_number, of_set, of_other, of_definition, member, AreConstants, IsScope};
+ghost use Rattle.const_expr.specs.Places.{ArePlaces};
 ghost use Rattle.std.specs.Option.{option_copied};
 
 use crate::constant::Const;
+use crate::places::TypePlaces;
 use crate::scope::{NamedConst, Scope};
 use crate::type_member::type_member;
 use crate::whole::natural;
@@ -116,8 +118,15 @@ fn no_member(alloc: Global, name: &str) -> Result<Const, Why>
 
 /// What a name behind a constant and a point means.
 #[tactic(auto, using(crate::proofs::Layers::layers), unfolding(crate::specs::Member::member))]
-pub fn member(alloc: Global, scope: &Scope, of: Const, name: &str) -> Result<Const, Why>
+pub fn member(
+    alloc: Global,
+    scope: &Scope,
+    places: &TypePlaces,
+    of: Const,
+    name: &str,
+) -> Result<Const, Why>
     requires scope { IsScope scope.now }
+    requires places { ArePlaces scope.now places.now }
     requires constant { IsConst of }
     ensures value { Gives result (member scope.now of name.now) }
     ensures kept { IfOk result IsConst }
@@ -126,6 +135,6 @@ pub fn member(alloc: Global, scope: &Scope, of: Const, name: &str) -> Result<Con
         Const::Number(_) | Const::Truth(_) | Const::Str(_) => no_member(alloc, name),
         Const::Set(members) => set_member(alloc, members.as_slice(), name),
         Const::Lengths(lengths) => lengths_member(alloc, lengths, name),
-        Const::Named(id) => type_member(alloc, scope, id, name),
+        Const::Named(id) => type_member(alloc, scope, places, id, name),
     }
 }

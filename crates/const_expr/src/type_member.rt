@@ -1,17 +1,19 @@
 //! What names behind a type mean.
-ghost use Rattle.std.specs.Prelude.{◌≡◌, ◌^◌, nat_lt, IfOk, All};
+ghost use Rattle.std.specs.Prelude.{◌≡◌, ◌^◌, nat_lt, IfOk, Some};
 ghost use Rattle.dsdl_types.specs.Schemas.{is_delimited, extent_of};
 ghost use Rattle.dsdl_types.specs.Greatest.{longest, as_part};
 ghost use Rattle.dsdl_types.specs.Views.{sch};
-ghost use Rattle.dsdl_types.specs.Finding.{same_id, definition_of};
+ghost use Rattle.dsdl_types.specs.Finding.{definition_of};
 ghost use Rattle.dsdl_types.specs.Definitions.{IsType};
 ghost use Rattle.const_expr.specs.Refusals.{Gives};
 ghost use Rattle.const_expr.specs.Constants.{IsConst};
 ghost use Rattle.const_expr.specs.Member.{constants_of, lengths_of, of_message, of_definition, AreConstants, IsScope};
+ghost use Rattle.const_expr.specs.Places.{ArePlaces, defined, ids_of, place_in};
 
 use crate::constant::Const;
 use crate::member::{constant_named, unknown};
-use crate::scope::{NamedConst, Scope, TypeConsts};
+use crate::places::{TypePlaces, find};
+use crate::scope::{NamedConst, Scope};
 use crate::whole::natural;
 use crate::why::Why;
 use dsdl_names::TypeId;
@@ -61,38 +63,30 @@ fn bit_length(alloc: Global, schema: &Schema) -> Result<Const, Why>
     Ok(Const::Lengths(lengths))
 }
 
-/// Whether an entry is of this type.
-fn has_id(entry: &TypeConsts, id: &TypeId) -> bool
-    ensures { result ≡ same_id entry.now.id id.now }
-{
-    entry.id == *id
-}
-
-/// The constants of a type; none where it has no entry.
-fn constants_of<'a>(members: &'a [TypeConsts], id: &TypeId) -> &'a [NamedConst]
-    requires { All (λ t. AreConstants t.constants) members.now }
-    ensures value { result.now ≡ constants_of members.now id.now }
+/// The constants of a type that stands at this place; none where it has no entry.
+fn constants_at<'a>(scope: &'a Scope, place: usize, id: &TypeId) -> &'a [NamedConst]
+    requires scope { IsScope scope.now }
+    requires members { ids_of scope.now.members ≡ defined scope.now }
+    requires place { place_in (defined scope.now) id.now ≡ Some place }
+    ensures value { result.now ≡ constants_of scope.now.members id.now }
     ensures kept { AreConstants result.now }
 {
-    for entry in members {
-        if has_id(entry, id) {
-            return entry.constants.as_slice();
-        }
+    match scope.members.as_slice().get(place) {
+        Some(entry) => entry.constants.as_slice(),
+        None => &[],
     }
-    &[]
 }
 
-/// What a name behind a message means.
+/// What a name behind a message with these constants means.
 fn message_member(
     alloc: Global,
-    scope: &Scope,
-    id: &TypeId,
     schema: &Schema,
+    constants: &[NamedConst],
     name: &str,
 ) -> Result<Const, Why>
-    requires scope { IsScope scope.now }
     requires schema { IsType schema.now }
-    ensures value { Gives result (of_message scope.now id.now (sch schema.now) name.now) }
+    requires constants { AreConstants constants.now }
+    ensures value { Gives result (of_message (sch schema.now) constants.now name.now) }
     ensures kept { IfOk result IsConst }
 {
     if name == "_bit_length_" {
@@ -101,22 +95,32 @@ fn message_member(
     if name == "_extent_" {
         return Ok(natural(extent(schema)));
     }
-    constant_named(alloc, constants_of(scope.members.as_slice(), id), name)
+    constant_named(alloc, constants, name)
 }
 
 /// What a name behind a type means that the scope may have. A service has no members.
-pub fn type_member(alloc: Global, scope: &Scope, id: &TypeId, name: &str) -> Result<Const, Why>
-    requires { IsScope scope.now }
+pub fn type_member(
+    alloc: Global,
+    scope: &Scope,
+    places: &TypePlaces,
+    id: &TypeId,
+    name: &str,
+) -> Result<Const, Why>
+    requires scope { IsScope scope.now }
+    requires places { ArePlaces scope.now places.now }
     ensures value { Gives result
         (of_definition scope.now id.now
         (definition_of scope.now.namespace.definitions id.now) name.now) }
     ensures kept { IfOk result IsConst }
 {
-    match scope.namespace.find(id) {
-        None => unknown(alloc, name),
-        Some(definition) => match &definition.parts {
-            Parts::Message(schema) => message_member(alloc, scope, id, schema, name),
-            Parts::Service { .. } => Err(Why::Kind),
-        },
+    let Some((place, definition)) = find(scope, places, id) else {
+        return unknown(alloc, name);
+    };
+    match &definition.parts {
+        Parts::Message(schema) => {
+            let constants = constants_at(scope, place, id);
+            message_member(alloc, schema, constants, name)
+        }
+        Parts::Service { .. } => Err(Why::Kind),
     }
 }

@@ -2,6 +2,7 @@
 ghost use Rattle.std.specs.Prelude.{◌≡◌, ◌≢◌, IfOk, MatchOption, Err, map, true, false};
 ghost use Rattle.const_expr.specs.Constants.{IsConst};
 ghost use Rattle.const_expr.specs.Member.{IsScope};
+ghost use Rattle.const_expr.specs.Places.{ArePlaces};
 ghost use Rattle.const_expr.specs.Refusals.{at};
 ghost use Rattle.const_expr.specs.Value.{value_of, all_values};
 ghost use Rattle.const_expr.specs.Spine.{IsLeftOf, has_left, onto};
@@ -11,6 +12,7 @@ use crate::constant::Const;
 use crate::error::ExprError;
 use crate::literal::literal;
 use crate::member::{member, named};
+use crate::places::TypePlaces;
 use crate::referred::referred;
 use crate::scope::Scope;
 use crate::set::set_of;
@@ -54,10 +56,17 @@ fn left_of(expr: &Expr) -> Option<&Expr>
 }
 
 /// The constant that an expression is worth, or the first refusal in it: operands are valued left before
-/// right, and both always. Left operands, of which a line may have as many as it has bytes, take a loop.
+/// right, and both always. Left operands, of which a line may have as many as it has bytes, take a loop. Each mention
+/// of a type costs one look into `places`, however many types the scope has.
 #[cycle(eval)]
-pub fn eval(alloc: Global, expr: &Expr, scope: &Scope) -> Result<Const, ExprError>
-    requires { IsScope scope.now }
+pub fn eval(
+    alloc: Global,
+    expr: &Expr,
+    scope: &Scope,
+    places: &TypePlaces,
+) -> Result<Const, ExprError>
+    requires scope { IsScope scope.now }
+    requires places { ArePlaces scope.now places.now }
     ensures value { result ≢ Err ExprError.NoMemory → result ≡ value_of scope.now expr.now }
     ensures kept { IfOk result IsConst }
 {
@@ -67,17 +76,23 @@ pub fn eval(alloc: Global, expr: &Expr, scope: &Scope) -> Result<Const, ExprErro
         waiting.push(inner).map_err(NoMemory::from)?;
         inner = left;
     }
-    let mut value = without_left(alloc, inner, scope)?;
+    let mut value = without_left(alloc, inner, scope, places)?;
     while let Some(outer) = waiting.pop() {
-        value = with_left(alloc, outer, value, scope)?;
+        value = with_left(alloc, outer, value, scope, places)?;
     }
     Ok(value)
 }
 
 /// The constant that an expression without a left part is worth.
 #[cycle(eval)]
-fn without_left(alloc: Global, expr: &Expr, scope: &Scope) -> Result<Const, ExprError>
+fn without_left(
+    alloc: Global,
+    expr: &Expr,
+    scope: &Scope,
+    places: &TypePlaces,
+) -> Result<Const, ExprError>
     requires scope { IsScope scope.now }
+    requires places { ArePlaces scope.now places.now }
     requires innermost { has_left expr.now ≡ false }
     ensures value { result ≢ Err ExprError.NoMemory → result ≡ value_of scope.now expr.now }
     ensures kept { IfOk result IsConst }
@@ -88,9 +103,9 @@ fn without_left(alloc: Global, expr: &Expr, scope: &Scope) -> Result<Const, Expr
         ExprNode::Truth(truth) => return Ok(Const::Truth(*truth)),
         ExprNode::Name(name) => named(alloc, scope, name.as_str()),
         ExprNode::Reference(reference) => referred(alloc, scope, reference),
-        ExprNode::Set(members) => set_of(alloc, eval_all(alloc, members.as_slice(), scope)?),
+        ExprNode::Set(members) => set_of(alloc, eval_all(alloc, members.as_slice(), scope, places)?),
         ExprNode::Unary(op, operand) => {
-            unary(alloc, op.as_str(), eval(alloc, operand.get(), scope)?)
+            unary(alloc, op.as_str(), eval(alloc, operand.get(), scope, places)?)
         }
         ExprNode::Binary(_, _, _) | ExprNode::Member(_, _) => unreachable!(),
     };
@@ -99,8 +114,15 @@ fn without_left(alloc: Global, expr: &Expr, scope: &Scope) -> Result<Const, Expr
 
 /// The constant that an expression is worth whose left part is worth `left`.
 #[cycle(eval)]
-fn with_left(alloc: Global, expr: &Expr, left: Const, scope: &Scope) -> Result<Const, ExprError>
+fn with_left(
+    alloc: Global,
+    expr: &Expr,
+    left: Const,
+    scope: &Scope,
+    places: &TypePlaces,
+) -> Result<Const, ExprError>
     requires scope { IsScope scope.now }
+    requires places { ArePlaces scope.now places.now }
     requires left { IsConst left }
     requires outer { has_left expr.now ≡ true }
     ensures value { result ≢ Err ExprError.NoMemory → result ≡ onto scope.now expr.now left }
@@ -108,9 +130,9 @@ fn with_left(alloc: Global, expr: &Expr, left: Const, scope: &Scope) -> Result<C
 {
     let answer = match &expr.node {
         ExprNode::Binary(op, _, right) => {
-            binary(alloc, op.as_str(), left, eval(alloc, right.get(), scope)?)
+            binary(alloc, op.as_str(), left, eval(alloc, right.get(), scope, places)?)
         }
-        ExprNode::Member(_, name) => member(alloc, scope, left, name.as_str()),
+        ExprNode::Member(_, name) => member(alloc, scope, places, left, name.as_str()),
         _ => unreachable!(),
     };
     placed(answer, expr.span)
@@ -118,14 +140,20 @@ fn with_left(alloc: Global, expr: &Expr, left: Const, scope: &Scope) -> Result<C
 
 /// The constants that expressions are worth, in order, or the first refusal.
 #[cycle(eval)]
-fn eval_all(alloc: Global, exprs: &[Expr], scope: &Scope) -> Result<List<Const>, ExprError>
-    requires { IsScope scope.now }
+fn eval_all(
+    alloc: Global,
+    exprs: &[Expr],
+    scope: &Scope,
+    places: &TypePlaces,
+) -> Result<List<Const>, ExprError>
+    requires scope { IsScope scope.now }
+    requires places { ArePlaces scope.now places.now }
     ensures { result ≢ Err ExprError.NoMemory
         → result ≡ all_values (map (value_of scope.now) exprs.now) }
 {
     let mut values = List::empty(alloc);
     for expr in exprs {
-        values.push(eval(alloc, expr, scope)?)?;
+        values.push(eval(alloc, expr, scope, places)?)?;
     }
     Ok(values)
 }
