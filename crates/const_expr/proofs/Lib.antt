@@ -11,6 +11,8 @@ pub mod EvalWalk
 pub mod EvalSpine
 pub mod MemberSizes
 pub mod MemberFinds
+pub mod FirstItem
 pub mod PlaceLemmas
+pub mod NameLemmas
 pub mod MemberLists
 pub mod MemberNames

@@ -1,8 +1,6 @@
 -- The types of a scope by their places
-use Rattle.std.proofs.Common.{◌≡◌, ℕ, suc, ◌+◌, ◌<◌, ◌==◌, true, false, Bool, List, [], ◌∷◌, ◌++◌, length, map, Option, Some, None, Bor, cond, ◌⊎◌, inl, inr, refl, sym, ap, ◌∙◌, arith}
-use Rattle.std.specs.Prelude.{◌&&◌, slice_get, is_some}
-use Rattle.std.specs.Option.{option_copied}
-use Rattle.std.specs.Slice.{IsItemAt}
+use Rattle.std.proofs.Common.{◌≡◌, ℕ, ◌+◌, ◌<◌, ◌==◌, true, false, Bool, List, [], ◌∷◌, ◌++◌, length, map, get_or, Option, Some, None, cond, ◌⊎◌, inl, inr, refl, sym, ap, ◌∙◌, arith}
+use Rattle.std.specs.Prelude.{◌&&◌, slice_get}
 use Rattle.std.specs.BTreeMap.{BTreeMap, get, Updates}
 use Rattle.std.specs.List.{position_from}
 use Rattle.std.specs.Ordering.{ordering_then, is_eq, nat_cmp}
@@ -11,9 +9,9 @@ use Rattle.std.specs.declared.cmp.Ordering.TheVariants.{Less, Equal, Greater}
 use Rattle.std.specs.Cmp.Lexicographic.{slice_cmp}
 use Rattle.std.specs.Cmp.{unsigned_ties}
 use Rattle.std.specs.Str.{bytes_eq}
-use Rattle.std.proofs.lemmas.Bool.{and_parts, cases_Bool, eqb-true, false≢true}
-use Rattle.std.proofs.lemmas.Option.{slice_get_past, slice_get-get_or}
+use Rattle.std.proofs.lemmas.Bool.{and_parts, cases_Bool, eqb-true}
 use Rattle.std.proofs.lemmas.Map.Text.{is_eq-slice_cmp}
+use Rattle.std.proofs.lemmas.Option.{get_or_from_slice_get}
 use Rattle.std.proofs.lemmas.Slice.Eq.{bytes_eq-Decides}
 use Rattle.dsdl_names.specs.Types.{type_order}
 use Rattle.dsdl_names.specs.declared.TypeId.{TypeId}
@@ -23,123 +21,59 @@ use Rattle.const_expr.specs.declared.scope.NamedConst.{NamedConst}
 use Rattle.const_expr.specs.declared.scope.TypeConsts.{TypeConsts}
 use Rattle.const_expr.specs.Member.{constants_of}
 use Rattle.const_expr.specs.Places.{ArePlacesOf, ids_of, place_in}
+use Rattle.const_expr.proofs.FirstItem.{first_in, first_at, first_missing, place_within, place_of_map, placed_still, placed_last, placed_apart}
 
--- ---- what stands at the place of a type
 abbrev is : TypeId → TypeId → Bool
 is id one = same_id one id
 
+-- ---- the definition of a type
 abbrev ids : List Definition → List TypeId
 ids ds = map (λ (d : Definition). d.id) ds
 
-record Stands (ds : List Definition) (id : TypeId) (i n : ℕ) : Type 0 where
-  place : ℕ
-  counted : n ≡ i + place
-  found : slice_get ds place ≡ definition_of ds id
-  some : is_some (definition_of ds id) ≡ true
+abbrev defines : TypeId → Definition → Bool
+defines id d = same_id d.id id
 
-stands : (ds : List Definition) (id : TypeId) (i n : ℕ) → position_from (is id) i (ids ds) ≡ Some n → Stands ds id i n
-stands [] id i n h = absurd (cc)
-stands (d ∷ ds) id i n h = at (same_id d.id id) refl (stands ds id (i + 1) n)
-  where
-    at : (b : Bool) → same_id d.id id ≡ b → (position_from (is id) (i + 1) (ids ds) ≡ Some n → Stands ds id (i + 1) n) → Stands (d ∷ ds) id i n
-    at true e behind =
-        let s : Some i ≡ Some n = ap (λ b. cond b (Some i) (position_from (is id) (i + 1) (ids ds))) (sym e) ∙ h in
-        let same : i ≡ n = cc in
-        let found : definition_of (d ∷ ds) id ≡ Some d = ap (λ b. cond b (Some d) (definition_of ds id)) e in
-        record { place = 0; counted = omega arith; found = sym found; some = ap is_some found }
-    at false e behind =
-        let s = behind (ap (λ b. cond b (Some i) (position_from (is id) (i + 1) (ids ds))) (sym e) ∙ h) in
-        let found : definition_of (d ∷ ds) id ≡ definition_of ds id = ap (λ b. cond b (Some d) (definition_of ds id)) e in
-        record { place = suc s.place; counted = (let p = s.counted in omega arith); found = s.found ∙ sym found; some = ap is_some found ∙ s.some }
+definition_is : (ds : List Definition) (id : TypeId) → first_in (defines id) Some None ds ≡ definition_of ds id
+unfolding first_in
+definition_is [] id = refl
+definition_is (d ∷ ds) id = ap (cond (same_id d.id id) (Some d)) (definition_is ds id)
+
+place_among : (ds : List Definition) (id : TypeId) → place_in (ids ds) id ≡ position_from (defines id) 0 ds
+place_among ds id = place_of_map (λ (d : Definition). d.id) (is id) 0 ds
 
 -- the definition at the place of a type is its first one
-pub definition_at : (ds : List Definition) (id : TypeId) (n : ℕ) → place_in (ids ds) id ≡ Some n → slice_get ds n ≡ definition_of ds id
-definition_at ds id n h =
-    let s = stands ds id 0 n h in
-    let same : n ≡ s.place = (let p = s.counted in omega arith) in
-    ap (slice_get ds) same ∙ s.found
+pub definition_at : (ds : List Definition) (id : TypeId) (n : ℕ) (d : Definition) → place_in (ids ds) id ≡ Some n → slice_get ds n ≡ Some d → definition_of ds id ≡ Some d
+definition_at ds id n d h there =
+    sym (first_at (defines id) Some None ds n d (sym (place_among ds id) ∙ h) (sym (get_or_from_slice_get ds n d d there)) ∙ definition_is ds id)
 
 -- the place of a type has a definition
-pub definition_there : (ds : List Definition) (id : TypeId) (n : ℕ) → place_in (ids ds) id ≡ Some n → is_some (definition_of ds id) ≡ true
-definition_there ds id n h = (stands ds id 0 n h).some
+pub definition_within : (ds : List Definition) (id : TypeId) (n : ℕ) → place_in (ids ds) id ≡ Some n → n < length ds
+definition_within ds id n h = place_within (defines id) ds n (sym (place_among ds id) ∙ h)
 
 -- a type without a place has no definition
-missing_from : (ds : List Definition) (id : TypeId) (i : ℕ) → position_from (is id) i (ids ds) ≡ None → definition_of ds id ≡ None
-missing_from [] id i h = refl
-missing_from (d ∷ ds) id i h = at (same_id d.id id) refl (missing_from ds id (i + 1))
-  where
-    at : (b : Bool) → same_id d.id id ≡ b → (position_from (is id) (i + 1) (ids ds) ≡ None → definition_of ds id ≡ None) → definition_of (d ∷ ds) id ≡ None
-    at true e behind = let s : Some i ≡ None = ap (λ b. cond b (Some i) (position_from (is id) (i + 1) (ids ds))) (sym e) ∙ h in absurd (cc)
-    at false e behind = ap (λ b. cond b (Some d) (definition_of ds id)) e ∙ behind (ap (λ b. cond b (Some i) (position_from (is id) (i + 1) (ids ds))) (sym e) ∙ h)
-
 pub definition_missing : (ds : List Definition) (id : TypeId) → place_in (ids ds) id ≡ None → definition_of ds id ≡ None
-definition_missing ds id h = missing_from ds id 0 h
+definition_missing ds id h = sym (definition_is ds id) ∙ first_missing (defines id) Some None ds 0 (sym (place_among ds id) ∙ h)
 
--- ---- the constants at the place of a type
-constants_or : Option TypeConsts → List NamedConst
-constants_or None = []
-constants_or (Some t) = t.constants
+-- ---- the constants of a type
+abbrev keeps : TypeId → TypeConsts → Bool
+keeps id t = same_id t.id id
 
-record Keeps (ts : List TypeConsts) (id : TypeId) (i n : ℕ) : Type 0 where
-  place : ℕ
-  counted : n ≡ i + place
-  found : constants_or (slice_get ts place) ≡ constants_of ts id
+abbrev constants : TypeConsts → List NamedConst
+constants t = t.constants
 
-keeps : (ts : List TypeConsts) (id : TypeId) (i n : ℕ) → position_from (is id) i (ids_of ts) ≡ Some n → Keeps ts id i n
-keeps [] id i n h = absurd (cc)
-keeps (t ∷ ts) id i n h = at (same_id t.id id) refl (keeps ts id (i + 1) n)
-  where
-    at : (b : Bool) → same_id t.id id ≡ b → (position_from (is id) (i + 1) (ids_of ts) ≡ Some n → Keeps ts id (i + 1) n) → Keeps (t ∷ ts) id i n
-    at true e behind =
-        let s : Some i ≡ Some n = ap (λ b. cond b (Some i) (position_from (is id) (i + 1) (ids_of ts))) (sym e) ∙ h in
-        let same : i ≡ n = cc in
-        record { place = 0; counted = omega arith; found = sym (ap (λ b. cond b t.constants (constants_of ts id)) e) }
-    at false e behind =
-        let s = behind (ap (λ b. cond b (Some i) (position_from (is id) (i + 1) (ids_of ts))) (sym e) ∙ h) in
-        record { place = suc s.place; counted = (let p = s.counted in omega arith); found = s.found ∙ sym (ap (λ b. cond b t.constants (constants_of ts id)) e) }
+constants_are : (ts : List TypeConsts) (id : TypeId) → first_in (keeps id) constants [] ts ≡ constants_of ts id
+unfolding first_in
+constants_are [] id = refl
+constants_are (t ∷ ts) id = ap (cond (same_id t.id id) t.constants) (constants_are ts id)
 
-kept_at : (ts : List TypeConsts) (id : TypeId) (n : ℕ) → place_in (ids_of ts) id ≡ Some n → constants_or (slice_get ts n) ≡ constants_of ts id
-kept_at ts id n h =
-    let s = keeps ts id 0 n h in
-    let same : n ≡ s.place = (let p = s.counted in omega arith) in
-    ap (λ k. constants_or (slice_get ts k)) same ∙ s.found
+kept_at : (ts : List TypeConsts) (id : TypeId) → place_in (ids_of ts) id ≡ position_from (keeps id) 0 ts
+kept_at ts id = place_of_map (λ (t : TypeConsts). t.id) (is id) 0 ts
 
-pub constants_found : (ts : List TypeConsts) (id : TypeId) (n : ℕ) (t : TypeConsts) → place_in (ids_of ts) id ≡ Some n → slice_get ts n ≡ Some t → t.constants ≡ constants_of ts id
-constants_found ts id n t h there = sym (ap constants_or there) ∙ kept_at ts id n h
+pub constants_within : (ts : List TypeConsts) (id : TypeId) (n : ℕ) → place_in (ids_of ts) id ≡ Some n → n < length ts
+constants_within ts id n h = place_within (keeps id) ts n (sym (kept_at ts id) ∙ h)
 
-pub constants_missing : (ts : List TypeConsts) (id : TypeId) (n : ℕ) → place_in (ids_of ts) id ≡ Some n → slice_get ts n ≡ None → [] ≡ constants_of ts id
-constants_missing ts id n h there = sym (ap constants_or there) ∙ kept_at ts id n h
-
--- what a read of a slice lends
-pub lent : {X : Type 0} (xs : List X) (i : ℕ) (r : Option (Bor X)) → IsItemAt xs i r → option_copied r ≡ slice_get xs i
-lent xs i None h = sym (slice_get_past xs i h.3)
-lent xs i (Some x) h = sym (slice_get-get_or xs i x.now h.3.0 ∙ ap Some (sym h.1))
-
--- ---- one type more
-placed_still : (p : TypeId → Bool) (i n : ℕ) (ts : List TypeId) (t : TypeId) → position_from p i ts ≡ Some n → position_from p i (ts ++ t ∷ []) ≡ Some n
-placed_still p i n [] t h = absurd (cc)
-placed_still p i n (x ∷ ts) t h = at (p x) refl (placed_still p (i + 1) n ts t)
-  where
-    at : (b : Bool) → p x ≡ b → (position_from p (i + 1) ts ≡ Some n → position_from p (i + 1) (ts ++ t ∷ []) ≡ Some n) → position_from p i (x ∷ ts ++ t ∷ []) ≡ Some n
-    at true e behind = ap (λ b. cond b (Some i) (position_from p (i + 1) (ts ++ t ∷ []))) e ∙ ap (λ b. cond b (Some i) (position_from p (i + 1) ts)) (sym e) ∙ h
-    at false e behind =
-        ap (λ b. cond b (Some i) (position_from p (i + 1) (ts ++ t ∷ []))) e
-        ∙ behind (ap (λ b. cond b (Some i) (position_from p (i + 1) ts)) (sym e) ∙ h)
-
-placed_last : (p : TypeId → Bool) (i : ℕ) (ts : List TypeId) (t : TypeId) → position_from p i ts ≡ None → p t ≡ true → position_from p i (ts ++ t ∷ []) ≡ Some (i + length ts)
-placed_last p i [] t h e = ap (λ b. cond b (Some i) (position_from p (i + 1) [])) e ∙ ap Some (let n : i ≡ i + 0 = omega arith in n)
-placed_last p i (x ∷ ts) t h e = at (p x) refl (λ g. placed_last p (i + 1) ts t g e)
-  where
-    at : (b : Bool) → p x ≡ b → (position_from p (i + 1) ts ≡ None → position_from p (i + 1) (ts ++ t ∷ []) ≡ Some ((i + 1) + length ts)) → position_from p i (x ∷ ts ++ t ∷ []) ≡ Some (i + suc (length ts))
-    at true f behind = let s : Some i ≡ None = ap (λ b. cond b (Some i) (position_from p (i + 1) ts)) (sym f) ∙ h in absurd (cc)
-    at false f behind =
-        ap (λ b. cond b (Some i) (position_from p (i + 1) (ts ++ t ∷ []))) f
-        ∙ behind (ap (λ b. cond b (Some i) (position_from p (i + 1) ts)) (sym f) ∙ h)
-        ∙ ap Some (let n : (i + 1) + length ts ≡ i + suc (length ts) = omega arith in n)
-
-placed_apart : (p : TypeId → Bool) (i : ℕ) (ts : List TypeId) (t : TypeId) → p t ≡ false → position_from p i (ts ++ t ∷ []) ≡ position_from p i ts
-placed_apart p i [] t e = ap (λ b. cond b (Some i) (position_from p (i + 1) [])) e
-placed_apart p i (x ∷ ts) t e = ap (λ o. cond (p x) (Some i) o) (placed_apart p (i + 1) ts t e)
+pub constants_found : (ts : List TypeConsts) (id : TypeId) (n : ℕ) (t : TypeConsts) → place_in (ids_of ts) id ≡ Some n → t ≡ get_or ts n t → t.constants ≡ constants_of ts id
+constants_found ts id n t h there = first_at (keeps id) constants [] ts n t (sym (kept_at ts id) ∙ h) there ∙ constants_are ts id
 
 -- ---- types by their order
 both_equal : (o p : Ordering) → is_eq (ordering_then o p) ≡ (is_eq o && is_eq p)
@@ -168,14 +102,6 @@ same_type a b h =
     ∙ ap (λ n. let t : TypeId = record { name = b.name; major = b.major; minor = n } in t) minor
 
 -- ---- the places with one type more
-pub is_none : {A : Type 0} (o : Option A) → is_some o ≡ false → o ≡ None
-is_none None h = refl
-is_none (Some x) h = absurd (false≢true (sym h))
-
-pub is_some_of : {A : Type 0} (o : Option A) → is_some o ≡ true → (x : A) × (o ≡ Some x)
-is_some_of None h = absurd (false≢true h)
-is_some_of (Some x) h = (x, refl)
-
 module _ (ts : List TypeId) (t : TypeId) (old : BTreeMap TypeId ℕ) (are : ArePlacesOf ts old) where
   pub places_kept : (place : ℕ) → get type_order old t ≡ Some place → ArePlacesOf (ts ++ t ∷ []) old
   places_kept place has id = at (cases_Bool (same_id t id))

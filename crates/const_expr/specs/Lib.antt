@@ -6,6 +6,7 @@ pub mod Compare
 pub mod Binary
 pub mod Unary
 pub mod Sizes
+pub mod Names
 pub mod Member
 pub mod Places
 pub mod Value

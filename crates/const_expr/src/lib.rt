@@ -6,6 +6,7 @@ mod binary;
 mod bits;
 mod compare;
 mod constant;
+mod constants;
 mod error;
 mod gathered;
 mod listed;
@@ -26,8 +27,9 @@ mod whole;
 mod why;
 
 pub use constant::Const;
+pub use constants::Constants;
 pub use error::ExprError;
-pub use places::{TypePlaces, add_place, find};
+pub use places::{TypePlaces, add_place, find, no_places};
 pub use scope::{NamedConst, Scope, TypeConsts};
 pub use text::print_text;
 pub use value::eval;

@@ -9,8 +9,9 @@ ghost use Rattle.const_expr.specs.Places.{ArePlaces};
 ghost use Rattle.std.specs.Option.{option_copied};
 
 use crate::constant::Const;
+use crate::constants::Constants;
 use crate::places::TypePlaces;
-use crate::scope::{NamedConst, Scope};
+use crate::scope::Scope;
 use crate::type_member::type_member;
 use crate::whole::natural;
 use crate::why::Why;
@@ -27,17 +28,15 @@ pub fn unknown(alloc: Global, name: &str) -> Result<Const, Why>
 }
 
 /// The first constant of a name.
-pub fn constant_named(alloc: Global, constants: &[NamedConst], name: &str) -> Result<Const, Why>
+pub fn constant_named(alloc: Global, constants: &Constants, name: &str) -> Result<Const, Why>
     requires { AreConstants constants.now }
     ensures value { Gives result (named_in constants.now name.now) }
     ensures kept { IfOk result IsConst }
 {
-    for constant in constants {
-        if constant.name.as_str() == name {
-            return Ok(constant.value.copy(alloc)?);
-        }
+    match constants.find(name) {
+        Some(constant) => Ok(constant.value.copy(alloc)?),
+        None => unknown(alloc, name),
     }
-    unknown(alloc, name)
 }
 
 /// The lengths that `_offset_` means, where it means any.
@@ -60,7 +59,7 @@ pub fn named(alloc: Global, scope: &Scope, name: &str) -> Result<Const, Why>
     if name == "_offset_" {
         return offset(alloc, &scope.offset, name);
     }
-    constant_named(alloc, scope.constants.as_slice(), name)
+    constant_named(alloc, &scope.constants, name)
 }
 
 /// A member of a set, which is to be a number.

@@ -8,10 +8,18 @@ use crate::scope::Scope;
 use cy_bits::NoMemory;
 use dsdl_names::{TypeId, order_of_types};
 use dsdl_types::Definition;
+use std::alloc::Global;
 use std::collections::BTreeMap;
 
 /// The place of the first definition of each type of a scope among all of its definitions, counted from 0.
 pub type TypePlaces = BTreeMap<TypeId, usize>;
+
+/// The places of no types. Takes no memory.
+pub fn no_places(alloc: Global) -> TypePlaces
+    ensures { ArePlacesOf [] result }
+{
+    TypePlaces::new(alloc)
+}
 
 /// The first definition of a type with its place, or nothing where the scope has none. Takes no memory.
 pub fn find<'a>(

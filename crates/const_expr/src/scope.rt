@@ -1,4 +1,5 @@
 use crate::constant::Const;
+use crate::constants::Constants;
 use bit_length::LengthSet;
 use cy_bits::{List, Text};
 use dsdl_names::{FullName, TypeId};
@@ -8,7 +9,7 @@ use dsdl_types::Namespace;
 #[derive(Drop)]
 pub struct Scope {
     /// The constants that stand earlier in the section, in order.
-    pub constants: List<NamedConst>,
+    pub constants: Constants,
     /// The lengths that the section so far can have, which `_offset_` means; nothing where it means nothing.
     pub offset: Option<LengthSet>,
     /// The types that references mean.
@@ -34,5 +35,5 @@ pub struct TypeConsts {
     /// The type.
     pub id: TypeId,
     /// Its constants, in order.
-    pub constants: List<NamedConst>,
+    pub constants: Constants,
 }

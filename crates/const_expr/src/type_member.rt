@@ -11,9 +11,10 @@ ghost use Rattle.const_expr.specs.Member.{constants_of, lengths_of, of_message, 
 ghost use Rattle.const_expr.specs.Places.{ArePlaces, defined, ids_of, place_in};
 
 use crate::constant::Const;
+use crate::constants::Constants;
 use crate::member::{constant_named, unknown};
 use crate::places::{TypePlaces, find};
-use crate::scope::{NamedConst, Scope};
+use crate::scope::Scope;
 use crate::whole::natural;
 use crate::why::Why;
 use dsdl_names::TypeId;
@@ -63,25 +64,22 @@ fn bit_length(alloc: Global, schema: &Schema) -> Result<Const, Why>
     Ok(Const::Lengths(lengths))
 }
 
-/// The constants of a type that stands at this place; none where it has no entry.
-fn constants_at<'a>(scope: &'a Scope, place: usize, id: &TypeId) -> &'a [NamedConst]
+/// The constants of a type that stands at this place.
+fn constants_at<'a>(scope: &'a Scope, place: usize, id: &TypeId) -> &'a Constants
     requires scope { IsScope scope.now }
     requires members { ids_of scope.now.members ≡ defined scope.now }
     requires place { place_in (defined scope.now) id.now ≡ Some place }
     ensures value { result.now ≡ constants_of scope.now.members id.now }
     ensures kept { AreConstants result.now }
 {
-    match scope.members.as_slice().get(place) {
-        Some(entry) => entry.constants.as_slice(),
-        None => &[],
-    }
+    &scope.members.as_slice()[place].constants
 }
 
 /// What a name behind a message with these constants means.
 fn message_member(
     alloc: Global,
     schema: &Schema,
-    constants: &[NamedConst],
+    constants: &Constants,
     name: &str,
 ) -> Result<Const, Why>
     requires schema { IsType schema.now }

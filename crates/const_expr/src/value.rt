@@ -103,9 +103,16 @@ fn without_left(
         ExprNode::Truth(truth) => return Ok(Const::Truth(*truth)),
         ExprNode::Name(name) => named(alloc, scope, name.as_str()),
         ExprNode::Reference(reference) => referred(alloc, scope, reference),
-        ExprNode::Set(members) => set_of(alloc, eval_all(alloc, members.as_slice(), scope, places)?),
+        ExprNode::Set(members) => set_of(
+            alloc,
+            eval_all(alloc, members.as_slice(), scope, places)?,
+        ),
         ExprNode::Unary(op, operand) => {
-            unary(alloc, op.as_str(), eval(alloc, operand.get(), scope, places)?)
+            unary(
+                alloc,
+                op.as_str(),
+                eval(alloc, operand.get(), scope, places)?,
+            )
         }
         ExprNode::Binary(_, _, _) | ExprNode::Member(_, _) => unreachable!(),
     };
@@ -130,7 +137,12 @@ fn with_left(
 {
     let answer = match &expr.node {
         ExprNode::Binary(op, _, right) => {
-            binary(alloc, op.as_str(), left, eval(alloc, right.get(), scope, places)?)
+            binary(
+                alloc,
+                op.as_str(),
+                left,
+                eval(alloc, right.get(), scope, places)?,
+            )
         }
         ExprNode::Member(_, name) => member(alloc, scope, places, left, name.as_str()),
         _ => unreachable!(),

@@ -1,10 +1,11 @@
 //! What expressions are worth.
-ghost use Rattle.std.specs.Prelude.{IfOk};
+ghost use Rattle.std.specs.Prelude.{◌≡◌, [], IfOk};
 ghost use Rattle.const_expr.specs.Member.{IsScope};
+ghost use Rattle.const_expr.specs.Places.{defined, ids_of};
 
 use crate::expression_rows::{BITS, LENGTHS, LISTED, MEMBERS, NUMBERS, SETS, TRUTHS};
 use bit_length::LengthSet;
-use const_expr::{ExprError, Scope, eval, print_text};
+use const_expr::{Constants, ExprError, Scope, eval, no_places, print_text};
 use cy_bits::{List, NoMemory};
 use dsdl_lex::tokens_of;
 use dsdl_names::{TypeId, parse_type_id};
@@ -14,7 +15,9 @@ use std::alloc::{AllocError, Global};
 
 /// A scope without constants and types, where `_offset_` may mean lengths.
 fn no_names(alloc: Global, offset: Option<LengthSet>) -> Result<Scope, NoMemory>
-    ensures { IfOk result IsScope }
+    ensures scope { IfOk result IsScope }
+    ensures types { IfOk result (λ scope. defined scope ≡ []) }
+    ensures members { IfOk result (λ scope. ids_of scope.members ≡ []) }
 {
     let Ok(id) = parse_type_id(alloc, "demo.Num.1.0") else {
         return Err(NoMemory);
@@ -25,7 +28,7 @@ fn no_names(alloc: Global, offset: Option<LengthSet>) -> Result<Scope, NoMemory>
         minor: _,
     } = id;
     Ok(Scope {
-        constants: List::empty(alloc),
+        constants: Constants::new(alloc),
         offset,
         namespace: Namespace {
             definitions: List::empty(alloc),
@@ -75,7 +78,7 @@ fn answer(alloc: Global, line: &str, offset: Option<LengthSet>) -> Result<String
     let Ok(scope) = no_names(alloc, offset) else {
         return Ok(text);
     };
-    match eval(alloc, &expr, &scope) {
+    match eval(alloc, &expr, &scope, &no_places(alloc)) {
         Ok(value) => match print_text(alloc, &value, expr.span) {
             Ok(printed) => text.push_str(printed.as_str())?,
             Err(error) => write_refusal(&mut text, &error)?,

@@ -1,8 +1,9 @@
-use Rattle.std.proofs.Common.{◌≡◌, ℕ, true, false, Some, None, sym, ◌∙◌, subst, rules}
+use Rattle.std.proofs.Common.{◌≡◌, true, false, Some, None, sym, ◌∙◌, subst, rules}
 use Rattle.std.specs.Prelude.{is_some}
 use Rattle.std.specs.BTreeMap.{get, Updates}
 use Rattle.dsdl_names.specs.Types.{type_order}
-use Rattle.const_expr.proofs.PlaceLemmas.{is_none, is_some_of, places_kept, places_more}
+use Rattle.const_expr.proofs.FirstItem.{is_none, is_some_of}
+use Rattle.const_expr.proofs.PlaceLemmas.{places_kept, places_more}
 use Rattle.const_expr.proofs.places.add_place.Goals as goal
 
 pub returns-in_ok-insert : goal.returns-in_ok-insert

@@ -43,7 +43,7 @@ pub eval-with_left-requires : goal.eval-with_left-requires
 eval-with_left-requires t c =
     let w = subst (λ z. Waits c.args.scope.now c.args.expr.now z (Ok c.loop-outer.value)) c.in-Some-pop.ensures.items c.loop-outer.invariant.waits in
     let small : size-Expr c.in-Some-pop.outer.now ≤ size-Expr c.args.expr.now = spine.outer_no_deeper _ _ _ c.in-Some-pop.outer _ w in
-    (search (rules, small), (c.requires, (c.loop-outer.invariant.kept, spine.outer_has_left _ _ _ c.in-Some-pop.outer _ w)))
+    (search (rules, small), (c.requires.scope, (c.requires.places, (c.loop-outer.invariant.kept, spine.outer_has_left _ _ _ c.in-Some-pop.outer _ w))))
 
 pub eval-returns-in_err-value-2-clause-value : goal.eval-returns-in_err-value-2-clause-value
 eval-returns-in_err-value-2-clause-value t c =
