@@ -1,5 +1,5 @@
 -- Constants by the places of their names
-use Rattle.std.proofs.Common.{◌≡◌, ℕ, ◌+◌, ◌<◌, true, false, Bool, List, [], ◌∷◌, ◌++◌, length, get_or, Result, Ok, Err, Option, Some, None, Bor, cond, ◌⊎◌, inl, inr, refl, sym, ap, ◌∙◌, subst, arith}
+use Rattle.std.proofs.Common.{◌≡◌, ℕ, ◌+◌, ◌<◌, true, false, Bool, List, [], ◌∷◌, ◌++◌, length, Result, Ok, Err, Option, Some, None, Bor, cond, ◌⊎◌, inl, inr, refl, sym, ap, ◌∙◌, arith}
 use Rattle.std.specs.Prelude.{MatchOption, OnOk}
 use Rattle.std.specs.Result.{is_err}
 use Rattle.std.specs.Slice.{IsItemAt}

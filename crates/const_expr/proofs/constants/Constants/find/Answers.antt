@@ -1,4 +1,4 @@
-use Rattle.std.proofs.Common.{◌≡◌, Ok, Err, Some, Bor, sym, ap, ◌∙◌, subst, List, ℕ}
+use Rattle.std.proofs.Common.{◌≡◌, Ok, Err, Some, Bor, sym, ap, ◌∙◌, subst, List}
 use Rattle.std.specs.Prelude.{MatchOption}
 use Rattle.std.specs.List.{position_from}
 use Rattle.std.specs.Str.{bytes_eq}
