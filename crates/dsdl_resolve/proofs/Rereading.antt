@@ -27,7 +27,6 @@ use Rattle.dsdl_types.specs.declared.namespace.Print.{Print}
 use Rattle.dsdl_resolve.specs.Answers.{Answers}
 use Rattle.dsdl_resolve.specs.Judged.{outcome}
 use Rattle.dsdl_resolve.specs.Passes.{path_at, StopsAt}
-use Rattle.dsdl_resolve.specs.Places.{ArePlaces}
 use Rattle.dsdl_resolve.specs.Progressing.{Holds, IsSound}
 use Rattle.dsdl_resolve.specs.Reads.{Read, IsRead, AreRead, source_of, sources_of}
 use Rattle.dsdl_resolve.specs.Reread.{WereRead, HasStatements, scope_in, IsValuedTo}
@@ -38,6 +37,7 @@ use Rattle.dsdl_resolve.specs.declared.outcome.Valued.{Valued}
 use Rattle.dsdl_resolve.specs.declared.progress.Progress.{Progress}
 use Rattle.dsdl_resolve.specs.declared.why.DsdlWhy.{DsdlWhy}
 use Rattle.dsdl_resolve.proofs.Lists.{zip_at, zip_long}
+use Rattle.dsdl_resolve.proofs.PlaceLemmas.{places_moved}
 
 -- ---- one file
 pub same_name : (a b : FileName) → ◌≡◌ {A = Result FileName NameError} (Ok a) (Ok b) → a ≡ b
@@ -180,7 +180,7 @@ moved_sound p scope names members s = record {
   definitions = subst (λ (n : Namespace). All IsDefinition n.definitions) (sym names) s.definitions;
   members = subst (All (λ (t : TypeConsts). AreConstants t.constants)) (sym members) s.members;
   doubles = s.doubles;
-  places = subst (λ (n : Namespace). ArePlaces n.definitions p.places) (sym names) s.places;
+  places = places_moved p.scope scope p.places names members s.places;
 }
 
 pub has_statements : (files : List DsdlFile) (names : List FileName) → WereRead files names → (n : ℕ) (f : DsdlFile) → n < length files → f ≡ get_or files n f → HasStatements f.text

@@ -27,7 +27,7 @@ use crate::soundness::definitions_keep_rules;
 use crate::split::{end_rule, judge_split};
 use crate::standing::{Standing, is_split};
 use crate::why::DsdlWhy;
-use const_expr::Scope;
+use const_expr::{Constants, Scope};
 use cy_bits::{List, NoMemory, Text, TryCopy};
 use dsdl_names::FileName;
 use dsdl_parse::Statement;
@@ -102,7 +102,7 @@ impl OpenFile {
         let next = OpenSection::begin(alloc, standing, behind);
         let closed = replace(&mut self.section, next);
         self.request = Some(closed.close(alloc)?);
-        scope.constants = List::empty(alloc);
+        scope.constants = Constants::new(alloc);
         Ok(())
     }
 
@@ -166,7 +166,7 @@ impl OpenFile {
             prints,
         } = self;
         let Half { schema, types } = section.close(alloc)?;
-        let constants = replace(&mut scope.constants, List::empty(alloc));
+        let constants = replace(&mut scope.constants, Constants::new(alloc));
         let id = name.id.copy(alloc)?;
         let port = name.port;
         match request {
@@ -190,7 +190,7 @@ impl OpenFile {
                         response: schema,
                     },
                 },
-                constants: List::empty(alloc),
+                constants: Constants::new(alloc),
                 prints,
             }),
         }
@@ -251,7 +251,7 @@ pub fn value_file(
     definitions_keep_rules();
     let room_before = *room;
     scope.own = name.id.name.copy(alloc)?;
-    scope.constants = List::empty(alloc);
+    scope.constants = Constants::new(alloc);
     scope.offset = None;
     let mut file = OpenFile::begin(alloc, lines);
     for i in 0..lines.len() {

@@ -1,59 +1,63 @@
-//! The definition of a type among many, by what is known of their types.
+//! The types of a scope, by what is known of them.
 ghost use Rattle.std.specs.Prelude.{◌≡◌, ◌∷◌, ◌++◌, [], length, List as ListOf, None, Some, MatchOption, OnOk};
+ghost use Rattle.const_expr.specs.Places.{ArePlacesOf};
+ghost use Rattle.dsdl_names.specs.declared.TypeId.{TypeId as TypeIdOf};
 ghost use Rattle.dsdl_types.specs.Finding.{definition_of};
-ghost use Rattle.dsdl_types.specs.declared.definition.Definition.{Definition as DefinitionOf};
-ghost use Rattle.dsdl_resolve.specs.Places.{AreCountsIn, ArePlaces};
+ghost use Rattle.dsdl_resolve.specs.Places.{AreCountsIn, ArePlacesIn};
 
 use crate::counts::Counts;
-use cy_bits::NoMemory;
-use dsdl_names::{TypeId, order_of_types};
+use const_expr::{Scope, TypePlaces, add_place, no_places};
+use cy_bits::{List, NoMemory};
+use dsdl_names::TypeId;
 use dsdl_types::Definition;
-use std::collections::BTreeMap;
+use std::alloc::Global;
 
-/// What is known of a type.
-#[derive(Clone, Copy, Debug, Drop)]
-pub struct Known {
-    /// The place of its first definition among some, counted from 0.
-    pub place: usize,
-    /// How large the message is that it defines.
-    pub counts: Counts,
+/// What is known of the types of a scope.
+#[derive(Drop)]
+pub struct Places {
+    /// Their places.
+    pub types: TypePlaces,
+    /// How large the message of each is, in the order of their definitions.
+    pub counts: List<Counts>,
 }
 
-/// What is known of each type that some definitions define.
-pub type Places = BTreeMap<TypeId, Known>;
+impl Places {
+    /// Nothing is known yet. Takes no memory.
+    pub fn empty(alloc: Global) -> Places
+        ensures types { ArePlacesOf [] result.types }
+        ensures counts { result.counts ≡ [] }
+    {
+        Places {
+            types: no_places(alloc),
+            counts: List::empty(alloc),
+        }
+    }
+
+    /// Adds a type whose definition stands behind all others.
+    pub fn add(&mut self, id: TypeId, counts: Counts) -> Result<(), NoMemory>
+        ensures types { OnOk result ((ids : ListOf TypeIdOf) → length self.old.counts ≡ length ids →
+            ArePlacesOf ids self.old.types → ArePlacesOf (ids ++ id ∷ []) self.new.types) }
+        ensures counts { OnOk result (self.new.counts ≡ self.old.counts ++ counts ∷ []) }
+    {
+        add_place(&mut self.types, id, self.counts.len())?;
+        self.counts.push(counts)
+    }
+}
 
 /// The first definition of a type, and how large the message is that it defines, or nothing where
 /// there is none.
-pub fn find<'a>(
-    definitions: &'a [Definition],
-    places: &Places,
-    id: &TypeId,
-) -> Option<(&'a Definition, Counts)>
-    requires { ArePlaces definitions.now places.now }
+pub fn find<'a>(scope: &'a Scope, places: &Places, id: &TypeId) -> Option<(&'a Definition, Counts)>
+    requires { ArePlacesIn scope.now places.now }
     ensures { MatchOption result
-        (definition_of definitions.now id.now ≡ None)
-        (λ found. (definition_of definitions.now id.now ≡ Some found.0.now)
+        (definition_of scope.now.namespace.definitions id.now ≡ None)
+        (λ found. (definition_of scope.now.namespace.definitions id.now ≡ Some found.0.now)
         × AreCountsIn found.1 found.0.now.parts) }
 {
-    order_of_types();
-    let Some(known) = places.get(id) else {
+    let Some((place, definition)) = const_expr::find(scope, &places.types, id) else {
         return None;
     };
-    match definitions.get(known.place) {
-        Some(definition) => Some((definition, known.counts)),
+    match places.counts.get(place) {
+        Some(counts) => Some((definition, *counts)),
         None => None,
     }
-}
-
-/// Adds what is known of a type whose definition stands behind all others.
-pub fn add_place(places: &mut Places, id: TypeId, known: Known) -> Result<(), NoMemory>
-    ensures { OnOk result ((before : ListOf DefinitionOf) (d : DefinitionOf) → d.id ≡ id →
-        known.place ≡ length before → AreCountsIn known.counts d.parts →
-        ArePlaces before places.old → ArePlaces (before ++ d ∷ []) places.new) }
-{
-    order_of_types();
-    if !places.contains_key(&id) {
-        places.insert(id, known)?;
-    }
-    Ok(())
 }

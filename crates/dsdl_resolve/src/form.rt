@@ -81,7 +81,7 @@ pub fn message<'a>(scope: &'a Scope, places: &Places, id: &TypeId) -> Option<(&'
         (λ found. (message scope.now id.now ≡ Some found.0.now)
         × AreCountsOf found.1 (sch found.0.now)) }
 {
-    match find(scope.namespace.definitions.as_slice(), places, id) {
+    match find(scope, places, id) {
         Some((definition, counts)) => match &definition.parts {
             Parts::Message(schema) => Some((schema, counts)),
             Parts::Service { .. } => None,

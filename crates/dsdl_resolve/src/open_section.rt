@@ -40,7 +40,7 @@ use crate::values::{Values, values_of};
 use crate::whole::{Whole, whole_of};
 use crate::why::{DsdlWhy, ExprWhy};
 use bit_length::LengthSet;
-use const_expr::{ExprError, NamedConst, Scope};
+use const_expr::{Constants, ExprError, NamedConst, Scope};
 use cy_bits::{List, NoMemory, Text, TryCopy};
 use dsdl_parse::Statement;
 use dsdl_types::{Body, Field, Schema, Shared};
@@ -171,9 +171,11 @@ impl OpenSection {
         &mut self,
         alloc: Global,
         scope: &mut Scope,
+        places: &Places,
         statement: &Statement,
     ) -> Result<Values, ExprError>
         requires scope { IsScope scope.old }
+        requires places { ArePlacesIn scope.old places.now }
         requires ready { IsReady self.old }
         requires offset { scope.old.offset ≡ None }
         requires mention { names_offset statement.now ≡ true }
@@ -188,7 +190,7 @@ impl OpenSection {
         let known = self.offsets.take();
         let set = offsets_of(alloc, self.before.totals, self.fields.as_slice(), known)?;
         scope.offset = Some(set);
-        let values = values_of(alloc, scope, statement);
+        let values = values_of(alloc, scope, places, statement);
         self.offsets = remembered(scope.offset.take(), self.fields.len());
         values
     }
@@ -198,9 +200,11 @@ impl OpenSection {
         &mut self,
         alloc: Global,
         scope: &mut Scope,
+        places: &Places,
         statement: &Statement,
     ) -> Result<Values, StatementError>
         requires scope { IsScope scope.old }
+        requires places { ArePlacesIn scope.old places.now }
         requires offset { scope.old.offset ≡ None }
         requires ready { IsReady self.old }
         ensures rest { self.new ≡ record self.old { offsets = self.new.offsets } }
@@ -215,12 +219,12 @@ impl OpenSection {
         ensures kept { IfOk result (λ vs. IfSome vs.value IsConst) }
     {
         if !names_offset(alloc, statement)? {
-            return valued(values_of(alloc, scope, statement));
+            return valued(values_of(alloc, scope, places, statement));
         }
         if self.is_early() {
             return Err(StatementError::Refused(DsdlWhy::Rule(UNION_OFFSET_TOO_EARLY)));
         }
-        valued(self.values_with_offset(alloc, scope, statement))
+        valued(self.values_with_offset(alloc, scope, places, statement))
     }
 
     /// Adds a field of a type.
@@ -240,7 +244,7 @@ impl OpenSection {
     fn add(
         &mut self,
         alloc: Global,
-        constants: &mut List<NamedConst>,
+        constants: &mut Constants,
         name: Option<&Text>,
         judged: Judged,
     ) -> Result<(), NoMemory>
@@ -273,10 +277,10 @@ impl OpenSection {
                 name: copy_or_empty(alloc, None)?,
                 schema: Schema::Void { bits },
             })?,
-            Addition::Constant(value) => constants.push(NamedConst {
-                name: copy_or_empty(alloc, name)?,
-                value,
-            })?,
+            Addition::Constant(value) => {
+                let name = copy_or_empty(alloc, name)?;
+                constants.push(alloc, NamedConst { name, value })?;
+            }
         }
         Ok(())
     }
@@ -303,7 +307,7 @@ impl OpenSection {
             refusal_at S (place front statement.now back) ≡ Some why)) }
         ensures scope { scope.new ≡ record scope.old { constants = scope.new.constants } }
     {
-        let values = match self.worth(alloc, scope, statement) {
+        let values = match self.worth(alloc, scope, places, statement) {
             Ok(values) => values,
             Err(error) => return Err(error),
         };

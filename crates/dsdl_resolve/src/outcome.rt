@@ -1,6 +1,6 @@
 use crate::counts::Counts;
 use crate::why::DsdlWhy;
-use const_expr::NamedConst;
+use const_expr::Constants;
 use cy_bits::{List, NoMemory};
 use dsdl_types::{Definition, Print};
 
@@ -10,7 +10,7 @@ pub struct Outcome {
     /// The type that it defines.
     pub definition: Definition,
     /// The constants of a message, in order; of a service none.
-    pub constants: List<NamedConst>,
+    pub constants: Constants,
     /// What its `@print` wrote, in order.
     pub prints: List<Print>,
 }

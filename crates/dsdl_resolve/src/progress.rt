@@ -8,9 +8,9 @@ ghost use Rattle.dsdl_resolve.specs.Progressing.{Holds, IsSound, WithDouble, Wit
 ghost use Rattle.dsdl_resolve.specs.Valuing.{Done, is_first, with_done};
 
 use crate::counts::Counts;
-use crate::finding::{Known, Places, add_place};
+use crate::finding::Places;
 use crate::outcome::{Outcome, Valued};
-use const_expr::{NamedConst, Scope, TypeConsts};
+use const_expr::{Constants, Scope, TypeConsts};
 use cy_bits::{Bytes, List, NoMemory, TryCopy};
 use dsdl_names::FullName;
 use dsdl_types::{Definition, Namespace, Print};
@@ -22,7 +22,7 @@ pub struct Progress {
     /// The types that references mean, in the order of valuing, and the constants of messages among
     /// them.
     pub scope: Scope,
-    /// Their places.
+    /// What is known of them.
     pub places: Places,
     /// The numbers of their files.
     pub numbers: Vec<usize>,
@@ -43,7 +43,7 @@ impl Progress {
     {
         Ok(Progress {
             scope: Scope {
-                constants: List::empty(alloc),
+                constants: Constants::new(alloc),
                 offset: None,
                 namespace: Namespace {
                     definitions: List::empty(alloc),
@@ -52,7 +52,7 @@ impl Progress {
                 own: FullName::new(Bytes::from_slice(alloc, b".")?),
                 members: List::empty(alloc),
             },
-            places: Places::new(alloc),
+            places: Places::empty(alloc),
             numbers: Vec::new(alloc),
             doubles: Vec::new(alloc),
             double_numbers: Vec::new(alloc),
@@ -95,14 +95,12 @@ impl Progress {
         alloc: Global,
         number: usize,
         definition: Definition,
-        constants: List<NamedConst>,
+        constants: Constants,
         counts: Counts,
     ) -> Result<(), NoMemory>
         ensures { OnOk result (WithType self.old self.new number definition constants counts) }
     {
-        let place = self.scope.namespace.definitions.len();
-        let known = Known { place, counts };
-        add_place(&mut self.places, definition.id.copy(alloc)?, known)?;
+        self.places.add(definition.id.copy(alloc)?, counts)?;
         self.scope.members.push(TypeConsts {
             id: definition.id.copy(alloc)?,
             constants,

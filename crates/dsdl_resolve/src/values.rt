@@ -2,8 +2,10 @@
 ghost use Rattle.std.specs.Prelude.{◌≡◌, ◌≢◌, Err, IfOk, IfSome};
 ghost use Rattle.const_expr.specs.Constants.{IsConst};
 ghost use Rattle.const_expr.specs.Member.{IsScope};
+ghost use Rattle.dsdl_resolve.specs.Places.{ArePlacesIn};
 ghost use Rattle.dsdl_resolve.specs.Values.{bound_value, directive_value, values};
 
+use crate::finding::Places;
 use const_expr::{Const, ExprError, Scope, eval, print_text};
 use dsdl_parse::{Bound, Expr, Statement};
 use std::alloc::Global;
@@ -21,13 +23,15 @@ pub struct Values {
 fn bound_value(
     alloc: Global,
     scope: &Scope,
+    places: &Places,
     array: &Option<Bound>,
 ) -> Result<Option<Const>, ExprError>
-    requires { IsScope scope.now }
+    requires scope { IsScope scope.now }
+    requires places { ArePlacesIn scope.now places.now }
     ensures { result ≢ Err ExprError.NoMemory → result ≡ bound_value scope.now array.now }
 {
     match array {
-        Some(bound) => Ok(Some(eval(alloc, &bound.expr, scope)?)),
+        Some(bound) => Ok(Some(eval(alloc, &bound.expr, scope, &places.types)?)),
         None => Ok(None),
     }
 }
@@ -36,15 +40,17 @@ fn bound_value(
 fn directive_value(
     alloc: Global,
     scope: &Scope,
+    places: &Places,
     name: &str,
     expr: &Expr,
 ) -> Result<Const, ExprError>
-    requires { IsScope scope.now }
+    requires scope { IsScope scope.now }
+    requires places { ArePlacesIn scope.now places.now }
     ensures value { result ≢ Err ExprError.NoMemory →
         result ≡ directive_value scope.now name.now expr.now }
     ensures kept { IfOk result IsConst }
 {
-    let value = eval(alloc, expr, scope)?;
+    let value = eval(alloc, expr, scope, &places.types)?;
     if name == "print" {
         print_text(alloc, &value, expr.span)?;
     }
@@ -52,15 +58,21 @@ fn directive_value(
 }
 
 /// The values of a statement's expressions, or the first refusal: a bound comes before a value.
-pub fn values_of(alloc: Global, scope: &Scope, statement: &Statement) -> Result<Values, ExprError>
-    requires { IsScope scope.now }
+pub fn values_of(
+    alloc: Global,
+    scope: &Scope,
+    places: &Places,
+    statement: &Statement,
+) -> Result<Values, ExprError>
+    requires scope { IsScope scope.now }
+    requires places { ArePlacesIn scope.now places.now }
     ensures values { result ≢ Err ExprError.NoMemory →
         result ≡ values scope.now statement.now }
     ensures kept { IfOk result (λ vs. IfSome vs.value IsConst) }
 {
     match statement {
         Statement::Field { form, name: _ } => Ok(Values {
-            bound: bound_value(alloc, scope, &form.array)?,
+            bound: bound_value(alloc, scope, places, &form.array)?,
             value: None,
         }),
         Statement::Constant {
@@ -68,15 +80,15 @@ pub fn values_of(alloc: Global, scope: &Scope, statement: &Statement) -> Result<
             name: _,
             expr,
         } => Ok(Values {
-            bound: bound_value(alloc, scope, &form.array)?,
-            value: Some(eval(alloc, expr, scope)?),
+            bound: bound_value(alloc, scope, places, &form.array)?,
+            value: Some(eval(alloc, expr, scope, &places.types)?),
         }),
         Statement::Directive {
             name,
             expr: Some(expr),
         } => Ok(Values {
             bound: None,
-            value: Some(directive_value(alloc, scope, name.as_str(), expr)?),
+            value: Some(directive_value(alloc, scope, places, name.as_str(), expr)?),
         }),
         _ => Ok(Values {
             bound: None,

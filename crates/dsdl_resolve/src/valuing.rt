@@ -21,8 +21,8 @@ use crate::file::value_file;
 use crate::finding::Places;
 use crate::outcome::{FileError, Refused, Valued};
 use crate::progress::Progress;
-use const_expr::Scope;
-use cy_bits::{List, NoMemory, TryCopy};
+use const_expr::{Constants, Scope};
+use cy_bits::{NoMemory, TryCopy};
 use dsdl_files::DsdlFile;
 use dsdl_names::FileName;
 use dsdl_parse::{Ast, Statement, SyntaxError, one_parsing, parse, well_spelled};
@@ -154,7 +154,7 @@ fn value_lines(
     one_parsing();
     well_spelled();
     scope.own = name.id.name.copy(alloc)?;
-    scope.constants = List::empty(alloc);
+    scope.constants = Constants::new(alloc);
     scope.offset = None;
     value_file(alloc, &file.path, name, lines, scope, places, room)
 }

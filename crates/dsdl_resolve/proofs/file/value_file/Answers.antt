@@ -8,25 +8,27 @@ use Rattle.dsdl_resolve.specs.Opens.{said_of}
 use Rattle.dsdl_resolve.proofs.Counting.{parts_counted}
 use Rattle.dsdl_resolve.specs.Judged.{composite_of, in_file, outcome, refusal_at}
 use Rattle.dsdl_resolve.specs.Place.{last_section, place}
-use Rattle.dsdl_resolve.specs.Places.{ArePlacesIn}
 use Rattle.dsdl_resolve.proofs.Filing as filing
 use Rattle.dsdl_resolve.proofs.Filing.{Filed}
+use Rattle.dsdl_resolve.proofs.PlaceLemmas.{places_moved}
 use Rattle.dsdl_resolve.proofs.file.value_file.Goals as goal
 
 pub loop-i-init : goal.loop-i-init
 loop-i-init c =
     let S = in_file c.args.scope.now c.args.name.now in
     record {
-      filed = subst (λ ks. Filed c.begin-file.result ks S c.args.name.now.port c.args.path.now c.args.lines.now 0) (sym c.empty.ensures)
+      filed = subst (λ ks. Filed c.begin-file.result ks S c.args.name.now.port c.args.path.now c.args.lines.now 0) (sym c.new.ensures)
           (filing.filed_none c.begin-file.result S c.args.name.now.port c.args.path.now c.args.lines.now (c.begin-file.ensures.file S) c.begin-file.ensures.prints);
-      scope = ap (λ o. record c.args.scope.now { constants = c.empty.result; offset = None; own = o }) c.in_ok-scope.ensures;
+      scope = ap (λ o. record c.args.scope.now { constants = c.new.result; offset = None; own = o }) c.in_ok-scope.ensures;
     }
 
 pub reserve-requires : goal.reserve-requires
-reserve-requires c = subst (λ (t : Scope). ArePlacesIn t c.args.places.now) (sym c.loop-i.invariant.scope) c.requires.places
+reserve-requires c =
+    places_moved c.args.scope.now c.loop-i.scope c.args.places.now (ap (λ (t : Scope). t.namespace) c.loop-i.invariant.scope) (ap (λ (t : Scope). t.members) c.loop-i.invariant.scope) c.requires.places
 
 pub take-requires-clause-places : goal.take-requires-clause-places
-take-requires-clause-places c = subst (λ (t : Scope). ArePlacesIn t c.args.places.now) (sym c.loop-i.invariant.scope) c.requires.places
+take-requires-clause-places c =
+    places_moved c.args.scope.now c.loop-i.scope c.args.places.now (ap (λ (t : Scope). t.namespace) c.loop-i.invariant.scope) (ap (λ (t : Scope). t.members) c.loop-i.invariant.scope) c.requires.places
 
 pub returns-in-Err-clause-value : goal.returns-in-Err-clause-value
 returns-in-Err-clause-value c =

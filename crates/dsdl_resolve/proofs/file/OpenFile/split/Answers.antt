@@ -18,4 +18,4 @@ pub returns-clause-split : goal.returns-clause-split
 returns-clause-split c = λ S front h types.
     filing.split_done S types c.args.self.now c.args.scope.now.constants front c.args.behind.now h c.args.statement.now c.requires.split c.in-Ok.judged c.in-Ok.ensures.judged c.with-standing.result c.with-standing.ensures
     c.begin-next.result c.begin-next.ensures c.in_ok-close.field-0 (λ ks. c.in_ok-close.ensures.schema ks ∙ ap (λ (x : OpenSection). composite_of (said_of x ks)) c.replace-closed.ensures.value)
-    (c.in_ok-close.ensures.types ∙ ap (λ (x : OpenSection). x.types) c.replace-closed.ensures.value) _ c.replace-closed.ensures.after refl _ c.empty.ensures
+    (c.in_ok-close.ensures.types ∙ ap (λ (x : OpenSection). x.types) c.replace-closed.ensures.value) _ c.replace-closed.ensures.after refl _ c.new.ensures
