@@ -8,7 +8,7 @@ use Rattle.dsdl_resolve.specs.Valuing.{Done, in_path_order, meant}
 use Rattle.dsdl_resolve.proofs.Placement.{all_placed, in_order_keep}
 use Rattle.dsdl_resolve.proofs.in_order.namespace_of.Goals as goal
 
-in_order : (c : goal.After-drop-places-2) (sources : List Source) (done : List Done) → Holds sources done c.args.valued → c.in_ok-filled.field-0 ≡ in_path_order c.args.count done
+in_order : (c : goal.After-drop-places-3) (sources : List Source) (done : List Done) → Holds sources done c.args.valued → c.in_ok-filled.field-0 ≡ in_path_order c.args.count done
 in_order c sources done h =
     let others : Places (doubled sources done) c.in_ok-slots.slots.items c.place.new.slots.items =
     c.place.ensures (doubled sources done) (record { numbers = c.as_slice.ensures.value ∙ h.types.double_numbers; types = h.types.doubles }) in

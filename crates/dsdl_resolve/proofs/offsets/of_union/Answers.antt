@@ -1,4 +1,4 @@
-use Rattle.std.proofs.Common.{◌-◌, arith}
+use Rattle.std.proofs.Common.{arith}
 use Rattle.bit_length.specs.Lengths.{Has, Only, Sums}
 use Rattle.dsdl_types.specs.Schemas.{tag_bits}
 use Rattle.layout.proofs.Sets.{never_long}
