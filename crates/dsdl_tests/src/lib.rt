@@ -12,6 +12,8 @@ mod expressions;
 #[cfg(test)]
 mod links;
 #[cfg(test)]
+mod most_fields;
+#[cfg(test)]
 mod passes;
 #[cfg(test)]
 mod rule_rows;
