@@ -6,19 +6,19 @@ use dsdl_files::DsdlFile;
 use std::alloc::{AllocError, Global};
 
 /// Fields of types of other levels, which make the fields of the files together 2^24.
-const REST: &str =
-    "L16.1.0 a\nL14.1.0 b\nL12.1.0 c\nL10.1.0 d\nL8.1.0 e\nL6.1.0 f\nL5.1.0 g\nL4.1.0 h\nL1.1.0 i\nL0.1.0 j\n";
+const REST: &str = "Level16.1.0 a\nLevel14.1.0 b\nLevel12.1.0 c\nLevel10.1.0 d\nLevel8.1.0 e\n\
+    Level6.1.0 f\nLevel5.1.0 g\nLevel4.1.0 h\nLevel1.1.0 i\nLevel0.1.0 j\n";
 
-/// A type of each level from 0 to 17, with two fields of the level below: of level n it has 3 * 2^n - 2
-/// fields, and all of them have 786,393.
+/// A type of each level from 0 to 17, with two fields of the level below: of level n it has
+/// 3 * 2^n - 2 fields, and all of them have 786,393.
 fn levels(alloc: Global, files: &mut Vec<DsdlFile>) -> Result<(), NoMemory> {
-    files.push(file(alloc, "a/L0.1.0.dsdl", "bool b\n@sealed")?)?;
+    files.push(file(alloc, "a/Level0.1.0.dsdl", "bool b\n@sealed")?)?;
     for level in 1u32..18 {
         let mut path = String::new(alloc);
-        write!(path, "a/L{level}.1.0.dsdl")?;
+        write!(path, "a/Level{level}.1.0.dsdl")?;
         let below = level - 1;
         let mut text = String::new(alloc);
-        write!(text, "L{below}.1.0 x\nL{below}.1.0 y\n@sealed")?;
+        write!(text, "Level{below}.1.0 x\nLevel{below}.1.0 y\n@sealed")?;
         files.push(file(alloc, path.as_str(), text.as_str())?)?;
     }
     Ok(())
@@ -28,8 +28,8 @@ fn levels(alloc: Global, files: &mut Vec<DsdlFile>) -> Result<(), NoMemory> {
 fn holders(alloc: Global, files: &mut Vec<DsdlFile>) -> Result<(), NoMemory> {
     for number in 0u32..40 {
         let mut path = String::new(alloc);
-        write!(path, "a/M{number}.1.0.dsdl")?;
-        files.push(file(alloc, path.as_str(), "L17.1.0 x\n@sealed")?)?;
+        write!(path, "a/Holder{number}.1.0.dsdl")?;
+        files.push(file(alloc, path.as_str(), "Level17.1.0 x\n@sealed")?)?;
     }
     Ok(())
 }
@@ -41,7 +41,7 @@ fn answer_with(alloc: Global, lines: &str) -> Result<String, AllocError> {
     text.push_str(REST)?;
     text.push_str(lines)?;
     let made = levels(alloc, &mut files).is_ok() && holders(alloc, &mut files).is_ok();
-    match file(alloc, "a/N.1.0.dsdl", text.as_str()) {
+    match file(alloc, "a/Rest.1.0.dsdl", text.as_str()) {
         Ok(last) if made => files.push(last)?,
         _ => return Ok(String::new(alloc)),
     }
@@ -51,7 +51,7 @@ fn answer_with(alloc: Global, lines: &str) -> Result<String, AllocError> {
 #[test]
 fn fields_of_a_namespace(rt: HostRuntime) -> Result<(), AllocError> {
     let all = answer_with(rt.alloc(), "@sealed")?;
-    assert!(rt; all.as_str().starts_with("a.L0.1.0;a.L1.1.0;a.L2.1.0;"));
+    assert!(rt; all.as_str().starts_with("a.Level0.1.0;a.Level1.1.0;"));
     for more in ["bool k\n@sealed", "void1\n@sealed", "bool[3] k\n@sealed"] {
         let got = answer_with(rt.alloc(), more)?;
         assert_eq!(rt; got.as_str(), "no memory", "{more}");
