@@ -5,6 +5,7 @@ mod byte_words;
 mod digits;
 mod hex_block;
 mod ident_block;
+mod number_word;
 pub mod text_buffer;
 mod two_digits;
 

@@ -4,6 +4,7 @@ use crate::byte_words::byte_word;
 use crate::digits::digit_count;
 use crate::hex_block::{hex_of_eight, padded};
 use crate::ident_block::ident_block;
+use crate::number_word::number_word;
 use crate::two_digits::two_digits;
 use cy_bits::NoMemory;
 use itoa::{Buffer, write_digits};
@@ -57,6 +58,14 @@ impl TextBuffer {
         ensures room { room_of self.old ≤ room_of self.new }
     {
         self.len = 0;
+    }
+
+    /// Drops what stands behind the first `len` bytes of the text, and keeps its memory.
+    pub fn cut(&mut self, len: usize)
+        ensures text { text_of self.new ≡ take len (text_of self.old) }
+        ensures room { room_of self.old ≤ room_of self.new }
+    {
+        self.len = self.len.min(len);
     }
 
     /// Takes memory so that `room` bytes more can be put.
@@ -167,6 +176,50 @@ impl TextBuffer {
         self.put_slice(buffer.format(number).as_bytes());
     }
 
+    /// Appends a number in decimal, at most 20 digits, and a space. There is room for 32 bytes.
+    #[inline(always)]
+    pub fn put_number_word(&mut self, number: u64)
+        requires room { 32 ≤ room_of self.old }
+        ensures text { text_of self.new ≡ text_of self.old ++ (decimal number ++ 32 ∷ []) }
+        ensures room { room_of self.old ≤ room_of self.new + 21 }
+    {
+        if number < 10_000_000 {
+            let (word, n) = number_word(number as u32);
+            self.put(&word, n);
+        } else {
+            self.put_long_word(number);
+        }
+    }
+
+    /// Appends a number in decimal and a space, and both again. There is room for 64 bytes.
+    #[inline(always)]
+    pub fn put_number_twice(&mut self, number: u64)
+        requires room { 64 ≤ room_of self.old }
+        ensures text { text_of self.new
+            ≡ text_of self.old ++ (decimal number ++ 32 ∷ decimal number ++ 32 ∷ []) }
+        ensures room { room_of self.old ≤ room_of self.new + 42 }
+    {
+        if number < 10_000_000 {
+            let (word, n) = number_word(number as u32);
+            self.put(&word, n);
+            self.put(&word, n);
+        } else {
+            self.put_long_word(number);
+            self.put_long_word(number);
+        }
+    }
+
+    /// Appends a number of any length, and a space.
+    #[inline(never)]
+    fn put_long_word(&mut self, number: u64)
+        requires room { 32 ≤ room_of self.old }
+        ensures text { text_of self.new ≡ text_of self.old ++ (decimal number ++ 32 ∷ []) }
+        ensures room { room_of self.old ≤ room_of self.new + 21 }
+    {
+        self.put_number(number);
+        self.put_slice(b" ");
+    }
+
     /// Appends a number below 256 in decimal, and a space. There is room for 8 bytes.
     #[inline(always)]
     pub fn put_byte_word(&mut self, number: u8)
@@ -186,9 +239,21 @@ impl TextBuffer {
         ensures text { text_of self.new ≡ text_of self.old ++ six_digits micros }
         ensures room { room_of self.new + 6 ≡ room_of self.old }
     {
-        let first = two_digits(micros / 10_000);
-        let middle = two_digits(micros / 100);
-        let last = two_digits(micros);
+        self.put_six_digits(micros % 1_000_000);
+    }
+
+    /// Appends a number below a million as six digits. There is room for 8 bytes.
+    #[inline(always)]
+    pub fn put_six_digits(&mut self, number: u32)
+        requires few { number < 1000000 }
+        requires room { 8 ≤ room_of self.old }
+        ensures text { text_of self.new ≡ text_of self.old ++ six_digits number }
+        ensures room { room_of self.new + 6 ≡ room_of self.old }
+    {
+        let front = number / 100;
+        let first = two_digits(front / 100);
+        let middle = two_digits(front % 100);
+        let last = two_digits(number % 100);
         let word = [
             first[0], first[1], middle[0], middle[1], last[0], last[1], 0, 0,
         ];
@@ -204,7 +269,7 @@ impl TextBuffer {
     {
         self.put_number(moment / 1_000_000);
         self.put_slice(b".");
-        self.put_micros((moment % 1_000_000) as u32);
+        self.put_six_digits((moment % 1_000_000) as u32);
     }
 
     /// Appends two hex digits for each byte, letters in upper case. There is room for 16 bytes more.
@@ -222,6 +287,21 @@ impl TextBuffer {
         } else {
             self.put_long_hex(bytes);
         }
+    }
+
+    /// Appends two hex digits for each of the first `n` bytes, behind which at least 8 more stand. Blocks of
+    /// eight are read and written, so that nothing depends on their number but the end.
+    #[inline(always)]
+    pub fn put_hex_of(&mut self, bytes: &[u8], n: usize)
+        requires wide { n + 8 ≤ length bytes.now }
+        requires room { 2 * n + 16 ≤ room_of self.old }
+        ensures text { text_of self.new ≡ text_of self.old ++ encode_upper (take n bytes.now) }
+        ensures room { room_of self.new + 2 * n ≡ room_of self.old }
+    {
+        for block in 0..n / 8 {
+            self.put(&hex_of_eight(&bytes[8 * block..]), 16);
+        }
+        self.put(&hex_of_eight(&bytes[n / 8 * 8..]), 2 * (n % 8));
     }
 
     /// Appends two hex digits for each of eight bytes or more. The first block stands for what the whole

@@ -1,4 +1,4 @@
-ghost use Rattle.std.specs.Prelude.{◌≡◌, ◌/◌, ◌∷◌, []};
+ghost use Rattle.std.specs.Prelude.{◌≡◌, ◌<◌, ◌/◌, ◌∷◌, []};
 ghost use Rattle.line_text.specs.Text.{digit};
 
 /// The numbers below 100 as two digits.
@@ -14,10 +14,11 @@ static TWO_DIGITS: [[u8; 2]; 100] = [
     *b"96", *b"97", *b"98", *b"99",
 ];
 
-/// The last two decimal digits of a number.
+/// The two decimal digits of a number below 100.
 #[inline(always)]
 pub fn two_digits(number: u32) -> [u8; 2]
+    requires { number < 100 }
     ensures { result ≡ digit (number / 10) ∷ digit number ∷ [] }
 {
-    TWO_DIGITS[(number % 100) as usize]
+    TWO_DIGITS[number as usize]
 }

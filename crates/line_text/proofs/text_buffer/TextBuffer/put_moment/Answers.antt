@@ -7,4 +7,4 @@ returns-clause-room c =
     let fits = c.ranges.moment.fits in
     let seconds = c.args.moment / 1000000 in
     let long : length (decimal seconds) ≤ 14 = length-decimal-le 14 seconds (omega arith) (omega arith) (omega arith) in
-    omega (arith, long, c.put_number.ensures.room, c.put_slice.ensures.room, c.put_micros.ensures.room)
+    omega (arith, long, c.put_number.ensures.room, c.put_slice.ensures.room, c.put_six_digits.ensures.room)
