@@ -47,6 +47,15 @@ impl FrameData {
         &self.room.as_slice()[..self.size]
     }
 
+    /// 72 bytes that begin with the data; what stands behind it means nothing.
+    #[inline(always)]
+    pub fn room(&self) -> &[u8]
+        ensures front { take (length self.now) result.now ≡ self.now }
+        ensures length { length result.now ≡ 72 }
+    {
+        self.room.as_slice()
+    }
+
     /// Drops all bytes.
     #[inline(always)]
     pub fn clear(&mut self)
