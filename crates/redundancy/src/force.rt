@@ -45,6 +45,7 @@ impl Force {
     /// The first start frame's bus is in force. A start frame on another bus takes over where nothing
     /// was heard for more than the timeout. A frame on the bus in force is heard, and is late where the
     /// silence before it was longer than the timeout. A frame elsewhere changes nothing.
+    #[inline(always)]
     pub fn hear(&mut self, bus: u8, moment: u64, start: bool, timeout: u64) -> Heard
         requires { self.old.heard ≤ moment }
         ensures answer { lateness_of result
@@ -61,6 +62,7 @@ impl Force {
     }
 
     /// The step of `hear`.
+    #[inline(always)]
     fn step(&mut self, bus: u8, moment: u64, start: bool, timeout: u64) -> Heard
         requires { self.old.heard ≤ moment }
         ensures answer { lateness_of result

@@ -28,6 +28,7 @@ impl Model for Crc {
 
 impl Crc {
     /// The CRC of no bytes, 0xFFFF.
+    #[inline(always)]
     pub fn new() -> Crc
         ensures { result ≡ 0xFFFF }
     {
@@ -35,6 +36,7 @@ impl Crc {
     }
 
     /// Takes more bytes, eight at a time. The cost is one look-up for each byte.
+    #[inline(always)]
     pub fn add(&mut self, bytes: &[u8])
         ensures { self.new ≡ crc_more self.old bytes.now }
     {
@@ -46,6 +48,7 @@ impl Crc {
     }
 
     /// The CRC of all bytes so far. Over data followed by its own CRC, high byte first, it is 0.
+    #[inline(always)]
     pub fn value(&self) -> u16
         ensures { result ≡ self.now }
     {
@@ -104,6 +107,7 @@ fn after_few(register: u16, bytes: &[u8]) -> u16
 }
 
 /// The register after one more byte.
+#[inline(always)]
 fn add_byte(register: u16, byte: u8) -> u16
     ensures { result ≡ crc_bits 8 register byte }
 {
