@@ -81,6 +81,7 @@ impl<S: Shape> Session<S> {
     }
 
     /// What `accept` does, with an outcome that borrows nothing.
+    #[inline(always)]
     pub fn step(&mut self, frame: &Frame, timeout: u64) -> Step
         requires { self.old.force.heard ≤ frame.now.moment }
         ensures state { kept self.new ≡ (accepted timeout (kept self.old) frame.now).0 }
@@ -122,6 +123,7 @@ impl<S: Shape> Session<S> {
     }
 
     /// Begins a transfer at a start frame that is heard.
+    #[inline(always)]
     fn begin(&mut self, frame: &Frame) -> Step
         ensures state { kept self.new
             ≡ (begin crc_more 0xFFFF 0 (kept self.old) (record_of frame.now)).0 }
@@ -158,6 +160,7 @@ impl<S: Shape> Session<S> {
     }
 
     /// Takes the frame that the running transfer expects.
+    #[inline(always)]
     fn take_in(&mut self, part: Part, frame: &Frame) -> Step
         ensures state { kept self.new
             ≡ (take_in crc_more 0xFFFF 0 (kept self.old) (part_of part) (record_of frame.now)).0 }

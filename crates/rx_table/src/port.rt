@@ -70,6 +70,8 @@ impl<S: Shape> Port<S> {
 
     /// What an anonymous frame delivers: its body, cut to the extent.
     #[tactic(auto, using(rx_session::proofs::Extents::bytes_are))]
+    #[cold]
+    #[inline(never)]
     pub(crate) fn alone(&self, frame: &Frame) -> Front
         ensures { step_answer frame.now.body.now (Delivered result)
             ≡ whole (seen frame.now) (extent_bytes S.shape self.now.shape) }
@@ -99,6 +101,7 @@ impl<S: Shape> Port<S> {
     }
 
     /// A frame of a source.
+    #[inline(always)]
     pub(crate) fn meet(
         &mut self,
         alloc: Global,
@@ -154,6 +157,8 @@ impl<S: Shape> Port<S> {
     }
 
     /// A frame of a source that has no session.
+    #[cold]
+    #[inline(never)]
     fn meet_new(
         &mut self,
         alloc: Global,
@@ -189,6 +194,7 @@ impl<S: Shape> Port<S> {
     }
 
     /// The session at a place takes a frame.
+    #[inline(always)]
     fn step_at(&mut self, index: usize, frame: &Frame, timeout: u64) -> Step
         requires within { index < length self.old.sessions.entries }
         requires order { EntriesHeard frame.now.moment (entries_in self.old) }

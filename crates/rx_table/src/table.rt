@@ -155,6 +155,7 @@ impl<S: Shape> Table<S> {
     }
 
     /// What `feed` does, without borrowing a payload: `lend` tells it, with the same frame.
+    #[inline(always)]
     pub fn step(&mut self, frame: &Frame) -> Result<Met, NoMemory>
         requires { HasHeardBy S.shape frame.now.moment self.old }
         ensures keeps { Keeps S.shape self.old self.new }
@@ -178,6 +179,7 @@ impl<S: Shape> Table<S> {
     }
 
     /// A frame of a source, on the port at a place.
+    #[inline(always)]
     fn step_at(&mut self, place: usize, source: u8, frame: &Frame) -> Result<Met, NoMemory>
         requires within { place < length self.old.ports.items }
         requires heard { HasHeardBy S.shape frame.now.moment self.old }
