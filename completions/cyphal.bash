@@ -1,9 +1,12 @@
-# Completion of cyphal's words for bash.
+# Completion of cyphal's words for bash. What isn't known here is completed as the name of a file, behind < too.
 
 _cyphal()
 {
-    local word=${COMP_WORDS[COMP_CWORD]} command=${COMP_WORDS[1]}
+    local word=${COMP_WORDS[COMP_CWORD]} before=${COMP_WORDS[COMP_CWORD - 1]} command=${COMP_WORDS[1]}
     COMPREPLY=()
+    if [[ $word == [\<\>]* || $before == [\<\>]* ]]; then
+        return
+    fi
     if [ "$COMP_CWORD" -eq 1 ]; then
         mapfile -t COMPREPLY < <(compgen -W 'compile compat encode decode run bound migrate gen monitor allocate fetch --help --version' -- "$word")
         return
@@ -13,25 +16,36 @@ _cyphal()
             compopt -o filenames
             mapfile -t COMPREPLY < <(compgen -d -W 'none' -- "$word")
             ;;
-        run:3 | bound:3 | migrate:3)
-            compopt -o filenames
-            mapfile -t COMPREPLY < <(compgen -f -- "$word")
+        compat:3 | compat:4)
+            mapfile -t COMPREPLY < <(compgen -W "$(_cyphal_messages "${COMP_WORDS[2]}"; _cyphal_services "${COMP_WORDS[2]}")" -- "$word")
             ;;
-        compat:3 | compat:4 | encode:3 | decode:3)
-            mapfile -t COMPREPLY < <(compgen -W "$(_cyphal_types "${COMP_WORDS[2]}")" -- "$word")
+        encode:3 | decode:3)
+            mapfile -t COMPREPLY < <(compgen -W "$(_cyphal_messages "${COMP_WORDS[2]}")" -- "$word")
             ;;
     esac
 }
 
-# The types whose files stand below a folder, by name and version.
-_cyphal_types()
+# The names of what has values below a folder, with their versions: messages, and of services both halves.
+_cyphal_messages()
+{
+    _cyphal_files "$1" -L
+    _cyphal_files "$1" -l | sed -n -e 's,$,.Request,p' -e 's,Request$,Response,p'
+}
+
+_cyphal_services()
+{
+    _cyphal_files "$1" -l
+}
+
+# The names of the types whose files below a folder have a line --- (-l), or have none (-L).
+_cyphal_files()
 {
     [ -d "$1" ] || return
-    (cd -- "$1" && find . -name '*.dsdl' | sed -n \
+    (cd -- "$1" && find . -name '*.dsdl' -exec grep "$2" -E '^[[:blank:]]*---+[[:blank:]]*(#.*)?$' {} + | sed -n \
         -e 's,^\./,,' \
         -e 's,\([^/]*/\)[0-9][0-9]*\.\([^/.]*\.[0-9]*\.[0-9]*\.dsdl\)$,\1\2,' \
         -e 's,/,.,g' \
         -e 's,\.dsdl$,,p')
 }
 
-complete -F _cyphal cyphal
+complete -o bashdefault -o default -F _cyphal cyphal
