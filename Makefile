@@ -1,47 +1,86 @@
-# make run [PLAN=FILE LOG=FILE]: runs a plan over a log, those of examples/first unless others are given, by the kit's
-#   quick build. It takes a minute and a half, proves nothing and leaves nothing; it shows at most 1 MiB of report.
-# make build: proves the program and leaves it, optimised, as build/cyphal. From nothing that proves every crate.
-# make install [PREFIX=FOLDER] [DESTDIR=FOLDER]: copies build/cyphal, its man page and its completions.
-# make test: the whole gate: proofs, must-fail edits, tests and programs.
+# make try WORDS='COMMAND ARGUMENTS' [LOG=FILE] [ROOT=FOLDER]: runs any command by the kit's quick build, with LOG as its
+#   standard input. It takes some two minutes, proves nothing and leaves nothing; it shows at most 1 MiB of what is
+#   written. The program finds copies of the files and folders that WORDS names, of ROOT, and of the folder that a plan
+#   serves.
+# make run [PLAN=FILE] [LOG=FILE] [ROOT=FOLDER]: the same of `cyphal run ROOT PLAN`. Without PLAN and LOG it takes those of
+#   examples/first, without ROOT no types.
+# make build: proves the program and leaves it, optimised, as build/cyphal. From nothing that proves every crate below it:
+#   49 minutes on four processors with 24 GB of memory.
+# make install [PREFIX=FOLDER] [DESTDIR=FOLDER]: copies build/cyphal, its man page, completions, guide and examples.
+# make uninstall [PREFIX=FOLDER] [DESTDIR=FOLDER]: removes what make install copies.
+# make deb: makes a package of Debian of the same, build/cyphal_VERSION_ARCHITECTURE.deb.
+# make test: the whole gate: proofs, must-fail edits, tests and programs, pages.
 # make bench: how fast build/cyphal is and what it holds, over short logs and lines of values.
 
+SHELL = /bin/bash
+.SHELLFLAGS = -o pipefail -c
+
+ROOT = none
 PLAN = examples/first/plan
-LOG = examples/first/log
+LOG = $(if $(WORDS),/dev/null,examples/first/log)
+WORDS =
 PREFIX = /usr/local
 INSTALL = install
 
-.PHONY: run build install uninstall test bench
+BIN = $(DESTDIR)$(PREFIX)/bin
+DOC = $(DESTDIR)$(PREFIX)/share/doc/cyphal
+MAN = $(DESTDIR)$(PREFIX)/share/man/man1
+BASH_COMPLETIONS = $(DESTDIR)$(PREFIX)/share/bash-completion/completions
+ZSH_COMPLETIONS = $(DESTDIR)$(PREFIX)/share/zsh/site-functions
 
-run:
-	@echo 'A quick build, a minute and a half. Nothing has proved it; make build proves the program and leaves it.' >&2
-	@cd crates/cyphal && rt try --data plan=$(abspath $(PLAN)) -- run none plan < $(abspath $(LOG))
+.PHONY: try run build built install uninstall deb test bench
+
+# The files at or below the words of $(1) that are paths, and of the folder that a plan among them serves.
+files_below = $(if $(wildcard $(1)),$(shell find $(wildcard $(1)) -type f))
+served_by = $(if $(1),$(shell sed -n 's/^serve //p' $(1) /dev/null))
+plans = $(foreach it,$(wildcard $(1)),$(shell test -f $(it) && echo $(it)))
+
+try:
+	@test -n "$(WORDS)" || { echo "make try: say what to run, as WORDS='compile examples/types'" >&2; exit 1; }
+	@echo 'A quick build, some two minutes. Nothing has proved it; make build proves the program and leaves it.' >&2
+	@{ cd crates/cyphal && rt try \
+	  $(foreach it,$(sort $(call files_below,$(WORDS) $(ROOT) $(call served_by,$(call plans,$(WORDS))))),--data $(it)=$(abspath $(it))) \
+	  -- $(WORDS) < $(abspath $(LOG)) 2>&1 >&3 3>&- | sed '/^checked: ended /d; /^run=ended /d' >&2; } 3>&1
+
+run: WORDS = run $(ROOT) $(PLAN)
+run: try
 
 build:
 	cd crates/cyphal && rt run -- --version
 	mkdir -p build
 	cp crates/cyphal/out/cyphal build/cyphal
 
-install:
-	test -x build/cyphal || $(MAKE) build
-	$(INSTALL) -d $(DESTDIR)$(PREFIX)/bin $(DESTDIR)$(PREFIX)/share/man/man1
-	$(INSTALL) -d $(DESTDIR)$(PREFIX)/share/bash-completion/completions
-	$(INSTALL) -d $(DESTDIR)$(PREFIX)/share/zsh/site-functions
-	$(INSTALL) -m 755 build/cyphal $(DESTDIR)$(PREFIX)/bin/cyphal
-	$(INSTALL) -m 644 docs/cyphal.1 $(DESTDIR)$(PREFIX)/share/man/man1/cyphal.1
-	$(INSTALL) -m 644 completions/cyphal.bash $(DESTDIR)$(PREFIX)/share/bash-completion/completions/cyphal
-	$(INSTALL) -m 644 completions/_cyphal $(DESTDIR)$(PREFIX)/share/zsh/site-functions/_cyphal
+built:
+	@test -x build/cyphal || { echo 'There is no build/cyphal: make build proves the program and leaves it.' >&2; exit 1; }
+
+install: built
+	$(INSTALL) -d $(BIN) $(MAN) $(BASH_COMPLETIONS) $(ZSH_COMPLETIONS) $(DOC)
+	$(INSTALL) -m 755 build/cyphal $(BIN)/cyphal
+	$(INSTALL) -m 644 docs/cyphal.1 $(MAN)/cyphal.1
+	$(INSTALL) -m 644 completions/cyphal.bash $(BASH_COMPLETIONS)/cyphal
+	$(INSTALL) -m 644 completions/_cyphal $(ZSH_COMPLETIONS)/_cyphal
+	$(INSTALL) -m 644 LICENSE CHANGELOG.md docs/guide.md docs/theorems.md $(DOC)
+	cp -R --no-preserve=mode examples $(DOC)
 
 uninstall:
-	rm -f $(DESTDIR)$(PREFIX)/bin/cyphal
-	rm -f $(DESTDIR)$(PREFIX)/share/man/man1/cyphal.1
-	rm -f $(DESTDIR)$(PREFIX)/share/bash-completion/completions/cyphal
-	rm -f $(DESTDIR)$(PREFIX)/share/zsh/site-functions/_cyphal
+	rm -f $(BIN)/cyphal $(MAN)/cyphal.1 $(BASH_COMPLETIONS)/cyphal $(ZSH_COMPLETIONS)/_cyphal
+	rm -rf $(DOC)
+
+# As Debian has it: /usr, the man page and the changes compressed, the licence as copyright, zsh's folder for packages.
+deb: built
+	rm -rf build/deb
+	$(MAKE) install DESTDIR=$(CURDIR)/build/deb PREFIX=/usr ZSH_COMPLETIONS=$(CURDIR)/build/deb/usr/share/zsh/vendor-completions
+	cd build/deb/usr/share && mv doc/cyphal/LICENSE doc/cyphal/copyright && mv doc/cyphal/CHANGELOG.md doc/cyphal/changelog
+	gzip -9n build/deb/usr/share/man/man1/cyphal.1 build/deb/usr/share/doc/cyphal/changelog
+	mkdir build/deb/DEBIAN
+	sed -e "s/@VERSION@/$$(build/cyphal --version | cut -d ' ' -f 2)/" -e "s/@ARCHITECTURE@/$$(dpkg --print-architecture)/" \
+	  -e "s/@SIZE@/$$(du -sk build/deb/usr | cut -f 1)/" packaging/control > build/deb/DEBIAN/control
+	dpkg-deb --root-owner-group --build build/deb build
 
 test:
 	.ci/run
 
-bench:
-	test -x build/cyphal || $(MAKE) build
+bench: built
 	bench/run --short build/cyphal
 	bench/values build/cyphal 1
 	bench/compile build/cyphal 1
