@@ -3,13 +3,15 @@ ghost use Rattle.std.specs.Io.KnownBytes.{ReadConsumes, WriteAppends};
 ghost use Rattle.cy_outside.specs.Calls.{one_more};
 ghost use Rattle.cy_outside.specs.Outside.{HasCause};
 
+use crate::retried::{read_retried, write_retried};
 use crate::{Failed, Sink, Source};
 use std::io::{self, Read, Write};
 
 /// The most bytes that one read of a real input or file takes.
 pub const PIECE: usize = 8192;
 
-/// A real input. It tells nothing of its bytes, and each error of a read counts as a fault.
+/// A real input. It tells nothing of its bytes. A read that a signal interrupts is made again; each other
+/// error of a read counts as a fault, also that an input that doesn't block has nothing yet.
 #[derive(Drop)]
 pub struct RealSource<R> {
     /// Where the bytes come from.
@@ -25,6 +27,16 @@ impl<R> RealSource<R> {
         ensures faults { result.faults ≡ 0 }
     {
         RealSource { reader, faults: 0 }
+    }
+
+    /// Counts a fault.
+    fn fail(&mut self) -> Failed
+        ensures reader { self.new.reader ≡ self.old.reader }
+        ensures faults { self.new.faults ≡ one_more self.old.faults }
+        ensures grows { self.old.faults ≤ self.new.faults }
+    {
+        self.faults = self.faults.saturating_add(1);
+        Failed
     }
 }
 
@@ -44,10 +56,25 @@ impl<R: Read> RealSource<R> {
     {
         match read_piece(&mut self.reader, buf) {
             Ok(n) => Ok(n),
-            Err(_) => {
-                self.faults = self.faults.saturating_add(1);
-                Err(Failed)
-            }
+            Err(_) => Err(self.fail()),
+        }
+    }
+
+    /// The same into the buffer itself, of which the rest may change. `Source::read_over` is this call.
+    pub fn counted_read_over(&mut self, buf: &mut [u8]) -> Result<usize, Failed>
+        ensures bytes { ReadConsumes (R.remaining self.old.reader) (R.remaining self.new.reader)
+            result buf.new }
+        ensures faults { MatchResult result
+            (λ _. self.new.faults ≡ self.old.faults)
+            (λ _. self.new.faults ≡ one_more self.old.faults) }
+        ensures within { IfOk result (λ n. n ≤ length buf.old) }
+        ensures cause { HasCause self.old.faults self.new.faults result }
+        ensures count { self.old.faults ≤ self.new.faults }
+    {
+        let room = buf.len().min(PIECE);
+        match read_retried(&mut self.reader, &mut buf[..room]) {
+            Ok(n) => Ok(n),
+            Err(_) => Err(self.fail()),
         }
     }
 }
@@ -60,6 +87,10 @@ impl<R: Read> Source for RealSource<R> {
     fn read(&mut self, buf: &mut [u8]) -> Result<usize, Failed> {
         self.counted_read(buf)
     }
+
+    fn read_over(&mut self, buf: &mut [u8]) -> Result<usize, Failed> {
+        self.counted_read_over(buf)
+    }
 }
 
 /// Reads once, at most a piece. Nobody says what a reader leaves behind the bytes that it gave, so it
@@ -71,13 +102,13 @@ pub(crate) fn read_piece<R: Read>(reader: &mut R, buf: &mut [u8]) -> io::Result<
 {
     let mut piece = [0u8; PIECE];
     let room = buf.len().min(PIECE);
-    let n = reader.read(&mut piece[..room])?;
+    let n = read_retried(reader, &mut piece[..room])?;
     buf[..n].copy_from_slice(&piece[..n]);
     Ok(n)
 }
 
-/// A real output. It tells nothing of its bytes. Each error of a write counts as a fault, and so does
-/// a write that takes none of some bytes.
+/// A real output. It tells nothing of its bytes. A write that a signal interrupts is made again; each
+/// other error of a write counts as a fault, and so does a write that takes none of some bytes.
 #[derive(Drop)]
 pub struct RealSink<W> {
     /// Where the bytes go.
@@ -110,7 +141,7 @@ impl<W: Write> RealSink<W> {
         ensures cause { HasCause self.old.faults self.new.faults result }
         ensures count { self.old.faults ≤ self.new.faults }
     {
-        match self.writer.write(bytes) {
+        match write_retried(&mut self.writer, bytes) {
             Ok(n) if n > 0 || bytes.is_empty() => Ok(n),
             _ => {
                 self.faults = self.faults.saturating_add(1);

@@ -1,36 +1,66 @@
-ghost use Rattle.std.specs.Prelude.{◌≡◌, ◌<◌, ◌≤◌, None, length, take, drop, IfOk};
-ghost use Rattle.std.specs.Io.KnownBytes.{Consumes, IsAtEnd};
+ghost use Rattle.std.specs.Prelude.{◌≡◌, ◌≤◌, None};
 ghost use Rattle.std.specs.IoError.{error_kind};
 ghost use Rattle.cy_outside.specs.Absence.{is_absence};
+ghost use Rattle.cy_outside.specs.Calls.{one_more};
 
-use crate::real::read_piece;
+use crate::opened::{Opened, open_at};
 use crate::{Entry, Got, Listing, Size, Tree, TreeError};
 use cy_bits::{List, Text};
 use std::alloc::Global;
-use std::fs::{self, OpenFile};
-use std::io::{self, ErrorKind, Read, Seek, SeekFrom};
+use std::fs;
+use std::io::{self, ErrorKind};
+use std::path::AsPath;
 use std::rt::Files;
 
 /// The files of the system. It tells nothing of them. Paths are taken as the system takes them,
 /// relative to the current folder, and links are followed.
 ///
-/// Where the system finds no such file, or a file where a path has a folder, nothing stands at the
-/// path. Every other error counts as a fault, and so does a listing with a name that isn't UTF-8.
+/// Where the system finds no such file, a file where a path has a folder, or a link that leads back to
+/// itself, nothing stands at the path; and so it is where something else than a regular file or a folder
+/// stands, as a pipe or a device, which is never opened. None of these is listed. Every other error counts
+/// as a fault, and so does a listing with a name that isn't UTF-8.
+///
+/// The file that was read last is kept open, and a read that goes on where the last one ended reads that
+/// file, also where another has come to its path. That a file is written between its reads is a fault.
 #[derive(Drop)]
-pub struct RealTree<'a, R> {
+pub struct RealTree<'a, R: Files> {
     /// The runtime, which reaches the files.
     pub rt: &'a R,
     /// How many calls failed, up to 2^64 - 1.
     pub faults: u64,
+    /// The file that was read last.
+    opened: Option<Opened<R::File>>,
 }
 
-impl<'a, R> RealTree<'a, R> {
+impl<'a, R: Files> RealTree<'a, R> {
     /// The files that this runtime reaches.
     pub fn new(rt: &'a R) -> RealTree<'a, R>
         ensures rt { result.rt.now ≡ rt.now }
         ensures faults { result.faults ≡ 0 }
     {
-        RealTree { rt, faults: 0 }
+        RealTree {
+            rt,
+            faults: 0,
+            opened: None,
+        }
+    }
+
+    /// Counts a fault.
+    fn fail(&mut self) -> TreeError
+        ensures error { result ≡ TreeError.Failed }
+        ensures faults { self.new.faults ≡ one_more self.old.faults }
+        ensures grows { self.old.faults ≤ self.new.faults }
+    {
+        self.faults = self.faults.saturating_add(1);
+        TreeError::Failed
+    }
+
+    /// Whether a read goes on where the last one ended.
+    fn goes_on(&self, path: &str, offset: u64) -> bool {
+        match &self.opened {
+            Some(opened) => opened.goes_on(path, offset),
+            None => false,
+        }
     }
 }
 
@@ -42,44 +72,40 @@ impl<'a, R: Files + Alloc + Clone + Drop> Tree for RealTree<'a, R> {
     fn list(&mut self, alloc: Global, path: &str) -> Result<Listing, TreeError> {
         match members(self.rt, alloc, path) {
             Ok(listing) => Ok(listing),
-            Err(error) => match error.kind() {
-                ErrorKind::NotFound | ErrorKind::NotADirectory => Ok(Listing::Absent),
-                ErrorKind::OutOfMemory => Err(TreeError::NoMemory),
-                _ => {
-                    self.faults = self.faults.saturating_add(1);
-                    Err(TreeError::Failed)
-                }
-            },
+            Err(error) if is_absence(&error) => Ok(Listing::Absent),
+            Err(error) if error.kind() == ErrorKind::OutOfMemory => Err(TreeError::NoMemory),
+            Err(_) => Err(self.fail()),
         }
     }
 
     fn read_at(&mut self, path: &str, offset: u64, buf: &mut [u8]) -> Result<Got, TreeError> {
-        match open_at(self.rt, path, offset) {
-            Ok(None) => return Ok(Got::Folder),
-            Ok(Some(mut file)) => {
-                if let Ok(n) = fill(&mut file, buf) {
-                    return Ok(Got::Bytes(n));
-                }
+        if !self.goes_on(path, offset) {
+            self.opened = None;
+            match standing(self.rt, path) {
+                Ok(Size::File(_)) => {}
+                Ok(Size::Folder) => return Ok(Got::Folder),
+                Ok(Size::Absent) => return Ok(Got::Absent),
+                Err(_) => return Err(self.fail()),
             }
-            Err(error) => {
-                if is_absence(&error) {
-                    return Ok(Got::Absent);
-                }
+            match open_at(self.rt, path, offset) {
+                Ok(opened) => self.opened = Some(opened),
+                Err(error) if is_absence(&error) => return Ok(Got::Absent),
+                Err(_) => return Err(self.fail()),
             }
         }
-        self.faults = self.faults.saturating_add(1);
-        Err(TreeError::Failed)
+        if let Some(opened) = &mut self.opened {
+            if let Ok(n) = opened.read_on(buf) {
+                return Ok(Got::Bytes(n));
+            }
+        }
+        self.opened = None;
+        Err(self.fail())
     }
 
     fn size(&mut self, path: &str) -> Result<Size, TreeError> {
-        match fs::metadata(self.rt, path) {
-            Ok(metadata) if metadata.is_dir() => Ok(Size::Folder),
-            Ok(metadata) => Ok(Size::File(metadata.len())),
-            Err(error) if is_absence(&error) => Ok(Size::Absent),
-            Err(_) => {
-                self.faults = self.faults.saturating_add(1);
-                Err(TreeError::Failed)
-            }
+        match standing(self.rt, path) {
+            Ok(size) => Ok(size),
+            Err(_) => Err(self.fail()),
         }
     }
 }
@@ -88,61 +114,48 @@ impl<'a, R: Files + Alloc + Clone + Drop> Tree for RealTree<'a, R> {
 fn is_absence(error: &io::Error) -> bool
     ensures { result ≡ is_absence (error_kind error.now) }
 {
-    matches!(error.kind(), ErrorKind::NotFound | ErrorKind::NotADirectory)
+    matches!(
+        error.kind(),
+        ErrorKind::NotFound | ErrorKind::NotADirectory | ErrorKind::FilesystemLoop
+    )
 }
 
-/// The direct members of a folder.
+/// What stands at a path: nothing, where it is neither a regular file nor a folder.
+fn standing<R: Files, P: AsPath>(rt: &R, path: P) -> io::Result<Size> {
+    match fs::metadata(rt, path) {
+        Ok(metadata) if metadata.is_dir() => Ok(Size::Folder),
+        Ok(metadata) if metadata.is_file() => Ok(Size::File(metadata.len())),
+        Ok(_) => Ok(Size::Absent),
+        Err(error) if is_absence(&error) => Ok(Size::Absent),
+        Err(error) => Err(error),
+    }
+}
+
+/// The direct members of a folder that are regular files or folders.
 fn members<R: Files + Alloc + Clone + Drop>(
     rt: &R,
     alloc: Global,
     path: &str,
 ) -> io::Result<Listing> {
-    if !fs::metadata(rt, path)?.is_dir() {
-        return Ok(Listing::NotFolder);
+    match standing(rt, path)? {
+        Size::Folder => {}
+        Size::File(_) => return Ok(Listing::NotFolder),
+        Size::Absent => return Ok(Listing::Absent),
     }
     let mut entries = List::empty(alloc);
     for member in fs::read_dir(rt, path)? {
         let member = member?;
+        let folder = match standing(rt, member.path())? {
+            Size::Folder => true,
+            Size::File(_) => false,
+            Size::Absent => continue,
+        };
         let Ok(name) = Text::from_str(alloc, member.file_name()) else {
             return Err(io::Error::from(ErrorKind::OutOfMemory));
-        };
-        let folder = match fs::metadata(rt, member.path()) {
-            Ok(metadata) => metadata.is_dir(),
-            Err(error) if is_absence(&error) => false,
-            Err(error) => return Err(error),
         };
         let Ok(()) = entries.push(Entry { name, folder }) else {
             return Err(io::Error::from(ErrorKind::OutOfMemory));
         };
     }
     Ok(Listing::Entries(entries))
-}
-
-/// Opens a file at an offset, or answers `None` where there is a folder.
-fn open_at<R: Files>(rt: &R, path: &str, offset: u64) -> io::Result<Option<R::File>> {
-    let mut file = fs::open(rt, path)?;
-    if file.metadata()?.is_dir() {
-        return Ok(None);
-    }
-    file.seek(SeekFrom::Start(offset))?;
-    Ok(Some(file))
-}
-
-/// Reads on until the buffer is full or the file ends. The rest of the buffer stays.
-fn fill<F: Read>(file: &mut F, buf: &mut [u8]) -> io::Result<usize>
-    ensures bytes { IfOk result (λ n.
-        Consumes (F.remaining file.old) (F.remaining file.new) (take n buf.new)) }
-    ensures end { IfOk result (λ n. n < length buf.old → IsAtEnd (F.remaining file.new)) }
-    ensures within { IfOk result (λ n. n ≤ length buf.old) }
-    ensures behind { IfOk result (λ n. drop n buf.new ≡ drop n buf.old) }
-{
-    let mut done = 0;
-    'pieces: while done < buf.len() {
-        let n = read_piece(file, &mut buf[done..])?;
-        if n == 0 {
-            break;
-        }
-        done += n;
-    }
-    Ok(done)
 }

@@ -22,4 +22,16 @@ pub trait Source {
         ensures failed { OnErr result (left self.new ≡ left self.old) }
         ensures cause { HasCause (faults self.old) (faults self.new) result }
         ensures count { faults self.old ≤ faults self.new };
+
+    /// The same, and the rest of the buffer may change: a source that reads into the buffer itself
+    /// saves a copy.
+    fn read_over(&mut self, buf: &mut [u8]) -> Result<usize, Failed>
+        ensures within { IfOk result (λ n. n ≤ length buf.old) }
+        ensures takes { IfOk result (λ n. Takes (left self.old) (left self.new) buf.old buf.new n) }
+        ensures failed { OnErr result (left self.new ≡ left self.old) }
+        ensures cause { HasCause (faults self.old) (faults self.new) result }
+        ensures count { faults self.old ≤ faults self.new }
+    {
+        self.read(buf)
+    }
 }

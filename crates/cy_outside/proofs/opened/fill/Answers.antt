@@ -1,6 +1,6 @@
 use Rattle.std.proofs.Common.{rules, arith}
 use Rattle.cy_outside.proofs.Taken.{taken_more, left_behind}
-use Rattle.cy_outside.proofs.real_tree.fill.Goals as goal
+use Rattle.cy_outside.proofs.opened.fill.Goals as goal
 
 pub pieces-preserved : goal.pieces-preserved
 pieces-preserved g c = record {

@@ -1,6 +1,6 @@
 use Rattle.std.proofs.Common.{◌≡◌, ◌≤◌, ◌-◌, length, take, drop}
 use Rattle.std.specs.Io.KnownBytes.{Consumes}
-use Rattle.cy_outside.proofs.real_tree.fill.Given as goal
+use Rattle.cy_outside.proofs.opened.fill.Given as goal
 
 abbrev pub invariant-pieces : goal.invariant-pieces
 invariant-pieces g l = record {

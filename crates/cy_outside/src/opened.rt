@@ -1,0 +1,109 @@
+//! A file of the system that is kept open, so that its pieces are of one file.
+ghost use Rattle.std.specs.Prelude.{◌≡◌, ◌<◌, ◌≤◌, length, take, drop, IfOk};
+ghost use Rattle.std.specs.Io.KnownBytes.{Consumes, IsAtEnd};
+
+use crate::real::read_piece;
+use arrayvec::ArrayString;
+use std::fs::{self, Metadata, OpenFile};
+use std::io::{self, ErrorKind, Read, Seek, SeekFrom};
+use std::os::unix::fs::MetadataExt;
+use std::rt::Files;
+
+/// The longest path that the system takes, in bytes.
+const LONGEST_PATH: usize = 4096;
+
+/// What changes where a file is written.
+#[derive(Clone, Copy, PartialEq, Eq)]
+struct Version {
+    /// The file's size in bytes.
+    len: u64,
+    /// The time of its last write, in seconds since 1970.
+    seconds: i64,
+    /// The nanoseconds of that time.
+    nanos: i64,
+}
+
+impl Version {
+    /// The version that these data tell.
+    fn of(metadata: &Metadata) -> Version {
+        Version {
+            len: metadata.len(),
+            seconds: metadata.mtime(),
+            nanos: metadata.mtime_nsec(),
+        }
+    }
+}
+
+/// A regular file that is open, and the place in it where a read goes on.
+#[derive(Drop)]
+pub struct Opened<F> {
+    /// The file.
+    file: F,
+    /// The path that it was opened at.
+    path: ArrayString<LONGEST_PATH>,
+    /// Where the next read goes on, in bytes.
+    offset: u64,
+    /// The version that was opened.
+    version: Version,
+}
+
+/// Opens a file at an offset. Something else than a regular file is as if nothing stood there.
+pub fn open_at<R: Files>(rt: &R, path: &str, offset: u64) -> io::Result<Opened<R::File>> {
+    let mut file = fs::open(rt, path)?;
+    let metadata = file.metadata()?;
+    if !metadata.is_file() {
+        return Err(io::Error::from(ErrorKind::NotFound));
+    }
+    let Ok(path) = ArrayString::from(path) else {
+        return Err(io::Error::from(ErrorKind::InvalidFilename));
+    };
+    file.seek(SeekFrom::Start(offset))?;
+    Ok(Opened {
+        file,
+        path,
+        offset,
+        version: Version::of(&metadata),
+    })
+}
+
+impl<F> Opened<F> {
+    /// Whether a read of this path from this offset on goes on where the last one ended.
+    pub fn goes_on(&self, path: &str, offset: u64) -> bool {
+        self.offset == offset && self.path.as_str() == path
+    }
+}
+
+impl<F: Read + OpenFile> Opened<F> {
+    /// Reads on until the buffer is full or the file ends. The rest of the buffer stays. That the file was
+    /// written since it was opened is an error.
+    pub fn read_on(&mut self, buf: &mut [u8]) -> io::Result<usize>
+        ensures within { IfOk result (λ n. n ≤ length buf.old) }
+        ensures behind { IfOk result (λ n. drop n buf.new ≡ drop n buf.old) }
+    {
+        let n = fill(&mut self.file, buf)?;
+        if Version::of(&self.file.metadata()?) != self.version {
+            return Err(io::Error::from(ErrorKind::ResourceBusy));
+        }
+        self.offset = self.offset.saturating_add(n as u64);
+        Ok(n)
+    }
+}
+
+/// Reads on until the buffer is full or the file ends. The rest of the buffer stays.
+fn fill<F: Read>(file: &mut F, buf: &mut [u8]) -> io::Result<usize>
+    ensures bytes { IfOk result (λ n.
+        Consumes (F.remaining file.old) (F.remaining file.new) (take n buf.new)) }
+    ensures end { IfOk result (λ n. n < length buf.old → IsAtEnd (F.remaining file.new)) }
+    ensures within { IfOk result (λ n. n ≤ length buf.old) }
+    ensures behind { IfOk result (λ n. drop n buf.new ≡ drop n buf.old) }
+{
+    let mut done = 0;
+    'pieces: while done < buf.len() {
+        let n = read_piece(file, &mut buf[done..])?;
+        if n == 0 {
+            break;
+        }
+        done += n;
+    }
+    Ok(done)
+}
