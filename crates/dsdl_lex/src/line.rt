@@ -1,4 +1,4 @@
-ghost use Rattle.std.specs.Prelude.{◌≡◌, ℕ, ◌+◌, ◌≤◌, ◌<◌, ◌^◌, length, Err, IfOk, OnOk, IfSome, IfNone};
+ghost use Rattle.std.specs.Prelude.{◌≡◌, ℕ, ◌+◌, ◌≤◌, ◌<◌, ◌^◌, [], length, Err, IfOk, OnOk, OnErr, IfSome, IfNone};
 ghost use Rattle.dsdl_lex.specs.Tokens.{Lexes, Stuck, IsLongest, NoToken};
 ghost use Rattle.dsdl_lex.specs.Scans.{IsClear, NoSplit, is_name_kind, clear_after};
 ghost use Rattle.dsdl_lex.specs.declared.line.LexError.TheVariants.{Lex};
@@ -83,12 +83,28 @@ pub fn tokens_of(alloc: Global, line: &[u8]) -> Result<List<Token>, LexError>
 }
 
 /// The same in place of what a list held, which takes memory only where the list has too little.
+/// Where a line has no tokens, or memory is wanting, the list is empty.
 pub fn lex_line(line: &[u8], tokens: &mut List<Token>) -> Result<(), LexError>
     requires { length line.now < 2 ^ 32 }
     ensures tokens { OnOk result (Lexes line.now 0 tokens.new) }
+    ensures empty { OnErr result (tokens.new ≡ []) }
     ensures refused { (column : ℕ) → result ≡ Err (Lex column) → Stuck line.now 0 column }
 {
     tokens.cut_back(0);
+    let lexed = put_tokens(line, tokens);
+    if lexed.is_err() {
+        tokens.cut_back(0);
+    }
+    lexed
+}
+
+/// Puts the tokens of a line, in order, into an empty list.
+fn put_tokens(line: &[u8], tokens: &mut List<Token>) -> Result<(), LexError>
+    requires short { length line.now < 2 ^ 32 }
+    requires empty { tokens.old ≡ [] }
+    ensures tokens { OnOk result (Lexes line.now 0 tokens.new) }
+    ensures refused { (column : ℕ) → result ≡ Err (Lex column) → Stuck line.now 0 column }
+{
     if let Some((at, n)) = split_of(line) {
         tokens.push(Token {
             kind: TokenKind::Split,

@@ -1,6 +1,6 @@
 use Rattle.std.proofs.Common.{length, ◌-◌}
 use Rattle.dsdl_lex.proofs.Going.{Going}
-use Rattle.dsdl_lex.proofs.line.lex_line.Given as goal
+use Rattle.dsdl_lex.proofs.line.put_tokens.Given as goal
 
 abbrev pub invariant-loop-at : goal.invariant-loop-at
 invariant-loop-at l = Going l.line l.tokens l.at l.clear

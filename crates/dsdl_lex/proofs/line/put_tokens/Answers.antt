@@ -4,12 +4,12 @@ use Rattle.dsdl_lex.specs.declared.token.TokenKind.TheVariants as k
 use Rattle.dsdl_lex.specs.Tokens.{Lexes, Stuck}
 use Rattle.dsdl_lex.proofs.Going as going
 use Rattle.dsdl_lex.proofs.Going.{Going}
-use Rattle.dsdl_lex.proofs.line.lex_line.Goals as goal
+use Rattle.dsdl_lex.proofs.line.put_tokens.Goals as goal
 
 pub returns-in-Some-clause-tokens : goal.returns-in-Some-clause-tokens
 returns-in-Some-clause-tokens c =
     let split : Token = record { kind = k.Split; from = c.in-Some.at; to = c.in-Some.at + c.in-Some.n } in
-    subst (Lexes c.args.line.now 0) (sym (c.in_ok-push.ensures.ok ∙ ap (λ l. l ++ split ∷ []) c.cut_back.ensures)) (going.split_lexes c.args.line.now c.in-Some.at c.in-Some.n c.in-Some.ensures.found)
+    subst (Lexes c.args.line.now 0) (sym (c.in_ok-push.ensures.ok ∙ ap (λ l. l ++ split ∷ []) c.requires.empty)) (going.split_lexes c.args.line.now c.in-Some.at c.in-Some.n c.in-Some.ensures.found)
 
 pub returns-then-b-eq35-clause-tokens : goal.returns-then-b-eq35-clause-tokens
 returns-then-b-eq35-clause-tokens c = going.at_comment c.args.line.now c.loop-at.tokens c.loop-at.at c.loop-at.clear c.loop-at.invariant c.loop-at-test.true c.if-b-eq35.true
