@@ -1,5 +1,5 @@
 //! The leaves of an expression, without a recursion.
-ghost use Rattle.std.specs.Prelude.{◌≡◌, ◌++◌, ◌∷◌, [], map, reverse, false, IfOk, IfSome, IfNone, OnOk};
+ghost use Rattle.std.specs.Prelude.{◌≡◌, ◌++◌, ◌∷◌, [], map, reverse, true, false, IfOk, IfSome, IfNone, OnOk};
 ghost use Rattle.dsdl_parse.specs.LeavesOf.{leaves_of, parts_of, is_leaf, is_name_at, names_it};
 
 use crate::expr::{Expr, ExprNode};
@@ -70,6 +70,8 @@ fn stack_all<'a>(exprs: &'a [Expr], stack: &mut Vec<&'a Expr>) -> Result<(), NoM
 
 /// What an expression is that has no others in it.
 pub fn as_leaf<'a>(expr: &'a Expr) -> Option<&'a ExprNode>
+    ensures own { IfSome result (λ leaf. leaf.now ≡ expr.now.node) }
+    ensures some { IfSome result (λ _. is_leaf expr.now.node ≡ true) }
     ensures leaf { IfSome result (λ leaf. leaves_of expr.now ≡ leaf.now ∷ []) }
     ensures none { IfNone result (is_leaf expr.now.node ≡ false) }
 {
