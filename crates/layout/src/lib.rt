@@ -4,6 +4,7 @@
 mod bodies;
 mod composite;
 mod ends;
+pub mod error;
 mod layout;
 mod lengths;
 mod of_schema;
@@ -12,6 +13,7 @@ mod within;
 
 pub use composite::Composite;
 pub use ends::ends_after;
+pub use error::LayoutError;
 pub use layout::Layout;
 pub use lengths::part_lengths;
 pub use of_schema::{composite_of, layout_of};

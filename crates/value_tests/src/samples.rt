@@ -6,7 +6,7 @@ ghost use Rattle.value_tests.specs.Samples.{choice, empty, inner, list, newer_in
 
 use cy_bits::{Boxed, List, NoMemory, Text};
 use dsdl_types::{Body, Cast, Field, Schema, Shared};
-use layout::{Layout, layout_of};
+use layout::{Layout, LayoutError, layout_of};
 use std::alloc::Global;
 
 /// The places of the types among `layouts`.
@@ -179,40 +179,40 @@ fn empty(alloc: Global) -> Result<Schema, NoMemory>
     structure(alloc, Vec::new(alloc), 0, true)
 }
 
-fn outer_layout(alloc: Global) -> Result<Layout, NoMemory> {
+fn outer_layout(alloc: Global) -> Result<Layout, LayoutError> {
     layout_of(alloc, &outer(alloc)?)
 }
 
-fn newer_outer_layout(alloc: Global) -> Result<Layout, NoMemory> {
+fn newer_outer_layout(alloc: Global) -> Result<Layout, LayoutError> {
     layout_of(alloc, &newer_outer(alloc)?)
 }
 
-fn list_layout(alloc: Global) -> Result<Layout, NoMemory> {
+fn list_layout(alloc: Global) -> Result<Layout, LayoutError> {
     layout_of(alloc, &list(alloc)?)
 }
 
-fn choice_layout(alloc: Global) -> Result<Layout, NoMemory> {
+fn choice_layout(alloc: Global) -> Result<Layout, LayoutError> {
     layout_of(alloc, &choice(alloc)?)
 }
 
-fn short_layout(alloc: Global) -> Result<Layout, NoMemory> {
+fn short_layout(alloc: Global) -> Result<Layout, LayoutError> {
     layout_of(alloc, &short(alloc)?)
 }
 
-fn numbers_layout(alloc: Global) -> Result<Layout, NoMemory> {
+fn numbers_layout(alloc: Global) -> Result<Layout, LayoutError> {
     layout_of(alloc, &numbers(alloc)?)
 }
 
-fn simples_layout(alloc: Global) -> Result<Layout, NoMemory> {
+fn simples_layout(alloc: Global) -> Result<Layout, LayoutError> {
     layout_of(alloc, &simples(alloc)?)
 }
 
-fn empty_layout(alloc: Global) -> Result<Layout, NoMemory> {
+fn empty_layout(alloc: Global) -> Result<Layout, LayoutError> {
     layout_of(alloc, &empty(alloc)?)
 }
 
 /// The layouts of all types, in the order of their places.
-pub fn layouts(alloc: Global) -> Result<Vec<Layout>, NoMemory> {
+pub fn layouts(alloc: Global) -> Result<Vec<Layout>, LayoutError> {
     let layouts = vec![in alloc;
         outer_layout(alloc)?,
         newer_outer_layout(alloc)?,
@@ -222,6 +222,6 @@ pub fn layouts(alloc: Global) -> Result<Vec<Layout>, NoMemory> {
         numbers_layout(alloc)?,
         simples_layout(alloc)?,
         empty_layout(alloc)?,
-    ]?;
-    Ok(layouts)
+    ];
+    layouts.map_err(|_| LayoutError::NoMemory)
 }
