@@ -1,7 +1,5 @@
-# make try WORDS='COMMAND ARGUMENTS' [LOG=FILE] [ROOT=FOLDER]: runs any command by the kit's quick build, with LOG as its
-#   standard input. It takes some two minutes, proves nothing and leaves nothing; it shows at most 1 MiB of what is
-#   written. The program finds copies of the files and folders that WORDS names, of ROOT, and of the folder that a plan
-#   serves.
+# make try WORDS='COMMAND ARGUMENTS' [LOG=FILE]: runs any command by the kit's quick build, with LOG as its standard input.
+#   It takes some two minutes, proves nothing and leaves nothing; it shows at most 1 MiB of what is written.
 # make run [PLAN=FILE] [LOG=FILE] [ROOT=FOLDER]: the same of `cyphal run ROOT PLAN`. Without PLAN and LOG it takes those of
 #   examples/first, without ROOT no types.
 # make build: proves the program and leaves it, optimised, as build/cyphal. From nothing that proves every crate below it:
@@ -17,7 +15,7 @@ SHELL = /bin/bash
 
 ROOT = none
 PLAN = examples/first/plan
-LOG = $(if $(WORDS),/dev/null,examples/first/log)
+LOG = /dev/null
 WORDS =
 PREFIX = /usr/local
 INSTALL = install
@@ -30,18 +28,21 @@ ZSH_COMPLETIONS = $(DESTDIR)$(PREFIX)/share/zsh/site-functions
 
 .PHONY: try run build built install uninstall deb test bench
 
-# The files at or below the words of $(1) that are paths, and of the folder that a plan among them serves.
-files_below = $(if $(wildcard $(1)),$(shell find $(wildcard $(1)) -type f))
-served_by = $(if $(1),$(shell sed -n 's/^serve //p' $(1) /dev/null))
-plans = $(foreach it,$(wildcard $(1)),$(shell test -f $(it) && echo $(it)))
+# The quick build's program runs in a folder of its own. So the words that lead to a file or a folder are made absolute, but
+# for those of fetch, whose path is another node's; and what a plan among them serves is copied to that folder.
+paths = $(if $(filter fetch,$(firstword $(WORDS))),,$(filter-out none,$(wildcard $(WORDS))))
+words = $(foreach it,$(WORDS),$(if $(filter $(it),$(paths)),$(abspath $(it)),$(it)))
+served = $(if $(paths),$(filter-out /% ../%,$(shell sed -n 's/^serve //p' $(paths) 2> /dev/null)))
+copies = $(foreach it,$(if $(served),$(shell find $(wildcard $(served)) -type f)),--data $(it)=$(abspath $(it)))
 
+# The quick build's own lines on how the program ended aren't shown: they sound like those of a proof.
 try:
 	@test -n "$(WORDS)" || { echo "make try: say what to run, as WORDS='compile examples/types'" >&2; exit 1; }
 	@echo 'A quick build, some two minutes. Nothing has proved it; make build proves the program and leaves it.' >&2
-	@{ cd crates/cyphal && rt try \
-	  $(foreach it,$(sort $(call files_below,$(WORDS) $(ROOT) $(call served_by,$(call plans,$(WORDS))))),--data $(it)=$(abspath $(it))) \
-	  -- $(WORDS) < $(abspath $(LOG)) 2>&1 >&3 3>&- | sed '/^checked: ended /d; /^run=ended /d' >&2; } 3>&1
+	@{ cd crates/cyphal && rt try $(copies) -- $(words) < $(abspath $(LOG)) 2>&1 >&3 3>&- \
+	  | sed '/^checked: ended /d; /^run=ended /d' >&2; } 3>&1
 
+run: LOG = examples/first/log
 run: WORDS = run $(ROOT) $(PLAN)
 run: try
 
