@@ -61,7 +61,8 @@ install: built
 	$(INSTALL) -m 644 completions/cyphal.bash $(BASH_COMPLETIONS)/cyphal
 	$(INSTALL) -m 644 completions/_cyphal $(ZSH_COMPLETIONS)/_cyphal
 	$(INSTALL) -m 644 LICENSE CHANGELOG.md docs/guide.md docs/theorems.md $(DOC)
-	cp -R --no-preserve=mode examples $(DOC)
+	cp -R examples $(DOC)
+	chmod -R u=rwX,go=rX $(DOC)/examples
 
 uninstall:
 	rm -f $(BIN)/cyphal $(MAN)/cyphal.1 $(BASH_COMPLETIONS)/cyphal $(ZSH_COMPLETIONS)/_cyphal
@@ -73,7 +74,7 @@ deb: built
 	$(MAKE) install DESTDIR=$(CURDIR)/build/deb PREFIX=/usr ZSH_COMPLETIONS=$(CURDIR)/build/deb/usr/share/zsh/vendor-completions
 	cd build/deb/usr/share && mv doc/cyphal/LICENSE doc/cyphal/copyright && mv doc/cyphal/CHANGELOG.md doc/cyphal/changelog
 	gzip -9n build/deb/usr/share/man/man1/cyphal.1 build/deb/usr/share/doc/cyphal/changelog
-	mkdir build/deb/DEBIAN
+	$(INSTALL) -d build/deb/DEBIAN
 	sed -e "s/@VERSION@/$$(build/cyphal --version | cut -d ' ' -f 2)/" -e "s/@ARCHITECTURE@/$$(dpkg --print-architecture)/" \
 	  -e "s/@SIZE@/$$(du -sk build/deb/usr | cut -f 1)/" packaging/control > build/deb/DEBIAN/control
 	dpkg-deb --root-owner-group --build build/deb build
