@@ -1,5 +1,5 @@
 -- What a loop over lines has done, by how it ended.
-use Rattle.std.specs.Prelude.{◌≡◌, ◌≤◌, ◌+◌, ◌++◌, ℕ, List, [], Option, length}
+use Rattle.std.specs.Prelude.{◌≡◌, ◌≤◌, ◌⊎◌, ◌+◌, ◌++◌, ℕ, List, [], Option, length}
 use Rattle.cy_outside.specs.Written.{behind, Begins}
 use Rattle.line_loop.specs.Input.{IsTaken}
 use Rattle.line_loop.specs.Lines.{lines_of}
@@ -20,7 +20,7 @@ pub record AreFirst {R : Type 0} (v : Voice R) (taken rest : List ℕ) (lines : 
   pub others : List (List ℕ)
   pub input : heard_lines v.bounds (taken ++ rest) ≡ lines ++ behind
   pub alone : heard_lines v.bounds taken ≡ lines ++ others
-  pub answered : AreAnswered v 1 lines text
+  pub answered : AreAnswered v [] lines text
 
 -- exactly the lines whose newline was taken are answered, and what stands behind them is not too
 -- long
@@ -37,6 +37,13 @@ pub record Begun {R : Type 0} (v : Voice R) (taken rest : List ℕ) (before afte
   pub lines : AreFirst v taken rest answered text
   pub written : Begins text before after
 
+-- an input has this reply, of which a beginning was written
+pub record BegunReply {R : Type 0} (v : Voice R) (bytes : List ℕ) (before after : Option (List ℕ)) : Type 0 where
+  pub text : List ℕ
+  pub ended : LinesEnded R
+  pub reply : IsReply v bytes text ended
+  pub written : Begins text before after
+
 -- what was done over the bytes that were taken, and those behind them
 abbrev pub Gone : {R : Type 0} → Voice R → List ℕ → List ℕ → LinesEnded R → Option (List ℕ) → Option (List ℕ) → Type 0
 Gone v taken rest end.Ok before after = (rest ≡ []) × Said v taken end.Ok before after
@@ -44,7 +51,8 @@ Gone v taken rest (end.Refused refusal) before after =
     Said v (taken ++ rest) (end.Refused refusal) before after
 Gone v taken rest end.TooLong before after = Said v (taken ++ rest) end.TooLong before after
 Gone v taken rest end.ReadFault before after = Upto v taken rest before after
-Gone v taken rest end.WriteFault before after = Begun v taken rest before after
+Gone v taken rest end.WriteFault before after =
+    Begun v taken rest before after ⊎ BegunReply v (taken ++ rest) before after
 Gone v taken rest end.NoMemory before after = Begun v taken rest before after
 
 -- the same over an input, of which one byte more than counts is taken at most

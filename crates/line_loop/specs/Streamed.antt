@@ -1,5 +1,5 @@
 -- How far the input was taken before what it gave was answered.
-use Rattle.std.specs.Prelude.{◌≡◌, ◌<◌, ◌++◌, ℕ, List, Option, length}
+use Rattle.std.specs.Prelude.{◌≡◌, ◌<◌, ◌++◌, ℕ, List, [], Option, length}
 use Rattle.cy_outside.specs.Written.{behind}
 use Rattle.line_loop.specs.Input.{IsTaken}
 use Rattle.line_loop.specs.Lines.{lines_of}
@@ -9,7 +9,7 @@ use Rattle.line_loop.specs.Reply.{Voice, AreAnswered}
 pub record HasAnswered {R : Type 0} (v : Voice R) (lines : List (List ℕ)) (before after : Option (List ℕ)) : Type 0 where
   pub text : List ℕ
   pub more : List ℕ
-  pub answered : AreAnswered v 1 lines text
+  pub answered : AreAnswered v [] lines text
   pub written : after ≡ behind before (text ++ more)
 
 -- However it ended: of each front of the bytes that were taken, behind which more than 65,536 bytes

@@ -1,14 +1,14 @@
-ghost use Rattle.std.specs.Prelude.{◌≡◌, ◌≤◌, ◌<◌, ◌+◌, ℕ, List, [], Some, None, length, OnOk, IfErr};
+ghost use Rattle.std.specs.Prelude.{◌≡◌, ◌≢◌, ◌≤◌, ◌<◌, ◌+◌, ℕ, List, [], Some, None, length, OnOk, IfErr};
 ghost use Rattle.cy_outside.specs.Outside.{Rose};
 ghost use Rattle.memchr.specs.Find.{IsFirstByte, is_byte};
 ghost use Rattle.line_text.specs.Buffer.{text_of};
 ghost use Rattle.line_loop.specs.Gone.{HasGone};
 ghost use Rattle.line_loop.specs.Reader.{held_of, count_of, left_of};
-ghost use Rattle.line_loop.specs.Reply.{voice, IsReply, HasOneAnswer};
-ghost use Rattle.line_loop.specs.Steps.{EndsBy, Goes, Stops};
+ghost use Rattle.line_loop.specs.Reply.{voices, IsReply, HasOneAnswer};
+ghost use Rattle.line_loop.specs.Steps.{Comes, EndsBy, Goes, IsOverlong, IsWhole, Stays, Stops};
 ghost use Rattle.line_loop.specs.Streamed.{IsStreamed};
 
-use crate::answer::{answer, ended_by, refuse};
+use crate::answer::{answer, close, ended_by, refuse};
 use crate::flush::{flush, flush_much};
 use crate::reader::{Came, LineReader};
 use crate::{LineBounds, LineListener, LinesEnded};
@@ -24,15 +24,16 @@ use std::alloc::Global;
 /// lines whose newline is among these are answered before it is refused.
 pub fn listen_lines<M: LineListener, L: Source, O: Sink>(
     alloc: Global,
-    listener: &M,
+    listener: &mut M,
     bounds: LineBounds,
     input: &mut L,
     out: &mut O,
 ) -> LinesEnded<M::Refusal>
-    ensures gone { let v = voice (M.answers listener.now) (M.long listener.now) bounds in
+    requires { M.heard listener.old listener.old [] }
+    ensures gone { let v = voices M.answers M.last M.long bounds listener.old in
         HasGone v (L.left input.old) (L.left input.new) result (O.written out.old)
         (O.written out.new) }
-    ensures streamed { let v = voice (M.answers listener.now) (M.long listener.now) bounds in
+    ensures streamed { let v = voices M.answers M.last M.long bounds listener.old in
         IsStreamed v (L.left input.old) (L.left input.new) (O.written out.old) (O.written out.new) }
     ensures read { result ≡ LinesEnded.ReadFault → Rose (L.faults input.old) (L.faults input.new) }
     ensures write { result ≡ LinesEnded.WriteFault → Rose (O.faults out.old) (O.faults out.new) }
@@ -48,7 +49,7 @@ pub fn listen_lines<M: LineListener, L: Source, O: Sink>(
         match reader.read(input, bounds.line) {
             Came::Bytes => {}
             Came::End => return hear_last(listener, bounds, &reader, out, &mut gathered),
-            Came::Over => return LinesEnded::TooLong,
+            Came::Over => return overlong(listener, out, &mut gathered),
             Came::Failed => return LinesEnded::ReadFault,
             Came::NoMemory => return LinesEnded::NoMemory,
         }
@@ -58,20 +59,22 @@ pub fn listen_lines<M: LineListener, L: Source, O: Sink>(
 /// Answers each whole line that is held, and writes all answers. What stands behind the last
 /// newline is refused where it is too long for a line.
 fn settle<M: LineListener, O: Sink>(
-    listener: &M,
+    listener: &mut M,
     bounds: LineBounds,
     reader: &mut LineReader,
     out: &mut O,
     gathered: &mut TextBuffer,
 ) -> Result<(), LinesEnded<M::Refusal>>
     requires { length (text_of gathered.old) ≤ 65536 }
-    ensures goes { let v = voice (M.answers listener.now) (M.long listener.now) bounds in
-        OnOk result (Goes v (count_of reader.old) (held_of reader.old)
-        (count_of reader.new) (held_of reader.new)
-        (text_of gathered.old) (text_of gathered.new) (O.written out.old) (O.written out.new)) }
-    ensures stops { let v = voice (M.answers listener.now) (M.long listener.now) bounds in
-        IfErr result (Stops v (count_of reader.old) (held_of reader.old)
-        (text_of gathered.old) (O.written out.old) (O.written out.new)) }
+    ensures goes { let v = voices M.answers M.last M.long bounds in
+        OnOk result (Comes M.heard listener.old listener.new
+        (count_of reader.old) (count_of reader.new)
+        (λ first past new. Goes (v first) past (held_of reader.old) new (held_of reader.new)
+        (text_of gathered.old) (text_of gathered.new) (O.written out.old) (O.written out.new))) }
+    ensures stops { let v = voices M.answers M.last M.long bounds in
+        IfErr result (λ e. Stays M.heard listener.old (count_of reader.old)
+        (λ first past. Stops (v first) past (held_of reader.old)
+        (text_of gathered.old) (O.written out.old) (O.written out.new) e)) }
     ensures none { OnOk result (IsFirstByte (is_byte 10) (held_of reader.new) None) }
     ensures short { OnOk result (length (held_of reader.new) ≤ bounds.line) }
     ensures written { OnOk result (text_of gathered.new ≡ []) }
@@ -86,7 +89,7 @@ fn settle<M: LineListener, O: Sink>(
     let held = reader.held();
     if held.len() as u64 > bounds.line {
         let refusal = listener.too_long(reader.number());
-        return Err(refuse(refusal, out, gathered));
+        return Err(refuse(listener, refusal, out, gathered));
     }
     match flush(out, gathered) {
         Ok(()) => Ok(()),
@@ -96,20 +99,22 @@ fn settle<M: LineListener, O: Sink>(
 
 /// Answers each whole line that is held.
 fn hear_held<M: LineListener, O: Sink>(
-    listener: &M,
+    listener: &mut M,
     bounds: LineBounds,
     reader: &mut LineReader,
     out: &mut O,
     gathered: &mut TextBuffer,
 ) -> Result<(), LinesEnded<M::Refusal>>
     requires { length (text_of gathered.old) ≤ 65536 }
-    ensures goes { let v = voice (M.answers listener.now) (M.long listener.now) bounds in
-        OnOk result (Goes v (count_of reader.old) (held_of reader.old)
-        (count_of reader.new) (held_of reader.new)
-        (text_of gathered.old) (text_of gathered.new) (O.written out.old) (O.written out.new)) }
-    ensures stops { let v = voice (M.answers listener.now) (M.long listener.now) bounds in
-        IfErr result (Stops v (count_of reader.old) (held_of reader.old)
-        (text_of gathered.old) (O.written out.old) (O.written out.new)) }
+    ensures goes { let v = voices M.answers M.last M.long bounds in
+        OnOk result (Comes M.heard listener.old listener.new
+        (count_of reader.old) (count_of reader.new)
+        (λ first past new. Goes (v first) past (held_of reader.old) new (held_of reader.new)
+        (text_of gathered.old) (text_of gathered.new) (O.written out.old) (O.written out.new))) }
+    ensures stops { let v = voices M.answers M.last M.long bounds in
+        IfErr result (λ e. Stays M.heard listener.old (count_of reader.old)
+        (λ first past. Stops (v first) past (held_of reader.old)
+        (text_of gathered.old) (O.written out.old) (O.written out.new) e)) }
     ensures none { OnOk result (IsFirstByte (is_byte 10) (held_of reader.new) None) }
     ensures room { left_of reader.new ≡ left_of reader.old }
     ensures write { IfErr result
@@ -126,7 +131,7 @@ fn hear_held<M: LineListener, O: Sink>(
 
 /// Answers the first line that is held, which has `n` bytes.
 fn hear_line<M: LineListener, O: Sink>(
-    listener: &M,
+    listener: &mut M,
     bounds: LineBounds,
     reader: &mut LineReader,
     n: usize,
@@ -135,13 +140,15 @@ fn hear_line<M: LineListener, O: Sink>(
 ) -> Result<(), LinesEnded<M::Refusal>>
     requires line { IsFirstByte (is_byte 10) (held_of reader.old) (Some n) }
     requires few { length (text_of gathered.old) ≤ 65536 }
-    ensures goes { let v = voice (M.answers listener.now) (M.long listener.now) bounds in
-        OnOk result (Goes v (count_of reader.old) (held_of reader.old)
-        (count_of reader.new) (held_of reader.new)
-        (text_of gathered.old) (text_of gathered.new) (O.written out.old) (O.written out.new)) }
-    ensures stops { let v = voice (M.answers listener.now) (M.long listener.now) bounds in
-        IfErr result (Stops v (count_of reader.old) (held_of reader.old)
-        (text_of gathered.old) (O.written out.old) (O.written out.new)) }
+    ensures goes { let v = voices M.answers M.last M.long bounds in
+        OnOk result (Comes M.heard listener.old listener.new
+        (count_of reader.old) (count_of reader.new)
+        (λ first past new. Goes (v first) past (held_of reader.old) new (held_of reader.new)
+        (text_of gathered.old) (text_of gathered.new) (O.written out.old) (O.written out.new))) }
+    ensures stops { let v = voices M.answers M.last M.long bounds in
+        IfErr result (λ e. Stays M.heard listener.old (count_of reader.old)
+        (λ first past. Stops (v first) past (held_of reader.old)
+        (text_of gathered.old) (O.written out.old) (O.written out.new) e)) }
     ensures few { OnOk result (length (text_of gathered.new) ≤ 65536) }
     ensures less { OnOk result (length (held_of reader.new) < length (held_of reader.old)) }
     ensures room { left_of reader.new ≡ left_of reader.old }
@@ -151,7 +158,7 @@ fn hear_line<M: LineListener, O: Sink>(
 {
     let line = &reader.held()[..n];
     if let Err(stop) = answer(listener, bounds, reader.number(), line, gathered) {
-        return Err(ended_by(stop, out, gathered));
+        return Err(ended_by(listener, stop, out, gathered));
     }
     reader.skip_line(n);
     match flush_much(out, gathered) {
@@ -160,41 +167,75 @@ fn hear_line<M: LineListener, O: Sink>(
     }
 }
 
-/// Answers the last line, where what is held is one that lacks its newline.
+/// Answers the last line, where what is held is one that lacks its newline, and writes the last words.
 fn hear_last<M: LineListener, O: Sink>(
-    listener: &M,
+    listener: &mut M,
     bounds: LineBounds,
     reader: &LineReader,
     out: &mut O,
     gathered: &mut TextBuffer,
 ) -> LinesEnded<M::Refusal>
     requires { text_of gathered.old ≡ [] }
-    ensures last { let v = voice (M.answers listener.now) (M.long listener.now) bounds in
-        EndsBy v (count_of reader.now) (held_of reader.now)
-        (O.written out.old) (O.written out.new) result }
+    ensures last { let v = voices M.answers M.last M.long bounds in
+        Stays M.heard listener.old (count_of reader.now)
+        (λ first past. EndsBy (v first) past (held_of reader.now)
+        (O.written out.old) (O.written out.new) result) }
     ensures write { result ≡ LinesEnded.WriteFault → Rose (O.faults out.old) (O.faults out.new) }
     ensures kept { result ≡ LinesEnded.Ok → O.faults out.new ≡ O.faults out.old }
 {
     let line = reader.held();
     if line.is_empty() {
-        return LinesEnded::Ok;
+        return whole(listener, out, gathered);
     }
     if let Err(stop) = answer(listener, bounds, reader.number(), line, gathered) {
-        return ended_by(stop, out, gathered);
+        return ended_by(listener, stop, out, gathered);
     }
-    match flush(out, gathered) {
+    whole(listener, out, gathered)
+}
+
+/// Writes what is gathered and the last words at the end of the input.
+fn whole<M: LineListener, O: Sink>(
+    listener: &mut M,
+    out: &mut O,
+    gathered: &mut TextBuffer,
+) -> LinesEnded<M::Refusal>
+    ensures ended { (first : M) (past : List (List ℕ)) → M.heard first listener.old past
+        → IsWhole (M.last first past) (text_of gathered.old)
+        (O.written out.old) (O.written out.new) result }
+    ensures write { result ≡ LinesEnded.WriteFault → Rose (O.faults out.old) (O.faults out.new) }
+    ensures kept { result ≡ LinesEnded.Ok → O.faults out.new ≡ O.faults out.old }
+{
+    match close(listener, out, gathered) {
         Ok(()) => LinesEnded::Ok,
-        Err(_) => LinesEnded::WriteFault,
+        Err(ended) => ended,
     }
 }
 
-/// The reply to an input is one: where there is one answer to each line, no two texts are said to
-/// one input, and no two ends come of it.
+/// Writes the last words where the input has more bytes than count.
+fn overlong<M: LineListener, O: Sink>(
+    listener: &mut M,
+    out: &mut O,
+    gathered: &mut TextBuffer,
+) -> LinesEnded<M::Refusal>
+    requires { text_of gathered.old ≡ [] }
+    ensures ended { (first : M) (past : List (List ℕ)) → M.heard first listener.old past
+        → IsOverlong (M.last first past) (O.written out.old) (O.written out.new) result }
+    ensures write { result ≡ LinesEnded.WriteFault → Rose (O.faults out.old) (O.faults out.new) }
+    ensures short { result ≢ LinesEnded.Ok }
+{
+    match close(listener, out, gathered) {
+        Ok(()) => LinesEnded::TooLong,
+        Err(ended) => ended,
+    }
+}
+
+/// The reply to an input is one: where there is one answer to each line, and no two last words, no
+/// two texts are said to one input, and no two ends come of it.
 pub fn one_reply<M: LineListener>(listener: &M, bounds: LineBounds)
-    ensures text { let v = voice (M.answers listener.now) (M.long listener.now) bounds in
+    ensures text { let v = voices M.answers M.last M.long bounds listener.now in
         HasOneAnswer v → (bytes t u : List ℕ) (e f : LinesEnded M.Refusal)
         → IsReply v bytes t e → IsReply v bytes u f → t ≡ u }
-    ensures end { let v = voice (M.answers listener.now) (M.long listener.now) bounds in
+    ensures end { let v = voices M.answers M.last M.long bounds listener.now in
         HasOneAnswer v → (bytes t u : List ℕ) (e f : LinesEnded M.Refusal)
         → IsReply v bytes t e → IsReply v bytes u f → e ≡ f }
 {}

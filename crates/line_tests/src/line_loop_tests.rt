@@ -1,5 +1,6 @@
 //! A small listener, and what it says to inputs.
 ghost use Rattle.std.specs.Prelude.{◌≡◌, ◌≢◌, ◌+◌, ◌++◌, ◌∷◌, ◌%◌, [], Some, length, MatchResult};
+ghost use Rattle.line_loop.specs.Reply.{by_number, no_words};
 
 use cy_bits::NoMemory;
 use cy_outside::{Calls, Failed, MemSink, MemSource, Source};
@@ -28,14 +29,18 @@ impl LineListener for Numbers {
 
     type Refusal = Refusal;
 
-    ghost answers = { λ s number line a. MatchResult a
+    ghost answers = { λ s. by_number (λ number line a. MatchResult a
         (λ text. (length line ≢ 3) × (text ≡ (48 + number % 10) ∷ [] ++ (line ++ 10 ∷ [])))
-        (λ refusal. (length line ≡ 3) × (refusal ≡ Bad number)) };
+        (λ refusal. (length line ≡ 3) × (refusal ≡ Bad number))) };
 
-    ghost long = { λ s number. Long number };
+    ghost last = { λ s. no_words };
+
+    ghost long = { λ number. Long number };
+
+    ghost heard = { λ first now past. now ≡ first };
 
     fn hear(
-        &self,
+        &mut self,
         number: u64,
         line: &[u8],
         gathered: &mut TextBuffer,
@@ -56,13 +61,19 @@ impl LineListener for Numbers {
         Ok(())
     }
 
+    fn finish(&mut self, _gathered: &mut TextBuffer) -> Result<(), NoMemory> {
+        Ok(())
+    }
+
     fn too_long(&self, number: u64) -> Refusal {
         Refusal::Long(number)
     }
 }
 
 /// One with memory for each line.
-const NUMBERS: Numbers = Numbers { memory: u64::MAX };
+fn with_memory() -> Numbers {
+    Numbers { memory: u64::MAX }
+}
 
 /// Bytes that come one by one; the reads with some numbers fail.
 #[derive(Drop)]
@@ -140,7 +151,7 @@ fn lines_are_answered_in_order(rt: HostRuntime) -> Result<(), Fail> {
         };
         let mut input = MemSource::new(row.input, &[]);
         let mut out = MemSink::new(rt.alloc(), &[]);
-        let ended = listen_lines(rt.alloc(), &NUMBERS, bounds, &mut input, &mut out);
+        let ended = listen_lines(rt.alloc(), &mut with_memory(), bounds, &mut input, &mut out);
         assert_eq!(rt; ended, row.ended);
         assert_eq!(rt; out.written.as_slice(), row.written);
         let mut slow = OneByOne {
@@ -148,7 +159,7 @@ fn lines_are_answered_in_order(rt: HostRuntime) -> Result<(), Fail> {
             calls: Calls::new(&[]),
         };
         let mut again = MemSink::new(rt.alloc(), &[]);
-        let ended = listen_lines(rt.alloc(), &NUMBERS, bounds, &mut slow, &mut again);
+        let ended = listen_lines(rt.alloc(), &mut with_memory(), bounds, &mut slow, &mut again);
         assert_eq!(rt; ended, row.ended);
         assert_eq!(rt; again.written.as_slice(), row.written);
     }
@@ -187,7 +198,7 @@ fn a_read_fault_leaves_the_answers_to_the_lines_before(rt: HostRuntime) -> Resul
             calls: Calls::new(&failing),
         };
         let mut out = MemSink::new(rt.alloc(), &[]);
-        let ended = listen_lines(rt.alloc(), &NUMBERS, bounds, &mut input, &mut out);
+        let ended = listen_lines(rt.alloc(), &mut with_memory(), bounds, &mut input, &mut out);
         assert_eq!(rt; ended, LinesEnded::ReadFault);
         assert_eq!(rt; out.written.as_slice(), fault.written);
     }
@@ -202,7 +213,7 @@ fn a_write_fault_ends_the_loop(rt: HostRuntime) -> Result<(), Fail> {
         calls: Calls::new(&[]),
     };
     let mut out = MemSink::new(rt.alloc(), &[1]);
-    let ended = listen_lines(rt.alloc(), &NUMBERS, bounds, &mut input, &mut out);
+    let ended = listen_lines(rt.alloc(), &mut with_memory(), bounds, &mut input, &mut out);
     assert_eq!(rt; ended, LinesEnded::WriteFault);
     assert_eq!(rt; out.written.as_slice(), b"1ab\n".as_slice());
     Ok(())
@@ -216,8 +227,8 @@ fn want_of_memory_ends_the_loop(rt: HostRuntime) -> Result<(), Fail> {
         calls: Calls::new(&[]),
     };
     let mut out = MemSink::new(rt.alloc(), &[]);
-    let one = Numbers { memory: 1 };
-    let ended = listen_lines(rt.alloc(), &one, bounds, &mut input, &mut out);
+    let mut one = Numbers { memory: 1 };
+    let ended = listen_lines(rt.alloc(), &mut one, bounds, &mut input, &mut out);
     assert_eq!(rt; ended, LinesEnded::NoMemory);
     assert_eq!(rt; out.written.as_slice(), b"1ab\n".as_slice());
     Ok(())
@@ -232,16 +243,109 @@ fn an_input_may_be_longer_than_a_block(rt: HostRuntime) -> Result<(), NoMemory> 
     let lines = vec![in rt.alloc(); b'\n'; 200_000]?;
     let mut input = MemSource::new(&lines, &[]);
     let mut out = MemSink::new(rt.alloc(), &[]);
-    let ended = listen_lines(rt.alloc(), &NUMBERS, bounds, &mut input, &mut out);
+    let ended = listen_lines(rt.alloc(), &mut with_memory(), bounds, &mut input, &mut out);
     assert_eq!(rt; ended, LinesEnded::Ok);
     assert_eq!(rt; out.written.len(), 400_000);
     assert!(rt; out.written.as_slice().ends_with(b"8\n9\n0\n"));
     let line = vec![in rt.alloc(); b'a'; 200_000]?;
     let mut input = MemSource::new(&line, &[]);
     let mut out = MemSink::new(rt.alloc(), &[]);
-    let ended = listen_lines(rt.alloc(), &NUMBERS, bounds, &mut input, &mut out);
+    let ended = listen_lines(rt.alloc(), &mut with_memory(), bounds, &mut input, &mut out);
     assert_eq!(rt; ended, LinesEnded::Ok);
     assert_eq!(rt; out.written.len(), 200_002);
     assert!(rt; out.written.as_slice().starts_with(b"1aa"));
+    Ok(())
+}
+
+/// Says to each line nothing, but refuses one of three bytes, and at the end the last digit of how many
+/// lines it has heard.
+#[derive(Drop)]
+struct Count {
+    /// How many lines it has heard.
+    lines: u64,
+}
+
+impl LineListener for Count {
+    ghost use Rattle.line_tests.specs.declared.line_loop_tests.Refusal.TheVariants.{Bad, Long};
+
+    type Refusal = Refusal;
+
+    ghost answers = { λ s past line a. MatchResult a
+        (λ text. (length line ≢ 3) × (text ≡ []))
+        (λ refusal. (length line ≡ 3) × (refusal ≡ Bad (length past + 1))) };
+
+    ghost last = { λ s past words. words ≡ (48 + length past % 10) ∷ 10 ∷ [] };
+
+    ghost long = { λ number. Long number };
+
+    ghost heard = { λ first now past. now.lines ≡ length past };
+
+    fn hear(
+        &mut self,
+        number: u64,
+        line: &[u8],
+        _gathered: &mut TextBuffer,
+    ) -> Result<(), LineStop<Refusal>> {
+        if line.len() == 3 {
+            return Err(LineStop::Refused(Refusal::Bad(number)));
+        }
+        self.lines = number;
+        Ok(())
+    }
+
+    fn finish(&mut self, gathered: &mut TextBuffer) -> Result<(), NoMemory> {
+        let words = [b'0' + (self.lines % 10) as u8, b'\n'];
+        gathered.push(&words)
+    }
+
+    fn too_long(&self, number: u64) -> Refusal {
+        Refusal::Long(number)
+    }
+}
+
+#[test]
+fn last_words_come_at_the_end_and_before_a_refusal(rt: HostRuntime) -> Result<(), Fail> {
+    let bad = LinesEnded::Refused(Refusal::Bad(2));
+    let long = LinesEnded::Refused(Refusal::Long(2));
+    let rows = [
+        row(b"", 20, LinesEnded::Ok, b"0\n"),
+        row(b"a\n\nab", 20, LinesEnded::Ok, b"3\n"),
+        row(b"ab\ncd\n", 6, LinesEnded::Ok, b"2\n"),
+        row(b"a\nbad\nab\n", 20, bad, b"1\n"),
+        row(b"a\nbad", 20, bad, b"1\n"),
+        row(b"a\nabcde\nab", 20, long, b"1\n"),
+        row(b"a\nabcde", 20, long, b"1\n"),
+        row(b"ab\ncd\ne\n", 6, LinesEnded::TooLong, b"2\n"),
+    ];
+    for row in rows {
+        let bounds = LineBounds {
+            line: 4,
+            all: row.all,
+        };
+        let mut slow = OneByOne {
+            left: row.input,
+            calls: Calls::new(&[]),
+        };
+        let mut out = MemSink::new(rt.alloc(), &[]);
+        let mut count = Count { lines: 0 };
+        let ended = listen_lines(rt.alloc(), &mut count, bounds, &mut slow, &mut out);
+        assert_eq!(rt; ended, row.ended);
+        assert_eq!(rt; out.written.as_slice(), row.written);
+    }
+    Ok(())
+}
+
+#[test]
+fn a_read_fault_has_no_last_words(rt: HostRuntime) -> Result<(), Fail> {
+    let bounds = LineBounds { line: 4, all: 20 };
+    let mut input = OneByOne {
+        left: b"ab\ncd\nef",
+        calls: Calls::new(&[7]),
+    };
+    let mut out = MemSink::new(rt.alloc(), &[]);
+    let mut count = Count { lines: 0 };
+    let ended = listen_lines(rt.alloc(), &mut count, bounds, &mut input, &mut out);
+    assert_eq!(rt; ended, LinesEnded::ReadFault);
+    assert_eq!(rt; out.written.as_slice(), b"".as_slice());
     Ok(())
 }

@@ -6,6 +6,7 @@ ghost use Rattle.dsdl_types.specs.Rules.{IsSchema};
 ghost use Rattle.dsdl_types.specs.Schemas.{is_composite};
 ghost use Rattle.dsdl_types.specs.Views.{sch};
 ghost use Rattle.line_loop.specs.Heard.{Hears};
+ghost use Rattle.line_loop.specs.Reply.{by_number, no_words};
 ghost use Rattle.line_text.specs.Buffer.{text_of};
 ghost use Rattle.value_lines.specs.Decoded.{Decodes, IsReadAnswer};
 
@@ -39,17 +40,25 @@ impl LineListener for Decoder<'_> {
 
     type Refusal = Refusal;
 
-    ghost answers = { λ d. Decodes (sch d.schema.now) };
+    ghost answers = { λ d. by_number (Decodes (sch d.schema.now)) };
 
-    ghost long = { λ d n. refusal.Text n };
+    ghost last = { λ d. no_words };
+
+    ghost long = { λ n. refusal.Text n };
+
+    ghost heard = { λ first now past. now ≡ first };
 
     fn hear(
-        &self,
+        &mut self,
         number: u64,
         line: &[u8],
         gathered: &mut TextBuffer,
     ) -> Result<(), LineStop<Refusal>> {
         decode_line(self.alloc, self.schema, number, line, gathered)
+    }
+
+    fn finish(&mut self, _gathered: &mut TextBuffer) -> Result<(), NoMemory> {
+        Ok(())
     }
 
     fn too_long(&self, number: u64) -> Refusal {

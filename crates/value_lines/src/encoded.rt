@@ -8,6 +8,7 @@ ghost use Rattle.dsdl_types.specs.Fits.{Fits};
 ghost use Rattle.dsdl_types.specs.Laws.{encoding};
 ghost use Rattle.dsdl_types.specs.Views.{sch, val};
 ghost use Rattle.line_loop.specs.Heard.{Hears};
+ghost use Rattle.line_loop.specs.Reply.{by_number, no_words};
 ghost use Rattle.line_text.specs.Buffer.{text_of};
 ghost use Rattle.value_lines.specs.Encoded.{hex_line, Encodes};
 
@@ -40,17 +41,25 @@ impl LineListener for Encoder<'_> {
 
     type Refusal = Refusal;
 
-    ghost answers = { λ e. Encodes (sch e.schema.now) };
+    ghost answers = { λ e. by_number (Encodes (sch e.schema.now)) };
 
-    ghost long = { λ e n. refusal.Text n };
+    ghost last = { λ e. no_words };
+
+    ghost long = { λ n. refusal.Text n };
+
+    ghost heard = { λ first now past. now ≡ first };
 
     fn hear(
-        &self,
+        &mut self,
         number: u64,
         line: &[u8],
         gathered: &mut TextBuffer,
     ) -> Result<(), LineStop<Refusal>> {
         encode_line(self.alloc, self.schema, number, line, gathered)
+    }
+
+    fn finish(&mut self, _gathered: &mut TextBuffer) -> Result<(), NoMemory> {
+        Ok(())
     }
 
     fn too_long(&self, number: u64) -> Refusal {
