@@ -1,0 +1,9 @@
+pub mod Blocks
+pub mod Front
+pub mod Readings
+pub mod Fields
+pub mod Rows
+pub mod Variants
+pub mod Bytes
+pub mod Digits
+pub mod Words

@@ -1,0 +1,160 @@
+//! Arrays (Cyphal Specification, section 3.4.4).
+ghost use Rattle.std.specs.Prelude.{◌≡◌, OnOk};
+ghost use Rattle.dsdl_types.specs.Schemas.{Simple, Var};
+ghost use Rattle.dsdl_types.specs.Views.{sch};
+ghost use Rattle.line_text.specs.Buffer.{text_of};
+ghost use Rattle.value_put.specs.Counted.{counted};
+ghost use Rattle.value_put.specs.Parts.{PutsItem, array_told, own_told, row_told};
+ghost use Rattle.value_put.specs.Told.{Begins, Puts};
+
+use crate::bits::Bits;
+use crate::byte_array::put_bytes;
+use crate::marks::{put_lead, put_mark};
+use crate::own::put_part;
+use crate::parts::{holding_bits, is_uint8};
+use crate::primitive::{Float, Primitive, Signed, Truth, Unsigned};
+use crate::stop::Stop;
+use dsdl_types::Schema;
+use line_text::TextBuffer;
+
+/// Puts an array whose length field stands in front.
+#[tactic(auto, using(crate::proofs::Front::begins))]
+#[cycle(put)]
+pub fn put_var(
+    item: &Schema,
+    cap: u32,
+    at: &mut Bits<'_>,
+    text: &mut TextBuffer,
+) -> Result<(), Stop>
+    ensures told { OnOk result (Puts (own_told (Var (sch item.now) cap))
+        at.old text.old at.new text.new) }
+    ensures same { counted at.new ≡ counted at.old }
+    ensures front { Begins (text_of text.old) (text_of text.new) }
+{
+    let count = at.take(holding_bits(u64::from(cap)))?;
+    if count > u64::from(cap) {
+        return Err(Stop::GivesUp);
+    }
+    put_array(item, count as u32, at, text)
+}
+
+/// Puts an array of so many items.
+#[tactic(auto, using(crate::proofs::Front::begins))]
+#[cycle(put)]
+pub fn put_array(
+    item: &Schema,
+    count: u32,
+    at: &mut Bits<'_>,
+    text: &mut TextBuffer,
+) -> Result<(), Stop>
+    ensures told { OnOk result (Puts (array_told (sch item.now) count)
+        at.old text.old at.new text.new) }
+    ensures same { counted at.new ≡ counted at.old }
+    ensures front { Begins (text_of text.old) (text_of text.new) }
+{
+    if is_uint8(item) {
+        return put_bytes(item, count, at, text);
+    }
+    put_mark(b'[', text)?;
+    put_row(item, count, at, text)?;
+    put_mark(b']', text)
+}
+
+/// Puts items, with a comma and a space between each two.
+#[tactic(auto, using(crate::proofs::Front::begins))]
+#[cycle(put)]
+fn put_row(item: &Schema, count: u32, at: &mut Bits<'_>, text: &mut TextBuffer) -> Result<(), Stop>
+    ensures told { OnOk result (Puts (row_told (sch item.now) count 0)
+        at.old text.old at.new text.new) }
+    ensures same { counted at.new ≡ counted at.old }
+    ensures front { Begins (text_of text.old) (text_of text.new) }
+{
+    match item {
+        Schema::Bool => put_primitives(&Truth, count, at, text),
+        Schema::Uint { bits, cast } => {
+            let item = Unsigned {
+                bits: *bits,
+                cast: *cast,
+            };
+            put_primitives(&item, count, at, text)
+        }
+        Schema::Int { bits } => put_primitives(&Signed { bits: *bits }, count, at, text),
+        Schema::Float { bits, cast } => {
+            let item = Float {
+                bits: *bits,
+                cast: *cast,
+            };
+            put_primitives(&item, count, at, text)
+        }
+        _ => put_parts(item, count, at, text),
+    }
+}
+
+/// Puts items of a primitive type.
+#[tactic(auto, using(crate::proofs::Front::begins))]
+fn put_primitives<P: Primitive>(
+    item: &P,
+    count: u32,
+    at: &mut Bits<'_>,
+    text: &mut TextBuffer,
+) -> Result<(), Stop>
+    ensures told { OnOk result (Puts (row_told (Simple (P.prim item.now)) count 0)
+        at.old text.old at.new text.new) }
+    ensures same { counted at.new ≡ counted at.old }
+    ensures front { Begins (text_of text.old) (text_of text.new) }
+{
+    for index in 0..count {
+        put_primitive(item, index, at, text)?;
+    }
+    Ok(())
+}
+
+/// Puts one item of a primitive type.
+#[tactic(auto, using(crate::proofs::Front::begins))]
+#[inline(always)]
+fn put_primitive<P: Primitive>(
+    item: &P,
+    index: u32,
+    at: &mut Bits<'_>,
+    text: &mut TextBuffer,
+) -> Result<(), Stop>
+    ensures put { OnOk result (PutsItem (Simple (P.prim item.now)) index
+        at.old text.old at.new text.new) }
+    ensures same { counted at.new ≡ counted at.old }
+    ensures front { Begins (text_of text.old) (text_of text.new) }
+{
+    put_lead(index == 0, text)?;
+    item.put(at, text)
+}
+
+/// Puts items of another type.
+#[tactic(auto, using(crate::proofs::Front::begins))]
+#[cycle(put)]
+fn put_parts(
+    item: &Schema,
+    count: u32,
+    at: &mut Bits<'_>,
+    text: &mut TextBuffer,
+) -> Result<(), Stop>
+    ensures told { OnOk result (Puts (row_told (sch item.now) count 0)
+        at.old text.old at.new text.new) }
+    ensures same { counted at.new ≡ counted at.old }
+    ensures front { Begins (text_of text.old) (text_of text.new) }
+{
+    for index in 0..count {
+        put_item(item, index, at, text)?;
+    }
+    Ok(())
+}
+
+/// Puts one item of another type.
+#[tactic(auto, using(crate::proofs::Front::begins))]
+#[cycle(put)]
+fn put_item(item: &Schema, index: u32, at: &mut Bits<'_>, text: &mut TextBuffer) -> Result<(), Stop>
+    ensures put { OnOk result (PutsItem (sch item.now) index at.old text.old at.new text.new) }
+    ensures same { counted at.new ≡ counted at.old }
+    ensures front { Begins (text_of text.old) (text_of text.new) }
+{
+    put_lead(index == 0, text)?;
+    put_part(item, at, text)
+}

@@ -1,0 +1,100 @@
+//! Structures (Cyphal Specification, section 3.4.5).
+ghost use Rattle.std.specs.Prelude.{◌≡◌, IfOk, OnOk, false, true};
+ghost use Rattle.dsdl_types.specs.Views.{body_of, is_padding, named};
+ghost use Rattle.line_text.specs.Buffer.{text_of};
+ghost use Rattle.serdes.specs.Forms.{struct_of};
+ghost use Rattle.value_put.specs.Counted.{counted};
+ghost use Rattle.value_put.specs.Parts.{PutsField, fields_told, own_told};
+ghost use Rattle.value_put.specs.Told.{Begins, Puts};
+
+use crate::bits::Bits;
+use crate::marks::put_mark;
+use crate::name::put_name;
+use crate::own::{go_to_begin, put_part};
+use crate::parts::is_simple;
+use crate::primitive::put_simple;
+use crate::stop::Stop;
+use dsdl_types::{Body, Field, Schema};
+use line_text::TextBuffer;
+
+/// Puts a structure, with the padding behind its fields.
+#[tactic(auto, using(crate::proofs::Front::begins))]
+#[cycle(put)]
+pub fn put_struct(body: &Body, at: &mut Bits<'_>, text: &mut TextBuffer) -> Result<(), Stop>
+    ensures told { OnOk result (Puts (own_told (struct_of body.now))
+        at.old text.old at.new text.new) }
+    ensures same { counted at.new ≡ counted at.old }
+    ensures front { Begins (text_of text.old) (text_of text.new) }
+{
+    put_mark(b'{', text)?;
+    put_fields(body, at, text)?;
+    at.align()?;
+    put_mark(b'}', text)
+}
+
+/// Puts the fields of a structure.
+#[tactic(auto, using(crate::proofs::Front::begins))]
+#[cycle(put)]
+#[inline(always)]
+fn put_fields(body: &Body, at: &mut Bits<'_>, text: &mut TextBuffer) -> Result<(), Stop>
+    ensures told { OnOk result (Puts (fields_told true (body_of body.now).0)
+        at.old text.old at.new text.new) }
+    ensures same { counted at.new ≡ counted at.old }
+    ensures front { Begins (text_of text.old) (text_of text.new) }
+{
+    let mut first = true;
+    for field in body.fields.as_slice() {
+        first = put_field(field, first, at, text)?;
+    }
+    Ok(())
+}
+
+/// Puts one field, and says whether the next is still the first.
+#[tactic(auto, using(crate::proofs::Front::begins))]
+#[cycle(put)]
+#[inline(always)]
+fn put_field(
+    field: &Field,
+    first: bool,
+    at: &mut Bits<'_>,
+    text: &mut TextBuffer,
+) -> Result<bool, Stop>
+    ensures put { IfOk result (λ next. PutsField field.now first next
+        at.old text.old at.new text.new) }
+    ensures same { counted at.new ≡ counted at.old }
+    ensures front { Begins (text_of text.old) (text_of text.new) }
+{
+    match &field.schema {
+        Schema::Void { bits } => {
+            at.skip(u64::from(*bits))?;
+            Ok(first)
+        }
+        _ => {
+            put_named(field, first, at, text)?;
+            Ok(false)
+        }
+    }
+}
+
+/// Puts a field that isn't padding.
+#[tactic(auto, using(crate::proofs::Front::begins))]
+#[cycle(put)]
+#[inline(always)]
+fn put_named(
+    field: &Field,
+    first: bool,
+    at: &mut Bits<'_>,
+    text: &mut TextBuffer,
+) -> Result<(), Stop>
+    requires { is_padding (named field.now).1 ≡ false }
+    ensures put { OnOk result (PutsField field.now first false at.old text.old at.new text.new) }
+    ensures same { counted at.new ≡ counted at.old }
+    ensures front { Begins (text_of text.old) (text_of text.new) }
+{
+    put_name(field, first, text)?;
+    if is_simple(&field.schema) {
+        return put_simple(&field.schema, at, text);
+    }
+    go_to_begin(&field.schema, at)?;
+    put_part(&field.schema, at, text)
+}
