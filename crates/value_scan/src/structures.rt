@@ -1,0 +1,126 @@
+//! Structures: their fields in order, in braces.
+ghost use Rattle.std.specs.Prelude.{◌≡◌, ◌++◌, ◌-◌, ◌≤◌, true, false, codes, drop, IfOk, OnOk};
+ghost use Rattle.dsdl_types.specs.Encoding.{lead as lead_bits};
+ghost use Rattle.dsdl_types.specs.Schemas.{is_aligned};
+ghost use Rattle.dsdl_types.specs.Views.{body_of, is_padding, named, sch};
+ghost use Rattle.serdes.specs.Forms.{struct_of};
+ghost use Rattle.value_text.specs.Words.{lead};
+ghost use Rattle.value_scan.specs.Written.{written};
+ghost use Rattle.value_scan.specs.Scanned.{AreFields, IsFieldScanned, IsOwn};
+
+use crate::bit_buffer::BitBuffer;
+use crate::gives_up::GivesUp;
+use crate::line::{eat, eat_lead};
+use crate::parts::is_aligned;
+use crate::scan::scan_part;
+use dsdl_types::{Body, Field, Schema};
+
+/// Scans a structure, and puts zeros up to a multiple of 8 bits behind its fields (Cyphal Specification, section
+/// 3.7.5).
+#[cycle(scan)]
+pub fn scan_struct(
+    body: &Body,
+    line: &[u8],
+    at: &mut usize,
+    out: &mut BitBuffer,
+) -> Result<(), GivesUp>
+    ensures scanned { OnOk result
+        (IsOwn (struct_of body.now) line.now at.old out.old at.new out.new) }
+    ensures place { OnOk result (out.old.place ≤ out.new.place) }
+{
+    let start = out.place;
+    eat(line, at, b"{")?;
+    scan_fields(body, line, at, out)?;
+    eat(line, at, b"}")?;
+    out.put_gap(start)
+}
+
+/// Scans the fields of a structure.
+#[cycle(scan)]
+fn scan_fields(body: &Body, line: &[u8], at: &mut usize, out: &mut BitBuffer) -> Result<(), GivesUp>
+    ensures scanned { OnOk result
+        (AreFields true (body_of body.now).0 0 line.now at.old out.old at.new out.new) }
+    ensures place { OnOk result (out.old.place ≤ out.new.place) }
+{
+    let start = out.place;
+    let mut first = true;
+    for field in body.fields.as_slice() {
+        first = scan_field(field, first, start, line, at, out)?;
+    }
+    Ok(())
+}
+
+/// Scans one field of a structure that began at a place, and says whether the next is still the first in the text.
+#[cycle(scan)]
+fn scan_field(
+    field: &Field,
+    first: bool,
+    start: u64,
+    line: &[u8],
+    at: &mut usize,
+    out: &mut BitBuffer,
+) -> Result<bool, GivesUp>
+    requires { start ≤ out.old.place }
+    ensures scanned { IfOk result (λ next.
+        IsFieldScanned field.now first next start line.now at.old out.old at.new out.new) }
+    ensures place { OnOk result (start ≤ out.new.place) }
+{
+    match &field.schema {
+        Schema::Void { bits } => {
+            if *bits > 64 {
+                return Err(GivesUp);
+            }
+            out.put(0, u32::from(*bits))?;
+            Ok(first)
+        }
+        _ => {
+            scan_named(field, first, start, line, at, out)?;
+            Ok(false)
+        }
+    }
+}
+
+/// Scans a field that isn't padding, behind its name.
+#[cycle(scan)]
+fn scan_named(
+    field: &Field,
+    first: bool,
+    start: u64,
+    line: &[u8],
+    at: &mut usize,
+    out: &mut BitBuffer,
+) -> Result<(), GivesUp>
+    requires start { start ≤ out.old.place }
+    requires typed { is_padding (named field.now).1 ≡ false }
+    ensures scanned { OnOk result
+        (IsFieldScanned field.now first false start line.now at.old out.old at.new out.new) }
+    ensures place { OnOk result (start ≤ out.new.place) }
+{
+    eat_front(field, first, line, at)?;
+    put_lead(&field.schema, start, out)?;
+    scan_part(&field.schema, line, at, out)
+}
+
+/// Goes past what stands in front of a field's value.
+fn eat_front(field: &Field, first: bool, line: &[u8], at: &mut usize) -> Result<(), GivesUp>
+    ensures { OnOk result (drop at.old line.now
+        ≡ lead first ++ ((named field.now).0 ++ (codes ": " ++ drop at.new line.now))) }
+{
+    eat_lead(line, at, first)?;
+    eat(line, at, field.name.as_str().as_bytes())?;
+    eat(line, at, b": ")
+}
+
+/// Puts the zeros in front of a type, if it begins at a multiple of 8 bits.
+fn put_lead(schema: &Schema, start: u64, out: &mut BitBuffer) -> Result<(), GivesUp>
+    requires { start ≤ out.old.place }
+    ensures bits { OnOk result (written out.new
+        ≡ written out.old ++ lead_bits (is_aligned (sch schema.now)) (out.old.place - start)) }
+    ensures place { OnOk result (start ≤ out.new.place) }
+{
+    if is_aligned(schema) {
+        out.put_gap(start)
+    } else {
+        out.put(0, 0)
+    }
+}
