@@ -11,3 +11,4 @@ pub mod Used
 pub mod UsedSteps
 pub mod Refusals
 pub mod Lanes
+pub mod Limit

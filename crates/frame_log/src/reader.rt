@@ -1,5 +1,6 @@
 //! A log, record by record.
-ghost use Rattle.std.specs.Prelude.{◌≤◌, ◌+◌, length};
+ghost use Rattle.std.specs.Prelude.{◌≡◌, ◌≤◌, ◌+◌, length};
+ghost use Rattle.frame_log.specs.Limit.{limit_of};
 
 use crate::buses::Buses;
 use crate::error::LogError;
@@ -39,6 +40,8 @@ pub struct LogReader {
     lines: u64,
     /// The moment of the first record.
     first: Option<u64>,
+    /// No moment before this one is too far from the first record's; 0 while there is none.
+    limit: u64,
     /// The moment of the last record, at first 0.
     last: u64,
     /// Whether a read gave the end of the input.
@@ -46,6 +49,7 @@ pub struct LogReader {
     /// What is answered from now on.
     done: Option<Answer>,
     ghost near: { length kept_bytes ≤ 8192 },
+    ghost limited: { limit ≡ limit_of first },
     ghost within: { lines + (room + length kept_bytes) ≤ 268435456 },
 }
 
@@ -79,6 +83,7 @@ impl LogReader {
             room: 1 << 28,
             lines: 0,
             first: None,
+            limit: 0,
             last: 0,
             is_ended: false,
             done: None,

@@ -1,43 +1,17 @@
-use Rattle.std.proofs.Common.{◌≡◌, ◌∙◌, ◌+◌, ◌++◌, ap, subst, sym, take, drop, length, List, ℕ, refl}
-use Rattle.frame_log.specs.Line.{Said}
-use Rattle.frame_log.specs.Found.{said_by}
-use Rattle.frame_log.specs.Log.{Log, Place, given, given_by, log_from}
-use Rattle.frame_log.specs.Reader.{place_of, log_behind}
-use Rattle.frame_log.specs.Steps.{IsGiven, IsStep}
-use Rattle.frame_log.specs.UsedSteps.{IsUsed}
-use Rattle.frame_log.proofs.LogLemmas.{step-given, log_from-line, log_from-same}
-use Rattle.frame_log.proofs.UsedLemmas.{used-given}
+use Rattle.std.proofs.Common.{◌∙◌, ◌<◌, ◌+◌, ap, sym, subst, length, List, ℕ, arith}
+use Rattle.frame_log.specs.Line.{said_of}
+use Rattle.frame_log.proofs.ReadsLemmas.{line-kept}
 use Rattle.frame_log.proofs.reader.LogReader.step_line.Goals as goal
 
--- the step is what the first line gives
-first : (c : goal.After-accept) → IsGiven (given c.args.self.now.buses (place_of c.args.self.now) (take c.in-Some.i c.args.self.now.kept_bytes)) c.accept.result c.accept.new.written (place_of c.accept.new.self)
-first c =
+pub take_line-requires : goal.take_line-requires
+take_line-requires c =
     let old = c.args.self.now in
-    let mid = c.first_line.new.self in
-    let i = c.in-Some.i in
-    let p : place_of mid ≡ place_of old = c.first_line.ensures.place in
-    let given_here : IsGiven (given_by (place_of mid) (mid.lines + 1) (said_by c.in-Some.found c.first_line.new.written.bytes)) c.accept.result c.accept.new.written (place_of c.accept.new.self) = c.accept.ensures.given in
-    let said = c.in-Some.ensures.line.said in
-    subst (λ (q : Said). IsGiven (given_by (place_of old) (old.lines + 1) q) c.accept.result c.accept.new.written (place_of c.accept.new.self)) said
-    (subst (λ (at : Place). IsGiven (given_by at (at.lines + 1) (said_by c.in-Some.found c.first_line.new.written.bytes)) c.accept.result c.accept.new.written (place_of c.accept.new.self)) p given_here)
-
-pub returns-clause-next : goal.returns-clause-next
-returns-clause-next c rest =
-    let old = c.args.self.now in
-    let new = c.accept.new.self in
-    let i = c.in-Some.i in
-    let stepped : IsStep (log_behind old rest) c.accept.result c.accept.new.written (log_from old.buses (old.room + length (drop (i + 1) old.kept_bytes)) (drop (i + 1) old.kept_bytes ++ rest) (place_of new)) =
-    step-given (given old.buses (place_of old) (take i old.kept_bytes)) c.accept.result c.accept.new.written (place_of new)
-    (λ p. log_from old.buses (old.room + length (drop (i + 1) old.kept_bytes)) (drop (i + 1) old.kept_bytes ++ rest) p) (log_behind old rest) (first c)
-    (log_from-line old.buses old.room old.kept_bytes rest i (place_of old) c.in-Some.ensures.line.line) in
-    subst (λ (l : Log). IsStep (log_behind old rest) c.accept.result c.accept.new.written l)
-    (log_from-same old.buses new.buses old.room new.room (drop (i + 1) old.kept_bytes) new.kept_bytes rest (place_of new) (c.accept.ensures.same.0 ∙ c.first_line.ensures.same.0) (c.accept.ensures.same.2 ∙ c.first_line.ensures.same.2) (c.accept.ensures.same.1 ∙ c.skip.ensures ∙ ap (λ (h : List ℕ). drop (i + 1) h) c.first_line.ensures.same.1))
-    stepped
-
-pub returns-clause-used : goal.returns-clause-used
-returns-clause-used c =
-    let old = c.args.self.now in
-    let new = c.accept.new.self in
-    let i = c.in-Some.i in
-    subst (λ (b : List ℕ). IsUsed old.buses (place_of old) old.kept_bytes c.accept.result c.accept.new.written (place_of new) b) (sym (c.accept.ensures.same.1 ∙ c.skip.ensures ∙ ap (λ (h : List ℕ). drop (i + 1) h) c.first_line.ensures.same.1))
-    (used-given (given old.buses (place_of old) (take i old.kept_bytes)) c.accept.result c.accept.new.written old.buses (place_of old) (place_of new) old.kept_bytes (take i old.kept_bytes) (drop (i + 1) old.kept_bytes) c.in-Some.ensures.line.line.1 refl (first c))
+    let w = c.window.result.now in
+    let i = c.in-Some.seen.len in
+    let within : i < length old.kept_bytes = subst (λ (h : List ℕ). i < length h) c.as_slice.ensures.value c.if-seen-as_slice.true in
+    let a = line-kept w old.kept_bytes i c.in-Some.ensures.line within (c.window.ensures.same (i + 1) (omega (arith, within)) (omega (arith, c.in-Some.ensures.near))) in record {
+      line = record {
+        line = a.line;
+        said = sym c.in-Some.ensures.said ∙ ap (said_of old.buses) a.same;
+      };
+    }
