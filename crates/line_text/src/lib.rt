@@ -9,4 +9,5 @@ mod number_word;
 pub mod text_buffer;
 mod two_digits;
 
+pub use hex_block::hex_of_eight;
 pub use text_buffer::TextBuffer;
