@@ -4,26 +4,30 @@ use Rattle.std.proofs.lemmas.List.{append-nil, drop-drop, drop-take, take-take}
 use Rattle.cy_bits.proofs.BitFacts.{length_bits_of}
 use Rattle.std.proofs.Common.{zero, suc, ◌/◌, ◌==◌, rules, ◌^◌, min, pos, take_at, drop_at, mod-eq_of_lt}
 use Rattle.dsdl_types.specs.Cast.{cast_uint}
-use Rattle.std.proofs.lemmas.Bool.{false≢true}
-use Rattle.std.specs.Prelude.{codes}
-use Rattle.cy_bits.specs.Bits.{bits, bits_of, zeros, gap}
+use Rattle.std.proofs.lemmas.Bool.{false≢true, lt-ltb}
+use Rattle.std.specs.Prelude.{codes, IfOk, if◌then◌else◌}
+use Rattle.std.proofs.Common.{◌&&◌, negsuc, slice_index, take-append-drop}
+use Rattle.std.specs.Fmt.{decimal, signed_decimal}
+use Rattle.hex.specs.Hex.{encode_upper, encode_with, upper_digits}
+use Rattle.cy_bits.specs.Bits.{bits, bits_of, bytes, zeros, gap}
 use Rattle.cy_bits.specs.Put.{put_bits}
 use Rattle.cy_bits.proofs.BitPlaces.{length_bits}
 use Rattle.cy_bits.proofs.BitPuts.{zero_bits}
 use Rattle.dsdl_types.specs.Encoding.{each, field_bits, own_bits, padded, part_bits}
 use Rattle.dsdl_types.specs.Encoding as E
 use Rattle.dsdl_types.specs.Fits.{AllOf, Fits, FitFields}
-use Rattle.dsdl_types.specs.Schemas.{Flds, Outline, End, Pad, Field, is_aligned, is_delimited, length_field_bits, tag_bits, variants}
+use Rattle.dsdl_types.specs.Schemas.{PBool, PFloat, PInt, PUint, Flds, Outline, End, Pad, Field, is_aligned, is_delimited, length_field_bits, tag_bits, variants}
 use Rattle.dsdl_types.specs.Schemas as D
-use Rattle.dsdl_types.specs.Values.{Val, Vals, Empty, More, Items, Parts, Tagged, count}
+use Rattle.dsdl_types.specs.Values.{Val, Vals, Num, Empty, More, Items, Parts, Tagged, count}
 use Rattle.dsdl_types.specs.Views.{Kind, Typed, Padding, is_padding, type_of, with_field, named, flds, body_of}
 use Rattle.dsdl_types.specs.declared.schema.Field.{Field as F}
 use Rattle.dsdl_types.specs.declared.schema.Body.{Body, out-Body}
 use Rattle.serdes.proofs.Schemata.{flds_next, flds_end, fields_are}
 use Rattle.serdes.proofs.Writings.{front_bits, padding_bits}
-use Rattle.value_text.specs.Texts.{array_text, field_texts, is_uint8, texts, value_text, variant_text}
-use Rattle.value_text.specs.Words.{entry, following, lead, separated}
+use Rattle.value_text.specs.Texts.{are_bytes, array_text, byte_text, field_texts, in_a_row, is_uint8, texts, value_text, variant_text}
+use Rattle.value_text.specs.Words.{entry, following, hex_digits, in_brackets, lead, separated}
 use Rattle.value_scan.specs.Scanned.{rest_of, Scans, Leaves, LeavesRow, LeavesVariant, RowScans, VariantScans}
+use Rattle.value_scan.specs.Bytes.{ScansBytes}
 use Rattle.value_scan.specs.Written.{written}
 use Rattle.value_scan.specs.declared.bit_buffer.BitBuffer.{BitBuffer}
 
@@ -322,3 +326,90 @@ union_scanned fs o a b c d u t v w k tag n is_k e f g h z inner =
       put = z ∙ ap (λ x. x ++ zeros (gap n)) whole ∙ append_assoc u (head ++ l) (zeros (gap n)) ∙ ap (λ m. u ++ ((head ++ l) ++ zeros (gap m))) size
           ∙ ap (λ m. u ++ padded (bits_of m tag ++ l)) is_k;
     }
+
+-- ---- numbers
+
+pub within_half : (n m : ℕ) → n ≤ m → n ≡ min n m
+within_half n m h = omega arith
+
+-- a number below 0
+pub negative_text : (n : ℕ) (a b c : List ℕ) → 1 ≤ n → a ≡ codes "-" ++ b → b ≡ decimal n ++ c → a ≡ signed_decimal (negsuc (n - 1)) ++ c
+negative_text n a b c some e f = let back : n ≡ suc (n - 1) = omega arith in e ∙ ap (λ t. codes "-" ++ t) (f ∙ ap (λ m. decimal m ++ c) back)
+
+-- a text that stands there, of so many bytes
+pub passed : (line bytes text : List ℕ) (at next n : ℕ) → bytes ≡ drop at line → bytes ≡ text ++ drop n bytes → next ≡ at + n → drop at line ≡ text ++ drop next line
+passed line bytes text at next n e f g =
+    sym e ∙ f ∙ ap (λ l. text ++ l) (ap (λ l. drop n l) e ∙ drop-drop n at line ∙ ap (λ m. drop m line) (sym g))
+
+-- some bytes of a line
+pub taken : (line bytes text : List ℕ) (at next n : ℕ) → bytes ≡ drop at line → text ≡ take n bytes → next ≡ at + n → drop at line ≡ text ++ drop next line
+taken line bytes text at next n e f g =
+    sym (take-append-drop n (drop at line))
+    ∙ (λ i. take n (sym e i) ++ drop n (drop at line))
+    ∙ (λ i. sym f i ++ drop-drop n at line i)
+    ∙ ap (λ m. text ++ drop m line) (sym g)
+
+-- ---- arrays of bytes
+
+nums : List ℕ → Vals
+nums [] = Empty
+nums (x ∷ xs) = More (Num (pos x)) (nums xs)
+
+count_nums : (xs : List ℕ) → count (nums xs) ≡ length xs
+unfolding nums
+count_nums [] = refl
+count_nums (x ∷ xs) = ap suc (count_nums xs)
+
+are_all : (xs : List ℕ) → ((i : ℕ) → get_or xs i 0 < 256) → are_bytes (nums xs) ≡ true
+unfolding nums
+are_all [] h = refl
+are_all (x ∷ xs) h = ap (λ b. b && are_bytes (nums xs)) (lt-ltb x 256 (h 0)) ∙ are_all xs (λ i. h (suc i))
+
+all_fit : (c : Bool) (xs : List ℕ) → ((i : ℕ) → get_or xs i 0 < 256) → AllOf (λ v. Fits (D.Simple (PUint 8 c)) v) (nums xs)
+unfolding nums
+all_fit c [] h = tt
+all_fit c (x ∷ xs) h = let byte : x < 256 = h 0 in let most : x < 2 ^ 64 = omega arith in (most, all_fit c xs (λ i. h (suc i)))
+
+byte_digits : (x : ℕ) → x < 256 → hex_digits 2 x ≡ slice_index upper_digits (x / 16) ∷ slice_index upper_digits (x % 16) ∷ []
+unfolding hex_digits
+byte_digits x h =
+    let a : x / 2 ^ 4 % 16 ≡ x / 16 = omega arith in
+    let b : x / 2 ^ 0 % 16 ≡ x % 16 = omega arith in
+    λ i. slice_index upper_digits (a i) ∷ slice_index upper_digits (b i) ∷ []
+
+nums_text : (xs : List ℕ) → ((i : ℕ) → get_or xs i 0 < 256) → in_a_row byte_text (nums xs) ≡ encode_upper xs
+unfolding encode_with nums
+nums_text [] h = refl
+nums_text (x ∷ xs) h = ap (λ t. t ++ in_a_row byte_text (nums xs)) (byte_digits x (h 0)) ∙ ap (λ t. slice_index upper_digits (x / 16) ∷ slice_index upper_digits (x % 16) ∷ t) (nums_text xs (λ i. h (suc i)))
+
+nums_bits : (c : Bool) (xs : List ℕ) → ((i : ℕ) → get_or xs i 0 < 256) → each (λ v. part_bits (D.Simple (PUint 8 c)) v) (nums xs) ≡ bits xs
+unfolding nums
+nums_bits c [] h = refl
+nums_bits c (x ∷ xs) h = λ i. bits_of 8 (sym (cast_small 8 x c (let byte : x < 2 ^ 8 = h 0 in byte)) i) ++ nums_bits c xs (λ j. h (suc j)) i
+
+pub array_of_bytes : (c : Bool) (n : ℕ) (a b d : List ℕ) (u v : List Bool) → a ≡ codes "#" ++ b → ScansBytes n b d u v →
+    Scans (λ vs. (count vs ≡ n) × AllOf (λ x. Fits (D.Simple (PUint 8 c)) x) vs) (λ vs. array_text (is_uint8 (D.Simple (PUint 8 c))) (λ x. value_text (D.Simple (PUint 8 c)) x) vs) (λ vs. each (λ x. part_bits (D.Simple (PUint 8 c)) x) vs) a d u v
+array_of_bytes c n a b d u v e found =
+    let xs = found.bytes in
+    let vs = nums xs in
+    record {
+      value = vs;
+      fits = (count_nums xs ∙ found.count, all_fit c xs found.small);
+      spelled = e ∙ ap (λ t. codes "#" ++ t) (found.spelled ∙ ap (λ t. t ++ d) (sym (nums_text xs found.small)))
+          ∙ ap (λ b. (if b then codes "#" ++ in_a_row byte_text vs else in_brackets (separated (texts (λ x. value_text (D.Simple (PUint 8 c)) x) vs))) ++ d) (sym (are_all xs found.small));
+      put = found.put ∙ ap (λ l. u ++ l) (sym (nums_bits c xs found.small));
+    }
+
+pub uint8_is : (s : D.Sch) → is_uint8 s ≡ true → (c : Bool) × (s ≡ D.Simple (PUint 8 c))
+uint8_is (D.Simple (PUint w c)) h = let e : w ≡ 8 = search (rules, h) in (c, ap (λ m. D.Simple (PUint m c)) e)
+uint8_is (D.Simple PBool) h = absurd (false≢true h)
+uint8_is (D.Simple (PInt w)) h = absurd (false≢true h)
+uint8_is (D.Simple (PFloat w c)) h = absurd (false≢true h)
+uint8_is (D.Fixed s n) h = absurd (false≢true h)
+uint8_is (D.Var s n) h = absurd (false≢true h)
+uint8_is (D.Struct fs o) h = absurd (false≢true h)
+uint8_is (D.Union fs o) h = absurd (false≢true h)
+
+pub if_ok : {T E : Type 0} (r : Result T E) {A B : T → Type 0} → ((x : T) → A x → B x) → IfOk r A → IfOk r B
+if_ok (Ok x) f h = f x h
+if_ok (Err x) f h = tt

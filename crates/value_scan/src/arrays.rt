@@ -6,6 +6,7 @@ ghost use Rattle.value_scan.specs.Written.{written};
 ghost use Rattle.value_scan.specs.Scanned.{IsArray, IsOwn, IsRow, LeavesRow};
 
 use crate::bit_buffer::BitBuffer;
+use crate::byte_arrays::scan_bytes;
 use crate::gives_up::GivesUp;
 use crate::line::{eat, eat_lead};
 use crate::parts::{is_uint8, length_field_bits};
@@ -56,7 +57,7 @@ pub fn scan_var(
     out.patch(header, u64::from(count), width)
 }
 
-/// Scans an array that isn't of bytes, and says how many items it has.
+/// Scans an array of at most so many items, and says how many items it has.
 #[cycle(scan)]
 fn scan_array(
     item: &Schema,
@@ -70,7 +71,7 @@ fn scan_array(
     ensures place { OnOk result (out.old.place ≤ out.new.place) }
 {
     if is_uint8(item) {
-        return Err(GivesUp);
+        return scan_bytes(most, line, at, out);
     }
     eat(line, at, b"[")?;
     let count = scan_row(item, most, line, at, out)?;

@@ -2,28 +2,100 @@
 ghost use Rattle.std.specs.Prelude.{◌≤◌, ◌*◌, ◌^◌, length};
 
 use crate::gives_up::GivesUp;
+use crate::words::{put_word, whole_bytes};
 use cy_bits::BitWriter;
+use std::alloc::Global;
+
+/// The most bytes of a buffer.
+const MOST: usize = 1 << 37;
 
 /// Bytes, of which so many bits were put, least significant first (Cyphal Specification, section 3.7.2). Their number
 /// stays; bits that they have no room for are not put.
 #[derive(Drop)]
 pub struct BitBuffer {
     /// The bytes: those that were put, and others behind them that don't count.
-    pub bytes: Vec<u8>,
+    bytes: Vec<u8>,
     /// How many bits were put.
     pub place: u64,
-    pub ghost within: { place ≤ 8 * length bytes.items },
-    pub ghost small: { length bytes.items ≤ 2 ^ 37 },
+    ghost within: { place ≤ 8 * length bytes.items },
+    ghost small: { length bytes.items ≤ 2 ^ 37 },
 }
 
 impl BitBuffer {
-    ghost use Rattle.std.specs.Prelude.{◌≡◌, ◌-◌, ◌++◌, ◌+◌, ◌≤◌, true, OnOk};
-    ghost use Rattle.cy_bits.specs.Bits.{bits_of};
+    ghost use Rattle.std.specs.Prelude.{◌≡◌, ◌-◌, ◌++◌, ◌+◌, ◌%◌, ◌≤◌, [], true, OnOk};
+    ghost use Rattle.cy_bits.specs.Bits.{bits_of, bytes};
     ghost use Rattle.dsdl_types.specs.Encoding.{lead};
     ghost use Rattle.value_scan.specs.Written.{IsPatched, written};
 
-    /// Puts the low bits of a number, of which there are at most 64.
+    /// No bits; takes no memory yet.
+    pub fn new(alloc: Global) -> BitBuffer
+        ensures { written result ≡ [] }
+    {
+        BitBuffer {
+            bytes: Vec::new(alloc),
+            place: 0,
+        }
+    }
+
+    /// Drops the bits, and takes memory for so many bytes where there are fewer.
+    #[inline(always)]
+    pub fn start(&mut self, size: usize) -> Result<(), GivesUp>
+        ensures { OnOk result (written self.new ≡ []) }
+    {
+        self.place = 0;
+        if size <= self.bytes.len() {
+            Ok(())
+        } else {
+            self.grow(size)
+        }
+    }
+
+    /// Takes memory for so many bytes, which are more than there are.
+    #[cold]
+    #[inline(never)]
+    fn grow(&mut self, size: usize) -> Result<(), GivesUp>
+        requires more { length self.old.bytes.items ≤ size }
+        requires none { self.old.place ≡ 0 }
+        ensures { self.new.place ≡ 0 }
+    {
+        if size > MOST {
+            return Err(GivesUp);
+        }
+        match self.bytes.resize(size, 0) {
+            Ok(()) => Ok(()),
+            Err(_) => Err(GivesUp),
+        }
+    }
+
+    /// The bytes of the bits, where they are whole bytes.
+    #[inline(always)]
+    pub fn as_slice(&self) -> &[u8]
+        ensures { self.now.place % 8 ≡ 0 → result.now ≡ bytes (written self.now) }
+    {
+        whole_bytes(self.bytes.as_slice(), self.place)
+    }
+
+    /// Puts the low bits of a number, of which there are at most 64. They are written with all others of the number,
+    /// where eight bytes are there.
+    #[inline(always)]
     pub fn put(&mut self, value: u64, width: u32) -> Result<(), GivesUp>
+        requires { width ≤ 64 }
+        ensures bits { OnOk result (written self.new ≡ written self.old ++ bits_of width value) }
+        ensures place { OnOk result (self.new.place ≡ self.old.place + width) }
+    {
+        let place = self.place;
+        let bits = u64::from(width);
+        if place % 8 + bits > 64 || place / 8 + 8 > self.bytes.len() as u64 {
+            return self.put_slowly(value, width);
+        }
+        put_word(self.bytes.as_mut_slice(), place, value);
+        self.place = place + bits;
+        Ok(())
+    }
+
+    /// Puts them byte by byte.
+    #[inline(never)]
+    fn put_slowly(&mut self, value: u64, width: u32) -> Result<(), GivesUp>
         requires { width ≤ 64 }
         ensures bits { OnOk result (written self.new ≡ written self.old ++ bits_of width value) }
         ensures place { OnOk result (self.new.place ≡ self.old.place + width) }

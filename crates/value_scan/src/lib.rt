@@ -3,13 +3,18 @@
 
 mod arrays;
 mod bit_buffer;
+mod blocks;
+mod byte_arrays;
+mod digits;
 mod gives_up;
+mod hex_text;
 mod line;
 mod parts;
 mod primitives;
 mod scan;
 mod structures;
 mod unions;
+mod words;
 
 pub use bit_buffer::BitBuffer;
 pub use gives_up::GivesUp;

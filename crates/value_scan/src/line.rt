@@ -1,12 +1,15 @@
 //! The parts of a line, each at a place that goes on behind it.
-ghost use Rattle.std.specs.Prelude.{◌≡◌, ◌++◌, IfOk, OnOk, decimal, drop};
-ghost use Rattle.value_text.specs.Words.{lead};
+ghost use Rattle.std.specs.Prelude.{◌≡◌, ◌++◌, ◌+◌, ◌*◌, ◌^◌, ◌<◌, ◌≤◌, IfOk, OnOk, decimal, drop};
+ghost use Rattle.value_text.specs.Words.{hex_digits, lead};
 
+use crate::blocks::begins;
+use crate::digits::digits_at;
 use crate::gives_up::GivesUp;
-use itoa::Buffer;
+use crate::hex_text::number_in;
 
 /// The bytes from a place on.
-fn behind<'a>(line: &'a [u8], at: usize) -> &'a [u8]
+#[inline(always)]
+pub fn behind<'a>(line: &'a [u8], at: usize) -> &'a [u8]
     ensures { result.now ≡ drop at line.now }
 {
     match line.get(at..) {
@@ -15,50 +18,59 @@ fn behind<'a>(line: &'a [u8], at: usize) -> &'a [u8]
     }
 }
 
-/// Goes past a text that stands there.
-pub fn eat(line: &[u8], at: &mut usize, text: &[u8]) -> Result<(), GivesUp>
-    ensures { OnOk result (drop at.old line.now ≡ text.now ++ drop at.new line.now) }
+/// Goes past so many bytes.
+#[inline(always)]
+pub fn skip(at: &mut usize, len: usize) -> Result<(), GivesUp>
+    ensures { OnOk result (at.new ≡ at.old + len) }
 {
-    if !behind(line, *at).starts_with(text) {
-        return Err(GivesUp);
-    }
-    let Some(next) = at.checked_add(text.len()) else {
+    let Some(next) = at.checked_add(len) else {
         return Err(GivesUp);
     };
     *at = next;
     Ok(())
 }
 
+/// Goes past a text that stands there.
+#[inline(always)]
+pub fn eat(line: &[u8], at: &mut usize, text: &[u8]) -> Result<(), GivesUp>
+    ensures { OnOk result (drop at.old line.now ≡ text.now ++ drop at.new line.now) }
+{
+    if !begins(behind(line, *at), text) {
+        return Err(GivesUp);
+    }
+    skip(at, text.len())
+}
+
 /// Goes past what is in front of a text, as the first one or a later one.
+#[inline(always)]
 pub fn eat_lead(line: &[u8], at: &mut usize, first: bool) -> Result<(), GivesUp>
     ensures { OnOk result (drop at.old line.now ≡ lead first ++ drop at.new line.now) }
 {
-    if first {
-        eat(line, at, b"")
-    } else {
-        eat(line, at, b", ")
-    }
+    if first { Ok(()) } else { eat(line, at, b", ") }
 }
 
-/// Some number of which digits may stand there.
-fn guess(line: &[u8], at: usize) -> u64 {
-    let mut number = 0u64;
-    for digit in behind(line, at) {
-        let value = digit.wrapping_sub(b'0');
-        if value > 9 {
-            break;
-        }
-        number = number.wrapping_mul(10).wrapping_add(u64::from(value));
-    }
-    number
-}
-
-/// Goes past a number.
+/// Goes past a decimal number, which has no zeros in front.
+#[inline(always)]
 pub fn eat_number(line: &[u8], at: &mut usize) -> Result<u64, GivesUp>
     ensures { IfOk result (λ n. drop at.old line.now ≡ decimal n ++ drop at.new line.now) }
 {
-    let number = guess(line, *at);
-    let mut buffer = Buffer::new();
-    eat(line, at, buffer.format(number).as_bytes())?;
+    let Some(digits) = digits_at(behind(line, *at)) else {
+        return Err(GivesUp);
+    };
+    skip(at, digits.len)?;
+    Ok(digits.number)
+}
+
+/// Goes past a number of so many hex digits, from 1 to 16.
+#[inline(always)]
+pub fn eat_hex(line: &[u8], at: &mut usize, digits: u8) -> Result<u64, GivesUp>
+    requires { (1 ≤ digits) × (digits ≤ 16) }
+    ensures { IfOk result (λ n. (n < 2 ^ (4 * digits))
+        × (drop at.old line.now ≡ hex_digits digits n ++ drop at.new line.now)) }
+{
+    let Some(number) = number_in(behind(line, *at), digits) else {
+        return Err(GivesUp);
+    };
+    skip(at, usize::from(digits))?;
     Ok(number)
 }

@@ -8,7 +8,7 @@ use crate::arrays::{scan_fixed, scan_var};
 use crate::bit_buffer::BitBuffer;
 use crate::gives_up::GivesUp;
 use crate::parts::is_delimited;
-use crate::primitives::{scan_truth, scan_unsigned};
+use crate::primitives::{scan_float, scan_signed, scan_truth, scan_unsigned};
 use crate::structures::scan_struct;
 use crate::unions::scan_union;
 use dsdl_types::Schema;
@@ -30,11 +30,13 @@ pub fn scan_own(
     match schema {
         Schema::Bool => scan_truth(line, at, out),
         Schema::Uint { bits, .. } => scan_unsigned(*bits, line, at, out),
+        Schema::Int { bits } => scan_signed(*bits, line, at, out),
+        Schema::Float { bits, .. } => scan_float(*bits, line, at, out),
         Schema::Struct(body) => scan_struct(body, line, at, out),
         Schema::Union(body) => scan_union(body, line, at, out),
         Schema::Fixed { item, len } => scan_fixed(item.get(), *len, line, at, out),
         Schema::Var { item, cap } => scan_var(item.get(), *cap, line, at, out),
-        _ => Err(GivesUp),
+        Schema::Void { .. } => Err(GivesUp),
     }
 }
 

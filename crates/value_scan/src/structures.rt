@@ -102,6 +102,7 @@ fn scan_named(
 }
 
 /// Goes past what stands in front of a field's value.
+#[inline(always)]
 fn eat_front(field: &Field, first: bool, line: &[u8], at: &mut usize) -> Result<(), GivesUp>
     ensures { OnOk result (drop at.old line.now
         ≡ lead first ++ ((named field.now).0 ++ (codes ": " ++ drop at.new line.now))) }
@@ -112,6 +113,7 @@ fn eat_front(field: &Field, first: bool, line: &[u8], at: &mut usize) -> Result<
 }
 
 /// Puts the zeros in front of a type, if it begins at a multiple of 8 bits.
+#[inline(always)]
 fn put_lead(schema: &Schema, start: u64, out: &mut BitBuffer) -> Result<(), GivesUp>
     requires { start ≤ out.old.place }
     ensures bits { OnOk result (written out.new
@@ -121,6 +123,6 @@ fn put_lead(schema: &Schema, start: u64, out: &mut BitBuffer) -> Result<(), Give
     if is_aligned(schema) {
         out.put_gap(start)
     } else {
-        out.put(0, 0)
+        Ok(())
     }
 }

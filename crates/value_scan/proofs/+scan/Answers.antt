@@ -6,10 +6,10 @@ use Rattle.dsdl_types.specs.Schemas.{holding_bits, tag_bits, variants}
 use Rattle.dsdl_types.specs.Encoding.{own_bits}
 use Rattle.dsdl_types.specs.Fits.{Fits}
 use Rattle.value_text.specs.Texts.{value_text}
-use Rattle.value_scan.specs.Scanned.{LeavesVariant, RowScans, Scans, VariantScans}
+use Rattle.value_scan.specs.Scanned.{IsArray, LeavesVariant, RowScans, Scans, VariantScans}
 use Rattle.dsdl_types.proofs.Equations.{kind_void}
 use Rattle.value_scan.specs.Written.{IsPatched, written}
-use Rattle.value_scan.proofs.Steps.{counted_part, fixed_scanned, item_left, left_end, named_left, on_both, on_ok, padding_left, place_is, row_left_end, struct_scanned, union_scanned, var_scanned, variant_found, variant_later, variant_skip}
+use Rattle.value_scan.proofs.Steps.{counted_part, fixed_scanned, if_ok, item_left, left_end, named_left, on_both, on_ok, padding_left, place_is, row_left_end, struct_scanned, uint8_is, union_scanned, var_scanned, variant_found, variant_later, variant_skip}
 use Rattle.value_scan.proofs.+scan.Goals as goal
 use Rattle.value_scan.proofs.+scan.Goals.{unions::scan_variant-then-not-is_padding+else-left-eq0, unions::scan_variant-else-not-is_padding}
 
@@ -162,3 +162,10 @@ unions::scan_variant-loop-field-preserved t c =
       out = inv.out;
       past = inv.past;
     }
+
+pub arrays::scan_array-returns-then-is_uint8-clause-scanned : goal.arrays::scan_array-returns-then-is_uint8-clause-scanned
+arrays::scan_array-returns-then-is_uint8-clause-scanned t c =
+    let u = uint8_is (sch c.args.item.now) (sym c.is_uint8.ensures ∙ c.if-is_uint8.true) in
+    if_ok c.scan_bytes.result
+    (λ n bytes. subst (λ s. IsArray s n c.args.line.now c.args.at.now c.args.out.now c.scan_bytes.new.at c.scan_bytes.new.out) (sym u.1) (bytes u.0))
+    c.scan_bytes.ensures.scanned
