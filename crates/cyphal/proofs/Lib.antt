@@ -14,4 +14,5 @@ pub mod Mets
 pub mod Headlines
 pub mod Streaming
 pub mod Answered
+pub mod CarriedOut
 pub mod Premises

@@ -44,3 +44,8 @@ eight a b c d e f g h p q r s t u v w i j k l m n o z =
 pub begins_either : {T E : Type 0} (r : Result T E) (line : List ℕ) (before after : Option (List ℕ)) → OnOk r (after ≡ behind before line) → OnErr r (Begins line before after) → Begins line before after
 begins_either (Ok x) line before after w b = record { front = line; rest = []; whole = sym (append-nil line); written = w }
 begins_either (Err x) line before after w b = b
+
+-- all of a line came, where nothing failed
+pub whole_either : {T E : Type 0} (r : Result T E) (Whole Fault : Type 0) → OnOk r Whole → OnErr r Fault → ¬ Fault → Whole
+whole_either (Ok x) Whole Fault w f none = w
+whole_either (Err x) Whole Fault w f none = absurd (none f)

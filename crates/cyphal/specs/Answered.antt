@@ -1,5 +1,5 @@
 -- All that is said of one call.
-use Rattle.std.specs.Prelude.{◌≡◌, ◌⊎◌, ◌↔◌, ◌≤◌, ℕ, true, false, List, Option, None}
+use Rattle.std.specs.Prelude.{◌≡◌, ◌≢◌, ◌⊎◌, ◌↔◌, ◌≤◌, ℕ, true, false, List, [], Option, None}
 use Rattle.cy_outside.specs.Outside.{Rose}
 use Rattle.cy_outside.specs.Written.{behind, Begins}
 use Rattle.node_core.specs.declared.numbers.Numbers.{Numbers}
@@ -12,10 +12,16 @@ use Rattle.cyphal.specs.ErrorLine.{error_line, code_of}
 use Rattle.cyphal.specs.Cause.{Outside, HasCauseOver, EndsAsDue}
 use Rattle.cyphal.specs.Job.{Told, Outcome, outcome, is_fault, NotDone}
 use Rattle.cyphal.specs.Expected.{job_for, WasDone}
-use Rattle.cyphal.specs.Headline.{HeadlineOf}
+use Rattle.cyphal.specs.Headline.{HeadlineOf, OnceOf, DueOf, ValuesOf, DueValuesOf}
+use Rattle.cyphal.specs.Headline.{OncePut, DuePut, ValuesPut, DueValuesPut}
 use Rattle.cyphal.specs.Streaming.{TakenOf, StreamedOf}
+use Rattle.cyphal.specs.declared.top.Done.{Done}
 
--- the call did what the words ask for: it ended as they ask, for that reason, and did what it says
+-- The call did what the words ask for: it ended as they ask, for that reason, and did what it says.
+-- The headline, where the words, the files and the input are told, is of what is written; `once`,
+-- `due` and the values are of the lines that were put, where the sink of lines tells them. `taken`
+-- is how far the input is taken where a read fails: not at all, where the tree failed, or up to the
+-- last whole line.
 pub record IsAnswered {L : Type 0} (words : List (List ℕ)) (told : Told) (came : Outcome)
     (old new : Outside L) : Type 0 where
   pub answer : is_fault came.status ≡ false → (job_for words).expects told came.status
@@ -30,8 +36,24 @@ pub record IsAnswered {L : Type 0} (words : List (List ℕ)) (told : Told) (came
       → ¬ Rose old.input new.input → ¬ Rose old.out new.out
       → EndsAsDue due came.status old new
   pub headline : HeadlineOf words told came
+  pub once : OncePut words told came
+  pub due : DuePut words told came
+  pub values : ValuesPut words told came
+  pub due_values : DueValuesPut words told came
   pub taken : came.status ≡ status.ReadFault → NotDone told came old new ⊎ TakenOf words told came
   pub streamed : StreamedOf words told came
+
+-- What is said of a report that keeps its lines: of these, and of the requests that it names, in
+-- which the tree failed. Where all was done, the tree's count is as it was, or it names some; of a
+-- command that serves no files it names none.
+pub record IsReported {L : Type 0} (words : List (List ℕ)) (told : Told) (done : Done)
+    (old new : Outside L) : Type 0 where
+  pub once : OnceOf words told done.report.lines
+  pub due : DueOf words told done.status done.report.lines
+  pub values : ValuesOf words told done.report.lines
+  pub due_values : DueValuesOf words told done.status done.report.lines
+  pub failed : done.status ≡ status.Ok → (new.tree ≡ old.tree) ⊎ (done.report.failed ≢ [])
+  pub unserved : (job_for words).serves ≡ false → done.report.failed ≡ []
 
 -- an output: how many writes failed, and what was written
 pub record Stream : Type 0 where

@@ -7,6 +7,7 @@ pub mod Job
 pub mod LogEnds
 pub mod Plans
 pub mod jobs
+pub mod CarriedOut
 pub mod Expected
 pub mod Laws
 pub mod Headline

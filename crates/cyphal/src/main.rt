@@ -7,6 +7,7 @@ ghost use Rattle.cyphal.specs.ErrorLine.{code_of};
 mod arguments;
 #[cfg(test)]
 mod calls;
+mod counted;
 mod dsdl_line;
 mod error_line;
 mod help;

@@ -1,15 +1,67 @@
-use Rattle.std.proofs.Common.{refl, inl}
+use Rattle.std.proofs.Common.{inr, refl}
+use Rattle.cyphal.proofs.CarriedOut.{for_given, printed_out, read_out}
 use Rattle.cyphal.proofs.jobs.carry_out.Goals as goal
 
--- the run of a number's log is given neither a tree nor an input
-pub returns-in-Gen-clause-cause : goal.returns-in-Gen-clause-cause
-returns-in-Gen-clause-cause g c =
-    let h = c.generated.ensures.cause (g.T.Tree.faults c.args.tree.now) in
-    record {
-      read = λ e. inl (h.read e, refl);
-      unread = λ _. refl;
-      refused = λ _. refl;
-      write = h.write;
-      kept = λ e. (refl, (h.kept e).1);
-      unserved = λ _ _. refl;
-    }
+pub returns-in-Compile-clause-done : goal.returns-in-Compile-clause-done
+returns-in-Compile-clause-done g c =
+    let done = c.compile_root.ensures in
+    for_given _ _ _ _ _ _ c.in-Compile.is
+    (printed_out _ _ c.compile_root.result _ _ refl c.nothing.result c.nothing.ensures _ _ _ _ refl refl done.answer done.cause done.ran (λ d n. (d, n)))
+
+pub returns-in-Compat-clause-done : goal.returns-in-Compat-clause-done
+returns-in-Compat-clause-done g c =
+    let done = c.compat_types.ensures in
+    for_given _ _ _ _ _ _ c.in-Compat.is
+    (printed_out _ _ c.compat_types.result _ _ refl c.nothing-in-Compat.result c.nothing-in-Compat.ensures _ _ _ _ refl refl done.answer done.cause done.ran (λ d n. (d, n)))
+
+pub returns-in-Encode-clause-done : goal.returns-in-Encode-clause-done
+returns-in-Encode-clause-done g c =
+    let done = c.encode_lines.ensures in
+    for_given _ _ _ _ _ _ c.in-Encode.is
+    (read_out _ _ c.encode_lines.result _ _ refl c.nothing-in-Encode.result c.nothing-in-Encode.ensures g.L.Source.left _ _ _ _ refl done.answer done.cause done.ran (λ d n. (d, n)))
+
+pub returns-in-Decode-clause-done : goal.returns-in-Decode-clause-done
+returns-in-Decode-clause-done g c =
+    let done = c.decode_lines.ensures in
+    for_given _ _ _ _ _ _ c.in-Decode.is
+    (read_out _ _ c.decode_lines.result _ _ refl c.nothing-in-Decode.result c.nothing-in-Decode.ensures g.L.Source.left _ _ _ _ refl done.answer done.cause done.ran (λ d n. (d, n)))
+
+pub returns-in-Run-clause-done : goal.returns-in-Run-clause-done
+returns-in-Run-clause-done g c =
+    for_given _ _ _ _ _ _ c.in-Run.is c.run_plan.ensures.done
+
+pub returns-in-Bound-clause-done : goal.returns-in-Bound-clause-done
+returns-in-Bound-clause-done g c =
+    let done = c.bound_plan.ensures in
+    for_given _ _ _ _ _ _ c.in-Bound.is
+    (printed_out _ _ c.bound_plan.result _ _ refl c.nothing-in-Bound.result c.nothing-in-Bound.ensures _ _ _ _ refl refl done.answer done.cause done.ran (λ d n. (d, n)))
+
+pub returns-in-Migrate-clause-done : goal.returns-in-Migrate-clause-done
+returns-in-Migrate-clause-done g c =
+    let done = c.migrate_plan.ensures in
+    for_given _ _ _ _ _ _ c.in-Migrate.is
+    (printed_out _ _ c.migrate_plan.result _ _ refl c.nothing-in-Migrate.result c.nothing-in-Migrate.ensures _ _ _ _ refl refl done.answer done.cause done.ran (λ d n. (d, n)))
+
+pub returns-in-Gen-clause-done : goal.returns-in-Gen-clause-done
+returns-in-Gen-clause-done g c =
+    let done = c.generated.ensures in
+    for_given _ _ _ _ _ _ c.in-Gen.is
+    (printed_out _ _ c.generated.result _ _ refl c.nothing-in-Gen.result c.nothing-in-Gen.ensures _ _ _ _ refl refl done.answer (done.cause (g.T.Tree.faults c.args.tree.now)) (inr done.ran) (λ d n. (d, n)))
+
+pub returns-in-Monitor-clause-done : goal.returns-in-Monitor-clause-done
+returns-in-Monitor-clause-done g c =
+    let done = c.hear_log.ensures in
+    for_given _ _ _ _ _ _ c.in-Monitor.is
+    (read_out _ _ c.hear_log.result _ _ refl c.nothing-in-Monitor.result c.nothing-in-Monitor.ensures g.L.Source.left _ _ _ _ refl done.answer (done.cause (g.T.Tree.faults c.args.tree.now)) (inr done.ran) (λ d n. (d, n)))
+
+pub returns-in-Allocate-clause-done : goal.returns-in-Allocate-clause-done
+returns-in-Allocate-clause-done g c =
+    let done = c.hear_log-in-Allocate.ensures in
+    for_given _ _ _ _ _ _ c.in-Allocate.is
+    (read_out _ _ c.hear_log-in-Allocate.result _ _ refl c.nothing-in-Allocate.result c.nothing-in-Allocate.ensures g.L.Source.left _ _ _ _ refl done.answer (done.cause (g.T.Tree.faults c.args.tree.now)) (inr done.ran) (λ d n. (d, n)))
+
+pub returns-in-Fetch-clause-done : goal.returns-in-Fetch-clause-done
+returns-in-Fetch-clause-done g c =
+    let done = c.fetch_file.ensures in
+    for_given _ _ _ _ _ _ c.in-Fetch.is
+    (read_out _ _ c.fetch_file.result _ _ refl c.nothing-in-Fetch.result c.nothing-in-Fetch.ensures g.L.Source.left _ _ _ _ refl done.answer (done.cause (g.T.Tree.faults c.args.tree.now)) (inr done.ran) (λ d n. (d, n)))

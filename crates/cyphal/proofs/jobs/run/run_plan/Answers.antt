@@ -1,24 +1,58 @@
-use Rattle.std.proofs.Common.{inr}
-use Rattle.cyphal.specs.jobs.Run.{over}
+use Rattle.std.proofs.Common.{◌≡◌, false, inl, inr, ℕ, Option, refl, ap, subst}
+use Rattle.cy_outside.specs.Files.{Files}
+use Rattle.node_run.specs.Failures.{failures}
+use Rattle.node_run.specs.HasRun.{HasRun}
+use Rattle.node_run.specs.ValueLines.{flow}
+use Rattle.node_run.specs.Ran.{reported}
+use Rattle.cyphal.specs.Job.{is_settled}
+use Rattle.cyphal.specs.jobs.Run.{over, run_job}
+use Rattle.cyphal.proofs.CarriedOut.{read_out}
 use Rattle.cyphal.proofs.Plans.{refused_at, good_at}
 use Rattle.cyphal.proofs.statuses.Run.{plan_answer, run_not_refused}
 use Rattle.cyphal.proofs.jobs.run.run_plan.Goals as goal
 
-pub returns-in-Err-clause-answer : goal.returns-in-Err-clause-answer
-returns-in-Err-clause-answer g c h =
-    refused_at (over (g.L.Source.left c.args.input.now)) c.args.root.now c.args.path.now (g.T.Tree.files c.args.tree.now) c.in-Err.status (c.in-Err.ensures.answer h)
+pub returns-in-Err-clause-done : goal.returns-in-Err-clause-done
+returns-in-Err-clause-done g c =
+    let root = c.args.root.now in
+    let path = c.args.path.now in
+    let stat = c.in-Err.status in
+    let err = c.in-Err.ensures in
+    read_out (run_job root path) _ stat _ _ refl c.nothing.result c.nothing.ensures g.L.Source.left _ _ _ ⊥ refl
+    (λ h. refused_at (over (g.L.Source.left c.args.input.now)) root path (g.T.Tree.files c.args.tree.now) stat (err.answer h))
+    (record {
+      read = λ e. inl (err.read e, refl);
+      unread = λ e. absurd cc;
+      refused = λ _. refl;
+      write = λ e. absurd (err.write e);
+      kept = λ e. (let early : is_settled stat ≡ false = err.early in absurd (let ends = ap is_settled e in cc));
+      unserved = λ e. absurd cc;
+    })
+    (inl (record { nothing = record { written = refl; not_settled = err.early; not_write = err.write }; source = refl; tree = err.read }))
+    (λ d. absurd d)
 
-pub returns-clause-answer : goal.returns-clause-answer
-returns-clause-answer g c h =
-    good_at (over (g.L.Source.left c.args.input.now)) c.args.root.now c.args.path.now (g.T.Tree.files c.args.tree.now) c.run_over.result c.in-Ok.plan c.in-Ok.ensures.plan
-    (plan_answer c.in-Ok.plan _ _ c.run_over.result _ _ c.run_over.ensures.ran h) h
-
-pub returns-clause-cause : goal.returns-clause-cause
-returns-clause-cause g c = record {
-  read = λ e. inr (c.run_over.ensures.read e);
-  unread = λ e. absurd cc;
-  refused = λ e. absurd (run_not_refused c.in-Ok.plan _ _ c.run_over.result _ _ c.run_over.ensures.ran e);
-  write = c.run_over.ensures.write;
-  kept = c.run_over.ensures.kept;
-  unserved = λ e. absurd cc;
-}
+pub returns-clause-done : goal.returns-clause-done
+returns-clause-done g c =
+    let root = c.args.root.now in
+    let path = c.args.path.now in
+    let plan = c.in-Ok.plan in
+    let run = c.run_over-status in
+    let done = run.ensures in
+    let files = g.T.Tree.files c.args.tree.now in
+    let told = flow (g.L.Source.left c.args.input.now) (g.L.Source.left run.new.input) (g.O.Sink.written c.args.out.now) (g.O.Sink.written run.new.out) in
+    let put = reported (g.K.LineSink.lines c.args.lines.now) (g.K.LineSink.lines run.new.lines) run.new.numbers in
+    let failed = λ (faults : ℕ). failures (g.K.LineSink.failed c.args.lines.now) (g.K.LineSink.failed run.new.lines) faults (g.T.Tree.faults run.new.tree) in
+    let ran = subst (λ (f : Option Files). HasRun plan f told run.result put (failed (g.T.Tree.faults c.args.tree.now))) c.in-Ok.ensures.files
+    (subst (λ (n : ℕ). HasRun plan (g.T.Tree.files c.plan_at.new.tree) told run.result put (failed n)) c.in-Ok.ensures.kept done.ran) in
+    record {
+      answer = λ h. good_at (over (g.L.Source.left c.args.input.now)) root path files run.result plan c.in-Ok.ensures.plan (plan_answer plan _ _ run.result _ _ ran h) h;
+      cause = record {
+        read = λ e. inr (done.read e);
+        unread = λ e. absurd cc;
+        refused = λ e. absurd (run_not_refused plan _ _ run.result _ _ ran e);
+        write = done.write;
+        kept = done.kept;
+        unserved = λ e. absurd cc;
+      };
+      ran = inr (record { plan = plan; is = c.in-Ok.ensures.plan; run = ran; bound = done.bound });
+      held = done.held;
+    }
