@@ -1,5 +1,5 @@
 -- Lemmas on sixteen hex digits at a time.
-use Rattle.std.proofs.Common.{suc, zero, ◌≤◌, take, ap₂, eqb, Bool, true, false, not, sym, ◌≡◌, ◌∙◌, ℕ, ◌+◌, ◌-◌, ◌%◌, ◌^◌, ◌<◌, List, [], ◌∷◌, length, map, cond, ltb, bit_or, replicate, get_or, refl, ap, arith, Fits, w8}
+use Rattle.std.proofs.Common.{suc, zero, ◌≤◌, take, ap₂, eqb, Bool, true, false, not, sym, ◌≡◌, ◌∙◌, ℕ, ◌+◌, ◌-◌, ◌%◌, ◌^◌, ◌<◌, List, [], ◌∷◌, length, map, cond, ltb, bit_or, bit_and, replicate, get_or, refl, ap, arith, Fits, w8}
 use Rattle.std.specs.Simd.Lanes.{zip2, sel_l, top, Each1}
 use Rattle.std.specs.Simd.Lanes.{mask_l}
 use Rattle.std.proofs.lemmas.Simd.{length-zip2, tops_compared, mask_l-mod, leading_from_mask_l, trailing_mask_l}
@@ -12,41 +12,90 @@ use Rattle.std.specs.List.{range_with_len, prefix_len}
 use Rattle.frame_log.specs.Line.{hex_digit}
 use Rattle.frame_log.specs.Lanes.{is_digit}
 
-sub8 : ℕ → ℕ → ℕ
-sub8 a b = (a + (2 ^ 8 - b)) % 2 ^ 8
+-- what the code computes of vectors: where no digit stands, and the digits' values
+abbrev pub flags : List ℕ → ℕ → List ℕ
+flags c n = sel_l (map (top 7) (zip2 bit_or
+    (zip2 (λ a b. cond (ltb a b) 255 0) (zip2 (λ a b. (a + (2 ^ 8 - b)) % 2 ^ 8) c (replicate n 48)) (replicate n 10))
+    (zip2 (λ a b. cond (ltb a b) 255 0) (zip2 (λ a b. (a + (2 ^ 8 - b)) % 2 ^ 8) (zip2 bit_or c (replicate n 32)) (replicate n 97)) (replicate n 6))))
+    (replicate n 0) (replicate n 16)
 
-below : ℕ → ℕ → ℕ
-below a b = cond (ltb a b) 255 0
-
--- what the code computes of vectors
-abbrev pub vector : List ℕ → ℕ → List ℕ
-vector c n =
-    let d = zip2 (λ a b. (a + (2 ^ 8 - b)) % 2 ^ 8) c (replicate n 48) in
-    let l = zip2 (λ a b. (a + (2 ^ 8 - b)) % 2 ^ 8) (zip2 bit_or c (replicate n 32)) (replicate n 87) in
-    sel_l (map (top 7) (zip2 (λ a b. cond (ltb a b) 255 0) d (replicate n 10))) d
-    (sel_l (map (top 7) (zip2 (λ a b. cond (ltb a b) 255 0) (zip2 (λ a b. (a + (2 ^ 8 - b)) % 2 ^ 8) l (replicate n 10)) (replicate n 6))) l (replicate n 16))
+abbrev pub sums : List ℕ → ℕ → List ℕ
+sums c n = zip2 (λ a b. (a + b) % 2 ^ 8) (zip2 bit_and c (replicate n 15))
+    (sel_l (map (top 7) (zip2 (λ a b. cond (ltb a b) 255 0) (zip2 (λ a b. (a + (2 ^ 8 - b)) % 2 ^ 8) (zip2 bit_or c (replicate n 32)) (replicate n 97)) (replicate n 6)))
+    (replicate n 9) (replicate n 0))
 
 -- and of one lane
-abbrev pub lane : ℕ → ℕ
-lane x =
-    let d = (x + (2 ^ 8 - 48)) % 2 ^ 8 in
-    let l = (bit_or x 32 + (2 ^ 8 - 87)) % 2 ^ 8 in
-    cond (top 7 (cond (ltb d 10) 255 0)) d (cond (top 7 (cond (ltb ((l + (2 ^ 8 - 10)) % 2 ^ 8) 6) 255 0)) l 16)
+abbrev pub flag : ℕ → ℕ
+flag x = cond (top 7 (bit_or (cond (ltb ((x + (2 ^ 8 - 48)) % 2 ^ 8) 10) 255 0) (cond (ltb ((bit_or x 32 + (2 ^ 8 - 97)) % 2 ^ 8) 6) 255 0))) 0 16
 
-pub whole : (c : List ℕ) → vector c (length c) ≡ map lane c
-whole [] = refl
-whole (x ∷ xs) = ap (λ (t : List ℕ). lane x ∷ t) (whole xs)
+abbrev pub one_sum : ℕ → ℕ
+one_sum x = (bit_and x 15 + cond (top 7 (cond (ltb ((bit_or x 32 + (2 ^ 8 - 97)) % 2 ^ 8) 6) 255 0)) 9 0) % 2 ^ 8
 
--- the lane has the value of each byte
-table_is : map lane (range_with_len 0 256) ≡ map hex_digit (range_with_len 0 256)
-table_is = refl
+pub flags-whole : (c : List ℕ) → flags c (length c) ≡ map flag c
+flags-whole [] = refl
+flags-whole (x ∷ xs) = ap (λ (t : List ℕ). flag x ∷ t) (flags-whole xs)
 
-pub lane_is : (x : ℕ) → x < 256 → lane x ≡ hex_digit x
-lane_is x h = sym (get_or-map-range_with_len lane 0 256 x x 0 (omega arith) (omega arith)) ∙ (ap (λ (t : List ℕ). get_or t x 0) table_is ∙ get_or-map-range_with_len hex_digit 0 256 x x 0 (omega arith) (omega arith))
+pub sums-whole : (c : List ℕ) → sums c (length c) ≡ map one_sum c
+sums-whole [] = refl
+sums-whole (x ∷ xs) = ap (λ (t : List ℕ). one_sum x ∷ t) (sums-whole xs)
 
-pub lanes_are : (c : List ℕ) → Each1 (Fits w8) c → map lane c ≡ map hex_digit c
-lanes_are [] e = refl
-lanes_are (x ∷ xs) e = ap (λ (a : ℕ). a ∷ map lane xs) (lane_is x (omega (arith, e.0.fits))) ∙ ap (λ (t : List ℕ). hex_digit x ∷ t) (lanes_are xs e.1)
+-- each byte, by a table
+abbrev told : ℕ → ℕ
+told x = cond (is_digit (flag x)) (one_sum x) 16
+
+one : Bool → ℕ
+one true = 1
+one false = 0
+
+abbrev of_flag : ℕ → ℕ
+of_flag x = one (is_digit (flag x))
+
+abbrev of_digit : ℕ → ℕ
+of_digit x = one (is_digit (hex_digit x))
+
+flag_table : map of_flag (range_with_len 0 256) ≡ map of_digit (range_with_len 0 256)
+unfolding one
+flag_table = refl
+
+told_table : map told (range_with_len 0 256) ≡ map hex_digit (range_with_len 0 256)
+told_table = refl
+
+one_of : (a b : Bool) → one a ≡ one b → a ≡ b
+unfolding one
+one_of true true e = refl
+one_of true false e = absurd (omega (arith, e))
+one_of false true e = absurd (omega (arith, e))
+one_of false false e = refl
+
+flag_is : (x : ℕ) → x < 256 → is_digit (flag x) ≡ is_digit (hex_digit x)
+flag_is x h =
+    one_of (is_digit (flag x)) (is_digit (hex_digit x))
+    (sym (get_or-map-range_with_len of_flag 0 256 x x 0 (omega arith) (omega arith)) ∙ (ap (λ (t : List ℕ). get_or t x 0) flag_table ∙ get_or-map-range_with_len of_digit 0 256 x x 0 (omega arith) (omega arith)))
+
+told_is : (x : ℕ) → x < 256 → told x ≡ hex_digit x
+told_is x h = sym (get_or-map-range_with_len told 0 256 x x 0 (omega arith) (omega arith)) ∙ (ap (λ (t : List ℕ). get_or t x 0) told_table ∙ get_or-map-range_with_len hex_digit 0 256 x x 0 (omega arith) (omega arith))
+
+pub same_count : (c : List ℕ) → Each1 (Fits w8) c → prefix_len is_digit (map flag c) ≡ prefix_len is_digit (map hex_digit c)
+same_count [] e = refl
+same_count (x ∷ xs) e =
+    ap (λ (b : Bool). cond b (1 + prefix_len is_digit (map flag xs)) 0) (flag_is x (omega (arith, e.0.fits)))
+    ∙ ap (λ (n : ℕ). cond (is_digit (hex_digit x)) (1 + n) 0) (same_count xs e.1)
+
+one_more : (n a : ℕ) (t : List ℕ) → take (1 + n) (a ∷ t) ≡ a ∷ take n t
+one_more n a t = let e : 1 + n ≡ suc n = omega arith in rw e refl
+
+-- as far as digits stand, the sums are their values
+pub same_values : (c : List ℕ) → Each1 (Fits w8) c → take (prefix_len is_digit (map hex_digit c)) (map one_sum c) ≡ take (prefix_len is_digit (map hex_digit c)) (map hex_digit c)
+same_values [] e = refl
+same_values (x ∷ xs) e = go (same_values xs e.1) (is_digit (hex_digit x)) refl
+  where
+    go : take (prefix_len is_digit (map hex_digit xs)) (map one_sum xs) ≡ take (prefix_len is_digit (map hex_digit xs)) (map hex_digit xs) → (b : Bool) → is_digit (hex_digit x) ≡ b → take (cond b (1 + prefix_len is_digit (map hex_digit xs)) 0) (one_sum x ∷ map one_sum xs) ≡ take (cond b (1 + prefix_len is_digit (map hex_digit xs)) 0) (hex_digit x ∷ map hex_digit xs)
+    go more true y =
+        let f : is_digit (flag x) ≡ true = flag_is x (omega (arith, e.0.fits)) ∙ y in
+        let v : one_sum x ≡ hex_digit x = sym (ap (λ (b : Bool). cond b (one_sum x) 16) f) ∙ told_is x (omega (arith, e.0.fits)) in
+        let n = prefix_len is_digit (map hex_digit xs) in
+        one_more n (one_sum x) (map one_sum xs) ∙ (ap₂ (λ (a : ℕ) (t : List ℕ). a ∷ t) v more ∙ sym (one_more n (hex_digit x) (map hex_digit xs)))
+    go more false y = refl
 
 -- the lanes that are no digit's value, as the mask has them
 abbrev pub is_bad : ℕ → Bool

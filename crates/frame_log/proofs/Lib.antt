@@ -9,4 +9,5 @@ pub mod LaneLemmas
 pub mod PairLemmas
 pub mod CleanLemmas
 pub mod ReadsLemmas
+pub mod MicrosLemmas
 mod HexPairs

@@ -1,11 +1,11 @@
 -- Lemmas on pairs of hex digits, many at a time.
-use Rattle.std.proofs.Common.{◌≡◌, ◌∙◌, ◌<◌, ◌≤◌, ℕ, zero, suc, ◌+◌, ◌-◌, ◌*◌, ◌/◌, ◌%◌, Bool, true, false, not, cond, List, [], ◌∷◌, ◌++◌, Option, Some, None, refl, sym, ap, ap₂, map, length, take, drop, get_or, bit_or, arith, append_assoc, append-nil, length-append}
+use Rattle.std.proofs.Common.{◌≡◌, ◌∙◌, ◌<◌, ◌≤◌, ℕ, zero, suc, ◌+◌, ◌-◌, ◌*◌, ◌/◌, ◌%◌, Bool, true, false, not, cond, List, [], ◌∷◌, ◌++◌, Option, Some, None, refl, sym, ap, ap₂, map, length, take, drop, get_or, get_or-take, bit_or, arith, append_assoc, append-nil, length-append}
 use Rattle.std.specs.Prelude.{nat_lt}
 use Rattle.std.specs.List.{prefix_len, range_with_len}
 use Rattle.std.specs.Int.{from_be_bytes, w32}
 use Rattle.std.proofs.lemmas.List.FromFn.{get_or-map-range_with_len}
 use Rattle.std.proofs.lemmas.Bool.Decides.{nat_tests}
-use Rattle.std.proofs.lemmas.List.{take-append-drop}
+use Rattle.std.proofs.lemmas.List.{take-append-drop, take-take}
 use Rattle.std.proofs.Math.Seq.{take-add}
 use Rattle.std.proofs.lemmas.Grind.{common_steps}
 use Rattle.frame_log.specs.Line.{hex_digit, hex_from, pairs_of, with_front, ◌>>=◌}
@@ -169,3 +169,25 @@ pub hex_from-eight : (c : List ℕ) → 8 ≤ prefix_len is_digit (map hex_digit
     hex_from 0 (take 8 c) ≡ Some (from_be_bytes w32 (get_or s 0 0 ∷ get_or s 1 0 ∷ get_or s 2 0 ∷ get_or s 3 0 ∷ []))
 hex_from-eight c h = let s = bytes_of_pairs (map hex_digit c) in
     hex_from-block 4 8 0 c refl h ∙ ap Some (four_bytes s (pairs-length 4 8 c refl h))
+
+-- pairs of fewer values
+pairs-take : (k : ℕ) (v : List ℕ) → bytes_of_pairs (take (2 * k) v) ≡ take k (bytes_of_pairs v)
+pairs-take zero v = refl
+pairs-take (suc k) [] = let two : 2 * suc k ≡ suc (suc (2 * k)) = omega arith in rw two refl
+pairs-take (suc k) (a ∷ []) = let two : 2 * suc k ≡ suc (suc (2 * k)) = omega arith in rw two refl
+pairs-take (suc k) (a ∷ b ∷ v) =
+    let two : 2 * suc k ≡ suc (suc (2 * k)) = omega arith in
+    rw two (ap (λ (s : List ℕ). bit_or (a * 16 % 256) b ∷ s) (pairs-take k v))
+
+-- the bytes of pairs, as far as two lists agree
+pub pairs-same : (k n : ℕ) (v w : List ℕ) → 2 * k ≤ n → take n v ≡ take n w → take k (bytes_of_pairs v) ≡ take k (bytes_of_pairs w)
+pairs-same k n v w h e =
+    sym (pairs-take k v)
+    ∙ (ap bytes_of_pairs (sym (take-take (2 * k) n v h) ∙ (ap (take (2 * k)) e ∙ take-take (2 * k) n w h)) ∙ pairs-take k w)
+
+-- the number of four bytes, as far as two lists agree
+pub first_four : (s t : List ℕ) → take 4 s ≡ take 4 t
+    → from_be_bytes w32 (get_or s 0 0 ∷ get_or s 1 0 ∷ get_or s 2 0 ∷ get_or s 3 0 ∷ []) ≡ from_be_bytes w32 (get_or t 0 0 ∷ get_or t 1 0 ∷ get_or t 2 0 ∷ get_or t 3 0 ∷ [])
+first_four s t e =
+    let at : (i : ℕ) → i < 4 → get_or s i 0 ≡ get_or t i 0 = λ i h. sym (get_or-take 4 s i 0 h) ∙ (ap (λ l. get_or l i 0) e ∙ get_or-take 4 t i 0 h) in
+    rw (at 0 (omega arith), at 1 (omega arith), at 2 (omega arith), at 3 (omega arith)) refl

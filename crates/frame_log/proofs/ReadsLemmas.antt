@@ -48,7 +48,7 @@ length-front : (n : ℕ) (s : List ℕ) → n ≤ length s → length (take n s)
 length-front n s h = grind (arith, common_steps)
 
 -- MICROS
-micros-again : (d t : List ℕ) (m : ℕ) → length d ≡ 6 → decimal_from 0 d ≡ Some m → micros_of (d ++ 41 ∷ 32 ∷ t) ≡ Some (m, t)
+pub micros-again : (d t : List ℕ) (m : ℕ) → length d ≡ 6 → decimal_from 0 d ≡ Some m → micros_of (d ++ 41 ∷ 32 ∷ t) ≡ Some (m, t)
 micros-again d t m l e =
     ap (λ (o : Option (List ℕ × List ℕ)). o >>= (λ p. decimal_from 0 p.0 >>= (λ micros. after 41 p.1 >>= (λ a. after 32 a >>= (λ b. Some (micros, b)))))) (front-again 6 d (41 ∷ 32 ∷ t) l)
     ∙ ap (λ (o : Option ℕ). o >>= (λ micros. Some (micros, t))) e

@@ -5,7 +5,7 @@ ghost use Rattle.frame_log.specs.Reads.{IsHex};
 ghost use Rattle.frame_log.specs.Found.{bytes_if};
 
 use crate::digits::{after, front, hexadecimal};
-use crate::sixteen::{digits_before, paired, values};
+use crate::sixteen::{digits, paired};
 use std::simd::prelude::*;
 use tail_frame::FrameData;
 
@@ -21,8 +21,8 @@ pub fn blocks(s: &[u8], bytes: &mut FrameData) -> usize
 {
     let mut n = 0;
     for i in 0..s.len() / 16 {
-        let v = values(u8x16::from_slice(&s[16 * i..]));
-        if digits_before(v) < 16 {
+        let (v, k) = digits(u8x16::from_slice(&s[16 * i..]));
+        if k < 16 {
             break;
         }
         bytes.put(&paired(v).to_array(), 8);

@@ -9,8 +9,7 @@ use crate::buses::Buses;
 use crate::data::{blocks, is_length};
 use crate::digits::hex_digit;
 use crate::front::Front;
-use crate::line::micros;
-use crate::sixteen::{digits_before, eight_digits, paired, values};
+use crate::sixteen::{digits, eight_digits, is_micros, paired, tens};
 use std::simd::prelude::*;
 use tail_frame::FrameData;
 
@@ -27,11 +26,16 @@ pub struct Seen {
 /// MICROS and `) `, in front of other bytes.
 #[inline(always)]
 fn micros_at(s: &[u8]) -> Option<u64>
+    requires { 16 ≤ length s.now }
     ensures reads { IfSome result (λ m. Reads micros_of s.now 8 m) }
     ensures bound { IfSome result (λ m. m < 10 ^ 12) }
 {
-    let (m, _) = micros(s)?;
-    Some(m)
+    let c = u8x16::from_slice(s);
+    if !is_micros(c) {
+        return None;
+    }
+    let pairs = tens(c - u8x16::splat(48)).to_array();
+    Some(pairs[0] as u64 * 10_000 + pairs[1] as u64 * 100 + pairs[2] as u64)
 }
 
 /// IDENT of eight digits and `#`, in front of other bytes.
@@ -57,8 +61,7 @@ fn last_block(s: &[u8], n: usize, bytes: &mut FrameData) -> Option<usize>
     ensures count { IfSome result (λ m. m ≡ length bytes.new) }
     ensures within { IfSome result (λ m. (m ≤ n + 8) × (m ≤ 64)) }
 {
-    let v = values(u8x16::from_slice(&s[2 * n..]));
-    let k = digits_before(v);
+    let (v, k) = digits(u8x16::from_slice(&s[2 * n..]));
     let more = k / 2;
     if k != 2 * more || more > 8 || n + more > 64 {
         return None;

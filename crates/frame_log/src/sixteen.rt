@@ -1,26 +1,30 @@
 //! Sixteen bytes at a time.
-ghost use Rattle.std.specs.Prelude.{◌≡◌, ◌≤◌, map, take, length, Some, IfSome};
+ghost use Rattle.std.specs.Prelude.{◌≡◌, ◌≤◌, true, map, take, length, Some, IfSome};
 ghost use Rattle.std.specs.List.{prefix_len};
 ghost use Rattle.frame_log.specs.Line.{hex_digit, hex_from};
-ghost use Rattle.frame_log.specs.Lanes.{is_digit, bytes_of_pairs};
+ghost use Rattle.frame_log.specs.Lanes.{is_digit, bytes_of_pairs, numbers_of_pairs, IsMicros};
 
 use std::simd::prelude::*;
 
-/// The values of sixteen bytes as hex digits, 16 for any other.
+/// The values of those of sixteen bytes that come before the first that is no hex digit, and how many these
+/// are.
 #[inline(always)]
-pub fn values(c: u8x16) -> u8x16
-    ensures { result ≡ map hex_digit c }
+pub fn digits(c: u8x16) -> (u8x16, usize)
+    ensures count { result.1 ≡ prefix_len is_digit (map hex_digit c) }
+    ensures values { take result.1 result.0 ≡ take result.1 (map hex_digit c) }
 {
     let d = c - u8x16::splat(48);
-    let l = (c | u8x16::splat(32)) - u8x16::splat(87);
+    let l = (c | u8x16::splat(32)) - u8x16::splat(97);
     let is_digit = d.simd_lt(u8x16::splat(10));
-    let is_letter = (l - u8x16::splat(10)).simd_lt(u8x16::splat(6));
-    is_digit.select(d, is_letter.select(l, u8x16::splat(16)))
+    let is_letter = l.simd_lt(u8x16::splat(6));
+    let v = (c & u8x16::splat(15)) + is_letter.select(u8x16::splat(9), u8x16::splat(0));
+    let flags = (is_digit | is_letter).select(u8x16::splat(0), u8x16::splat(16));
+    (v, digits_before(flags))
 }
 
 /// How many lanes come before the first that is no digit's value.
 #[inline(always)]
-pub fn digits_before(v: u8x16) -> usize
+fn digits_before(v: u8x16) -> usize
     ensures { result ≡ prefix_len is_digit v }
 {
     let bad = v.simd_gt(u8x16::splat(15)).to_bitmask();
@@ -46,8 +50,8 @@ pub fn eight_digits(s: &[u8]) -> Option<u32>
     requires { 16 ≤ length s.now }
     ensures { IfSome result (λ n. hex_from 0 (take 8 s.now) ≡ Some n) }
 {
-    let v = values(u8x16::from_slice(s));
-    if digits_before(v) < 8 {
+    let (v, n) = digits(u8x16::from_slice(s));
+    if n < 8 {
         return None;
     }
     let b = paired(v).to_array();
@@ -66,4 +70,25 @@ pub fn equal_before(a: u8x16, b: u8x16) -> usize
     } else {
         other.trailing_zeros() as usize
     }
+}
+
+/// Whether six decimal digits, `)` and a space stand in front.
+#[inline(always)]
+pub fn is_micros(c: u8x16) -> bool
+    ensures { result ≡ true → IsMicros c }
+{
+    let least = u8x16::from_array([48, 48, 48, 48, 48, 48, 41, 32, 0, 0, 0, 0, 0, 0, 0, 0]);
+    let most = u8x16::from_array([
+        9, 9, 9, 9, 9, 9, 0, 0, 255, 255, 255, 255, 255, 255, 255, 255,
+    ]);
+    (c - least).simd_gt(most).to_bitmask() == 0
+}
+
+/// The numbers of eight pairs of decimal digits' values.
+#[inline(always)]
+pub fn tens(v: u8x16) -> u8x8
+    ensures { result ≡ numbers_of_pairs v }
+{
+    let (high, low) = v.deinterleave(v);
+    high.extract::<0, 8>() * u8x8::splat(10) + low.extract::<0, 8>()
 }
