@@ -1,2 +1,6 @@
+pub mod AtOnce
+pub mod Heard
+pub mod HexLanes
+pub mod HexLine
 pub mod OneAnswer
 pub mod Sizes

@@ -1,3 +1,4 @@
 pub mod LongLines
 pub mod Encoded
 pub mod Decoded
+pub mod Digits

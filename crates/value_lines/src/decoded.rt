@@ -1,5 +1,5 @@
 //! The hex of bytes as the text of the value that they read as.
-ghost use Rattle.std.specs.Prelude.{◌≡◌, ◌≤◌, ◌^◌, ◌++◌, [], ◌∷◌, true, length, OnOk, OnErr};
+ghost use Rattle.std.specs.Prelude.{◌≡◌, true};
 ghost use Rattle.dsdl_types.specs.Definitions.{IsType};
 ghost use Rattle.dsdl_types.specs.OneWay.{schema_prop};
 ghost use Rattle.dsdl_types.specs.Rules.{IsSchema};
@@ -8,31 +8,49 @@ ghost use Rattle.dsdl_types.specs.Views.{sch};
 ghost use Rattle.line_loop.specs.Heard.{Hears};
 ghost use Rattle.line_loop.specs.Reply.{by_number, no_words};
 ghost use Rattle.line_text.specs.Buffer.{text_of};
-ghost use Rattle.value_lines.specs.Decoded.{Decodes, IsReadAnswer};
+ghost use Rattle.value_lines.specs.Decoded.{Decodes};
 
 use crate::LONGEST_LINE;
+use crate::at_once::decode_at_once;
+use crate::by_value::decode_by_value;
 use crate::refusal::Refusal;
 use cy_bits::NoMemory;
 use dsdl_types::Schema;
-use dsdl_types::laws::{readings_stored, rules_suffice};
-use hex::FromHexError;
 use line_loop::{LineListener, LineStop};
 use line_text::TextBuffer;
-use serdes::{ReadError, read_as};
 use std::alloc::Global;
-use value_text::print_value;
 
 /// Answers each line, the hex of bytes, by the text of the value of a type that they read as: past the end of the bytes
-/// zeros are read, and surplus bytes are ignored. An empty line is the hex of no bytes. A line that is no hex or has more
-/// bytes than `LONGEST_LINE` is refused, and one whose bytes can't be read.
+/// zeros are read, and surplus bytes are ignored. An empty line is the hex of no bytes. A line that is no hex or has
+/// more bytes than `LONGEST_LINE` is refused, and one whose bytes can't be read. A line is read without its value as a
+/// rule; then it takes no memory but for its text, and for its bytes where it is the longest so far.
 #[derive(Drop)]
 pub struct Decoder<'a> {
     /// Where memory comes from.
-    pub alloc: Global,
+    alloc: Global,
     /// The type: a structure or a union that keeps the rules.
     pub schema: &'a Schema,
+    /// The bytes of the last line, and some behind them that don't count.
+    bytes: TextBuffer,
     pub ghost rules: { IsSchema (sch schema.now) } by { schema_prop (sch schema.now) },
     pub ghost composite: { is_composite (sch schema.now) ≡ true },
+}
+
+impl<'a> Decoder<'a> {
+    ghost use Rattle.std.specs.Prelude.{◌≡◌};
+    ghost use Rattle.dsdl_types.specs.Definitions.{IsType};
+
+    /// Answers lines by values of a type; takes no memory yet.
+    pub fn new(alloc: Global, schema: &'a Schema) -> Decoder<'a>
+        requires { IsType schema.now }
+        ensures { result.schema.now ≡ schema.now }
+    {
+        Decoder {
+            alloc,
+            schema,
+            bytes: TextBuffer::new(alloc),
+        }
+    }
 }
 
 impl LineListener for Decoder<'_> {
@@ -46,7 +64,7 @@ impl LineListener for Decoder<'_> {
 
     ghost long = { λ n. refusal.Text n };
 
-    ghost heard = { λ first now past. now ≡ first };
+    ghost heard = { λ first now past. now.schema.now ≡ first.schema.now };
 
     fn hear(
         &mut self,
@@ -54,7 +72,14 @@ impl LineListener for Decoder<'_> {
         line: &[u8],
         gathered: &mut TextBuffer,
     ) -> Result<(), LineStop<Refusal>> {
-        decode_line(self.alloc, self.schema, number, line, gathered)
+        decode_line(
+            self.alloc,
+            self.schema,
+            &mut self.bytes,
+            number,
+            line,
+            gathered,
+        )
     }
 
     fn finish(&mut self, _gathered: &mut TextBuffer) -> Result<(), NoMemory> {
@@ -66,10 +91,12 @@ impl LineListener for Decoder<'_> {
     }
 }
 
-/// Gathers the text of the value that the bytes read as whose hex a line is.
+/// Gathers the text of the value that the bytes read as whose hex a line is. The bytes are written into a buffer that
+/// is used again.
 fn decode_line(
     alloc: Global,
     schema: &Schema,
+    bytes: &mut TextBuffer,
     line: u64,
     hex: &[u8],
     gathered: &mut TextBuffer,
@@ -81,56 +108,8 @@ fn decode_line(
     if hex.len() > LONGEST_LINE {
         return Err(LineStop::Refused(Refusal::Text { line }));
     }
-    match hex::decode(alloc, hex) {
-        Ok(bytes) => put_value(alloc, schema, line, bytes.as_slice(), gathered),
-        Err(FromHexError::OutOfMemory) => Err(LineStop::NoMemory),
-        Err(_) => Err(LineStop::Refused(Refusal::Text { line })),
+    match decode_at_once(schema, hex, bytes, gathered) {
+        Ok(()) => Ok(()),
+        Err(_) => decode_by_value(alloc, schema, line, hex, gathered),
     }
-}
-
-/// Gathers the text of the value that the bytes of a line read as.
-fn put_value(
-    alloc: Global,
-    schema: &Schema,
-    line: u64,
-    bytes: &[u8],
-    gathered: &mut TextBuffer,
-) -> Result<(), LineStop<Refusal>>
-    requires rules { IsType schema.now }
-    requires short { length bytes.now ≤ 2 ^ 20 }
-    ensures { Hears (IsReadAnswer (sch schema.now) line bytes.now)
-        (text_of gathered.old) (text_of gathered.new) result }
-{
-    rules_suffice();
-    readings_stored();
-    match read_as(alloc, schema, bytes) {
-        Ok(value) => {
-            let Ok(text) = print_value(alloc, schema, &value) else {
-                return Err(LineStop::NoMemory);
-            };
-            match put_line(text.as_str().as_bytes(), gathered) {
-                Ok(()) => Ok(()),
-                Err(_) => Err(LineStop::NoMemory),
-            }
-        }
-        Err(ReadError::Bad { path, why }) => {
-            Err(LineStop::Refused(Refusal::Unreadable { line, path, why }))
-        }
-        Err(ReadError::NoMemory) => Err(LineStop::NoMemory),
-    }
-}
-
-/// Gathers a text and a newline.
-fn put_line(text: &[u8], gathered: &mut TextBuffer) -> Result<(), NoMemory>
-    ensures text { OnOk result
-        (text_of gathered.new ≡ text_of gathered.old ++ (text.now ++ 10 ∷ [])) }
-    ensures kept { OnErr result (text_of gathered.new ≡ text_of gathered.old) }
-{
-    let Some(room) = text.len().checked_add(1) else {
-        return Err(NoMemory);
-    };
-    gathered.reserve(room)?;
-    gathered.put_slice(text);
-    gathered.put_slice(b"\n");
-    Ok(())
 }

@@ -2,8 +2,11 @@
 //! Specification, section 3.7).
 #![tactic(auto)]
 
+mod at_once;
+mod by_value;
 mod decoded;
 mod encoded;
+mod hex_line;
 pub mod laws;
 mod refusal;
 

@@ -1,6 +1,6 @@
 use Rattle.std.proofs.Common.{◌≤◌, ◌^◌, length, ap, arith}
 use Rattle.value_lines.proofs.Sizes.{bytes_short}
-use Rattle.value_lines.proofs.decoded.decode_line.Goals as goal
+use Rattle.value_lines.proofs.by_value.decode_by_value.Goals as goal
 
 pub put_value-requires-clause-short : goal.put_value-requires-clause-short
 put_value-requires-clause-short c =

@@ -1,5 +1,5 @@
 use Rattle.dsdl_types.specs.Views.{sch, val}
-use Rattle.value_lines.proofs.decoded.put_value.Goals as goal
+use Rattle.value_lines.proofs.by_value.put_value.Goals as goal
 
 pub print_value-requires : goal.print_value-requires
 print_value-requires c =
