@@ -1,13 +1,13 @@
 -- From what a loop over lines did to what a command did, by the status.
-use Rattle.std.proofs.Common.{◌≡◌, ◌∙◌, ◌⊎◌, inl, inr, ℕ, List, [], Option, Some, None, refl, sym, ap, subst, arith}
+use Rattle.std.proofs.Common.{◌≡◌, ◌∙◌, ◌⊎◌, inl, inr, ℕ, List, [], Option, Some, None, Result, refl, sym, ap, subst, arith}
 use Rattle.dsdl_types.specs.Schemas.{Sch}
 use Rattle.line_loop.specs.Gone.{HasGone}
-use Rattle.line_loop.specs.Reply.{Voice, voice, HasOneAnswer}
+use Rattle.line_loop.specs.Reply.{Voice, line_voice, HasOneAnswer}
 use Rattle.line_loop.specs.declared.bounds.LineBounds.{LineBounds}
 use Rattle.line_loop.specs.declared.ended.LinesEnded.{LinesEnded}
 use Rattle.line_loop.specs.declared.ended.LinesEnded.TheVariants as end
 use Rattle.line_loop.proofs.Inputs.{took_none}
-use Rattle.line_loop.proofs.Replies.{one_reply}
+use Rattle.line_loop.proofs.Replies.{one_by_number, one_reply}
 use Rattle.log_loop.proofs.Streams.{no_front}
 use Rattle.value_lines.specs.declared.refusal.Refusal.{Refusal}
 use Rattle.value_lines.specs.declared.refusal.Refusal.TheVariants as refusal
@@ -27,9 +27,9 @@ module _ (answers : Answering) (message : Option Sch) (name : List ℕ) where
   by_end end.NoMemory told a = inr a
 
   pub has_answered : (schema : Sch) → message ≡ Some schema → (most : LineBounds) → most ≡ bounds → (ended : LinesEnded Refusal) (stat : Status) → stat ≡ lines_status ended → (told : Flow)
-      → HasGone (voice (answers schema) (λ n. refusal.Text n) most) told.left told.new ended told.before told.after → HasAnsweredLines answers message name stat told
+      → HasGone (line_voice (answers schema) (λ n. refusal.Text n) most) told.left told.new ended told.before told.after → HasAnsweredLines answers message name stat told
   has_answered schema is most same ended stat e told gone =
-      let within = subst (λ (b : LineBounds). HasGone (voice (answers schema) (λ n. refusal.Text n) b) told.left told.new ended told.before told.after) same gone in
+      let within = subst (λ (b : LineBounds). HasGone (line_voice (answers schema) (λ n. refusal.Text n) b) told.left told.new ended told.before told.after) same gone in
       subst (λ (s : Status). HasAnsweredLines answers message name s told) (sym e) (by_end ended told (record { schema = schema; is = is; gone = within }))
 
   pub are_taken : (stat : Status) (told : Flow) → HasAnsweredLines answers message name stat told → stat ≡ status.ReadFault → AreTaken answers message told
@@ -57,6 +57,8 @@ one_end : (v : Voice Refusal) → HasOneAnswer v → (bytes : List ℕ) (a b : S
 one_end v one bytes a b x y =
     x.is ∙ (ap lines_status (one_reply v one bytes x.text y.text x.ended y.ended x.reply y.reply).1 ∙ sym y.is)
 
-pub one_status : (answers : Answering) (message : Option Sch) → ((s : Sch) → message ≡ Some s → HasOneAnswer (values_voice answers s)) → (name bytes : List ℕ) (a b : Status) → Ends answers message name (Some bytes) a → Ends answers message name (Some bytes) b → a ≡ b
+pub one_status : (answers : Answering) (message : Option Sch) → ((s : Sch) → message ≡ Some s → (n : ℕ) (line : List ℕ) (a b : Result (List ℕ) Refusal) → answers s n line a → answers s n line b → a ≡ b) → (name bytes : List ℕ) (a b : Status)
+    → Ends answers message name (Some bytes) a → Ends answers message name (Some bytes) b → a ≡ b
 one_status answers None one name bytes a b x y = x ∙ sym y
-one_status answers (Some s) one name bytes a b x y = one_end (values_voice answers s) (one s refl) bytes a b x y
+one_status answers (Some s) one name bytes a b x y =
+    one_end (values_voice answers s) (one_by_number (answers s) (λ n. refusal.Text n) bounds (one s refl)) bytes a b x y

@@ -4,7 +4,7 @@ use Rattle.dsdl_types.specs.Schemas.{Sch}
 use Rattle.dsdl_types.specs.declared.namespace.Namespace.{Namespace}
 use Rattle.dsdl_types.specs.Definitions.{IsNamespace}
 use Rattle.line_loop.specs.Gone.{HasGone}
-use Rattle.line_loop.specs.Reply.{Voice, voice, IsReply}
+use Rattle.line_loop.specs.Reply.{Voice, line_voice, IsReply}
 use Rattle.line_loop.specs.Streamed.{IsStreamed}
 use Rattle.line_loop.specs.declared.bounds.LineBounds.{LineBounds}
 use Rattle.line_loop.specs.declared.ended.LinesEnded.{LinesEnded}
@@ -26,7 +26,7 @@ Answering = Sch → ℕ → List ℕ → Result (List ℕ) Refusal → Type 0
 
 -- what is said to the lines of an input
 abbrev pub values_voice : Answering → Sch → Voice Refusal
-values_voice answers s = voice (answers s) (λ n. refusal.Text n) bounds
+values_voice answers s = line_voice (answers s) (λ n. refusal.Text n) bounds
 
 -- the status of a line that is refused
 abbrev pub refused_status : Refusal → Status

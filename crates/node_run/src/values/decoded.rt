@@ -50,6 +50,6 @@ pub fn decode<L: Source, O: Sink>(
         Ok(schema) => schema,
         Err(status) => return status,
     };
-    let decoder = Decoder { alloc, schema };
-    status_of(listen_lines(alloc, &decoder, bounds(), input, out))
+    let mut decoder = Decoder::new(alloc, schema);
+    status_of(listen_lines(alloc, &mut decoder, bounds(), input, out))
 }
