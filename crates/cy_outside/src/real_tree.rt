@@ -15,10 +15,10 @@ use std::rt::Files;
 /// The files of the system. It tells nothing of them. Paths are taken as the system takes them,
 /// relative to the current folder, and links are followed.
 ///
-/// Where the system finds no such file, a file where a path has a folder, or a link that leads back to
-/// itself, nothing stands at the path; and so it is where something else than a regular file or a folder
-/// stands, as a pipe or a device, which is never opened. None of these is listed. Every other error counts
-/// as a fault, and so does a listing with a name that isn't UTF-8.
+/// Where the system finds no such file, or a file where a path has a folder, nothing stands at the path;
+/// and so it is where something else than a regular file or a folder stands, as a pipe or a device, which
+/// is never opened. None of these is listed. Every other error counts as a fault, and so does a listing
+/// with a name that isn't UTF-8. A link that leads back to itself is listed, and a fault where it is read.
 ///
 /// The file that was read last is kept open, and a read that goes on where the last one ended reads that
 /// file, also where another has come to its path. That a file is written between its reads is a fault.
@@ -114,10 +114,7 @@ impl<'a, R: Files + Alloc + Clone + Drop> Tree for RealTree<'a, R> {
 fn is_absence(error: &io::Error) -> bool
     ensures { result ≡ is_absence (error_kind error.now) }
 {
-    matches!(
-        error.kind(),
-        ErrorKind::NotFound | ErrorKind::NotADirectory | ErrorKind::FilesystemLoop
-    )
+    matches!(error.kind(), ErrorKind::NotFound | ErrorKind::NotADirectory)
 }
 
 /// What stands at a path: nothing, where it is neither a regular file nor a folder.
@@ -145,10 +142,12 @@ fn members<R: Files + Alloc + Clone + Drop>(
     let mut entries = List::empty(alloc);
     for member in fs::read_dir(rt, path)? {
         let member = member?;
-        let folder = match standing(rt, member.path())? {
-            Size::Folder => true,
-            Size::File(_) => false,
-            Size::Absent => continue,
+        let folder = match standing(rt, member.path()) {
+            Ok(Size::Folder) => true,
+            Ok(Size::File(_)) => false,
+            Ok(Size::Absent) => continue,
+            Err(error) if error.kind() == ErrorKind::FilesystemLoop => false,
+            Err(error) => return Err(error),
         };
         let Ok(name) = Text::from_str(alloc, member.file_name()) else {
             return Err(io::Error::from(ErrorKind::OutOfMemory));
