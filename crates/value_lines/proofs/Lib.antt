@@ -3,4 +3,5 @@ pub mod Heard
 pub mod HexLanes
 pub mod HexLine
 pub mod OneAnswer
+pub mod OnePass
 pub mod Sizes

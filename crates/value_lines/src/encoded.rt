@@ -1,5 +1,5 @@
 //! The text of a value as the hex of its bytes.
-ghost use Rattle.std.specs.Prelude.{◌≡◌, ◌++◌, true, OnOk, OnErr};
+ghost use Rattle.std.specs.Prelude.{◌≡◌, ◌++◌, ℕ, true, OnOk, OnErr};
 ghost use Rattle.dsdl_types.specs.Definitions.{IsType};
 ghost use Rattle.dsdl_types.specs.OneWay.{schema_prop};
 ghost use Rattle.dsdl_types.specs.Rules.{IsSchema};
@@ -7,10 +7,10 @@ ghost use Rattle.dsdl_types.specs.Schemas.{is_composite};
 ghost use Rattle.dsdl_types.specs.Fits.{Fits};
 ghost use Rattle.dsdl_types.specs.Laws.{encoding};
 ghost use Rattle.dsdl_types.specs.Views.{sch, val};
-ghost use Rattle.line_loop.specs.Heard.{Hears};
+ghost use Rattle.line_loop.specs.Heard.{Hears, IsHeard};
 ghost use Rattle.line_loop.specs.Reply.{by_number, no_words};
 ghost use Rattle.line_text.specs.Buffer.{text_of};
-ghost use Rattle.value_lines.specs.Encoded.{hex_line, Encodes};
+ghost use Rattle.value_lines.specs.Encoded.{hex_line, Encodes, IsEncoded};
 
 use crate::LONGEST_LINE;
 use crate::refusal::Refusal;
@@ -21,7 +21,11 @@ use line_text::TextBuffer;
 use serdes::laws::{extent_has_room, fits_or_misfit};
 use serdes::{WriteError, write_as};
 use std::alloc::Global;
+use value_scan::{BitBuffer, GivesUp, scan_own};
 use value_text::{TextError, read_value};
+
+/// How many bytes behind the extent the bits of a line have, so that each number is put at once.
+const SLACK: usize = 8;
 
 /// Answers each line, the text of a value of a type, by the hex of the value's serialized form. A saturated number is
 /// brought to the nearest end of its range, and a truncated one keeps its low bits. A line that is the text of no value
@@ -32,8 +36,24 @@ pub struct Encoder<'a> {
     pub alloc: Global,
     /// The type: a structure or a union that keeps the rules.
     pub schema: &'a Schema,
+    /// The bits of a line; their memory is kept from line to line.
+    bits: BitBuffer,
     pub ghost rules: { IsSchema (sch schema.now) } by { schema_prop (sch schema.now) },
     pub ghost composite: { is_composite (sch schema.now) ≡ true },
+}
+
+impl<'a> Encoder<'a> {
+    /// Takes no memory yet.
+    pub fn new(alloc: Global, schema: &'a Schema) -> Encoder<'a>
+        requires { IsType schema.now }
+        ensures { result.schema.now ≡ schema.now }
+    {
+        Encoder {
+            alloc,
+            schema,
+            bits: BitBuffer::new(alloc),
+        }
+    }
 }
 
 impl LineListener for Encoder<'_> {
@@ -47,7 +67,7 @@ impl LineListener for Encoder<'_> {
 
     ghost long = { λ n. refusal.Text n };
 
-    ghost heard = { λ first now past. now ≡ first };
+    ghost heard = { λ first now past. now.schema.now ≡ first.schema.now };
 
     fn hear(
         &mut self,
@@ -55,7 +75,14 @@ impl LineListener for Encoder<'_> {
         line: &[u8],
         gathered: &mut TextBuffer,
     ) -> Result<(), LineStop<Refusal>> {
-        encode_line(self.alloc, self.schema, number, line, gathered)
+        encode_line(
+            self.alloc,
+            self.schema,
+            &mut self.bits,
+            number,
+            line,
+            gathered,
+        )
     }
 
     fn finish(&mut self, _gathered: &mut TextBuffer) -> Result<(), NoMemory> {
@@ -67,10 +94,12 @@ impl LineListener for Encoder<'_> {
     }
 }
 
-/// Gathers the hex of the serialized form of the value of which a line is the text.
+/// Gathers the hex of the serialized form of the value of which a line is the text: in one pass, and where that says
+/// nothing, by the value.
 fn encode_line(
     alloc: Global,
     schema: &Schema,
+    bits: &mut BitBuffer,
     line: u64,
     text: &[u8],
     gathered: &mut TextBuffer,
@@ -82,6 +111,49 @@ fn encode_line(
     if text.len() > LONGEST_LINE {
         return Err(LineStop::Refused(Refusal::Text { line }));
     }
+    if put_scanned(schema, bits, text, gathered).is_ok() {
+        return Ok(());
+    }
+    encode_read(alloc, schema, line, text, gathered)
+}
+
+/// Gathers the hex of the serialized form of the value of which a line is the text, found in one pass. The error says
+/// nothing of the line.
+fn put_scanned(
+    schema: &Schema,
+    bits: &mut BitBuffer,
+    text: &[u8],
+    gathered: &mut TextBuffer,
+) -> Result<(), GivesUp>
+    requires { IsType schema.now }
+    ensures text { OnOk result ((line : ℕ) → IsHeard (IsEncoded (sch schema.now) line text.now)
+        (text_of gathered.old) (text_of gathered.new)) }
+    ensures kept { OnErr result (text_of gathered.new ≡ text_of gathered.old) }
+{
+    bits.start(schema.extent_bytes().saturating_add(SLACK))?;
+    let mut at = 0;
+    scan_own(schema, text, &mut at, bits)?;
+    if at != text.len() {
+        return Err(GivesUp);
+    }
+    match put_hex_line(bits.as_slice(), gathered) {
+        Ok(()) => Ok(()),
+        Err(_) => Err(GivesUp),
+    }
+}
+
+/// Gathers the hex of the serialized form of the value that a line reads as.
+fn encode_read(
+    alloc: Global,
+    schema: &Schema,
+    line: u64,
+    text: &[u8],
+    gathered: &mut TextBuffer,
+) -> Result<(), LineStop<Refusal>>
+    requires { IsType schema.now }
+    ensures { Hears (IsEncoded (sch schema.now) line text.now)
+        (text_of gathered.old) (text_of gathered.new) result }
+{
     match read_value(alloc, schema, text, line) {
         Ok(value) => match put_encoding(alloc, schema, &value, gathered) {
             Ok(()) => Ok(()),
