@@ -52,7 +52,7 @@ fn seconds(s: &[u8]) -> Option<(u64, &[u8])>
 
 /// MICROS and `) `.
 #[inline(always)]
-pub fn micros(s: &[u8]) -> Option<(u64, &[u8])>
+fn micros(s: &[u8]) -> Option<(u64, &[u8])>
     ensures value { option_map (λ p. (p.0, p.1.now)) result ≡ micros_of s.now }
     ensures bound { IfSome result (λ p. p.0 < 10 ^ 12) }
 {
