@@ -49,6 +49,6 @@ pub fn encode<L: Source, O: Sink>(
         Ok(schema) => schema,
         Err(status) => return status,
     };
-    let mut encoder = Encoder { alloc, schema };
+    let mut encoder = Encoder::new(alloc, schema);
     status_of(listen_lines(alloc, &mut encoder, bounds(), input, out))
 }
