@@ -84,7 +84,7 @@ test:
 
 bench: built
 	bench/run --short build/cyphal
-	bench/values build/cyphal 1
+	bench/values --short build/cyphal 1
 	bench/compile build/cyphal 1
 	bench/registers build/cyphal 1000
 	bench/files build/cyphal 1000
