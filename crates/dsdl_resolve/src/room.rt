@@ -1,5 +1,4 @@
 //! The room that is left for the fields of a namespace.
-ghost use Rattle.std.specs.Prelude.{◌≡◌, ◌+◌, ◌<◌, OnOk, OnErr};
 ghost use Rattle.dsdl_resolve.specs.Places.{ArePlacesIn};
 
 use crate::finding::Places;
@@ -10,13 +9,8 @@ use dsdl_links::type_of;
 use dsdl_parse::{Reference, Scalar, Statement};
 use std::alloc::Global;
 
-/// Takes so many fields and paddings from the room that is left, exactly where there is room for
-/// them.
-fn take(fields: u32, room: &mut u32) -> Result<(), NoMemory>
-    ensures taken { OnOk result (room.new + fields ≡ room.old) }
-    ensures full { OnErr result (room.old < fields) }
-    ensures kept { OnErr result (room.new ≡ room.old) }
-{
+/// Takes so many fields and paddings from the room that is left.
+fn take(fields: u32, room: &mut u32) -> Result<(), NoMemory> {
     if fields > *room {
         return Err(NoMemory);
     }
