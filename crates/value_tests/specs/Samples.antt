@@ -1,6 +1,6 @@
 -- The schemas of the tests.
 use Rattle.std.specs.Prelude.{ℕ, true, false, List, codes}
-use Rattle.dsdl_types.specs.Schemas.{PBool, PFloat, PInt, PUint, Sch, Flds, Outline, Simple, Var, Struct, Union, End, Pad, Field}
+use Rattle.dsdl_types.specs.Schemas.{PBool, PFloat, PInt, PUint, Sch, Flds, Outline, Simple, Fixed, Var, Struct, Union, End, Pad, Field}
 
 abbrev pub uint : ℕ → Sch
 uint bits = Simple (PUint bits true)
@@ -51,6 +51,15 @@ simples =
     let wide = Field (codes "i") (Simple (PInt 64)) (with_uint (codes "n") 64 End) in
     let behind = with_uint (codes "u") 3 (Field (codes "f") (Simple (PFloat 16 true)) wide) in
     Struct (Field (codes "t") (Simple PBool) (Field (codes "s") (Simple (PInt 2)) (Pad 2 behind))) (sealed 152)
+
+-- an array of each kind, and names of many lengths
+abbrev pub kinds : Sch
+kinds =
+    let last = Field (codes "more_than_thirty_two_letters_of_a_name") choice End in
+    let bytes = Field (codes "bytes_of_a_message") (Fixed (uint 8) 3) last in
+    let steps = Field (codes "steps_up") (Var (Simple (PInt 13)) 3) bytes in
+    let floats = Field (codes "f") (Fixed (Simple (PFloat 32 true)) 2) (Field (codes "wide") (Simple (PFloat 64 true)) steps) in
+    Struct (Field (codes "truths") (Var (Simple PBool) 9) floats) (delimited 512)
 
 -- no field
 abbrev pub empty : Sch

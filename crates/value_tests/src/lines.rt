@@ -28,7 +28,7 @@ fn put_refusal(alloc: Global, refusal: Refusal, gathered: &mut TextBuffer) -> Re
 /// Gathers what a line is answered by, or why it is refused.
 fn answer<M: LineListener<Refusal = Refusal>>(
     alloc: Global,
-    listener: &M,
+    listener: &mut M,
     line: &[u8],
 ) -> Result<TextBuffer, NoMemory> {
     let mut gathered = TextBuffer::new(alloc);
@@ -42,12 +42,12 @@ fn answer<M: LineListener<Refusal = Refusal>>(
 
 fn encoded(alloc: Global, layout: &Layout, line: &[u8]) -> Result<TextBuffer, NoMemory> {
     let schema = &layout.schema;
-    answer(alloc, &Encoder { alloc, schema }, line)
+    answer(alloc, &mut Encoder::new(alloc, schema), line)
 }
 
 fn decoded(alloc: Global, layout: &Layout, line: &[u8]) -> Result<TextBuffer, NoMemory> {
     let schema = &layout.schema;
-    answer(alloc, &Decoder { alloc, schema }, line)
+    answer(alloc, &mut Decoder::new(alloc, schema), line)
 }
 
 /// Texts of values and their hex.
@@ -91,7 +91,7 @@ const ENCODINGS: [Row; 26] = [
 ];
 
 /// The hex of bytes and the text of the value that they read as.
-const DECODINGS: [Row; 24] = [
+const DECODINGS: [Row; 28] = [
     (NUMBERS, "FF2C", "{a: 255, b: 44}\n"),
     (NUMBERS, "fF2c", "{a: 255, b: 44}\n"),
     (SHORT, "020301", "{x: #0301}\n"),
@@ -120,6 +120,10 @@ const DECODINGS: [Row; 24] = [
     (NUMBERS, "0G", "7: Text"),
     (NUMBERS, "01 02", "7: Text"),
     (NUMBERS, "0102\r", "7: Text"),
+    (NUMBERS, "010203040506070G", "7: Text"),
+    (NUMBERS, "0102030405060:0809", "7: Text"),
+    (NUMBERS, "0102`3040506", "7: Text"),
+    (NUMBERS, "01020304050607G8", "7: Text"),
     // Bytes that can't be read.
     (CHOICE, "02", "7: BadTag(2) at ."),
     (CHOICE, "0103", "7: BadLength(3) at b"),
@@ -153,6 +157,26 @@ fn decodings(rt: HostRuntime) {
     }
 }
 
+/// What a line says doesn't depend on those that the same decoder was given before.
+#[test]
+fn lines_in_a_row(rt: HostRuntime) {
+    let alloc = rt.alloc();
+    let layouts = layouts(alloc).expect(&rt, "memory");
+    let layout = layouts.get(NUMBERS).expect(&rt, "a layout");
+    let schema = &layout.schema;
+    let mut decoder = Decoder::new(alloc, schema);
+    for (line, want) in [
+        ("FFFFFFFFFFFFFFFFFFFFFFFFFFFFFFFFFFFF", "{a: 255, b: 255}\n"),
+        ("01", "{a: 1, b: 0}\n"),
+        ("0G", "7: Text"),
+        ("", "{a: 0, b: 0}\n"),
+        ("0203", "{a: 2, b: 3}\n"),
+    ] {
+        let answer = answer(alloc, &mut decoder, line.as_bytes()).expect(&rt, "memory");
+        assert!(rt; answer.as_slice() == want.as_bytes(), "{line}: {want}");
+    }
+}
+
 /// So many digits.
 fn zeros(alloc: Global, count: usize) -> Result<Vec<u8>, NoMemory> {
     Ok(vec![in alloc; b'0'; count]?)
@@ -173,8 +197,8 @@ fn long_lines(rt: HostRuntime) {
     let longer = encoded(alloc, layout, &line).expect(&rt, "memory");
     assert!(rt; longer.as_slice() == b"7: Text".as_slice());
     let schema = &layout.schema;
-    let refusal = Decoder { alloc, schema }.too_long(NUMBER);
+    let refusal = Decoder::new(alloc, schema).too_long(NUMBER);
     assert!(rt; matches!(refusal, Refusal::Text { line: NUMBER }));
-    let refusal = Encoder { alloc, schema }.too_long(NUMBER);
+    let refusal = Encoder::new(alloc, schema).too_long(NUMBER);
     assert!(rt; matches!(refusal, Refusal::Text { line: NUMBER }));
 }

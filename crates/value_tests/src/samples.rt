@@ -1,8 +1,8 @@
 //! Types to write and read.
 ghost use Rattle.std.specs.Prelude.{◌≡◌, [], true, false, IfOk};
-ghost use Rattle.dsdl_types.specs.Schemas.{Struct, Var};
+ghost use Rattle.dsdl_types.specs.Schemas.{Fixed, PFloat, Simple, Struct, Var};
 ghost use Rattle.dsdl_types.specs.Views.{Padding, Typed, flds, kind_of, named, sch};
-ghost use Rattle.value_tests.specs.Samples.{choice, empty, inner, list, newer_inner, newer_outer, numbers, outer, short, simples, uint};
+ghost use Rattle.value_tests.specs.Samples.{choice, empty, inner, kinds, list, newer_inner, newer_outer, numbers, outer, short, simples, uint};
 
 use cy_bits::{Boxed, List, NoMemory, Text};
 use dsdl_types::{Body, Cast, Field, Schema, Shared};
@@ -26,6 +26,8 @@ pub const SIMPLES: usize = 6;
 
 pub const EMPTY: usize = 7;
 
+pub const KINDS: usize = 8;
+
 /// A saturated unsigned integer.
 fn uint(bits: u8) -> Schema
     ensures { kind_of result ≡ Typed (uint bits) }
@@ -34,6 +36,26 @@ fn uint(bits: u8) -> Schema
         bits,
         cast: Cast::Saturated,
     }
+}
+
+/// A saturated float.
+fn float(bits: u8) -> Schema
+    ensures { kind_of result ≡ Typed (Simple (PFloat bits true)) }
+{
+    Schema::Float {
+        bits,
+        cast: Cast::Saturated,
+    }
+}
+
+/// An array of so many items.
+fn row(alloc: Global, item: Schema, len: u32) -> Result<Schema, NoMemory>
+    ensures { IfOk result (λ s. kind_of s ≡ Typed (Fixed (sch item) len)) }
+{
+    Ok(Schema::Fixed {
+        item: Boxed::new(alloc, item)?,
+        len,
+    })
 }
 
 /// An array of at most so many items.
@@ -157,16 +179,12 @@ fn numbers(alloc: Global) -> Result<Schema, NoMemory>
 fn simples(alloc: Global) -> Result<Schema, NoMemory>
     ensures { IfOk result (λ s. kind_of s ≡ Typed simples) }
 {
-    let float = Schema::Float {
-        bits: 16,
-        cast: Cast::Saturated,
-    };
     let fields = vec![in alloc;
         field(alloc, "t", Schema::Bool)?,
         field(alloc, "s", Schema::Int { bits: 2 })?,
         padding(alloc, 2)?,
         field(alloc, "u", uint(3))?,
-        field(alloc, "f", float)?,
+        field(alloc, "f", float(16))?,
         field(alloc, "i", Schema::Int { bits: 64 })?,
         field(alloc, "n", uint(64))?,
     ]?;
@@ -177,6 +195,28 @@ fn empty(alloc: Global) -> Result<Schema, NoMemory>
     ensures { IfOk result (λ s. kind_of s ≡ Typed empty) }
 {
     structure(alloc, Vec::new(alloc), 0, true)
+}
+
+fn kinds(alloc: Global) -> Result<Schema, NoMemory>
+    ensures { IfOk result (λ s. kind_of s ≡ Typed kinds) }
+{
+    let fields = vec![in alloc;
+        field(alloc, "truths", array(alloc, Schema::Bool, 9)?)?,
+        field(alloc, "f", row(alloc, float(32), 2)?)?,
+        field(alloc, "wide", float(64))?,
+        field(
+            alloc,
+            "steps_up",
+            array(alloc, Schema::Int { bits: 13 }, 3)?
+        )?,
+        field(alloc, "bytes_of_a_message", row(alloc, uint(8), 3)?)?,
+        field(
+            alloc,
+            "more_than_thirty_two_letters_of_a_name",
+            choice(alloc)?
+        )?,
+    ]?;
+    structure(alloc, fields, 512, false)
 }
 
 fn outer_layout(alloc: Global) -> Result<Layout, LayoutError> {
@@ -211,6 +251,10 @@ fn empty_layout(alloc: Global) -> Result<Layout, LayoutError> {
     layout_of(alloc, &empty(alloc)?)
 }
 
+fn kinds_layout(alloc: Global) -> Result<Layout, LayoutError> {
+    layout_of(alloc, &kinds(alloc)?)
+}
+
 /// The layouts of all types, in the order of their places.
 pub fn layouts(alloc: Global) -> Result<Vec<Layout>, LayoutError> {
     let layouts = vec![in alloc;
@@ -222,6 +266,7 @@ pub fn layouts(alloc: Global) -> Result<Vec<Layout>, LayoutError> {
         numbers_layout(alloc)?,
         simples_layout(alloc)?,
         empty_layout(alloc)?,
+        kinds_layout(alloc)?,
     ];
     layouts.map_err(|_| LayoutError::NoMemory)
 }
