@@ -1,0 +1,11 @@
+//! Lines of a log in the order of their moments: each is held until every line that may stand before it was heard.
+#![tactic(auto)]
+
+pub mod form;
+pub mod laws;
+pub mod orderer;
+pub mod refusal;
+pub mod window;
+
+pub use orderer::Orderer;
+pub use refusal::Refusal;
