@@ -159,7 +159,13 @@ fn lines_are_answered_in_order(rt: HostRuntime) -> Result<(), Fail> {
             calls: Calls::new(&[]),
         };
         let mut again = MemSink::new(rt.alloc(), &[]);
-        let ended = listen_lines(rt.alloc(), &mut with_memory(), bounds, &mut slow, &mut again);
+        let ended = listen_lines(
+            rt.alloc(),
+            &mut with_memory(),
+            bounds,
+            &mut slow,
+            &mut again,
+        );
         assert_eq!(rt; ended, row.ended);
         assert_eq!(rt; again.written.as_slice(), row.written);
     }
