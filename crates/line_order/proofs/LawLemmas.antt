@@ -1,16 +1,18 @@
 -- What is said to a whole input.
-use Rattle.std.proofs.Common.{◌≡◌, ◌∙◌, ◌+◌, ◌<◌, ℕ, Bool, true, false, List, [], ◌∷◌, ◌++◌, length, Some, None, Result, Ok, Err, refl, sym, ap, subst, append_assoc, append-nil, arith}
+use Rattle.std.proofs.Common.{◌≡◌, ◌∙◌, ◌+◌, ◌<◌, ℕ, Bool, true, false, List, [], ◌∷◌, ◌++◌, length, Option, Some, None, Result, Ok, Err, refl, sym, ap, subst, append_assoc, append-nil, arith}
 use Rattle.std.specs.Prelude.{MatchBool, nat_lt}
 use mathlib.Core.List.{reverse_aux}
 use Rattle.std.proofs.lemmas.Bool.Decides.{nat_tests}
 use Rattle.std.proofs.lemmas.List.{append_cancel_left}
 use Rattle.frame_log.specs.declared.error.LogWhy.TheVariants as why
+use Rattle.line_loop.specs.Gone.{HasGone}
+use Rattle.line_loop.specs.Input.{IsTaken}
 use Rattle.line_loop.specs.Reply.{AreAnswered, AreEnded, HasOneAnswer, IsReply, heard_lines, newest_first}
 use Rattle.line_loop.specs.declared.ended.LinesEnded.TheVariants as end
 use Rattle.line_order.specs.Answers.{Answers, all_written, bad_line, bounds, order_voice, refusal_by, refusal_of, too_late, written}
 use Rattle.line_order.specs.Form.{Said, NoForm, Nothing, Line, said_of}
 use Rattle.line_order.specs.Order.{Entry, entries_of, greatest, ordered, texts}
-use Rattle.line_order.specs.Sorted.{AreInOrder, AreTimely, IsLate, IsOrdered, entries_in, oldest_first}
+use Rattle.line_order.specs.Sorted.{AreInOrder, AreTimely, HasSorted, IsLate, IsOrdered, entries_in, oldest_first}
 use Rattle.line_order.specs.declared.refusal.Refusal.{Refusal}
 use Rattle.line_order.proofs.Lists.{yes, no}
 use Rattle.line_order.proofs.SortedLemmas.{order_of, ordered_kept}
@@ -90,4 +92,15 @@ module _ (window : ℕ) where
   one_answer = record {
     answer = one_of;
     last = λ past a b x y. append_cancel_left (written window past) a b (sym x ∙ y);
+  }
+
+  -- What is written.
+
+  pub gone_sorted : (left new before after : Option (List ℕ)) → HasGone (order_voice window) left new end.Ok before after → HasSorted left new before after
+  gone_sorted left new before after g = record {
+    bytes = g.taken;
+    told = subst (λ (rest : List ℕ). IsTaken left new g.taken rest) g.gone.0 g.told;
+    text = g.gone.1.text;
+    sorted = said_sorted g.taken g.gone.1.text g.gone.1.reply;
+    written = g.gone.1.written;
   }

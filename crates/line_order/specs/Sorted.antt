@@ -1,6 +1,8 @@
 -- The one list of some entries that is sorted and stable.
-use Rattle.std.specs.Prelude.{◌≡◌, ◌<◌, ◌≤◌, ◌⊎◌, ◌+◌, ℕ, List, [], ◌∷◌, ◌++◌, None, ⊤}
+use Rattle.std.specs.Prelude.{◌≡◌, ◌<◌, ◌≤◌, ◌⊎◌, ◌+◌, ℕ, List, Option, [], ◌∷◌, ◌++◌, None, ⊤}
 use mathlib.Core.List.{reverse_aux}
+use Rattle.cy_outside.specs.Written.{behind}
+use Rattle.line_loop.specs.Input.{IsTaken}
 use Rattle.line_loop.specs.Reply.{heard_lines, newest_first}
 use Rattle.line_order.specs.Answers.{bounds, refusal_of}
 use Rattle.line_order.specs.Form.{Line, said_of}
@@ -59,3 +61,11 @@ IsLate window past line = (moment : ℕ) × (text : List ℕ) × (said_of line �
 abbrev pub AreTimely : ℕ → List (List ℕ) → Type 0
 AreTimely window lines = (before behind : List (List ℕ)) (line : List ℕ)
     → lines ≡ before ++ (line ∷ behind) → refusal_of window (newest_first before) line ≡ None
+
+-- all of an input was taken, and its lines were written in the order of their moments
+pub record HasSorted (left new before after : Option (List ℕ)) : Type 0 where
+  pub bytes : List ℕ
+  pub told : IsTaken left new bytes []
+  pub text : List ℕ
+  pub sorted : IsOrdered bytes text
+  pub written : after ≡ behind before text

@@ -4,8 +4,10 @@
 pub mod form;
 pub mod laws;
 pub mod orderer;
+mod over_log;
 pub mod refusal;
 pub mod window;
 
 pub use orderer::Orderer;
+pub use over_log::order_log;
 pub use refusal::Refusal;
