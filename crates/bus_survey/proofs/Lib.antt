@@ -1,0 +1,9 @@
+pub mod Orders
+pub mod Tables
+pub mod CountLemmas
+pub mod FlowLemmas
+pub mod SourceLemmas
+pub mod BusLemmas
+pub mod MoreLemmas
+pub mod SurveyLemmas
+pub mod Weaker
