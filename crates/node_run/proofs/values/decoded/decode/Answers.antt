@@ -1,4 +1,8 @@
+use Rattle.std.proofs.Common.{subst}
 use Rattle.dsdl_types.specs.Views.{sch}
+use Rattle.line_loop.specs.Gone.{HasGone}
+use Rattle.line_loop.specs.Reply.{line_voice}
+use Rattle.value_lines.specs.declared.refusal.Refusal.TheVariants as refusal
 use Rattle.value_lines.specs.Decoded.{Decodes}
 use Rattle.node_run.specs.NamedTypes.{message_named}
 use Rattle.node_run.specs.ValueLines.{flow}
@@ -24,11 +28,11 @@ returns-in-Err-clause-streamed g c =
 pub returns-clause-did : goal.returns-clause-did
 returns-clause-did g c =
     let told = flow (g.L.Source.left c.args.input.now) (g.L.Source.left c.listen_lines.new.input) (g.O.Sink.written c.args.out.now) (g.O.Sink.written c.listen_lines.new.out) in
-    has_answered Decodes (message_named c.args.names.now c.args.name.now) c.args.name.now (sch c.in-Ok.schema.now) c.in-Ok.ensures.found c.bounds.result c.bounds.ensures c.listen_lines.result c.status_of.result c.status_of.ensures told c.listen_lines.ensures.gone
+    let gone = subst (λ s. HasGone (line_voice (Decodes (sch s)) (λ n. refusal.Text n) c.bounds.result) told.left told.new c.listen_lines.result told.before told.after) c.new-decoder.ensures c.listen_lines.ensures.gone in
+    has_answered Decodes (message_named c.args.names.now c.args.name.now) c.args.name.now (sch c.in-Ok.schema.now) c.in-Ok.ensures.found c.bounds.result c.bounds.ensures c.listen_lines.result c.status_of.result c.status_of.ensures told gone
 
 pub returns-clause-taken : goal.returns-clause-taken
 returns-clause-taken g c =
     let message = message_named c.args.names.now c.args.name.now in
     let told = flow (g.L.Source.left c.args.input.now) (g.L.Source.left c.listen_lines.new.input) (g.O.Sink.written c.args.out.now) (g.O.Sink.written c.listen_lines.new.out) in
-    are_taken Decodes message c.args.name.now c.status_of.result told
-    (has_answered Decodes message c.args.name.now (sch c.in-Ok.schema.now) c.in-Ok.ensures.found c.bounds.result c.bounds.ensures c.listen_lines.result c.status_of.result c.status_of.ensures told c.listen_lines.ensures.gone)
+    are_taken Decodes message c.args.name.now c.status_of.result told (returns-clause-did g c)
