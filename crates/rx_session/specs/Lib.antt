@@ -1,3 +1,4 @@
 pub mod Extents
 pub mod Session
 pub mod Seen
+pub mod Laws

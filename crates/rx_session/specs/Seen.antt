@@ -1,5 +1,5 @@
 -- A session's fields and what it answers, as the definitions see them.
-use Rattle.std.specs.Prelude.{ℕ, List, replicate, take, Option, Some, None}
+use Rattle.std.specs.Prelude.{ℕ, Bool, true, false, List, length, replicate, take, Option, Some, None}
 use Rattle.tail_frame.specs.Chains.{KeyRecord}
 use Rattle.tail_frame.specs.Frames.{seen, key_record}
 use Rattle.tail_frame.specs.declared.frame.Frame.{Frame}
@@ -13,6 +13,7 @@ use Rattle.rx_session.specs.Session.{
   BadCrc as AnswerBadCrc,
   Delivered as AnswerDelivered,
   accept,
+  advance,
 }
 use Rattle.rx_session.specs.declared.session.Part.{Part}
 use Rattle.rx_session.specs.declared.session.Session.{Session}
@@ -46,13 +47,30 @@ outcome_answer Held = AnswerHeld
 outcome_answer BadCrc = AnswerBadCrc
 outcome_answer (Delivered d) = AnswerDelivered d.bus d.priority d.tid d.first d.last d.moment d.payload.now
 
--- what a step says, with the payload as the front of this buffer
-abbrev pub step_answer : List ℕ → step.Step → Answer
-step_answer buffer step.TheVariants.Ignored = AnswerIgnored
-step_answer buffer step.TheVariants.Held = AnswerHeld
-step_answer buffer step.TheVariants.BadCrc = AnswerBadCrc
-step_answer buffer (step.TheVariants.Delivered f) = AnswerDelivered f.bus f.priority f.tid f.first f.last f.moment (take f.count buffer)
+-- what a step on a record says, with this payload of a whole transfer and this buffer of the session behind it
+abbrev pub step_told : List ℕ → List ℕ → KeyRecord → step.Step → Answer
+step_told whole buffer r step.TheVariants.Ignored = AnswerIgnored
+step_told whole buffer r step.TheVariants.Held = AnswerHeld
+step_told whole buffer r step.TheVariants.BadCrc = AnswerBadCrc
+step_told whole buffer r step.TheVariants.Whole = AnswerDelivered r.bus r.priority r.tid r.line r.line r.moment whole
+step_told whole buffer r (step.TheVariants.Delivered b) = AnswerDelivered r.bus r.priority r.tid b.first r.line b.moment (take b.count buffer)
+
+-- the same with the payload of a whole transfer lent from its frame: the body, cut to the length of the buffer
+abbrev pub step_answer : List ℕ → KeyRecord → step.Step → Answer
+step_answer buffer r step = step_told (take (length buffer) r.body) buffer r step
+
+-- whether a step says that its frame is a whole transfer
+abbrev pub says_whole : step.Step → Bool
+says_whole step.TheVariants.Ignored = false
+says_whole step.TheVariants.Held = false
+says_whole step.TheVariants.BadCrc = false
+says_whole step.TheVariants.Whole = true
+says_whole (step.TheVariants.Delivered b) = false
 
 -- the session after a frame, and what is answered
 abbrev pub accepted : ℕ → Kept → Frame → Kept × Answer
 accepted timeout s frame = accept crc_more 0xFFFF timeout s (record_of frame)
+
+-- the same where the bytes of a whole transfer stay in its frame
+abbrev pub stepped : ℕ → Kept → Frame → Kept × Answer
+stepped timeout s frame = advance crc_more 0xFFFF timeout s (record_of frame)

@@ -40,6 +40,35 @@ abbrev pub is_last : Option ℕ → ℕ → Bool
 is_last None tid = false
 is_last (Some t) tid = t == tid
 
+-- whether a record that came to this outcome is a whole transfer, which its one frame begins and ends
+abbrev pub is_whole : KeyRecord → Outcome → Bool
+is_whole r Ignored = false
+is_whole r Held = false
+is_whole r BadCrc = false
+is_whole r (Delivered bus priority tid first last moment payload) = r.start && r.end
+
+-- a session after a record, but with this buffer where the record is a whole transfer
+abbrev pub in_frame : List ℕ → KeyRecord → Session × Outcome → Session × Outcome
+in_frame buffer r after = (
+  record {
+    bus = after.0.bus;
+    heard = after.0.heard;
+    last = after.0.last;
+    part = after.0.part;
+    buffer = if is_whole r after.1 then buffer else after.0.buffer;
+  },
+  after.1,
+)
+
+-- a buffer with these bytes in front, where no reassembly runs
+abbrev pub put_idle : Option Part → List ℕ → List ℕ → List ℕ
+put_idle None buffer bytes = put_at buffer 0 bytes
+put_idle (Some part) buffer bytes = buffer
+
+-- a session with the bytes of a record in front of its buffer, where no reassembly runs
+abbrev pub with_body : Session → KeyRecord → Session
+with_body s r = record { bus = s.bus; heard = s.heard; last = s.last; part = s.part; buffer = put_idle s.part s.buffer r.body }
+
 -- `crc_more sum bytes` is the CRC of more bytes after those with this CRC, and `crc_start` that of no bytes
 module _ (crc_more : ℕ → List ℕ → ℕ) (crc_start timeout : ℕ) where
   -- a start frame begins reassembly anew; one that is also an end is delivered at once
@@ -110,3 +139,7 @@ module _ (crc_more : ℕ → List ℕ → ℕ) (crc_start timeout : ℕ) where
   -- the session after a frame of its key, and what is answered
   abbrev pub accept : Session → KeyRecord → Session × Outcome
   accept s r = after_hear s (hear timeout s.bus s.heard r.bus r.moment r.start) r
+
+  -- the same, but the bytes of a whole transfer stay in its frame alone
+  abbrev pub advance : Session → KeyRecord → Session × Outcome
+  advance s r = in_frame s.buffer r (accept s r)

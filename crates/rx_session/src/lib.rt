@@ -1,8 +1,9 @@
 //! One session: the frames of one kind, port and source, put together into transfers.
 #![tactic(auto)]
 
+pub mod laws;
 pub mod outcome;
 pub mod session;
 
-pub use outcome::{Delivery, Front, Outcome, Step};
-pub use session::{Part, Session};
+pub use outcome::{Begun, Delivery, Front, Outcome, Step};
+pub use session::{Part, Session, lend};

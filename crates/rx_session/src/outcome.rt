@@ -1,5 +1,4 @@
 ghost use Rattle.std.specs.Prelude.{◌≡◌, take};
-ghost use Rattle.rx_session.specs.Seen.{outcome_answer, step_answer};
 
 /// A transfer that was received.
 #[derive(Clone, Copy, Debug)]
@@ -52,6 +51,17 @@ pub struct Front {
     pub count: u64,
 }
 
+/// What a session knows of a transfer of several frames that it delivers.
+#[derive(Clone, Copy, Debug, PartialEq, Eq)]
+pub struct Begun {
+    /// The line of its first frame.
+    pub first: u64,
+    /// When that was received, in microseconds.
+    pub moment: u64,
+    /// The number of payload bytes, of which the buffer may have fewer.
+    pub count: u64,
+}
+
 /// An outcome that borrows nothing.
 #[derive(Clone, Copy, Debug, PartialEq, Eq)]
 pub enum Step {
@@ -61,8 +71,10 @@ pub enum Step {
     Held,
     /// The frame ends a transfer whose bytes don't fit their CRC.
     BadCrc,
-    /// The frame ends a transfer.
-    Delivered(Front),
+    /// The frame is a whole transfer.
+    Whole,
+    /// The frame ends a transfer of several.
+    Delivered(Begun),
 }
 
 impl Front {
@@ -90,21 +102,6 @@ impl Front {
             last: self.last,
             moment: self.moment,
             payload: &buffer[..count],
-        }
-    }
-}
-
-impl Step {
-    /// The outcome, with a payload lent from the session's buffer.
-    #[inline(always)]
-    pub fn lend(self, buffer: &[u8]) -> Outcome<'_>
-        ensures { outcome_answer result ≡ step_answer buffer.now self }
-    {
-        match self {
-            Step::Ignored => Outcome::Ignored,
-            Step::Held => Outcome::Held,
-            Step::BadCrc => Outcome::BadCrc,
-            Step::Delivered(front) => Outcome::Delivered(front.lend(buffer)),
         }
     }
 }

@@ -1,13 +1,13 @@
-ghost use Rattle.std.specs.Prelude.{◌≡◌, ◌≤◌, IfOk, length};
+ghost use Rattle.std.specs.Prelude.{◌≡◌, ◌≤◌, IfOk, length, take, true, false};
 ghost use Rattle.std.specs.Borrow.{sem};
 ghost use Rattle.std.specs.Io.BufRead.{Rests};
 ghost use Rattle.transfer_crc.specs.Crc.{crc_more};
 ghost use Rattle.rx_session.specs.Extents.{extent_bytes};
-ghost use Rattle.rx_session.specs.Session.{begin, take_in};
-ghost use Rattle.rx_session.specs.Seen.{kept, part_of, fresh, record_of, outcome_answer, step_answer, accepted};
+ghost use Rattle.rx_session.specs.Session.{begin, take_in, in_frame, is_whole, with_body};
+ghost use Rattle.rx_session.specs.Seen.{kept, part_of, fresh, record_of, outcome_answer, step_told, step_answer, says_whole, accepted, stepped};
 ghost use Rattle.rx_session.specs.contracts.session.Session.{the_row};
 
-use crate::{Front, Outcome, Step};
+use crate::{Begun, Delivery, Outcome, Step};
 use cy_bits::{Bytes, NoMemory};
 use dsdl_types::Shape;
 use redundancy::{Force, Heard};
@@ -77,17 +77,24 @@ impl<S: Shape> Session<S> {
         ensures outcome { outcome_answer result ≡ (accepted timeout (kept self.old) frame.now).1 }
     {
         let step = self.step(frame, timeout);
-        self.lend(step)
+        if let Step::Whole = step {
+            self.put_body(frame);
+        }
+        let buffer = self.buffer.as_slice();
+        outcome_of(step, frame, first(buffer, frame.body.len() as u64), buffer)
     }
 
-    /// What `accept` does, with an outcome that borrows nothing.
+    /// What `accept` does, with an outcome that borrows nothing; but the bytes of a whole transfer stay
+    /// in its frame alone. `lend` tells the outcome, with the same frame.
     #[inline(always)]
     pub fn step(&mut self, frame: &Frame, timeout: u64) -> Step
         requires { self.old.force.heard ≤ frame.now.moment }
-        ensures state { kept self.new ≡ (accepted timeout (kept self.old) frame.now).0 }
+        ensures state { kept self.new ≡ (stepped timeout (kept self.old) frame.now).0 }
         ensures size { length self.new.buffer ≡ length self.old.buffer }
-        ensures outcome { step_answer self.new.buffer result
+        ensures outcome { step_answer self.new.buffer (record_of frame.now) result
             ≡ (accepted timeout (kept self.old) frame.now).1 }
+        ensures whole { says_whole result
+            ≡ is_whole (record_of frame.now) (accepted timeout (kept self.old) frame.now).1 }
     {
         let heard = self
             .force
@@ -114,38 +121,45 @@ impl<S: Shape> Session<S> {
         }
     }
 
-    /// The outcome of the last step, with a payload lent from the buffer.
+    /// The outcome of the last step, which was on this frame, with a payload lent from the frame or
+    /// from the buffer.
     #[inline(always)]
-    pub fn lend(&self, step: Step) -> Outcome<'_>
-        ensures { outcome_answer result ≡ step_answer self.now.buffer step }
+    pub fn lend<'a>(&'a self, step: Step, frame: &Frame<'a>) -> Outcome<'a>
+        ensures { outcome_answer result ≡ step_answer self.now.buffer (record_of frame.now) step }
     {
-        step.lend(self.buffer.as_slice())
+        lend(step, self.buffer.as_slice(), frame)
+    }
+
+    /// Puts the bytes of a frame in front of the buffer, where no transfer is being put together.
+    #[inline(always)]
+    pub fn put_body(&mut self, frame: &Frame)
+        ensures state { kept self.new ≡ with_body (kept self.old) (record_of frame.now) }
+        ensures size { length self.new.buffer ≡ length self.old.buffer }
+    {
+        if self.part.is_none() {
+            self.buffer.put_at(0, frame.body);
+        }
     }
 
     /// Begins a transfer at a start frame that is heard.
     #[inline(always)]
     fn begin(&mut self, frame: &Frame) -> Step
-        ensures state { kept self.new
-            ≡ (begin crc_more 0xFFFF 0 (kept self.old) (record_of frame.now)).0 }
+        requires { frame.now.tail.start ≡ true }
+        ensures state { kept self.new ≡ (in_frame self.old.buffer (record_of frame.now)
+            (begin crc_more 0xFFFF 0 (kept self.old) (record_of frame.now))).0 }
         ensures size { length self.new.buffer ≡ length self.old.buffer }
-        ensures outcome { step_answer self.new.buffer result
+        ensures outcome { step_answer self.new.buffer (record_of frame.now) result
             ≡ (begin crc_more 0xFFFF 0 (kept self.old) (record_of frame.now)).1 }
+        ensures whole { says_whole result ≡ is_whole (record_of frame.now)
+            (begin crc_more 0xFFFF 0 (kept self.old) (record_of frame.now)).1 }
     {
-        self.buffer.put_at(0, frame.body);
         let taken = frame.body.len() as u64;
         if frame.tail.end {
             self.last = Some(frame.tail.tid);
             self.part = None;
-            return Step::Delivered(Front {
-                bus: frame.bus,
-                priority: frame.ident.priority(),
-                tid: frame.tail.tid,
-                first: frame.line,
-                last: frame.line,
-                moment: frame.moment,
-                count: taken,
-            });
+            return Step::Whole;
         }
+        self.buffer.put_at(0, frame.body);
         let mut crc = Crc::new();
         crc.add(frame.body);
         self.part = Some(Part {
@@ -162,11 +176,15 @@ impl<S: Shape> Session<S> {
     /// Takes the frame that the running transfer expects.
     #[inline(always)]
     fn take_in(&mut self, part: Part, frame: &Frame) -> Step
-        ensures state { kept self.new
-            ≡ (take_in crc_more 0xFFFF 0 (kept self.old) (part_of part) (record_of frame.now)).0 }
+        requires same { part.tid ≡ frame.now.tail.tid }
+        requires later { frame.now.tail.start ≡ false }
+        ensures state { kept self.new ≡ (in_frame self.old.buffer (record_of frame.now)
+            (take_in crc_more 0xFFFF 0 (kept self.old) (part_of part) (record_of frame.now))).0 }
         ensures size { length self.new.buffer ≡ length self.old.buffer }
-        ensures outcome { step_answer self.new.buffer result
+        ensures outcome { step_answer self.new.buffer (record_of frame.now) result
             ≡ (take_in crc_more 0xFFFF 0 (kept self.old) (part_of part) (record_of frame.now)).1 }
+        ensures whole { says_whole result ≡ is_whole (record_of frame.now)
+            (take_in crc_more 0xFFFF 0 (kept self.old) (part_of part) (record_of frame.now)).1 }
     {
         self.buffer.put_at(part.taken as usize, frame.body);
         let mut crc = part.crc;
@@ -188,14 +206,61 @@ impl<S: Shape> Session<S> {
             return Step::BadCrc;
         }
         self.last = Some(part.tid);
-        Step::Delivered(Front {
-            bus: frame.bus,
-            priority: frame.ident.priority(),
-            tid: part.tid,
+        Step::Delivered(Begun {
             first: part.first,
-            last: frame.line,
             moment: part.moment,
             count: taken.saturating_sub(2),
         })
     }
+}
+
+/// The outcome of a step on a frame, with a payload lent from the frame or from the session's buffer.
+#[inline(always)]
+pub fn lend<'a>(step: Step, buffer: &'a [u8], frame: &Frame<'a>) -> Outcome<'a>
+    ensures { outcome_answer result ≡ step_answer buffer.now (record_of frame.now) step }
+{
+    outcome_of(step, frame, first(frame.body, buffer.len() as u64), buffer)
+}
+
+/// The outcome of a step on a frame, with the payload of a whole transfer, and the session's buffer.
+#[inline(always)]
+fn outcome_of<'a>(step: Step, frame: &Frame, whole: &'a [u8], buffer: &'a [u8]) -> Outcome<'a>
+    ensures { outcome_answer result ≡ step_told whole.now buffer.now (record_of frame.now) step }
+{
+    match step {
+        Step::Ignored => Outcome::Ignored,
+        Step::Held => Outcome::Held,
+        Step::BadCrc => Outcome::BadCrc,
+        Step::Whole => Outcome::Delivered(Delivery {
+            bus: frame.bus,
+            priority: frame.ident.priority(),
+            tid: frame.tail.tid,
+            first: frame.line,
+            last: frame.line,
+            moment: frame.moment,
+            payload: whole,
+        }),
+        Step::Delivered(begun) => Outcome::Delivered(Delivery {
+            bus: frame.bus,
+            priority: frame.ident.priority(),
+            tid: frame.tail.tid,
+            first: begun.first,
+            last: frame.line,
+            moment: begun.moment,
+            payload: first(buffer, begun.count),
+        }),
+    }
+}
+
+/// The first bytes, or all where there are fewer.
+#[inline(always)]
+fn first(bytes: &[u8], count: u64) -> &[u8]
+    ensures { result.now ≡ take count bytes.now }
+{
+    let count = if count < bytes.len() as u64 {
+        count as usize
+    } else {
+        bytes.len()
+    };
+    &bytes[..count]
 }
