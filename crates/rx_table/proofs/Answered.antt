@@ -1,5 +1,5 @@
 -- Facts of a result that may be an error.
-use Rattle.std.proofs.Common.{OnOk, OnErr, IfOk}
+use Rattle.std.proofs.Common.{◌≡◌, refl, OnOk, OnErr, IfOk, IfSome, Option, Some, None}
 use Rattle.std.specs.Prelude.{Result, Ok, Err}
 
 pub on_err_both : {A E P Q R : Type 0} (r : Result A E) → OnErr r P → OnErr r Q → (P → Q → R) → OnErr r R
@@ -25,3 +25,12 @@ in_both (Err e) p q f g = g q
 pub if_ok_both : {A E P : Type 0} {Q R : A → Type 0} (r : Result A E) → OnOk r P → IfOk r Q → ((a : A) → P → Q a → R a) → IfOk r R
 if_ok_both (Ok a) p q f = f a p q
 if_ok_both (Err e) p q f = tt
+
+-- the same of what may be nothing
+pub if_some_then : {A : Type 0} {P Q : A → Type 0} (o : Option A) → IfSome o P → ((x : A) → P x → Q x) → IfSome o Q
+if_some_then None h f = h
+if_some_then (Some x) h f = f x h
+
+pub in_either : {A : Type 0} {P : A → Type 0} {E R : Type 0} (o : Option A) → IfSome o P → (o ≡ None → E) → ((x : A) → P x → R) → (E → R) → R
+in_either None h n f g = g (n refl)
+in_either (Some x) h n f g = f x h

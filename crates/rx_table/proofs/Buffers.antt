@@ -1,15 +1,12 @@
 -- A buffer that keeps the front of the bytes put into it
-use Rattle.std.proofs.Common.{◌≡◌, ℕ, ◌+◌, ◌-◌, ◌^◌, ◌<◌, ◌≤◌, List, [], ◌++◌, length, take, drop, sym, ap, ◌∙◌, inl, inr, append-nil, le_refl, take_all, take-take, length-append, length-drop, length-take, arith}
+use Rattle.std.proofs.Common.{◌≡◌, ℕ, ◌+◌, ◌-◌, ◌^◌, ◌<◌, ◌≤◌, List, [], ◌++◌, length, take, drop, sym, ap, ◌∙◌, inl, inr, append-nil, le_refl, take_all, take-take, length-append, length-take, arith}
 use Rattle.std.proofs.lemmas.Bool.{cases_lt}
 use Rattle.std.proofs.lemmas.List.{append_assoc, drop_all, take-append-le}
 use Rattle.std.proofs.Math.Seq.{take-append-add}
 use Rattle.cy_bits.specs.Put.{put_at}
 use Rattle.rx_session.specs.Session.{capped}
+use Rattle.rx_session.proofs.Buffers.{length_put}
 use Rattle.rx_table.specs.Stands.{Holds}
-
-pub length_put : (buffer : List ℕ) (n : ℕ) (bytes : List ℕ) → length (put_at buffer n bytes) ≡ length buffer
-length_put buffer n bytes =
-    omega (arith, length-append (take n buffer ++ take (length buffer - n) bytes) (drop (n + length bytes) buffer), length-append (take n buffer) (take (length buffer - n) bytes), length-take n buffer, length-take (length buffer - n) bytes, length-drop (n + length bytes) buffer)
 
 -- the front, then what is put and what stays behind it
 put_grouped : (buffer : List ℕ) (n : ℕ) (bytes : List ℕ) → put_at buffer n bytes ≡ take n buffer ++ (take (length buffer - n) bytes ++ drop (n + length bytes) buffer)

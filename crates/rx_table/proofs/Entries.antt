@@ -3,12 +3,12 @@ use Rattle.std.proofs.Common.{◌≡◌, ℕ, suc, ◌+◌, ◌^◌, ◌<◌, tr
 use Rattle.std.proofs.lemmas.Bool.{eqb-true, eqb-false, eq-eqb, and_parts, and_from, and_left, and_right, and_cases, or_left, or_right, cond-true, cond-false, cond_both, both_ways, not_from_true, not_from_false, ltb-true, ltb-false}
 use Rattle.std.proofs.lemmas.List.{take-append-le, length-replicate}
 use Rattle.tail_frame.specs.Chains.{KeyRecord, AtEach}
-use Rattle.rx_session.specs.Session.{Session, Outcome, Ignored, after_hear, accept}
+use Rattle.rx_session.specs.Session.{Session, Outcome, Ignored, in_frame, after_hear, advance}
 use Rattle.rx_table.specs.Keys.{KeyedFrame, bears_on, history}
 use Rattle.rx_table.specs.Admitted.{has, is_on, sources, key_of}
 use Rattle.rx_table.specs.Stands.{Stands}
-use Rattle.rx_table.specs.Ports.{Port, Entry, open_session, sources_of, accept_at, feed_port, EachStands, PortStands}
-use Rattle.rx_table.proofs.Simulation.{simulates}
+use Rattle.rx_table.specs.Ports.{Port, Entry, open_session, sources_of, advance_at, feed_port, EachStands, PortStands}
+use Rattle.rx_table.proofs.Simulation.{advances}
 use Rattle.rx_table.proofs.Sources.{has_take, bears, not_bears, off_bears, no_start}
 
 pub length_sources : (es : List Entry) → length (sources_of es) ≡ length es
@@ -35,9 +35,9 @@ module _ (crc_more : ℕ → List ℕ → ℕ) (crc_start timeout : ℕ) (crc_ap
   pub opened : (h : List KeyRecord) → AtEach (λ r _. r.start ≡ false) h → Stands (crc_more crc_start) timeout h (open_session port.extent)
   opened [] x = record { bus = refl; heard = refl; last = refl; part = refl }
   opened (r ∷ past) x =
-      let st = simulates crc_more crc_start timeout crc_append past r (open_session port.extent) (let size = open_size in omega arith) (opened past x.1) in
-      let same : accept crc_more crc_start timeout (open_session port.extent) r ≡ (open_session port.extent, Ignored) =
-      ap (λ o. after_hear crc_more crc_start timeout (open_session port.extent) o r) (cond-false r.start (Some false) None x.0) in
+      let st = advances crc_more crc_start timeout crc_append past r (open_session port.extent) (let size = open_size in omega arith) (opened past x.1) in
+      let same : advance crc_more crc_start timeout (open_session port.extent) r ≡ (open_session port.extent, Ignored) =
+      ap (λ o. in_frame (open_session port.extent).buffer r (after_hear crc_more crc_start timeout (open_session port.extent) o r)) (cond-false r.start (Some false) None x.0) in
       subst (λ (y : Session × Outcome). Stands (crc_more crc_start) timeout (r ∷ past) y.0) same st.0
 
   abbrev TheStands : List KeyedFrame → List Entry → Type 0
@@ -53,25 +53,25 @@ module _ (crc_more : ℕ → List ℕ → ℕ) (crc_start timeout : ℕ) (crc_ap
   )
 
   -- a frame of one of them
-  pub each_fed : (f : KeyedFrame) (log : List KeyedFrame) → is_on port.kind port.port f ≡ true → (es : List Entry) → TheStands log es → TheStands (f ∷ log) (accept_at crc_more crc_start timeout f.key.source f.rec es)
+  pub each_fed : (f : KeyedFrame) (log : List KeyedFrame) → is_on port.kind port.port f ≡ true → (es : List Entry) → TheStands log es → TheStands (f ∷ log) (advance_at crc_more crc_start timeout f.key.source f.rec es)
   each_fed f log on [] x = tt
   each_fed f log on (e ∷ es) x =
       let k = key_of port.kind port.port e.source in (
-        cond_both (eqb e.source f.key.source) (record { source = e.source; session = (accept crc_more crc_start timeout e.session f.rec).0 }) e (λ (d : Entry). Stands (crc_more crc_start) timeout (history (key_of port.kind port.port d.source) (f ∷ log)) d.session)
+        cond_both (eqb e.source f.key.source) (record { source = e.source; session = (advance crc_more crc_start timeout e.session f.rec).0 }) e (λ (d : Entry). Stands (crc_more crc_start) timeout (history (key_of port.kind port.port d.source) (f ∷ log)) d.session)
             (λ y.
-            subst (λ h. Stands (crc_more crc_start) timeout h (accept crc_more crc_start timeout e.session f.rec).0) (sym (cond-true (bears_on k f) (f.rec ∷ history k log) (history k log) (bears port.kind port.port e.source f on (sym (eqb-true e.source f.key.source y)))))
-            (simulates crc_more crc_start timeout crc_append (history k log) f.rec e.session (let size = x.1 in omega arith) x.0).0)
+            subst (λ h. Stands (crc_more crc_start) timeout h (advance crc_more crc_start timeout e.session f.rec).0) (sym (cond-true (bears_on k f) (f.rec ∷ history k log) (history k log) (bears port.kind port.port e.source f on (sym (eqb-true e.source f.key.source y)))))
+            (advances crc_more crc_start timeout crc_append (history k log) f.rec e.session (let size = x.1 in omega arith) x.0).0)
             (λ n.
             subst (λ h. Stands (crc_more crc_start) timeout h e.session) (sym (cond-false (bears_on k f) (f.rec ∷ history k log) (history k log) (not_bears port.kind port.port e.source f (λ q. eqb-false e.source f.key.source n (sym q))))) x.0),
-        cond_both (eqb e.source f.key.source) (record { source = e.source; session = (accept crc_more crc_start timeout e.session f.rec).0 }) e (λ (d : Entry). length d.session.buffer ≡ port.extent)
-            (λ _. (simulates crc_more crc_start timeout crc_append (history k log) f.rec e.session (let size = x.1 in omega arith) x.0).1 ∙ x.1) (λ _. x.1),
+        cond_both (eqb e.source f.key.source) (record { source = e.source; session = (advance crc_more crc_start timeout e.session f.rec).0 }) e (λ (d : Entry). length d.session.buffer ≡ port.extent)
+            (λ _. (advances crc_more crc_start timeout crc_append (history k log) f.rec e.session (let size = x.1 in omega arith) x.0).1 ∙ x.1) (λ _. x.1),
         each_fed f log on es x.2,
       )
 
-  pub sources_fed : (source : ℕ) (r : KeyRecord) (es : List Entry) → sources_of (accept_at crc_more crc_start timeout source r es) ≡ sources_of es
+  pub sources_fed : (source : ℕ) (r : KeyRecord) (es : List Entry) → sources_of (advance_at crc_more crc_start timeout source r es) ≡ sources_of es
   sources_fed source r [] = refl
   sources_fed source r (e ∷ es) =
-      cond_both (eqb e.source source) (record { source = e.source; session = (accept crc_more crc_start timeout e.session r).0 }) e (λ (d : Entry). d.source ∷ sources_of (accept_at crc_more crc_start timeout source r es) ≡ e.source ∷ sources_of es)
+      cond_both (eqb e.source source) (record { source = e.source; session = (advance crc_more crc_start timeout e.session r).0 }) e (λ (d : Entry). d.source ∷ sources_of (advance_at crc_more crc_start timeout source r es) ≡ e.source ∷ sources_of es)
       (λ _. ap (λ ss. e.source ∷ ss) (sources_fed source r es)) (λ _. ap (λ ss. e.source ∷ ss) (sources_fed source r es))
 
   pub each_append : (log : List KeyedFrame) (es : List Entry) (e : Entry) → TheStands log es → Stands (crc_more crc_start) timeout (history (key_of port.kind port.port e.source) log) e.session → length e.session.buffer ≡ port.extent → TheStands log (es ++ e ∷ [])
@@ -84,14 +84,14 @@ module _ (crc_more : ℕ → List ℕ → ℕ) (crc_start timeout : ℕ) (crc_ap
       let rest = sources port.kind port.port log in
       let on = is_on port.kind port.port f in
       let grows = on && (f.rec.start && not (has src rest)) in
-      let new : Entry = record { source = src; session = (accept crc_more crc_start timeout (open_session port.extent) f.rec).0 } in
+      let new : Entry = record { source = src; session = (advance crc_more crc_start timeout (open_session port.extent) f.rec).0 } in
       let stays = λ (g : grows ≡ false). st.sources_are ∙ ap (take port.sources) (sym (cond-false grows (rest ++ src ∷ []) rest g)) in
       let sized : length es ≡ length (take port.sources rest) = sym (length_sources es) ∙ ap length st.sources_are in
       let cut = length-take port.sources rest in
-      cond_both on (cond (has src (sources_of es)) (accept_at crc_more crc_start timeout src f.rec es) (cond (f.rec.start && ltb (length es) port.sources) (es ++ new ∷ []) es)) es
+      cond_both on (cond (has src (sources_of es)) (advance_at crc_more crc_start timeout src f.rec es) (cond (f.rec.start && ltb (length es) port.sources) (es ++ new ∷ []) es)) es
       (PortStands (crc_more crc_start) timeout port (f ∷ log))
       (λ y.
-      cond_both (has src (sources_of es)) (accept_at crc_more crc_start timeout src f.rec es) (cond (f.rec.start && ltb (length es) port.sources) (es ++ new ∷ []) es)
+      cond_both (has src (sources_of es)) (advance_at crc_more crc_start timeout src f.rec es) (cond (f.rec.start && ltb (length es) port.sources) (es ++ new ∷ []) es)
       (PortStands (crc_more crc_start) timeout port (f ∷ log))
       (λ there.
       let known = has_take src port.sources rest (ap (has src) (sym st.sources_are) ∙ there) in
@@ -117,8 +117,8 @@ module _ (crc_more : ℕ → List ℕ → ℕ) (crc_start timeout : ℕ) (crc_ap
         sessions =
             each_append (f ∷ log) es new others
             (subst (λ h. Stands (crc_more crc_start) timeout h new.session) (sym (cond-true (bears_on k f) (f.rec ∷ history k log) (history k log) (bears port.kind port.port src f y refl)))
-            (simulates crc_more crc_start timeout crc_append (history k log) f.rec (open_session port.extent) (let size = open_size in omega arith) (opened (history k log) (no_start port.kind port.port src log unknown))).0)
-            ((simulates crc_more crc_start timeout crc_append (history k log) f.rec (open_session port.extent) (let size = open_size in omega arith) (opened (history k log) (no_start port.kind port.port src log unknown))).1 ∙ open_size);
+            (advances crc_more crc_start timeout crc_append (history k log) f.rec (open_session port.extent) (let size = open_size in omega arith) (opened (history k log) (no_start port.kind port.port src log unknown))).0)
+            ((advances crc_more crc_start timeout crc_append (history k log) f.rec (open_session port.extent) (let size = open_size in omega arith) (opened (history k log) (no_start port.kind port.port src log unknown))).1 ∙ open_size);
       })
       (λ z.
       record {

@@ -1,5 +1,5 @@
 -- The port that a frame is on, by its place among a table's ports.
-use Rattle.std.proofs.Common.{◌≡◌, ◌∙◌, ℕ, ◌+◌, ◌^◌, ◌<◌, ◌&&◌, Bool, true, false, eqb, List, [], ◌∷◌, zero, suc, Option, Some, None, refl, sym, ap, subst, inl, inr, position, slice_get, length, arith}
+use Rattle.std.proofs.Common.{◌≡◌, ◌∙◌, ℕ, ◌+◌, ◌^◌, ◌<◌, ◌&&◌, Bool, true, false, eqb, List, [], ◌∷◌, zero, suc, Option, Some, None, refl, sym, ap, subst, inl, inr, position, slice_get, option_map, length, arith}
 use Rattle.std.proofs.lemmas.Bool.{eqb-true, and_parts, cond-true, cond-false, cases_Bool}
 use Rattle.std.specs.Option.{is_some}
 use Rattle.can_id.specs.declared.key.Kind.{Kind}
@@ -70,6 +70,22 @@ module _ {S : Type 0} (extent : S → ℕ) (kind : Kind) (port : ℕ) where
       go more false t =
           let k = position-lowered (position test ports) i (sym (position-further test p ports t) ∙ h) in
           subst (λ n. FoundAt kind port (states extent (p ∷ ports)) n) (sym k.2) (t, more k.0 k.1)
+
+  -- the place of a port among the subscriptions
+  pub position-ports : (ports : List (code.Port S)) → position test ports ≡ position (IsAt kind port) (ports_of (states extent ports))
+  position-ports [] = refl
+  position-ports (p ∷ ports) = go (position-ports ports) (test p) refl
+    where
+      go : position test ports ≡ position (IsAt kind port) (ports_of (states extent ports)) → (b : Bool) → test p ≡ b → position test (p ∷ ports) ≡ position (IsAt kind port) (ports_of (states extent (p ∷ ports)))
+      go more true t = position-here test p ports t ∙ sym (position-here (IsAt kind port) (port_of extent p) (ports_of (states extent ports)) t)
+      go more false t =
+          position-further test p ports t
+          ∙ (ap (option_map suc) more
+          ∙ sym (position-further (IsAt kind port) (port_of extent p) (ports_of (states extent ports)) t))
+
+  -- and so it stays where these stay
+  pub place_stays : (old new : List (code.Port S)) → ports_of (states extent new) ≡ ports_of (states extent old) → position test new ≡ position test old
+  place_stays old new same = position-ports new ∙ (ap (position (IsAt kind port)) same ∙ sym (position-ports old))
 
   pub found_within : (ports : List (code.Port S)) (i : ℕ) → FoundAt kind port (states extent ports) i → i < length ports
   found_within [] i x = absurd x

@@ -4,10 +4,10 @@ use Rattle.std.proofs.lemmas.Bool.{cond_both}
 use Rattle.tail_frame.specs.Chains.{KeyRecord, differs}
 use Rattle.transfer_crc.specs.Crc.{crc_more, crc_of}
 use Rattle.redundancy.specs.Hear.{hear}
-use Rattle.rx_session.specs.Session.{Session, Part, Outcome, is_last, begin, finish, take_in, go_on, on_heard, after_hear, accept}
+use Rattle.rx_session.specs.Session.{Session, Part, Outcome, is_last, begin, finish, take_in, go_on, on_heard, after_hear, advance}
 use Rattle.rx_table.specs.Keys.{KeyedFrame, EachFrame}
 use Rattle.rx_table.specs.Admitted.{has, key_of}
-use Rattle.rx_table.specs.Ports.{Port, Entry, PortState, sources_of, open_session, accept_at, EachStands, TableStands}
+use Rattle.rx_table.specs.Ports.{Port, Entry, PortState, sources_of, open_session, advance_at, EachStands, TableStands}
 use Rattle.rx_table.specs.Places.{opened, fed_entries, feed_nth}
 use Rattle.rx_table.specs.Table.{EntriesHeard, HeardBy, TableHeard, subscribed}
 use Rattle.rx_table.proofs.Moments.{heard_in_time}
@@ -41,19 +41,19 @@ module _ (timeout : ℕ) (r : KeyRecord) where
   on_heard-heard s late =
       cond_both r.start _ _ (Same s.heard) (λ _. cond_both (not late && is_last s.last r.tid) _ _ (Same s.heard) (λ _. refl) (λ _. begin-heard s)) (λ _. go_on-heard s s.part)
 
-  accept-heard : (s : Session) (o : Option Bool) → s.heard ≤ r.moment → (after_hear crc_more 0xFFFF timeout s o r).0.heard ≤ r.moment
-  accept-heard s None le = le
-  accept-heard s (Some late) le =
+  advance-heard : (s : Session) (o : Option Bool) → s.heard ≤ r.moment → (after_hear crc_more 0xFFFF timeout s o r).0.heard ≤ r.moment
+  advance-heard s None le = le
+  advance-heard s (Some late) le =
       let same = on_heard-heard (record { bus = Some r.bus; heard = r.moment; last = s.last; part = s.part; buffer = s.buffer }) late in omega arith
 
-  session-heard : (s : Session) → s.heard ≤ r.moment → (accept crc_more 0xFFFF timeout s r).0.heard ≤ r.moment
-  session-heard s le = accept-heard s (hear timeout s.bus s.heard r.bus r.moment r.start) le
+  session-heard : (s : Session) → s.heard ≤ r.moment → (advance crc_more 0xFFFF timeout s r).0.heard ≤ r.moment
+  session-heard s le = advance-heard s (hear timeout s.bus s.heard r.bus r.moment r.start) le
 
-  accept_at-heard : (source : ℕ) (es : List Entry) → EntriesHeard r.moment es → EntriesHeard r.moment (accept_at crc_more 0xFFFF timeout source r es)
-  accept_at-heard source [] x = tt
-  accept_at-heard source (e ∷ es) x = (
-    cond_both (eqb e.source source) (record { source = e.source; session = (accept crc_more 0xFFFF timeout e.session r).0 }) e (λ (d : Entry). d.session.heard ≤ r.moment) (λ _. session-heard e.session x.0) (λ _. x.0),
-    accept_at-heard source es x.1,
+  advance_at-heard : (source : ℕ) (es : List Entry) → EntriesHeard r.moment es → EntriesHeard r.moment (advance_at crc_more 0xFFFF timeout source r es)
+  advance_at-heard source [] x = tt
+  advance_at-heard source (e ∷ es) x = (
+    cond_both (eqb e.source source) (record { source = e.source; session = (advance crc_more 0xFFFF timeout e.session r).0 }) e (λ (d : Entry). d.session.heard ≤ r.moment) (λ _. session-heard e.session x.0) (λ _. x.0),
+    advance_at-heard source es x.1,
   )
 
   append-heard : (es : List Entry) (e : Entry) → EntriesHeard r.moment es → e.session.heard ≤ r.moment → EntriesHeard r.moment (es ++ e ∷ [])
@@ -62,10 +62,10 @@ module _ (timeout : ℕ) (r : KeyRecord) where
 
   fed-heard : (p : Port) (source : ℕ) (es : List Entry) → EntriesHeard r.moment es → EntriesHeard r.moment (fed_entries timeout p es source r)
   fed-heard p source es x =
-      cond_both (has source (sources_of es)) (accept_at crc_more 0xFFFF timeout source r es) (opened timeout p es source r) (EntriesHeard r.moment)
-      (λ _. accept_at-heard source es x)
-      (λ _. cond_both (r.start && nat_lt (length es) p.sources) (es ++ record { source = source; session = (accept crc_more 0xFFFF timeout (open_session p.extent) r).0 } ∷ []) es (EntriesHeard r.moment)
-      (λ _. append-heard es (record { source = source; session = (accept crc_more 0xFFFF timeout (open_session p.extent) r).0 }) x (session-heard (open_session p.extent) (omega arith)))
+      cond_both (has source (sources_of es)) (advance_at crc_more 0xFFFF timeout source r es) (opened timeout p es source r) (EntriesHeard r.moment)
+      (λ _. advance_at-heard source es x)
+      (λ _. cond_both (r.start && nat_lt (length es) p.sources) (es ++ record { source = source; session = (advance crc_more 0xFFFF timeout (open_session p.extent) r).0 } ∷ []) es (EntriesHeard r.moment)
+      (λ _. append-heard es (record { source = source; session = (advance crc_more 0xFFFF timeout (open_session p.extent) r).0 }) x (session-heard (open_session p.extent) (omega arith)))
       (λ _. x))
 
   pub feed_nth-heard : (ps : List PortState) (i source : ℕ) → HeardBy r.moment ps → HeardBy r.moment (feed_nth timeout ps i source r)

@@ -3,9 +3,9 @@ use Rattle.std.proofs.Common.{◌≡◌, ℕ, zero, suc, Bool, true, false, cond
 use Rattle.std.proofs.lemmas.Bool.{true≢false}
 use Rattle.tail_frame.specs.Chains.{KeyRecord}
 use Rattle.transfer_crc.specs.Crc.{crc_more}
-use Rattle.rx_session.specs.Session.{Outcome, Ignored, accept}
+use Rattle.rx_session.specs.Session.{Outcome, Ignored, advance}
 use Rattle.rx_table.specs.Admitted.{has}
-use Rattle.rx_table.specs.Ports.{Port, Entry, PortState, NoSession, OfSession, is_of_session, sources_of, open_session, accept_at, outcome_at}
+use Rattle.rx_table.specs.Ports.{Port, Entry, PortState, NoSession, OfSession, is_of_session, sources_of, open_session, advance_at, outcome_at}
 use Rattle.rx_table.specs.Places.{fed_entries, port_answer, feed_nth, answer_nth}
 
 -- by whether the source is known, the frame a start, and there is room
@@ -18,9 +18,9 @@ idle-cond false false room o first fed more es h = absurd (true≢false h)
 
 idle-fed : (timeout : ℕ) (p : Port) (es : List Entry) (source : ℕ) (r : KeyRecord) → is_of_session (port_answer timeout p es source r) ≡ false → fed_entries timeout p es source r ≡ es
 idle-fed timeout p es source r h =
-    let new : Entry = record { source = source; session = (accept crc_more 0xFFFF timeout (open_session p.extent) r).0 } in
-    idle-cond (has source (sources_of es)) r.start (nat_lt (length es) p.sources) (outcome_at crc_more 0xFFFF timeout source r es) (accept crc_more 0xFFFF timeout (open_session p.extent) r).1
-    (accept_at crc_more 0xFFFF timeout source r es) (es ++ new ∷ []) es h
+    let new : Entry = record { source = source; session = (advance crc_more 0xFFFF timeout (open_session p.extent) r).0 } in
+    idle-cond (has source (sources_of es)) r.start (nat_lt (length es) p.sources) (outcome_at crc_more 0xFFFF timeout source r es) (advance crc_more 0xFFFF timeout (open_session p.extent) r).1
+    (advance_at crc_more 0xFFFF timeout source r es) (es ++ new ∷ []) es h
 
 pub idle-nth : (timeout source : ℕ) (r : KeyRecord) (ps : List PortState) (i : ℕ) → is_of_session (answer_nth timeout ps i source r) ≡ false → feed_nth timeout ps i source r ≡ ps
 idle-nth timeout source r [] i h = refl

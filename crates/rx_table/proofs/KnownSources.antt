@@ -5,9 +5,9 @@ use Rattle.std.proofs.lemmas.Bool.{eqb-true, eq-eqb, eqb-false, ne_eqb, cond-tru
 use Rattle.tail_frame.specs.Chains.{KeyRecord}
 use Rattle.transfer_crc.specs.Crc.{crc_more}
 use Rattle.rx_session.specs.declared.session.Session.{Session}
-use Rattle.rx_session.specs.Session.{accept}
+use Rattle.rx_session.specs.Session.{advance}
 use Rattle.rx_table.specs.Admitted.{has}
-use Rattle.rx_table.specs.Ports.{Entry, sources_of, accept_at, outcome_at}
+use Rattle.rx_table.specs.Ports.{Entry, sources_of, advance_at, outcome_at}
 use Rattle.rx_table.specs.Places.{step_nth, outcome_nth}
 use Rattle.rx_table.specs.Table.{entries_of}
 use Rattle.rx_table.proofs.Positions.{position-further, position-here, position-lowered, position-none_below}
@@ -45,10 +45,10 @@ unknown-has source (e ∷ es) h = go (λ k. unknown-has source es k) (nat_eq sou
 
 module _ (timeout source : ℕ) (r : KeyRecord) where
   abbrev fed_at : List Entry → List Entry
-  fed_at es = accept_at crc_more 0xFFFF timeout source r es
+  fed_at es = advance_at crc_more 0xFFFF timeout source r es
 
   abbrev fed : Entry → Entry
-  fed e = record { source = e.source; session = (accept crc_more 0xFFFF timeout e.session r).0 }
+  fed e = record { source = e.source; session = (advance crc_more 0xFFFF timeout e.session r).0 }
 
   -- no session of another source steps
   others : (x : ℕ) (es : List Entry) → x ≡ source → AllByRecursion (λ y. nat_eq x y ≡ false) (sources_of es) → fed_at es ≡ es
@@ -82,12 +82,12 @@ module _ (timeout source : ℕ) (r : KeyRecord) where
       go more true t =
           let at : i ≡ 0 = let k : Some 0 ≡ Some i = sym (position-here (nat_eq source) e.source (sources_of es) t) ∙ h in cc in
           ap (λ n. outcome_nth timeout (e ∷ es) n r) at
-          ∙ sym (cond-true (eqb e.source source) (accept crc_more 0xFFFF timeout e.session r).1 (outcome_at crc_more 0xFFFF timeout source r es) (swapped source e.source true t))
+          ∙ sym (cond-true (eqb e.source source) (advance crc_more 0xFFFF timeout e.session r).1 (outcome_at crc_more 0xFFFF timeout source r es) (swapped source e.source true t))
       go more false t =
           let k = position-lowered (position (nat_eq source) (sources_of es)) i (sym (position-further (nat_eq source) e.source (sources_of es) t) ∙ h) in
           ap (λ n. outcome_nth timeout (e ∷ es) n r) k.2
           ∙ (more k.0 k.1
-          ∙ sym (cond-false (eqb e.source source) (accept crc_more 0xFFFF timeout e.session r).1 (outcome_at crc_more 0xFFFF timeout source r es) (swapped source e.source false t)))
+          ∙ sym (cond-false (eqb e.source source) (advance crc_more 0xFFFF timeout e.session r).1 (outcome_at crc_more 0xFFFF timeout source r es) (swapped source e.source false t)))
 
 -- the source at a place
 pub sources-get : {S : Type 0} (es : List (ℕ × Session S)) (i : ℕ) (e : ℕ × Session S) → slice_get es i ≡ Some e → slice_get (sources_of (entries_of es)) i ≡ Some e.0

@@ -13,6 +13,7 @@ pub mod Positions
 pub mod KnownSources
 pub mod NewSources
 pub mod NthEntries
+pub mod PutBodies
 pub mod Runs
 pub mod Buffers
 pub mod Simulation

@@ -6,7 +6,7 @@ use Rattle.tail_frame.specs.Chains.{KeyRecord}
 use Rattle.transfer_crc.specs.Crc.{crc_more}
 use Rattle.rx_session.specs.declared.session.Session.{Session}
 use Rattle.rx_session.specs.declared.outcome.Step as code
-use Rattle.rx_session.specs.Session.{Session as Kept, Ignored, accept}
+use Rattle.rx_session.specs.Session.{Session as Kept, Ignored, advance}
 use Rattle.rx_session.specs.Seen.{kept, fresh, step_answer}
 use Rattle.rx_table.specs.Ports.{Port, Entry, Answer, NoSession, OfSession, open_session}
 use Rattle.rx_table.specs.Places.{opened, opened_answer, buffer_nth}
@@ -29,10 +29,10 @@ not_below m n le = elim (cases_Bool (nat_lt m n)) [ inl y ↦ absurd (let l = lt
 
 module _ (timeout : ℕ) (p : Port) (r : KeyRecord) where
   abbrev added : ℕ → Entry
-  added source = record { source = source; session = (accept crc_more 0xFFFF timeout (open_session p.extent) r).0 }
+  added source = record { source = source; session = (advance crc_more 0xFFFF timeout (open_session p.extent) r).0 }
 
   abbrev first : Answer
-  first = OfSession (accept crc_more 0xFFFF timeout (open_session p.extent) r).1
+  first = OfSession (advance crc_more 0xFFFF timeout (open_session p.extent) r).1
 
   -- where a port has as many sources as it takes
   pub full-entries : (source : ℕ) (es : List Entry) → p.sources ≤ length es → opened timeout p es source r ≡ es
@@ -57,20 +57,20 @@ module _ (timeout : ℕ) (p : Port) (r : KeyRecord) where
   -- a new session, with the frame taken, behind the others
   pub record Last {S : Type 0} (es es' : List (ℕ × Session S)) (source index : ℕ) (step : code.Step) : Type 0 where
     pub entries : entries_of es' ≡ opened timeout p (entries_of es) source r
-    pub answer : OfSession (step_answer (buffer_nth (entries_of es') index) step) ≡ opened_answer timeout p (entries_of es) r
+    pub answer : OfSession (step_answer (buffer_nth (entries_of es') index) r step) ≡ opened_answer timeout p (entries_of es) r
 
   pub put-last : {S : Type 0} (es es' : List (ℕ × Session S)) (source index : ℕ) (s w : Session S) (step : code.Step) → r.start ≡ true → index ≡ length es → index < p.sources
-      → kept s ≡ fresh p.extent → kept w ≡ (accept crc_more 0xFFFF timeout (kept s) r).0 → step_answer w.buffer step ≡ (accept crc_more 0xFFFF timeout (kept s) r).1
+      → kept s ≡ fresh p.extent → kept w ≡ (advance crc_more 0xFFFF timeout (kept s) r).0 → step_answer w.buffer r step ≡ (advance crc_more 0xFFFF timeout (kept s) r).1
       → es' ≡ es ++ (source, w) ∷ [] → Last es es' source index step
   put-last {S} es es' source index s w step start at room new state answer e =
       let few : length (entries_of es) < p.sources = let n = length-entries es in omega arith in
-      let began : kept w ≡ (accept crc_more 0xFFFF timeout (fresh p.extent) r).0 = state ∙ ap (λ (x : Kept). (accept crc_more 0xFFFF timeout x r).0) new in
+      let began : kept w ≡ (advance crc_more 0xFFFF timeout (fresh p.extent) r).0 = state ∙ ap (λ (x : Kept). (advance crc_more 0xFFFF timeout x r).0) new in
       record {
         entries =
             ap (λ (t : List (ℕ × Session S)). entries_of t) e ∙ (entries-append es ((source, w) ∷ [])
             ∙ (ap (λ (x : Kept). entries_of es ++ record { source = source; session = x } ∷ []) began ∙ sym (room-entries source (entries_of es) start few)));
         answer =
-            ap₂ (λ (t : List (ℕ × Session S)) (n : ℕ). OfSession (step_answer (buffer_nth (entries_of t) n) step)) e at
-            ∙ (ap (λ (b : List ℕ). OfSession (step_answer b step)) (buffer-last es source w)
-            ∙ (ap OfSession (answer ∙ ap (λ (x : Kept). (accept crc_more 0xFFFF timeout x r).1) new) ∙ sym (room-answer (entries_of es) start few)));
+            ap₂ (λ (t : List (ℕ × Session S)) (n : ℕ). OfSession (step_answer (buffer_nth (entries_of t) n) r step)) e at
+            ∙ (ap (λ (b : List ℕ). OfSession (step_answer b r step)) (buffer-last es source w)
+            ∙ (ap OfSession (answer ∙ ap (λ (x : Kept). (advance crc_more 0xFFFF timeout x r).1) new) ∙ sym (room-answer (entries_of es) start few)));
       }

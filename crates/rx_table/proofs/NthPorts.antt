@@ -10,7 +10,7 @@ use Rattle.rx_table.specs.Table.{entries_of, port_of, state_of, states, EntriesH
 some_is : {X : Type 0} (x y : X) → Some x ≡ Some y → x ≡ y
 some_is x y h = cc
 
-state_path : {p q : Port} {es fs : List Entry} → p ≡ q → es ≡ fs → (let s : PortState = record { port = p; entries = es } in s) ≡ record { port = q; entries = fs }
+pub state_path : {p q : Port} {es fs : List Entry} → p ≡ q → es ≡ fs → (let s : PortState = record { port = p; entries = es } in s) ≡ record { port = q; entries = fs }
 state_path e f = λ i. record { port = e i; entries = f i }
 
 module _ {S : Type 0} (extent : S → ℕ) where
@@ -38,20 +38,20 @@ module _ {S : Type 0} (extent : S → ℕ) where
       ap (λ (s : PortState). s ∷ states extent ports) (state_path e f ∙ ap (state_of extent) (sym (some_is _ _ h)))
   set-same (o ∷ ports) (suc i) p q h e f = ap (λ (t : List PortState). state_of extent o ∷ t) (set-same ports i p q h e f)
 
-  pub set-met : (ports : List (code.Port S)) (i : ℕ) (p q : code.Port S) (met : code_met.PortMet) → slice_get ports i ≡ Some p → met_nth (states extent (slice_set ports i q)) i met ≡ met_answer (entries q) met
-  set-met [] i p q met h = absurd cc
-  set-met (o ∷ ports) zero p q met h = refl
-  set-met (o ∷ ports) (suc i) p q met h = set-met ports i p q met h
+  pub set-met : (ports : List (code.Port S)) (i : ℕ) (p q : code.Port S) (rec : KeyRecord) (met : code_met.PortMet) → slice_get ports i ≡ Some p → met_nth (states extent (slice_set ports i q)) i rec met ≡ met_answer (entries q) rec met
+  set-met [] i p q rec met h = absurd cc
+  set-met (o ∷ ports) zero p q rec met h = refl
+  set-met (o ∷ ports) (suc i) p q rec met h = set-met ports i p q rec met h
 
-  pub met-some : (ports : List (code.Port S)) (i : ℕ) (p : code.Port S) (met : code_met.PortMet) → slice_get ports i ≡ Some p → met_nth (states extent ports) i met ≡ met_answer (entries p) met
-  met-some [] i p met h = absurd cc
-  met-some (o ∷ ports) zero p met h = ap (λ (s : code.Port S). met_answer (entries s) met) (some_is _ _ h)
-  met-some (o ∷ ports) (suc i) p met h = met-some ports i p met h
+  pub met-some : (ports : List (code.Port S)) (i : ℕ) (p : code.Port S) (rec : KeyRecord) (met : code_met.PortMet) → slice_get ports i ≡ Some p → met_nth (states extent ports) i rec met ≡ met_answer (entries p) rec met
+  met-some [] i p rec met h = absurd cc
+  met-some (o ∷ ports) zero p rec met h = ap (λ (s : code.Port S). met_answer (entries s) rec met) (some_is _ _ h)
+  met-some (o ∷ ports) (suc i) p rec met h = met-some ports i p rec met h
 
-  pub met-none : (ports : List (code.Port S)) (i : ℕ) (met : code_met.PortMet) → length ports ≤ i → met_nth (states extent ports) i met ≡ NoPort
-  met-none [] i met le = refl
-  met-none (o ∷ ports) zero met le = absurd (omega arith)
-  met-none (o ∷ ports) (suc i) met le = met-none ports i met (omega arith)
+  pub met-none : (ports : List (code.Port S)) (i : ℕ) (rec : KeyRecord) (met : code_met.PortMet) → length ports ≤ i → met_nth (states extent ports) i rec met ≡ NoPort
+  met-none [] i rec met le = refl
+  met-none (o ∷ ports) zero rec met le = absurd (omega arith)
+  met-none (o ∷ ports) (suc i) rec met le = met-none ports i rec met (omega arith)
 
   module _ (timeout source : ℕ) (r : KeyRecord) where
     abbrev fed : code.Port S → PortState

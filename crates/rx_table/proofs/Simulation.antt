@@ -2,18 +2,21 @@
 use Rattle.std.proofs.Common.{◌≡◌, ℕ, ◌^◌, ◌<◌, ◌+◌, ◌-◌, Bool, true, false, cond, not, ◌&&◌, ◌||◌, eqb, List, [], ◌∷◌, ◌++◌, length, take, Option, Some, None, unwrap_or, refl, sym, ap, ◌∙◌, subst, inl, inr, length-append, arith}
 use Rattle.std.specs.Prelude.{⊤}
 use Rattle.std.proofs.lemmas.Bool.{eqb-false, eq-eqb, ne_eqb, and_parts, and_from, and_left, and_right, and_cases, or_from, or_left, or_right, cond-true, cond-false, cond_both, both_ways, not_from_true, not_from_false, not-true, not-false, cases_Bool}
+use Rattle.std.proofs.lemmas.Option.{none-some}
 use Rattle.tail_frame.specs.Chains.{KeyRecord, differs, follows, tip, chain_bytes, closes_at, without_crc}
 use Rattle.redundancy.specs.Force.{force, is_bus, heard, last_heard, late}
 use Rattle.rx_table.specs.Received.{Delivery, Run, Got, is_fresh, begins, alone, not_begun, after, received}
 use Rattle.cy_bits.specs.Put.{put_at}
 use Rattle.redundancy.specs.Hear.{hear}
-use Rattle.rx_session.specs.Session.{Part, Session, Outcome, Ignored, Held, BadCrc, Delivered, capped, is_last, begin, take_in, go_on, on_heard, after_hear, accept}
+use Rattle.rx_session.specs.Session.{Part, Session, Outcome, Ignored, Held, BadCrc, Delivered, capped, is_last, begin, is_whole, take_in, go_on, on_heard, after_hear, accept}
 use Rattle.rx_table.specs.Stands.{last_tid, Holds, part_of, PartIs, Stands, OutcomeIs}
 use Rattle.rx_table.specs.Steps.{fails_at, is_bad, goes_on, is_held}
-use Rattle.rx_table.specs.Laws.{Simulates}
+use Rattle.rx_table.specs.Laws.{Simulates, Advances}
 use Rattle.redundancy.proofs.Forces.{heard_force, some_inj, force_kept}
 use Rattle.rx_table.proofs.Runs.{no_late_start, follows_parts, run_state, not_closing}
-use Rattle.rx_table.proofs.Buffers.{length_put, holds_put, holds_first, holds_front, put_capped, take_capped}
+use Rattle.rx_session.proofs.Buffers.{length_put}
+use Rattle.rx_session.proofs.Agreement.{accept_ends}
+use Rattle.rx_table.proofs.Buffers.{holds_put, holds_first, holds_front, put_capped, take_capped}
 use Rattle.redundancy.proofs.Hears.{hear_is, unheard_force}
 
 -- the bus of the last begun start frame is in force
@@ -364,3 +367,26 @@ module _ (crc_more : ℕ → List ℕ → ℕ) (crc_start timeout : ℕ) (crc_ap
 
 pub simulates : Simulates
 simulates crc_more crc_start timeout crc_append h r s small st = step crc_more crc_start timeout crc_append h r s small st
+
+-- where no reassembly runs, a session stands for the same records with any buffer
+pub idle_part : (crc : List ℕ → ℕ) (part : Option Part) (a b : List ℕ) (begun : Option Run) → part ≡ None → PartIs crc part a begun → PartIs crc part b begun
+idle_part crc part a b None none p = p
+idle_part crc part a b (Some run) none p = record { closed = p.closed; runs = λ o. absurd (none-some (part_of crc run) (sym none ∙ (p.runs o).0)) }
+
+pub advances : Advances
+advances crc_more crc_start timeout crc_append h r s small st =
+    let after = accept crc_more crc_start timeout s r in
+    let goal = simulates crc_more crc_start timeout crc_append h r s small st in
+    let ends = accept_ends crc_more crc_start timeout s r in
+    let whole = is_whole r after.1 in (
+      record {
+        bus = goal.0.bus;
+        heard = goal.0.heard;
+        last = goal.0.last;
+        part = cond_both whole s.buffer after.0.buffer (λ (b : List ℕ). PartIs (crc_more crc_start) after.0.part b (received (crc_more crc_start) timeout (r ∷ h)).begun)
+            (λ w. idle_part (crc_more crc_start) after.0.part after.0.buffer s.buffer (received (crc_more crc_start) timeout (r ∷ h)).begun (ends.whole w) goal.0.part)
+            (λ _. goal.0.part);
+      },
+      cond_both whole s.buffer after.0.buffer (λ (b : List ℕ). length b ≡ length s.buffer) (λ _. refl) (λ _. ends.size),
+      goal.2,
+    )

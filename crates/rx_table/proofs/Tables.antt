@@ -3,13 +3,13 @@ use Rattle.std.proofs.Common.{◌≡◌, ℕ, ◌+◌, ◌^◌, ◌<◌, Bool, t
 use Rattle.std.proofs.lemmas.Bool.{eqb-true, eq-eqb, and_parts, and_from, and_left, and_right, or_right, or_cases, cond-true, cond-false, cond_both, both_ways, cases_Bool, true≢false, ltb-true}
 use Rattle.can_id.specs.declared.key.Kind.{Kind}
 use Rattle.tail_frame.specs.Chains.{KeyRecord}
-use Rattle.rx_session.specs.Session.{Session, Outcome, Ignored, accept}
+use Rattle.rx_session.specs.Session.{Session, Outcome, Ignored, advance}
 use Rattle.rx_table.specs.Keys.{KeyedFrame, same_kind, history}
 use Rattle.rx_table.specs.Admitted.{has, is_on, sources, key_of}
 use Rattle.rx_table.specs.Stands.{Stands, OutcomeIs}
-use Rattle.rx_table.specs.Ports.{Port, Entry, PortState, Answer, NoSession, OfSession, open_session, sources_of, ports_of, port_at, IsPortList, is_admitted, accept_at, outcome_at, feed_port, answer_port, feed_table, answer_table, EachStands, PortStands, AnswerIs, AnswerAt}
+use Rattle.rx_table.specs.Ports.{Port, Entry, PortState, Answer, NoSession, OfSession, open_session, sources_of, ports_of, port_at, IsPortList, is_admitted, advance_at, outcome_at, feed_port, answer_port, feed_table, answer_table, EachStands, PortStands, AnswerIs, AnswerAt}
 use Rattle.rx_table.specs.Laws.{CrcOfParts, PortSimulates, TableSimulates, FeedsOne, FeedsNone}
-use Rattle.rx_table.proofs.Simulation.{simulates}
+use Rattle.rx_table.proofs.Simulation.{advances}
 use Rattle.rx_table.proofs.Sources.{same_kind_true, has_append, no_start}
 use Rattle.rx_table.proofs.Entries.{sources_append, unknown, open_size, opened, sources_fed, port_step}
 
@@ -25,17 +25,17 @@ module _ (crc_more : ℕ → List ℕ → ℕ) (crc_start timeout : ℕ) (crc_ap
   abbrev Says : ℕ → KeyRecord → List KeyedFrame → Outcome → Type 0
   Says source r log o = OutcomeIs (crc_more crc_start) timeout port.extent r (history (key_of port.kind port.port source) log) o
 
-  session_says : (r : KeyRecord) (log : List KeyedFrame) (source : ℕ) (s : Session) → Stands (crc_more crc_start) timeout (history (key_of port.kind port.port source) log) s → length s.buffer ≡ port.extent → Says source r log (accept crc_more crc_start timeout s r).1
+  session_says : (r : KeyRecord) (log : List KeyedFrame) (source : ℕ) (s : Session) → Stands (crc_more crc_start) timeout (history (key_of port.kind port.port source) log) s → length s.buffer ≡ port.extent → Says source r log (advance crc_more crc_start timeout s r).1
   session_says r log source s st size =
       let past = history (key_of port.kind port.port source) log in
-      subst (λ n. OutcomeIs (crc_more crc_start) timeout n r past (accept crc_more crc_start timeout s r).1) size (simulates crc_more crc_start timeout crc_append past r s (let long = size in omega arith) st).2
+      subst (λ n. OutcomeIs (crc_more crc_start) timeout n r past (advance crc_more crc_start timeout s r).1) size (advances crc_more crc_start timeout crc_append past r s (let long = size in omega arith) st).2
 
   -- the session of a source says what ends there
   entry_says : (source : ℕ) (r : KeyRecord) (log : List KeyedFrame) (es : List Entry) → EachStands (crc_more crc_start) timeout port log es → has source (sources_of es) ≡ true → Says source r log (outcome_at crc_more crc_start timeout source r es)
   entry_says source r log [] x h = absurd (true≢false (sym h))
   entry_says source r log (e ∷ es) x h =
-      cond_both (eqb e.source source) (accept crc_more crc_start timeout e.session r).1 (outcome_at crc_more crc_start timeout source r es) (Says source r log)
-      (λ y. subst (λ s. Says s r log (accept crc_more crc_start timeout e.session r).1) (eqb-true e.source source y) (session_says r log e.source e.session x.0 x.1))
+      cond_both (eqb e.source source) (advance crc_more crc_start timeout e.session r).1 (outcome_at crc_more crc_start timeout source r es) (Says source r log)
+      (λ y. subst (λ s. Says s r log (advance crc_more crc_start timeout e.session r).1) (eqb-true e.source source y) (session_says r log e.source e.session x.0 x.1))
       (λ n. entry_says source r log es x.2 (elim (or_cases (eqb e.source source) (has source (sources_of es)) h) [ inl y ↦ absurd (both_ways (eqb e.source source) n y) | inr t ↦ t ]))
 
   -- the answer of an admitted source
@@ -52,9 +52,9 @@ module _ (crc_more : ℕ → List ℕ → ℕ) (crc_start timeout : ℕ) (crc_ap
       let known = has src (sources_of es) in
       let room = ltb (length es) port.sources in
       let grows = f.rec.start && room in
-      let new : Entry = record { source = src; session = (accept crc_more crc_start timeout (open_session port.extent) f.rec).0 } in
-      let first = (accept crc_more crc_start timeout (open_session port.extent) f.rec).1 in
-      let fed = accept_at crc_more crc_start timeout src f.rec es in
+      let new : Entry = record { source = src; session = (advance crc_more crc_start timeout (open_session port.extent) f.rec).0 } in
+      let first = (advance crc_more crc_start timeout (open_session port.extent) f.rec).1 in
+      let fed = advance_at crc_more crc_start timeout src f.rec es in
       let more = cond grows (es ++ new ∷ []) es in
       let at : is_admitted port f log ≡ has src (sources_of (cond known fed more)) =
       ap (has src) (sym (port_step crc_more crc_start timeout crc_append port small log es f st).sources_are) ∙ ap (λ x. has src (sources_of x)) (cond-true (is_on port.kind port.port f) (cond known fed more) es on) in
@@ -128,8 +128,8 @@ module _ (crc_more : ℕ → List ℕ → ℕ) (crc_start timeout : ℕ) where
   port_same : (q : PortState) (f : KeyedFrame) → is_on q.port.kind q.port.port f ≡ false → feed_port crc_more crc_start timeout q.port q.entries f ≡ q.entries
   port_same q f n =
       let src = f.key.source in
-      let new : Entry = record { source = src; session = (accept crc_more crc_start timeout (open_session q.port.extent) f.rec).0 } in
-      cond-false (is_on q.port.kind q.port.port f) (cond (has src (sources_of q.entries)) (accept_at crc_more crc_start timeout src f.rec q.entries) (cond (f.rec.start && ltb (length q.entries) q.port.sources) (q.entries ++ new ∷ []) q.entries)) q.entries n
+      let new : Entry = record { source = src; session = (advance crc_more crc_start timeout (open_session q.port.extent) f.rec).0 } in
+      cond-false (is_on q.port.kind q.port.port f) (cond (has src (sources_of q.entries)) (advance_at crc_more crc_start timeout src f.rec q.entries) (cond (f.rec.start && ltb (length q.entries) q.port.sources) (q.entries ++ new ∷ []) q.entries)) q.entries n
 
   state_path : (port : Port) (es es' : List Entry) (ps ps' : List PortState) → es ≡ es' → ps ≡ ps' → (record { port = port; entries = es } ∷ ps) ≡ (record { port = port; entries = es' } ∷ ps')
   state_path port es es' ps ps' p q = λ i. record { port = port; entries = p i } ∷ q i

@@ -2,7 +2,7 @@
 use Rattle.std.specs.Prelude.{◌≡◌, ℕ, true, false, ◌+◌, ◌<◌, ◌≤◌, ◌^◌, List, [], ◌∷◌, ◌++◌, length, take, Option, Some, None, ⊤}
 use Rattle.can_id.specs.declared.key.Kind.{Kind}
 use Rattle.tail_frame.specs.Chains.{KeyRecord}
-use Rattle.rx_session.specs.Session.{Session, Outcome, Ignored, Held, BadCrc, Delivered, accept}
+use Rattle.rx_session.specs.Session.{Session, Outcome, Ignored, Held, BadCrc, Delivered, accept, advance}
 use Rattle.rx_table.specs.Received.{Delivery, received}
 use Rattle.rx_table.specs.Steps.{add, delivery_at}
 use Rattle.rx_table.specs.Keys.{SessionKey, KeyedFrame, history, EachFrame}
@@ -14,14 +14,22 @@ use Rattle.rx_table.specs.Ports.{Port, Entry, PortState, ports_of, port_at, IsPo
 abbrev pub CrcOfParts : (ℕ → List ℕ → ℕ) → Type 0
 CrcOfParts crc_more = (sum : ℕ) (a b : List ℕ) → crc_more sum (a ++ b) ≡ crc_more (crc_more sum a) b
 
--- `accept` keeps what a session stands for and the length of its buffer, and answers what the records say
-abbrev pub Simulates : Type 0
-Simulates =
+-- a form of a session's step keeps what the session stands for and the length of its buffer, and answers what the
+-- records say
+abbrev pub SimulatesBy : ((ℕ → List ℕ → ℕ) → ℕ → ℕ → Session → KeyRecord → Session × Outcome) → Type 0
+SimulatesBy form =
     (crc_more : ℕ → List ℕ → ℕ) (crc_start timeout : ℕ) → CrcOfParts crc_more
     → (past : List KeyRecord) (r : KeyRecord) (s : Session) → length s.buffer + 2 < 2 ^ 64 → Stands (crc_more crc_start) timeout past s
-    → Stands (crc_more crc_start) timeout (r ∷ past) (accept crc_more crc_start timeout s r).0
-    × (length (accept crc_more crc_start timeout s r).0.buffer ≡ length s.buffer)
-    × OutcomeIs (crc_more crc_start) timeout (length s.buffer) r past (accept crc_more crc_start timeout s r).1
+    → Stands (crc_more crc_start) timeout (r ∷ past) (form crc_more crc_start timeout s r).0
+    × (length (form crc_more crc_start timeout s r).0.buffer ≡ length s.buffer)
+    × OutcomeIs (crc_more crc_start) timeout (length s.buffer) r past (form crc_more crc_start timeout s r).1
+
+-- both do so: the one that puts each body into the buffer, and the one that leaves a whole transfer in its frame
+abbrev pub Simulates : Type 0
+Simulates = SimulatesBy accept
+
+abbrev pub Advances : Type 0
+Advances = SimulatesBy advance
 
 -- what is delivered grows by what ends at each record
 abbrev pub DeliveredStep : Type 0

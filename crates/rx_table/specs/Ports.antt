@@ -2,7 +2,7 @@
 use Rattle.std.specs.Prelude.{◌≡◌, ℕ, Bool, true, false, ◌&&◌, ◌==◌, ◌+◌, ◌*◌, nat_lt, if◌then◌else◌, List, [], ◌∷◌, ◌++◌, length, replicate, Option, Some, None, ⊤}
 use Rattle.can_id.specs.declared.key.Kind.{Kind}
 use Rattle.tail_frame.specs.Chains.{KeyRecord}
-use Rattle.rx_session.specs.Session.{Session, Outcome, Ignored, accept}
+use Rattle.rx_session.specs.Session.{Session, Outcome, Ignored, advance}
 use Rattle.rx_table.specs.Keys.{KeyedFrame, same_kind, history}
 use Rattle.rx_table.specs.Admitted.{has, is_on, admitted, key_of}
 use Rattle.rx_table.specs.Stands.{Stands, OutcomeIs}
@@ -66,21 +66,21 @@ abbrev pub open_session : ℕ → Session
 open_session extent = record { bus = None; heard = 0; last = None; part = None; buffer = replicate extent 0 }
 
 module _ (crc_more : ℕ → List ℕ → ℕ) (crc_start timeout : ℕ) where
-  -- a source's session accepts a record
-  abbrev pub accept_at : ℕ → KeyRecord → List Entry → List Entry
-  accept_at source r [] = []
-  accept_at source r (e ∷ es) = (if e.source == source then record { source = e.source; session = (accept crc_more crc_start timeout e.session r).0 } else e) ∷ accept_at source r es
+  -- a source's session advances by a record
+  abbrev pub advance_at : ℕ → KeyRecord → List Entry → List Entry
+  advance_at source r [] = []
+  advance_at source r (e ∷ es) = (if e.source == source then record { source = e.source; session = (advance crc_more crc_start timeout e.session r).0 } else e) ∷ advance_at source r es
 
   abbrev pub outcome_at : ℕ → KeyRecord → List Entry → Outcome
   outcome_at source r [] = Ignored
-  outcome_at source r (e ∷ es) = if e.source == source then (accept crc_more crc_start timeout e.session r).1 else outcome_at source r es
+  outcome_at source r (e ∷ es) = if e.source == source then (advance crc_more crc_start timeout e.session r).1 else outcome_at source r es
 
   -- a start frame of a new source opens a session, where there are fewer than the port takes
   abbrev pub feed_port : Port → List Entry → KeyedFrame → List Entry
   feed_port p es f =
       if is_on p.kind p.port f
-      then (if has f.key.source (sources_of es) then accept_at f.key.source f.rec es
-      else (if f.rec.start && nat_lt (length es) p.sources then es ++ record { source = f.key.source; session = (accept crc_more crc_start timeout (open_session p.extent) f.rec).0 } ∷ [] else es))
+      then (if has f.key.source (sources_of es) then advance_at f.key.source f.rec es
+      else (if f.rec.start && nat_lt (length es) p.sources then es ++ record { source = f.key.source; session = (advance crc_more crc_start timeout (open_session p.extent) f.rec).0 } ∷ [] else es))
       else es
 
   -- and is refused where there aren't; another frame of a new source is ignored
@@ -88,7 +88,7 @@ module _ (crc_more : ℕ → List ℕ → ℕ) (crc_start timeout : ℕ) where
   answer_port p es f =
       if has f.key.source (sources_of es) then OfSession (outcome_at f.key.source f.rec es)
       else if f.rec.start
-      then (if nat_lt (length es) p.sources then OfSession (accept crc_more crc_start timeout (open_session p.extent) f.rec).1 else NoSession)
+      then (if nat_lt (length es) p.sources then OfSession (advance crc_more crc_start timeout (open_session p.extent) f.rec).1 else NoSession)
       else OfSession Ignored
 
   -- all ports after a frame

@@ -38,7 +38,7 @@ module _ {S : Type 0} (shape : S → Sch) where
 
   -- what a frame met, told with the payload lent from the frame or from a session
   abbrev pub told_by : Table S → Frame → code_met.Met → Answer
-  told_by t frame met = table_answer (states_of t) frame.body.now met
+  told_by t frame met = table_answer (states_of t) (record_of frame) met
 
   -- its subscriptions after a frame of a source on the one at a place, what is answered, and whether that opens a
   -- session

@@ -1,3 +1,6 @@
+ghost use Rattle.std.specs.Prelude.{◌≡◌};
+ghost use Rattle.rx_table.specs.Places.{whole_index};
+
 use rx_session::{Delivery, Front, Outcome, Step};
 
 /// What a frame came to in a table.
@@ -9,7 +12,8 @@ pub enum Fed<'a> {
     NoSession,
     /// It is anonymous, and is delivered at once. The payload is lent from the frame.
     Anonymous(Delivery<'a>),
-    /// What its session made of it. The payload is lent from the session's buffer.
+    /// What its session made of it. The payload is lent from the session's buffer, or that of a whole
+    /// transfer from the frame.
     Session(Outcome<'a>),
 }
 
@@ -50,6 +54,25 @@ pub enum PortMet {
         /// What the session made of it.
         step: Step,
     },
+}
+
+impl PortMet {
+    /// The place of the session that took a whole transfer, if one did.
+    pub(crate) fn whole(&self) -> Option<usize>
+        ensures { result ≡ whole_index self.now }
+    {
+        match self {
+            PortMet::Session {
+                index,
+                step: Step::Whole,
+            } => Some(*index),
+            PortMet::Opened {
+                index,
+                step: Step::Whole,
+            } => Some(*index),
+            _ => None,
+        }
+    }
 }
 
 /// Why a subscription was refused. The table is then as before.

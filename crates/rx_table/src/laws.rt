@@ -5,6 +5,7 @@ ghost use Rattle.std.specs.Prelude.{ℕ, List};
 ghost use Rattle.rx_table.specs.Meaning.{DeliveriesAre, BadCrcsAre};
 ghost use Rattle.rx_table.specs.Laws.{
   Simulates,
+  Advances,
   DeliveredStep,
   OutcomeTells,
   HeardInTime,
@@ -37,6 +38,11 @@ pub fn delivered_steps()
 /// outcome says what ends there.
 pub fn sessions()
     ensures { Simulates }
+{}
+
+/// And so it does after `step`, which leaves a whole transfer in its frame.
+pub fn stepped_sessions()
+    ensures { Advances }
 {}
 
 /// A session's outcome tells the delivery that ends at its record.

@@ -5,9 +5,10 @@ ghost use Rattle.indexmap.specs.IndexMap.{get};
 ghost use Rattle.tail_frame.specs.Frames.{seen};
 ghost use Rattle.rx_session.specs.Extents.{extent_bytes};
 ghost use Rattle.rx_session.specs.Seen.{record_of, step_answer, outcome_answer};
-ghost use Rattle.rx_session.specs.declared.outcome.Step.TheVariants.{Delivered};
+ghost use Rattle.rx_session.specs.Session.{Delivered};
 ghost use Rattle.rx_table.specs.Keys.{same_kind};
-ghost use Rattle.rx_table.specs.Places.{step_nth, outcome_nth, buffer_nth, met_answer};
+ghost use Rattle.rx_table.specs.declared.fed.PortMet.TheVariants as met;
+ghost use Rattle.rx_table.specs.Places.{step_nth, outcome_nth, buffer_nth, met_answer, put_entry};
 ghost use Rattle.rx_table.specs.Table.{EntriesHeard, whole, fed_answer, state_of, subscribed};
 
 use crate::fed::{Fed, PortMet};
@@ -15,7 +16,7 @@ use can_id::Kind;
 use cy_bits::{NoMemory, ShortList};
 use dsdl_types::Shape;
 use indexmap::IndexMap;
-use rx_session::{Front, Outcome, Session, Step};
+use rx_session::{Front, Outcome, Session, Step, lend};
 use std::alloc::Global;
 use tail_frame::Frame;
 
@@ -73,7 +74,9 @@ impl<S: Shape> Port<S> {
     #[cold]
     #[inline(never)]
     pub(crate) fn alone(&self, frame: &Frame) -> Front
-        ensures { step_answer frame.now.body.now (Delivered result)
+        ensures { let d = result in
+            let payload = take d.count frame.now.body.now in
+            Delivered d.bus d.priority d.tid d.first d.last d.moment payload
             ≡ whole (seen frame.now) (extent_bytes S.shape self.now.shape) }
     {
         Front {
@@ -114,7 +117,7 @@ impl<S: Shape> Port<S> {
         ensures shape { self.new.shape ≡ self.old.shape }
         ensures entries { OnOk result (entries_in self.new
             ≡ after_frame S.shape timeout self.old source frame.now) }
-        ensures answer { IfOk result (λ m. met_answer (entries_in self.new) m
+        ensures answer { IfOk result (λ m. met_answer (entries_in self.new) (record_of frame.now) m
             ≡ answer_to S.shape timeout self.old source frame.now) }
         ensures grown { IfOk result (λ met.
             buffered_in self.new ≡ buffered_in self.old + bytes_for S.shape self.old met) }
@@ -127,6 +130,42 @@ impl<S: Shape> Port<S> {
                 Ok(PortMet::Session { index, step })
             }
             None => self.meet_new(alloc, source, frame, timeout),
+        }
+    }
+
+    /// A frame of a source whose session is found without a search: its place, and what it made of the
+    /// frame. `None` says nothing, and does nothing.
+    #[inline(always)]
+    pub(crate) fn quick(&mut self, source: u8, frame: &Frame, timeout: u64) -> Option<(usize, Step)>
+        requires { EntriesHeard frame.now.moment (entries_in self.old) }
+        ensures port { subscription S.shape self.new ≡ subscription S.shape self.old }
+        ensures shape { self.new.shape ≡ self.old.shape }
+        ensures entries { IfSome result (λ _. entries_in self.new
+            ≡ after_frame S.shape timeout self.old source frame.now) }
+        ensures answer { IfSome result (λ p.
+            met_answer (entries_in self.new) (record_of frame.now) (met.Session p.0 p.1)
+            ≡ answer_to S.shape timeout self.old source frame.now) }
+        ensures buffered { buffered_in self.new ≡ buffered_in self.old }
+        ensures none { result ≡ None → entries_in self.new ≡ entries_in self.old }
+    {
+        let index = self.hinted(source)?;
+        let step = self.step_at(index, frame, timeout);
+        Some((index, step))
+    }
+
+    /// The place of a source's session, if the hint is right.
+    #[inline(always)]
+    fn hinted(&self, source: u8) -> Option<usize>
+        ensures index { IfSome result (λ i.
+            Some i ≡ position (nat_eq source) (sources_in self.now)) }
+        ensures unique { IsDistinct nat_eq (sources_in self.now) }
+        ensures within { IfSome result (λ i. i < length self.now.sessions.entries) }
+    {
+        let hint = self.hints[(source % 128) as usize] as usize;
+        if hint < self.sessions.len() && self.is_at(source, hint) {
+            Some(hint)
+        } else {
+            None
         }
     }
 
@@ -171,7 +210,7 @@ impl<S: Shape> Port<S> {
         ensures shape { self.new.shape ≡ self.old.shape }
         ensures entries { OnOk result (entries_in self.new
             ≡ after_first S.shape timeout self.old source frame.now) }
-        ensures answer { IfOk result (λ m. met_answer (entries_in self.new) m
+        ensures answer { IfOk result (λ m. met_answer (entries_in self.new) (record_of frame.now) m
             ≡ answer_to_first S.shape timeout self.old frame.now) }
         ensures grown { IfOk result (λ met.
             buffered_in self.new ≡ buffered_in self.old + bytes_for S.shape self.old met) }
@@ -203,11 +242,27 @@ impl<S: Shape> Port<S> {
         ensures entries { entries_in self.new
             ≡ step_nth timeout (entries_in self.old) index (record_of frame.now) }
         ensures buffered { buffered_in self.new ≡ buffered_in self.old }
-        ensures outcome { step_answer (buffer_nth (entries_in self.new) index) result
+        ensures outcome { let buffer = buffer_nth (entries_in self.new) index in
+            step_answer buffer (record_of frame.now) result
             ≡ outcome_nth timeout (entries_in self.old) index (record_of frame.now) }
     {
         let session = self.sessions.get_index_mut(index).unwrap();
         session.step(frame, timeout)
+    }
+
+    /// Puts the bytes of a frame in front of the buffer of the session at a place, where no transfer is
+    /// being put together.
+    pub(crate) fn put_body(&mut self, index: usize, frame: &Frame)
+        ensures port { subscription S.shape self.new ≡ subscription S.shape self.old }
+        ensures shape { self.new.shape ≡ self.old.shape }
+        ensures entries { entries_in self.new
+            ≡ put_entry (entries_in self.old) index (record_of frame.now) }
+        ensures buffered { buffered_in self.new ≡ buffered_in self.old }
+    {
+        if index < self.sessions.len() {
+            let session = self.sessions.get_index_mut(index).unwrap();
+            session.put_body(frame);
+        }
     }
 
     /// The bytes of the buffer that was opened for a frame.
@@ -223,26 +278,26 @@ impl<S: Shape> Port<S> {
 
     /// What a frame of a source came to, with the payload lent from its session.
     #[inline(always)]
-    pub(crate) fn lend(&self, met: PortMet) -> Fed<'_>
-        ensures { fed_answer result ≡ met_answer (entries_in self.now) met }
+    pub(crate) fn lend<'a>(&'a self, met: PortMet, frame: &Frame<'a>) -> Fed<'a>
+        ensures { fed_answer result ≡ met_answer (entries_in self.now) (record_of frame.now) met }
     {
         match met {
             PortMet::NoSession => Fed::NoSession,
             PortMet::Ignored => Fed::Session(Outcome::Ignored),
-            PortMet::Session { index, step } => Fed::Session(self.lend_at(index, step)),
-            PortMet::Opened { index, step } => Fed::Session(self.lend_at(index, step)),
+            PortMet::Session { index, step } => Fed::Session(self.lend_at(index, step, frame)),
+            PortMet::Opened { index, step } => Fed::Session(self.lend_at(index, step, frame)),
         }
     }
 
     /// What the session at a place made of a frame, with the payload lent from its buffer.
     #[inline(always)]
-    fn lend_at(&self, index: usize, step: Step) -> Outcome<'_>
+    fn lend_at<'a>(&'a self, index: usize, step: Step, frame: &Frame<'a>) -> Outcome<'a>
         ensures { outcome_answer result
-            ≡ step_answer (buffer_nth (entries_in self.now) index) step }
+            ≡ step_answer (buffer_nth (entries_in self.now) index) (record_of frame.now) step }
     {
         match self.sessions.get_index(index) {
-            Some((_, session)) => session.lend(step),
-            None => step.lend(&[]),
+            Some((_, session)) => session.lend(step, frame),
+            None => lend(step, &[], frame),
         }
     }
 }

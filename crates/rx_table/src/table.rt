@@ -8,6 +8,7 @@ use crate::subjects::{Subjects, place_at};
 use can_id::Kind;
 use cy_bits::{NoMemory, ShortList};
 use dsdl_types::Shape;
+use rx_session::Step;
 use std::alloc::Global;
 use tail_frame::Frame;
 
@@ -33,18 +34,24 @@ pub struct Table<S> {
 const SUBJECTS: usize = 0x2000;
 
 impl<S: Shape> Table<S> {
-    ghost use Rattle.std.specs.Prelude.{◌↔◌, ◌<◌, ◌≤◌, ◌++◌, ◌∷◌, [], IfOk, OnErr, OnOk, length, List, ℕ, Err, None, ◌≢◌, map, ◌+◌, is_some};
+    ghost use Rattle.std.specs.Prelude.{◌↔◌, ◌<◌, ◌≤◌, ◌++◌, ◌∷◌, [], IfOk, IfSome, OnErr, OnOk, length, List, ℕ, Err, None, Some, ◌≢◌, map, ◌+◌, is_some};
     ghost use Rattle.std.specs.Borrow.{sem};
     ghost use Rattle.std.specs.Io.BufRead.{Rests};
+    ghost use Rattle.can_id.specs.declared.key.Kind.{Kind as KindOf};
     ghost use Rattle.can_id.specs.declared.key.Kind.TheVariants.{Message};
     ghost use Rattle.std.specs.Option.{option_copied};
     ghost use Rattle.tail_frame.specs.Frames.{seen};
     ghost use Rattle.rx_session.specs.Extents.{extent_bytes};
+    ghost use Rattle.can_id.specs.Identifiers.{key_of};
     ghost use Rattle.rx_table.specs.Keys.{KeyedFrame};
+    ghost use Rattle.rx_session.specs.Seen.{record_of};
     ghost use Rattle.rx_table.specs.Ports.{port_at, held, bound, held_of};
+    ghost use Rattle.rx_table.specs.Places.{put_met, put_nth};
     ghost use Rattle.rx_table.specs.SubjectPlaces.{place_of};
     ghost use Rattle.rx_table.specs.Table.{StandsFor, fed_answer, shape_at, admitted_on, subscribed};
     ghost use Rattle.rx_table.specs.Views.{states_of, subscriptions, place_in, states_after, answer_after, OpensAtPlace, IsOfLog, HasHeardBy, told_by, Keeps, KeepsSessions, TakesIn, Answers, OpensOne, IsIdleAt, IsFed};
+    ghost use Rattle.rx_table.specs.declared.fed.Met.TheVariants as on_port;
+    ghost use Rattle.rx_table.specs.declared.fed.PortMet.TheVariants as on_session;
     ghost use Rattle.rx_table.specs.declared.fed.SubscribeError.TheVariants.{Taken};
     ghost use Rattle.rx_table.specs.contracts.table.Table.{the_row};
 
@@ -149,12 +156,42 @@ impl<S: Shape> Table<S> {
         ensures memory { OnErr result (OpensOne S.shape self.old (seen frame.now)) }
     {
         match self.step(frame) {
-            Ok(met) => Ok(self.lend(met, frame)),
+            Ok(met) => {
+                self.put_whole(met, frame);
+                Ok(self.lend(met, frame))
+            }
             Err(refused) => Err(refused),
         }
     }
 
-    /// What `feed` does, without borrowing a payload: `lend` tells it, with the same frame.
+    /// Puts the bytes of a frame in front of its session's buffer, where it came to a whole transfer.
+    fn put_whole(&mut self, met: Met, frame: &Frame)
+        ensures keeps { Keeps S.shape self.old self.new }
+        ensures states { states_of S.shape self.new
+            ≡ put_met (states_of S.shape self.old) (record_of frame.now) met }
+    {
+        if let Met::Port { place, met } = met {
+            if let Some(index) = met.whole() {
+                self.put_body(place, index, frame);
+            }
+        }
+    }
+
+    /// Puts the bytes of a frame in front of the buffer of the session at a place of the port at a place,
+    /// where no transfer is being put together.
+    fn put_body(&mut self, place: usize, index: usize, frame: &Frame)
+        ensures keeps { Keeps S.shape self.old self.new }
+        ensures states { states_of S.shape self.new
+            ≡ put_nth (states_of S.shape self.old) place index (record_of frame.now) }
+    {
+        if place < self.ports.len() {
+            let port = &mut self.ports[place];
+            port.put_body(index, frame);
+        }
+    }
+
+    /// What `feed` does, without borrowing a payload: `lend` tells it, with the same frame. The bytes of a
+    /// whole transfer aren't put into its session's buffer.
     #[inline(always)]
     pub fn step(&mut self, frame: &Frame) -> Result<Met, NoMemory>
         requires { HasHeardBy S.shape frame.now.moment self.old }
@@ -202,6 +239,52 @@ impl<S: Shape> Table<S> {
         }
     }
 
+    /// A frame of a source whose session is found without a search, on the port at a place: the session's
+    /// place, and what it made of the frame. `None` says nothing, and does nothing.
+    #[inline(always)]
+    fn quick_at(&mut self, place: usize, source: u8, frame: &Frame) -> Option<(usize, Step)>
+        requires within { place < length self.old.ports.items }
+        requires heard { HasHeardBy S.shape frame.now.moment self.old }
+        ensures keeps { Keeps S.shape self.old self.new }
+        ensures states { IfSome result (λ _. states_of S.shape self.new
+            ≡ states_after S.shape self.old place source frame.now) }
+        ensures answer { IfSome result (λ p.
+            told_by S.shape self.new frame.now (on_port.Port place (on_session.Session p.0 p.1))
+            ≡ answer_after S.shape self.old place source frame.now) }
+        ensures none { result ≡ None → KeepsSessions S.shape self.old self.new }
+    {
+        let port = &mut self.ports[place];
+        match port.quick(source, frame, self.timeout) {
+            Some((index, step)) => Some((index, step)),
+            None => None,
+        }
+    }
+
+    /// What `step` does with a frame of a source whose session is found without a search, on the port at
+    /// this place: the session's place, and what it made of the frame. `None` says nothing, and does
+    /// nothing.
+    #[inline(always)]
+    pub fn quick(&mut self, place: usize, frame: &Frame) -> Option<(usize, Step)>
+        requires place { let key = key_of frame.now.ident in
+            place_in key.kind key.port self.old ≡ Some place }
+        requires heard { HasHeardBy S.shape frame.now.moment self.old }
+        ensures keeps { Keeps S.shape self.old self.new }
+        ensures place { let key = key_of frame.now.ident in
+            place_in key.kind key.port self.new ≡ Some place }
+        ensures heard { (now : ℕ) → frame.now.moment ≤ now → HasHeardBy S.shape now self.new }
+        ensures stands { IfSome result (λ _. TakesIn S.shape (seen frame.now) self.old self.new) }
+        ensures told { IfSome result (λ p.
+            let met = on_port.Port place (on_session.Session p.0 p.1) in
+            Answers S.shape self.old (seen frame.now) (told_by S.shape self.new frame.now met)) }
+        ensures none { result ≡ None → KeepsSessions S.shape self.old self.new }
+    {
+        let key = frame.ident.key();
+        match key.source {
+            None => None,
+            Some(source) => self.quick_at(place, source, frame),
+        }
+    }
+
     /// What a frame came to, with the payload lent from the frame or from a session's buffer.
     #[inline(always)]
     pub fn lend<'a>(&'a self, met: Met, frame: &Frame<'a>) -> Fed<'a>
@@ -212,7 +295,7 @@ impl<S: Shape> Table<S> {
             Met::Anonymous(front) => Fed::Anonymous(front.lend(frame.body)),
             Met::Port { place, met } => {
                 if place < self.ports.len() {
-                    self.ports[place].lend(met)
+                    self.ports[place].lend(met, frame)
                 } else {
                     Fed::NoPort
                 }
@@ -251,6 +334,16 @@ impl<S: Shape> Table<S> {
         }
     }
 
+    /// The shape of the subscription at a place.
+    #[inline(always)]
+    pub fn shape_on(&self, place: usize) -> &S
+        requires { place < length self.now.ports.items }
+        ensures { (kind : KindOf) (port : ℕ) → place_in kind port self.now ≡ Some place
+            → shape_at kind port self.now.ports.items ≡ Some result.now }
+    {
+        &self.ports[place].shape
+    }
+
     /// The sources of a subscription that have a session, in the order of their first start frames. None
     /// where that kind and port isn't subscribed.
     pub fn sources(&self, kind: Kind, port: u16) -> ShortList<u8, 128>
@@ -261,6 +354,14 @@ impl<S: Shape> Table<S> {
             Some(place) => self.ports[place].first_sources(),
             None => ShortList::new(),
         }
+    }
+
+    /// The place of a subject's subscription, if it is there.
+    #[inline(always)]
+    pub fn place(&self, subject: u16) -> Option<usize>
+        ensures { result ≡ place_in Message subject self.now }
+    {
+        self.find_subject(subject)
     }
 
     /// The place of a subscription.

@@ -4,7 +4,7 @@ use Rattle.transfer_crc.specs.Crc.{crc_more}
 use Rattle.rx_session.specs.Extents.{extent_bytes}
 use Rattle.rx_session.specs.Seen.{record_of}
 use Rattle.rx_table.specs.Admitted.{has}
-use Rattle.rx_table.specs.Ports.{Entry, Answer, OfSession, sources_of, accept_at, outcome_at}
+use Rattle.rx_table.specs.Ports.{Entry, Answer, OfSession, sources_of, advance_at, outcome_at}
 use Rattle.rx_table.specs.Places.{opened, opened_answer, met_answer}
 use Rattle.rx_table.specs.Table.{port_of, entries_of}
 use Rattle.rx_table.proofs.Answered.{on_err_both}
@@ -19,7 +19,7 @@ returns-in-Some-clause-entries g c =
     let at = sym c.in-Some.ensures.index in
     let unique = c.in-Some.ensures.unique in
     c.step_at-step.ensures.entries ∙ (known-entries c.args.timeout c.args.source r c.in-Some.index es unique at
-    ∙ sym (cond-true (has c.args.source (sources_of es)) (accept_at crc_more 0xFFFF c.args.timeout c.args.source r es) (opened c.args.timeout (port_of (extent_bytes g.S.Shape.shape) c.args.self.now) es c.args.source r)
+    ∙ sym (cond-true (has c.args.source (sources_of es)) (advance_at crc_more 0xFFFF c.args.timeout c.args.source r es) (opened c.args.timeout (port_of (extent_bytes g.S.Shape.shape) c.args.self.now) es c.args.source r)
     (known-has c.args.source c.in-Some.index es at)))
 
 pub returns-in-Some-clause-answer : goal.returns-in-Some-clause-answer
@@ -37,7 +37,7 @@ returns-in-None-clause-entries g c =
     let r = record_of c.args.frame.now in
     let at = sym c.in-None.ensures.index in
     subst (λ (t : List Entry). OnOk c.meet_new.result (entries_of c.meet_new.new.self.sessions.entries ≡ t))
-    (sym (cond-false (has c.args.source (sources_of es)) (accept_at crc_more 0xFFFF c.args.timeout c.args.source r es) (opened c.args.timeout (port_of (extent_bytes g.S.Shape.shape) c.args.self.now) es c.args.source r)
+    (sym (cond-false (has c.args.source (sources_of es)) (advance_at crc_more 0xFFFF c.args.timeout c.args.source r es) (opened c.args.timeout (port_of (extent_bytes g.S.Shape.shape) c.args.self.now) es c.args.source r)
     (unknown-has c.args.source es at)))
     c.meet_new.ensures.entries
 
@@ -46,7 +46,7 @@ returns-in-None-clause-answer g c =
     let es = entries_of c.args.self.now.sessions.entries in
     let r = record_of c.args.frame.now in
     let at = sym c.in-None.ensures.index in
-    subst (λ (t : Answer). IfOk c.meet_new.result (λ m. met_answer (entries_of c.meet_new.new.self.sessions.entries) m ≡ t))
+    subst (λ (t : Answer). IfOk c.meet_new.result (λ m. met_answer (entries_of c.meet_new.new.self.sessions.entries) (record_of c.args.frame.now) m ≡ t))
     (sym (cond-false (has c.args.source (sources_of es)) (OfSession (outcome_at crc_more 0xFFFF c.args.timeout c.args.source r es)) (opened_answer c.args.timeout (port_of (extent_bytes g.S.Shape.shape) c.args.self.now) es r)
     (unknown-has c.args.source es at)))
     c.meet_new.ensures.answer

@@ -36,7 +36,7 @@ pub returns-in-Ok-clause-answer : goal.returns-in-Ok-clause-answer
 returns-in-Ok-clause-answer g c =
     let ports = c.args.self.now.ports.items in
     let at = slice_get_read ports (length ports) c.args.place c.index_mut-port.result.now refl c.requires.within c.index_mut-port.ensures.value in
-    set-met (extent_bytes g.S.Shape.shape) ports c.args.place c.index_mut-port.result.now c.meet.new.self c.in-Ok.met at
+    set-met (extent_bytes g.S.Shape.shape) ports c.args.place c.index_mut-port.result.now c.meet.new.self (record_of c.args.frame.now) c.in-Ok.met at
     ∙ (c.in-Ok.ensures.answer ∙ port_answer-nth (extent_bytes g.S.Shape.shape) c.args.self.now.timeout c.args.source (record_of c.args.frame.now) ports c.args.place c.index_mut-port.result.now at)
 
 pub returns-in-Err-clause-keeps : goal.returns-in-Err-clause-keeps
