@@ -6,7 +6,7 @@ use Rattle.rx_table.specs.Ports.{PortState}
 use Rattle.rx_table.specs.Table.{StandsFor, keyed}
 use Rattle.rx_table.specs.Views.{states_of, subscriptions}
 use Rattle.rx_table.specs.declared.fed.Met.{Met}
-use Rattle.tail_frame.specs.Frames.{FrameOf, seen}
+use Rattle.tail_frame.specs.Frames.{FrameOf, key_record, seen}
 use Rattle.tail_frame.specs.declared.logged.Record.{Record}
 use Rattle.node_reach.specs.PortTypes.{type_schema}
 use Rattle.node_reach.specs.Told.{answered}
@@ -40,7 +40,7 @@ Tells ear rec t = (ears : Ears) (past : List Record) → Hears ears ear past →
 
 abbrev pub told_of : Ear → Option FrameOf → Met → Option Transfer
 told_of ear None met = None
-told_of ear (Some f) met = answered (keyed f) (table_answer (states_in ear) f.body met)
+told_of ear (Some f) met = answered (keyed f) (table_answer (states_in ear) (key_record f) met)
 
 -- the transfer that the ear tells of a record, by what that came to
 abbrev pub told : Ear → Heard → Option Transfer

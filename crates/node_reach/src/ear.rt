@@ -49,7 +49,7 @@ impl Ear {
     ghost use Rattle.can_id.specs.Identifiers.{IsIdent};
     ghost use Rattle.rx_table.specs.Places.{table_answer};
     ghost use Rattle.rx_table.specs.Table.{keyed};
-    ghost use Rattle.tail_frame.specs.Frames.{seen};
+    ghost use Rattle.tail_frame.specs.Frames.{key_record, seen};
     ghost use Rattle.node_reach.specs.Ears.{Hears, Takes, Tells, states_in, told};
     ghost use Rattle.node_reach.specs.Told.{owned, answered};
 
@@ -140,7 +140,7 @@ impl Ear {
     fn transfer_in<'a>(&'a self, frame: &Frame<'a>, met: Met) -> Option<Transfer<'a>>
         requires ident { IsIdent frame.now.ident }
         ensures told { let f = seen frame.now in
-            let answer = table_answer (states_in self.now) f.body met in
+            let answer = table_answer (states_in self.now) (key_record f) met in
             option_map owned result ≡ answered (keyed f) answer }
         ensures source { IfSome result (λ transfer. transfer.source < 128) }
     {
