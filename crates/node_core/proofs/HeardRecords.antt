@@ -15,13 +15,14 @@ use Rattle.tail_frame.specs.declared.tail.Tail.{Tail}
 use Rattle.rx_table.specs.Keys.{KeyedFrame}
 use Rattle.rx_table.specs.Table.{port_on}
 use Rattle.rx_table.specs.declared.fed.Met.{Met}
-use Rattle.node_core.specs.Came.{frame_with, met_lines, came_lines, came_request}
+use Rattle.node_core.specs.Came.{answer_in, frame_with, heard_is_bad, met_lines, came_lines, came_request}
 use Rattle.rx_table.specs.Heard.{is_for, if_for, frame_for, frames}
 use Rattle.node_core.specs.Heard.{ports_of}
 use Rattle.node_core.specs.Questions.{FitsQuestion, question_in}
 use Rattle.node_core.specs.Sending.{IsRequestTo, request_of, request_that, request_with}
 use Rattle.node_core.specs.Stands.{StandsAt, Stands}
-use Rattle.node_core.specs.Steps.{on_port, of_frame, got, payload_in, request_on}
+use Rattle.node_core.specs.Steps.{on_port, of_frame, got, payload_in, request_on, bad_of_frame, bad_on_port, is_bad_at}
+use Rattle.node_core.specs.Told.{answer_is_bad}
 use Rattle.node_core.specs.declared.came.Came.{Came}
 use Rattle.node_core.specs.declared.line.Line.{Line}
 use Rattle.node_core.specs.declared.node.Node.{Node}
@@ -64,6 +65,15 @@ unfolding came_lines
 heard_got old new rec f met badcrc frame_is h past s =
     ap (λ (g : FrameOf). met_lines new g met) (is_of old.plan.node rec f (sym frame_is)).whole
     ∙ (h (frames old.plan.node past) s ∙ ap (of_frame old.plan (frames old.plan.node past)) frame_is)
+
+-- and says whether a transfer ended whose bytes don't fit their CRC
+pub heard_bad : (old new : Node) (rec : Record) (f : FrameOf) (met : Met) (bad : Bool) → Some f ≡ frame_for old.plan.node rec
+    → bad ≡ heard_is_bad new rec (record { ident = f.ident; tail = f.tail; met = met })
+    → ((log : List KeyedFrame) → StandsAt old log → answer_is_bad (answer_in new f met) ≡ bad_on_port old.plan.timeout f log (port_on (ports_of old.plan) f))
+    → (past : List Record) → Stands old past → bad ≡ is_bad_at old.plan rec past
+heard_bad old new rec f met bad frame_is b h past s =
+    b ∙ (ap (λ (g : FrameOf). answer_is_bad (answer_in new g met)) (is_of old.plan.node rec f (sym frame_is)).whole
+    ∙ (h (frames old.plan.node past) s ∙ ap (bad_of_frame old.plan (frames old.plan.node past)) frame_is))
 
 pub none_got : (node : Node) (rec : Record) (badcrc : Bool) → None ≡ frame_for node.plan.node rec
     → (past : List Record) → came_lines node rec (record { badcrc = badcrc; heard = None }) ≡ got node.plan rec past

@@ -3,7 +3,7 @@ use Rattle.std.specs.Prelude.{◌≡◌, ℕ, ◌-◌, Bool, List, [], length, t
 use Rattle.std.specs.Option.{option_and_then}
 use Rattle.can_id.specs.Identifiers.{key_of}
 use Rattle.can_id.specs.declared.ident.Ident.{Ident}
-use Rattle.tail_frame.specs.Frames.{FrameOf}
+use Rattle.tail_frame.specs.Frames.{FrameOf, key_record}
 use Rattle.tail_frame.specs.declared.logged.Record.{Record}
 use Rattle.tail_frame.specs.declared.tail.Tail.{Tail}
 use Rattle.rx_table.specs.Places.{table_answer}
@@ -33,14 +33,14 @@ frame_with rec ident tail = record {
   body = take (length rec.bytes - 1) rec.bytes;
 }
 
--- what the node's table tells of a frame with this body
-abbrev pub answer_in : Node → List ℕ → Met → Answer
-answer_in node body met = table_answer (states shape_extent node.table.ports.items) body met
+-- what the node's table tells of a frame
+abbrev pub answer_in : Node → FrameOf → Met → Answer
+answer_in node f met = table_answer (states shape_extent node.table.ports.items) (key_record f) met
 
 -- the lines on what a frame met
 abbrev pub met_lines : Node → FrameOf → Met → List Line
 met_lines node f met =
-    answer_lines (type_at node.table (key_of f.ident)) f (answer_in node f.body met)
+    answer_lines (type_at node.table (key_of f.ident)) f (answer_in node f met)
 
 abbrev pub heard_lines : Node → Record → Option Heard → List Line
 heard_lines node rec None = []
@@ -49,7 +49,7 @@ heard_lines node rec (Some heard) = met_lines node (frame_with rec heard.ident h
 -- whether a frame that was heard ends a transfer whose bytes don't fit their CRC
 abbrev pub heard_is_bad : Node → Record → Heard → Bool
 heard_is_bad node rec heard =
-    answer_is_bad (answer_in node (frame_with rec heard.ident heard.tail).body heard.met)
+    answer_is_bad (answer_in node (frame_with rec heard.ident heard.tail) heard.met)
 
 -- the lines on what a record came to
 unfoldable pub came_lines : Node → Record → Came → List Line

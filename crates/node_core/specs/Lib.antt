@@ -10,6 +10,7 @@ pub mod LineSinks
 pub mod Pops
 pub mod Puts
 pub mod Questions
+pub mod Quick
 pub mod Queues
 pub mod Raw
 pub mod Readings

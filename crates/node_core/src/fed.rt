@@ -1,10 +1,11 @@
 //! The line on what the table told of a frame.
-ghost use Rattle.std.specs.Prelude.{◌≡◌, ◌∷◌, [], option_map};
+ghost use Rattle.std.specs.Prelude.{◌≡◌, ◌∷◌, [], None, IfSome, option_map};
 ghost use Rattle.can_id.specs.Identifiers.{key_of};
 ghost use Rattle.tail_frame.specs.Frames.{key_record, seen};
 ghost use Rattle.dsdl_types.specs.Views.{sch};
 ghost use Rattle.rx_session.specs.Session.{Delivered};
 ghost use Rattle.rx_table.specs.Table.{fed_answer};
+ghost use Rattle.node_core.specs.Quick.{IsUntyped};
 ghost use Rattle.node_core.specs.Steps.{refused_line};
 ghost use Rattle.node_core.specs.Told.{owned, outcome_lines, answer_lines, answer_is_bad, told_lines};
 ghost use Rattle.node_core.specs.Types.{type_at};
@@ -37,6 +38,25 @@ pub fn line_on<'a>(table: &'a Table<PortShape>, frame: &Frame, fed: Fed<'a>) -> 
     }
 }
 
+/// The same on a port without a type.
+#[inline(always)]
+pub fn untyped_line<'a>(frame: &Frame, fed: Fed<'a>) -> Option<LineRef<'a>>
+    ensures line { told_lines result ≡ answer_lines None (seen frame.now) (fed_answer fed.entry) }
+    ensures untyped { IfSome result IsUntyped }
+{
+    match fed {
+        Fed::NoPort => None,
+        Fed::NoSession => Some(refused(frame)),
+        Fed::Anonymous(delivery) => Some(received_as(None, frame.ident.key(), delivery)),
+        Fed::Session(Outcome::Delivered(delivery)) => {
+            Some(received_as(None, frame.ident.key(), delivery))
+        }
+        Fed::Session(Outcome::BadCrc) => None,
+        Fed::Session(Outcome::Ignored) => None,
+        Fed::Session(Outcome::Held) => None,
+    }
+}
+
 /// The line of a transfer that was received.
 #[inline(always)]
 fn received<'a>(table: &'a Table<PortShape>, key: Key, delivery: Delivery<'a>) -> LineRef<'a>
@@ -44,13 +64,29 @@ fn received<'a>(table: &'a Table<PortShape>, key: Key, delivery: Delivery<'a>) -
         owned result ∷ [] ≡ outcome_lines (type_at table.now key) key
         (Delivered d.bus d.priority d.tid d.first d.last d.moment d.payload.now) }
 {
+    received_as(type_at(table, key), key, delivery)
+}
+
+/// The line of a transfer that was received on a port of this type.
+#[inline(always)]
+fn received_as<'a>(
+    port_type: Option<&'a CompiledShape>,
+    key: Key,
+    delivery: Delivery<'a>,
+) -> LineRef<'a>
+    ensures line { let d = delivery.entry in
+        owned result ∷ [] ≡ outcome_lines
+        (option_map (λ shape. sch shape.now.schema) port_type.entry) key
+        (Delivered d.bus d.priority d.tid d.first d.last d.moment d.payload.now) }
+    ensures untyped { port_type.entry ≡ None → IsUntyped result }
+{
     LineRef::Rx(RxRef {
         moment: delivery.moment,
         bus: delivery.bus,
         key,
         priority: delivery.priority,
         tid: delivery.tid,
-        port_type: type_at(table, key),
+        port_type,
         first: delivery.first,
         last: delivery.last,
         payload: delivery.payload,

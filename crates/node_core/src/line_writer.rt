@@ -99,7 +99,7 @@ impl LineWriter {
 
     /// Appends the text of a transfer on a port without a type.
     #[inline(always)]
-    fn push_raw(&mut self, text: &mut TextBuffer, rx: &RxRef<'_>) -> Result<(), NoMemory>
+    pub fn push_raw(&mut self, text: &mut TextBuffer, rx: &RxRef<'_>) -> Result<(), NoMemory>
         requires { rx.now.port_type ≡ None }
         ensures buses { writes_for self.new ≡ writes_for self.old }
         ensures ok { OnOk result (Writes self.old (LineRef.Rx rx.now) text.old text.new) }

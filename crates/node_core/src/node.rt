@@ -244,7 +244,7 @@ impl Node {
         ensures lines { let f = seen frame.now in
             IfOk result (λ met. FrameGives self.old f (met_lines self.new f met)) }
         ensures badcrc { let f = seen frame.now in IfOk result (λ met.
-            FrameTellsBadCrc self.old f (answer_is_bad (answer_in self.new f.body met))) }
+            FrameTellsBadCrc self.old f (answer_is_bad (answer_in self.new f met))) }
         ensures err { OnErr result (KeepsSessions self.old self.new) }
     {
         rx_table::laws::outcome_tells();

@@ -3,7 +3,7 @@ use Rattle.tail_frame.specs.Frames.{seen}
 use Rattle.node_core.specs.Came.{came_lines}
 use Rattle.node_core.specs.Steps.{got}
 use Rattle.node_core.proofs.Elsewhere.{takes_by, gives_none, ends_none}
-use Rattle.node_core.proofs.HeardRecords.{asks, heard_asks, heard_got, none_asks, none_got, nothing_asks}
+use Rattle.node_core.proofs.HeardRecords.{asks, heard_asks, heard_bad, heard_got, none_asks, none_got, nothing_asks}
 use Rattle.node_core.proofs.Steps.{frame_stands, stands_as_before, on_err}
 use Rattle.node_core.proofs.node.Node.step.Goals as goal
 
@@ -24,6 +24,10 @@ returns-in_ok-met-in-Some-clause-stands c =
 pub returns-in_ok-met-in-Some-clause-lines : goal.returns-in_ok-met-in-Some-clause-lines
 returns-in_ok-met-in-Some-clause-lines c =
     heard_got c.args.self.now c.hear.new.self c.args.rec.now _ _ _ c.in-Some.ensures.value c.in_ok-met-in-Some.ensures.lines
+
+pub returns-in_ok-met-in-Some-clause-badcrc : goal.returns-in_ok-met-in-Some-clause-badcrc
+returns-in_ok-met-in-Some-clause-badcrc c =
+    heard_bad c.args.self.now c.hear.new.self c.args.rec.now _ _ _ c.in-Some.ensures.value c.ends_badly.ensures c.in_ok-met-in-Some.ensures.badcrc
 
 pub returns-in_err-met-in-Some-clause-err : goal.returns-in_err-met-in-Some-clause-err
 returns-in_err-met-in-Some-clause-err c =
