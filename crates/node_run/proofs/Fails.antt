@@ -1,11 +1,11 @@
 -- In which requests the tree failed, from step to step.
-use Rattle.std.proofs.Common.{◌≡◌, ◌∙◌, ◌+◌, ◌<◌, ◌≤◌, ◌^◌, ◌-◌, ℕ, Bool, true, false, zero, suc, List, [], ◌∷◌, ◌++◌, Option, length, inl, inr, refl, sym, ap, subst, arith, append-nil, append_assoc, length-append}
+use Rattle.std.proofs.Common.{◌≡◌, ◌∙◌, ◌≤◌, ℕ, Bool, true, false, zero, suc, List, [], ◌∷◌, ◌++◌, Option, inl, inr, refl, sym, ap, subst, arith, append-nil, append_assoc, length-append}
 use Rattle.std.specs.Prelude.{if◌then◌else◌}
 use Rattle.file_service.specs.Causes.{TellsFault}
 use Rattle.log_loop.specs.Gone.{FirstOf}
 use Rattle.node_core.specs.Files.{is_failed}
 use Rattle.node_core.specs.LineSinks.{put_behind}
-use Rattle.node_core.specs.Steps.{Heard, Met, Step, Tick, failed_at, failed_lines, steps, ticks_from}
+use Rattle.node_core.specs.Steps.{Heard, Step, failed_at, failed_lines, ticks_from}
 use Rattle.node_core.specs.declared.file_reply.FileReply.{FileReply}
 use Rattle.tail_frame.specs.declared.logged.Record.{Record}
 use Rattle.node_run.specs.Failures.{AreFailures, FailsAs, FailsUntold, Failures, HasRisen, TellsFailures, failures}

@@ -1,8 +1,8 @@
 -- A run as the listener of a log.
-use Rattle.std.proofs.Common.{◌≡◌, ◌∙◌, ◌^◌, ◌+◌, ◌<◌, ◌≤◌, ◌++◌, ℕ, List, ◌∷◌, Option, MutBor, refl, ap, subst, arith}
+use Rattle.std.proofs.Common.{◌≡◌, ◌∙◌, ◌^◌, ◌+◌, ◌<◌, ◌≤◌, ℕ, List, ◌∷◌, Option, MutBor, refl, ap, subst, arith}
 use Rattle.cy_outside.specs.Files.{Files}
 use Rattle.tail_frame.specs.declared.logged.Record.{Record}
-use Rattle.log_loop.specs.Met.{Breaks, Comes, Hears as HearsOne}
+use Rattle.log_loop.specs.Met.{Breaks, Hears as HearsOne}
 use Rattle.node_plan.specs.declared.plan.Plan.{Plan}
 use Rattle.log_loop.specs.Voice.{Voice}
 use Rattle.file_service.specs.Causes.{TellsFault}
@@ -10,16 +10,16 @@ use Rattle.node_core.specs.Files.{is_failed}
 use Rattle.node_core.specs.Keeps.{keeps}
 use Rattle.node_core.specs.LineSinks.{put_behind}
 use Rattle.node_core.specs.declared.line.Line.{Line}
-use Rattle.node_core.specs.Steps.{Heard, Met, Step, failed_at, failed_lines, met, met_records, new_steps, steps, ticks_before, ticks_from}
+use Rattle.node_core.specs.Steps.{Heard, Met, Step, failed_at, failed_lines, met, new_steps, steps, ticks_from}
 use Rattle.node_core.specs.declared.file_reply.FileReply.{FileReply}
 use Rattle.node_core.proofs.Served.{something_served}
 use Rattle.node_run.specs.Failures.{AreFailures, FailsAs, FailsUntold, TellsFailures, failures}
-use Rattle.node_run.specs.Goes.{BreaksOff, GoesOn, IsFrom, IsLast, last_tick, next_behind, state_in, ticks_left, unbroken}
+use Rattle.node_run.specs.Goes.{BreaksOff, GoesOn, IsFrom, IsLast, last_tick, next_behind, state_in, ticks_left}
 use Rattle.node_run.specs.Hears.{IsServedMet, run_voice}
 use Rattle.node_run.specs.Ran.{FailedBefore}
 use Rattle.node_run.specs.Listens.{AsksNone, BreaksOn, HasBrokenOff, HasHeardAll, HasTaken, IsOver, Views, failed_since, failures_in, reported_since, some_met}
 use Rattle.node_run.specs.declared.log.running.Running.{Running}
-use Rattle.node_run.proofs.Fails.{before_all, before_some, failed_broke, failed_next}
+use Rattle.node_run.proofs.Fails.{before_some, failed_broke, failed_next}
 use Rattle.node_run.proofs.Hearing.{breaks_at, broke_record, broke_ticks, failed_same, heard_text, hears_next, served_broken, served_record}
 
 -- By two calls, one after the other.

@@ -8,7 +8,7 @@ use Rattle.frame_log.specs.Log.{log_of}
 use Rattle.frame_log.specs.declared.error.LogError.{LogError}
 use Rattle.frame_log.specs.declared.error.LogError.TheVariants as error
 use Rattle.log_loop.specs.Voice.{MayCome, Voice, said, whole_text as all_said}
-use Rattle.log_loop.specs.Gone.{FirstOf, Stages, HeardOrEnded, Settled as HeardAll, Upto as HeardUpto, Begun as HeardFirst, BegunWhole as HeardWhole, Gone}
+use Rattle.log_loop.specs.Gone.{Stages, HeardOrEnded, Settled as HeardAll, Upto as HeardUpto, Begun as HeardFirst, BegunWhole as HeardWhole, Gone}
 use Rattle.log_loop.specs.Listened.{HasListened}
 use Rattle.log_loop.specs.Taken.{IsOfTaken as HeardTaken}
 use Rattle.log_loop.specs.Streamed.{HearsBytes, IsStreamed as HeardStreamed, HasWritten}
@@ -26,7 +26,7 @@ use Rattle.node_run.specs.declared.status.Status.TheVariants as status
 use Rattle.node_run.specs.Failures.{AreFailures, Failures}
 use Rattle.node_run.specs.HasRun.{HasRun}
 use Rattle.node_run.specs.Ran.{Reported, reported, Tells, AtEnd, AtFirst, due_lines, due_numbers, end_sent, Failed, FailedBefore, Settled, Begun, Upto, Ran, names_of, whole_text, status_of}
-use Rattle.node_run.specs.Taken.{AreOfBytes, IsOfTaken}
+use Rattle.node_run.specs.Taken.{IsOfTaken}
 use Rattle.node_run.specs.Streamed.{IsReported, IsStreamed, ReportsBytes}
 use Rattle.node_run.specs.Goes.{Broke, Runs, State, report_of, state_in}
 use Rattle.node_run.specs.Hears.{CutShort, HasEnded, run_voice}

@@ -3,7 +3,6 @@ use Rattle.std.proofs.Common.{◌≡◌, ◌∙◌, ℕ, zero, suc, ◌+◌, ◌
 use Rattle.std.specs.Prelude.{length}
 use Rattle.log_loop.specs.Gone.{FirstOf}
 use Rattle.node_plan.specs.declared.plan.Plan.{Plan}
-use Rattle.node_core.specs.declared.line.Line.{Line}
 use Rattle.node_core.proofs.Waits.{lines_join}
 use Rattle.node_core.specs.Steps.{Met, Step, Tick, ticks_from, new_steps, steps, lines, lines_at, lines_behind}
 

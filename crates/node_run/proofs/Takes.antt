@@ -1,7 +1,8 @@
 -- The step of a record: what it came to, and what follows.
-use Rattle.std.proofs.Common.{◌≡◌, ◌∙◌, ◌++◌, ◌≤◌, ℕ, Bool, List, [], ◌∷◌, Option, None, count_by, refl, sym, ap, ap₂, subst}
+use Rattle.std.proofs.Common.{◌≡◌, ◌∙◌, ◌++◌, ◌≤◌, ℕ, Bool, false, List, [], ◌∷◌, Option, None, count_by, refl, sym, ap, ap₂, subst}
 use Rattle.cy_outside.specs.Files.{Files}
 use Rattle.tail_frame.specs.declared.logged.Record.{Record}
+use Rattle.rx_table.specs.Views.{subscriptions}
 use Rattle.node_plan.specs.Bound.{bound_of}
 use Rattle.node_plan.specs.declared.plan.BusPlan.{BusPlan}
 use Rattle.node_plan.specs.declared.plan.Plan.{Plan}
@@ -10,7 +11,10 @@ use Rattle.node_core.specs.Files.{IsServed}
 use Rattle.node_core.specs.Keeps.{IsServedBy, answered, keeps, reply_by}
 use Rattle.node_core.specs.LineSinks.{BeginsList, put_behind}
 use Rattle.node_core.specs.Queues.{fulls}
-use Rattle.node_core.specs.Stands.{Gives, Holds, IsWithinBound, Stands, Takes, TellsBadCrc}
+use Rattle.node_core.specs.Heard.{IsElsewhere}
+use Rattle.node_core.specs.Quick.{AsksNothing}
+use Rattle.node_core.specs.Shapes.{port_schema}
+use Rattle.node_core.specs.Stands.{Gives, Holds, IsWithinBound, Stands, StandsAsBefore, Takes, TellsBadCrc}
 use Rattle.node_core.specs.Steps.{Step, Heard, IsServedAt, Kept, got, held_at, is_bad_at, is_nosession, is_rx, kept, lines_at, one_if, pushed, records, request_on, sends}
 use Rattle.node_core.specs.Text.{text}
 use Rattle.node_core.specs.declared.came.Came.{Came}
@@ -24,9 +28,10 @@ use Rattle.node_run.specs.Failures.{Failures}
 use Rattle.node_run.specs.Goes.{Broke, IsFew, Runs, State, report_of, state}
 use Rattle.node_run.specs.Hears.{counted}
 use Rattle.node_run.specs.Leaves.{IsSameNode}
-use Rattle.node_run.specs.Listens.{BreaksAt}
+use Rattle.node_run.specs.Listens.{BreaksAt, BreaksOn, HasTaken}
 use Rattle.node_run.specs.Tells.{HasTold}
 use Rattle.node_run.specs.declared.log.tally.Seen.{Seen}
+use Rattle.node_core.proofs.Elsewhere.{takes_by, gives_none, ends_none}
 use Rattle.node_core.proofs.Served.{something_served}
 use Rattle.node_run.proofs.Counts.{numbers_heard}
 use Rattle.node_run.proofs.Goes.{all_lines_are, broke_in, broke_none, kept_next, runs_next, sent_is, step_told}
@@ -70,6 +75,57 @@ came_to rec old new came told request same keep stands gives bad asks lines r =
       asks = λ past s. r ∙ (ap (came_request came) (all past s) ∙ asks past s);
       is_bad = bad;
     }
+
+-- it has come to none where it is on no port
+pub came_by : (rec : Record) (node : Node) → IsElsewhere (subscriptions port_schema node.table) rec → CameTo rec node node [] None false
+came_by rec node out = record {
+  same = refl;
+  keep = refl;
+  stands = takes_by node rec out;
+  gives = gives_none node rec out;
+  asks = λ past s. ap (request_on node.plan rec) (gives_none node rec out past s);
+  is_bad = ends_none node rec out;
+}
+
+-- nor where it asks nothing
+pub came_quick : (rec : Record) (old new : Node) (told : List Line) (bad : Bool) → new.plan ≡ old.plan → keeps new ≡ keeps old → Takes rec old new → Gives old rec told → TellsBadCrc old rec bad → AsksNothing old rec → CameTo rec old new told None bad
+came_quick rec old new told bad same keep stands gives is_bad asks = record {
+  same = same;
+  keep = keep;
+  stands = stands;
+  gives = gives;
+  asks = λ past s. sym (asks (got old.plan rec past));
+  is_bad = is_bad;
+}
+
+-- A run whose node stands for what it stood for goes on as before.
+pub runs_again : (plan : Plan) (before : Option (List Line)) (past : List Step) (old : State) (node : Node) → Runs plan before old past → node.plan ≡ old.node.plan → keeps node ≡ keeps old.node → StandsAsBefore old.node node
+    → Runs plan before (state node old.buses old.told old.numbers) past
+runs_again plan before past old node h same keep stands = record {
+  is = h.is;
+  same = same ∙ h.same;
+  stands = stands (records past) h.stands;
+  keeps_are = keep ∙ h.keeps_are;
+  names = h.names;
+  at = h.at;
+  within = h.within;
+}
+
+-- What follows from such a node follows from the first one too.
+module _ (files : Option Files) (rec : Record) (old : State) (node : Node) (new : State) (f : Failures) (same : node.plan ≡ old.node.plan) (keep : keeps node ≡ keeps old.node) (stands : StandsAsBefore old.node node) where
+  pub taken_again : (before after : List ℕ) → HasTaken files rec (state node old.buses old.told old.numbers) new before after f → HasTaken files rec old new before after f
+  taken_again before after x = record {
+    file = x.file;
+    served = λ past s. subst (λ (p : Plan). IsServedAt files p (Heard rec x.file) past) same (x.served past (stands (records past) s));
+    goes = λ plan first past few h. x.goes plan first past few (runs_again plan first past old node h same keep stands);
+    fails = x.fails;
+  }
+
+  pub breaks_again : BreaksOn files rec (state node old.buses old.told old.numbers) new f → BreaksOn files rec old new f
+  breaks_again x = record {
+    breaks = λ plan first past h. x.breaks plan first past (runs_again plan first past old node h same keep stands);
+    untold = x.untold;
+  }
 
 -- What the tree did for the request that it came to is what it may do for the record.
 pub served_by : (told : Option Files) (rec : Record) (old node : Node) (ls : List Line) (request : Option Request) (bad : Bool) (file : FileReply)

@@ -1,5 +1,5 @@
 -- Lines that were told, one after the other.
-use Rattle.std.proofs.Common.{◌≡◌, ◌∙◌, ◌+◌, ◌<◌, ℕ, List, [], ◌∷◌, ◌++◌, Option, Some, None, Result, Ok, Err, length, map, take, add-one, refl, sym, ap, subst, append_assoc, append-nil}
+use Rattle.std.proofs.Common.{◌≡◌, ◌∙◌, ◌+◌, ◌<◌, ℕ, Bool, List, [], ◌∷◌, ◌++◌, Option, Some, None, Result, Ok, Err, length, map, take, add-one, refl, sym, ap, subst, append_assoc, append-nil}
 use Rattle.std.specs.Prelude.{OnOk, OnErr, get_or}
 use Rattle.std.proofs.lemmas.List.{map-append}
 use Rattle.std.proofs.Math.Seq.{take-suc}
@@ -9,7 +9,8 @@ use Rattle.node_core.specs.declared.line.Line.{Line}
 use Rattle.node_core.specs.declared.line.Line.TheVariants.{Full}
 use Rattle.node_core.specs.LineSinks.{BeginsList, put_behind}
 use Rattle.node_core.specs.Text.{line_text, text}
-use Rattle.node_run.specs.Tells.{HasTold}
+use Rattle.node_run.specs.Tells.{Counts, HasTold}
+use Rattle.node_run.specs.declared.log.tally.Seen.{Seen}
 
 pub text_append : (buses : List BusPlan) (a b : List Line) → text buses (a ++ b) ≡ text buses a ++ text buses b
 text_append buses [] b = refl
@@ -73,3 +74,10 @@ on_err_by (Err e) f p = f p
 pub on_ok_both : {A E : Type 0} (P Q : Type 0) (r : Result A E) → OnOk r P → OnOk r Q → OnOk r (P × Q)
 on_ok_both P Q (Ok a) p q = (p, q)
 on_ok_both P Q (Err e) p q = tt
+
+-- of no lines nothing is told, and nothing is counted
+pub told_silent : (buses : List BusPlan) (lines : List Line) (t : List ℕ) (o : Option (List Line)) → lines ≡ [] → HasTold buses lines t t o o
+told_silent buses lines t o e = subst (λ (ls : List Line). HasTold buses ls t t o o) (sym e) (told_none buses t o)
+
+pub counts_silent : (seen : Seen) (lines : List Line) (bad is_bad : Bool) → Counts seen [] bad → lines ≡ [] → is_bad ≡ bad → Counts seen lines is_bad
+counts_silent seen lines bad is_bad x e b = subst (λ (ls : List Line). Counts seen ls is_bad) (sym e) (subst (λ (y : Bool). Counts seen [] y) (sym b) x)

@@ -1,13 +1,9 @@
 -- In which requests the tree failed in a run.
-use Rattle.std.specs.Prelude.{◌≡◌, ◌≤◌, ◌⊎◌, ◌+◌, ◌-◌, ◌^◌, ◌++◌, ◌∷◌, ℕ, List, [], Option, length}
-use Rattle.cy_outside.specs.Files.{Files}
-use Rattle.tail_frame.specs.declared.logged.Record.{Record}
+use Rattle.std.specs.Prelude.{◌≡◌, ◌≤◌, ◌⊎◌, ◌+◌, ◌-◌, ◌^◌, ℕ, List, [], Option, length}
 use Rattle.file_service.specs.Causes.{TellsFault}
-use Rattle.log_loop.specs.Gone.{FirstOf}
 use Rattle.node_core.specs.Files.{is_failed}
-use Rattle.node_core.specs.Keeps.{IsServedBy}
 use Rattle.node_core.specs.LineSinks.{put_behind}
-use Rattle.node_core.specs.Steps.{Heard, Step, failed_at}
+use Rattle.node_core.specs.Steps.{Step, failed_at}
 use Rattle.node_core.specs.declared.file_reply.FileReply.{FileReply}
 
 -- the lines of failed requests that a sink told before, those that it tells now, and the tree's counts of faults before

@@ -3,7 +3,11 @@ ghost use Rattle.std.specs.Prelude.{◌≡◌, ◌≤◌, ◌<◌, ◌+◌, ◌*
 ghost use Rattle.std.specs.Prelude.{OnErr, OnOk, None, Some};
 ghost use Rattle.std.specs.Option.{ForSome};
 ghost use Rattle.line_text.specs.Buffer.{text_of};
+ghost use Rattle.rx_table.specs.Views.{subscriptions};
+ghost use Rattle.node_core.specs.Heard.{IsElsewhere};
 ghost use Rattle.node_core.specs.Keeps.{keeps};
+ghost use Rattle.node_core.specs.Quick.{LeadsTo};
+ghost use Rattle.node_core.specs.Shapes.{port_schema};
 ghost use Rattle.node_core.specs.Sending.{IsRequestTo};
 ghost use Rattle.node_core.specs.Steps.{Met, Tick, ticks_from};
 ghost use Rattle.node_run.specs.Goes.{BreaksOff, GoesOn, IsFrom, IsLast};
@@ -19,12 +23,12 @@ ghost use Rattle.node_core.proofs.Served.{something_served};
 use crate::log::clock::Clock;
 use crate::log::sending::{empty, send};
 use crate::log::tally::{Seen, Tally};
-use crate::log::telling::{tell, tell_failed};
+use crate::log::telling::{tell, tell_failed, tell_quick};
 use cy_bits::{NoMemory, ShortList};
 use cy_outside::Tree;
 use line_text::TextBuffer;
 use log_loop::Listener;
-use node_core::{Came, LineSink, LineWriter, Node, Numbers, Request};
+use node_core::{Came, Lead, LineSink, LineWriter, Node, Numbers, Request};
 use tail_frame::Record;
 
 /// A node, the numbers of its run, and where its lines go.
@@ -102,9 +106,100 @@ impl<'a, K: LineSink, T: Tree> Listener for Running<'a, K, T> {
 }
 
 impl<'a, K: LineSink, T: Tree> Running<'a, K, T> {
-    /// The step of a record.
+    /// The step of a record. A message of a source whose session is found without a search, and a record
+    /// on no port of the plan, go the quick way.
     #[inline(always)]
     fn take(&mut self, rec: &Record, gathered: &mut TextBuffer) -> Result<(), NoMemory>
+        requires moment { self.old.node.now.latest ≤ rec.now.moment }
+        requires few { self.old.tally.numbers.records < 2 ^ 28 }
+        ensures over { IsOver T.files self.old self.new }
+        ensures latest { self.new.node.now.latest ≤ rec.now.moment }
+        ensures count { self.new.tally.numbers.records ≤ self.old.tally.numbers.records + 1 }
+        ensures number { self.new.clock.number ≡ self.old.clock.number }
+        ensures next { self.new.clock.next ≡ self.old.clock.next }
+        ensures last { let qs = (keeps self.new.node.now).queues in
+            OnOk result (IsLast rec.now.moment qs self.new.clock.last) }
+        ensures ok { let f = failures_in K.failed T.faults self.old self.new in
+            OnOk result (HasTaken (T.files self.old.tree.now) rec.now
+            (state_in K.lines self.old) (state_in K.lines self.new)
+            (text_of gathered.old) (text_of gathered.new) f) }
+        ensures err { let f = failures_in K.failed T.faults self.old self.new in
+            OnErr result (BreaksOn (T.files self.old.tree.now) rec.now
+            (state_in K.lines self.old) (state_in K.lines self.new) f) }
+    {
+        match self.node.lead(rec) {
+            Lead::Service => self.take_any(rec, gathered),
+            Lead::Nowhere => self.pass_by(rec, gathered),
+            Lead::AtPort(place) => self.take_at(rec, place, gathered),
+        }
+    }
+
+    /// The step of a record on no port of the plan.
+    #[inline(always)]
+    fn pass_by(&mut self, rec: &Record, gathered: &mut TextBuffer) -> Result<(), NoMemory>
+        requires elsewhere { let table = self.old.node.now.table in
+            IsElsewhere (subscriptions port_schema table) rec.now }
+        requires moment { self.old.node.now.latest ≤ rec.now.moment }
+        requires few { self.old.tally.numbers.records < 2 ^ 28 }
+        ensures over { IsOver T.files self.old self.new }
+        ensures latest { self.new.node.now.latest ≤ rec.now.moment }
+        ensures count { self.new.tally.numbers.records ≤ self.old.tally.numbers.records + 1 }
+        ensures number { self.new.clock.number ≡ self.old.clock.number }
+        ensures next { self.new.clock.next ≡ self.old.clock.next }
+        ensures last { let qs = (keeps self.new.node.now).queues in
+            OnOk result (IsLast rec.now.moment qs self.new.clock.last) }
+        ensures ok { let f = failures_in K.failed T.faults self.old self.new in
+            OnOk result (HasTaken (T.files self.old.tree.now) rec.now
+            (state_in K.lines self.old) (state_in K.lines self.new)
+            (text_of gathered.old) (text_of gathered.new) f) }
+        ensures err { let f = failures_in K.failed T.faults self.old self.new in
+            OnErr result (BreaksOn (T.files self.old.tree.now) rec.now
+            (state_in K.lines self.old) (state_in K.lines self.new) f) }
+    {
+        let seen = Seen::of(None, false);
+        self.leave(rec, gathered)?;
+        self.tally.count(seen, self.node.held());
+        Ok(())
+    }
+
+    /// The step of a record whose identifier leads to the port at a place.
+    #[inline(always)]
+    fn take_at(
+        &mut self,
+        rec: &Record,
+        place: usize,
+        gathered: &mut TextBuffer,
+    ) -> Result<(), NoMemory>
+        requires leads { LeadsTo self.old.node.now rec.now place }
+        requires moment { self.old.node.now.latest ≤ rec.now.moment }
+        requires few { self.old.tally.numbers.records < 2 ^ 28 }
+        ensures over { IsOver T.files self.old self.new }
+        ensures latest { self.new.node.now.latest ≤ rec.now.moment }
+        ensures count { self.new.tally.numbers.records ≤ self.old.tally.numbers.records + 1 }
+        ensures number { self.new.clock.number ≡ self.old.clock.number }
+        ensures next { self.new.clock.next ≡ self.old.clock.next }
+        ensures last { let qs = (keeps self.new.node.now).queues in
+            OnOk result (IsLast rec.now.moment qs self.new.clock.last) }
+        ensures ok { let f = failures_in K.failed T.faults self.old self.new in
+            OnOk result (HasTaken (T.files self.old.tree.now) rec.now
+            (state_in K.lines self.old) (state_in K.lines self.new)
+            (text_of gathered.old) (text_of gathered.new) f) }
+        ensures err { let f = failures_in K.failed T.faults self.old self.new in
+            OnErr result (BreaksOn (T.files self.old.tree.now) rec.now
+            (state_in K.lines self.old) (state_in K.lines self.new) f) }
+    {
+        let Some(quick) = self.node.quick(rec, place) else {
+            return self.take_any(rec, gathered);
+        };
+        let seen = tell_quick(self.node, self.writer, self.lines, gathered, rec, &quick)?;
+        self.leave(rec, gathered)?;
+        self.tally.count(seen, self.node.held());
+        Ok(())
+    }
+
+    /// The step of any record.
+    #[inline(never)]
+    fn take_any(&mut self, rec: &Record, gathered: &mut TextBuffer) -> Result<(), NoMemory>
         requires moment { self.old.node.now.latest ≤ rec.now.moment }
         requires few { self.old.tally.numbers.records < 2 ^ 28 }
         ensures over { IsOver T.files self.old self.new }

@@ -1,16 +1,22 @@
 //! Telling lines: their text is gathered, and a sink takes them.
-ghost use Rattle.std.specs.Prelude.{◌≡◌, ◌++◌, ◌∷◌, [], OnOk, OnErr, if◌then◌else◌, map};
+ghost use Rattle.std.specs.Prelude.{◌≡◌, ◌++◌, ◌∷◌, [], IfOk, IfSome, OnOk, OnErr, Some, false, if◌then◌else◌, map};
 ghost use Rattle.line_text.specs.Buffer.{text_of};
+ghost use Rattle.tail_frame.specs.Frames.{frame_of, seen};
 ghost use Rattle.node_core.specs.LineSinks.{BeginsList, put_behind};
+ghost use Rattle.node_core.specs.Quick.{IsPlaced, IsUntyped, quick_is_bad, quick_lines};
 ghost use Rattle.node_core.specs.Text.{text};
 ghost use Rattle.node_core.specs.Told.{told_lines};
 ghost use Rattle.node_core.specs.Writer.{writes_for};
 ghost use Rattle.node_core.specs.declared.line.Line.TheVariants.{Full};
-ghost use Rattle.node_run.specs.Tells.{HasTold};
+ghost use Rattle.node_run.specs.Tells.{Counts, HasTold, framed_lines};
 
+use crate::log::tally::Seen;
 use cy_bits::{NoMemory, ShortList};
 use line_text::TextBuffer;
-use node_core::{FullLine, LineRef, LineSink, LineWriter};
+use node_core::{FullLine, LineRef, LineSink, LineWriter, Node, Quick};
+use rx_session::Step;
+use rx_table::Met;
+use tail_frame::{Record, frame_of};
 
 /// Gathers the text of a line, if there is one, and hands the line to the sink.
 #[inline(always)]
@@ -35,6 +41,121 @@ pub(crate) fn tell<K: LineSink>(
         }
         None => Ok(()),
     }
+}
+
+/// Tells the line on a message that the node heard last, by its record, if there is one, and what is
+/// counted of it.
+#[inline(always)]
+pub(crate) fn tell_quick<K: LineSink>(
+    node: &Node,
+    writer: &mut LineWriter,
+    lines: &mut K,
+    gathered: &mut TextBuffer,
+    rec: &Record,
+    quick: &Quick<'_>,
+) -> Result<Seen, NoMemory>
+    requires placed { IsPlaced node.now quick.now }
+    requires of { frame_of rec.now ≡ Some (seen quick.now.frame) }
+    ensures buses { writes_for writer.new ≡ writes_for writer.old }
+    ensures told { let said = quick_lines node.now quick.now in
+        IfOk result (λ _. HasTold (writes_for writer.old) said (text_of gathered.old)
+        (text_of gathered.new) (K.lines lines.old) (K.lines lines.new)) }
+    ensures counts { IfOk result (λ counted.
+        Counts counted (quick_lines node.now quick.now) (quick_is_bad node.now quick.now)) }
+    ensures err { OnErr result (K.lines lines.new ≡ K.lines lines.old) }
+    ensures untold { K.failed lines.new ≡ K.failed lines.old }
+{
+    match quick.step {
+        Step::Ignored => Ok(Seen::of(None, false)),
+        Step::Held => Ok(Seen::of(None, false)),
+        Step::BadCrc => Ok(Seen::of(None, true)),
+        Step::Whole => tell_ended(node, writer, lines, gathered, rec, quick),
+        Step::Delivered(_) => tell_ended(node, writer, lines, gathered, rec, quick),
+    }
+}
+
+/// The same of one that ended a transfer.
+#[inline(always)]
+fn tell_ended<K: LineSink>(
+    node: &Node,
+    writer: &mut LineWriter,
+    lines: &mut K,
+    gathered: &mut TextBuffer,
+    rec: &Record,
+    quick: &Quick<'_>,
+) -> Result<Seen, NoMemory>
+    requires placed { IsPlaced node.now quick.now }
+    requires of { frame_of rec.now ≡ Some (seen quick.now.frame) }
+    requires good { quick_is_bad node.now quick.now ≡ false }
+    ensures buses { writes_for writer.new ≡ writes_for writer.old }
+    ensures told { let said = quick_lines node.now quick.now in
+        IfOk result (λ _. HasTold (writes_for writer.old) said (text_of gathered.old)
+        (text_of gathered.new) (K.lines lines.old) (K.lines lines.new)) }
+    ensures counts { IfOk result (λ counted.
+        Counts counted (quick_lines node.now quick.now) false) }
+    ensures err { OnErr result (K.lines lines.new ≡ K.lines lines.old) }
+    ensures untold { K.failed lines.new ≡ K.failed lines.old }
+{
+    if !node.is_untyped(quick) {
+        return tell_typed(node, writer, lines, gathered, rec, quick.met());
+    }
+    let told = node.told_untyped(quick);
+    tell_untyped(writer, lines, gathered, told)?;
+    Ok(Seen::of(told, false))
+}
+
+/// Gathers the text of a line that is of no port with a type, and hands the line to the sink.
+#[inline(always)]
+fn tell_untyped<K: LineSink>(
+    writer: &mut LineWriter,
+    lines: &mut K,
+    gathered: &mut TextBuffer,
+    told: Option<LineRef<'_>>,
+) -> Result<(), NoMemory>
+    requires { IfSome told IsUntyped }
+    ensures buses { writes_for writer.new ≡ writes_for writer.old }
+    ensures told { let said = told_lines told.entry in
+        OnOk result (HasTold (writes_for writer.old) said (text_of gathered.old)
+        (text_of gathered.new) (K.lines lines.old) (K.lines lines.new)) }
+    ensures err { OnErr result (K.lines lines.new ≡ K.lines lines.old) }
+    ensures untold { K.failed lines.new ≡ K.failed lines.old }
+{
+    match told {
+        Some(LineRef::Rx(rx)) => {
+            writer.push_raw(gathered, &rx)?;
+            lines.put(&LineRef::Rx(rx))
+        }
+        _ => tell(writer, lines, gathered, told),
+    }
+}
+
+/// Tells the line on a frame that came to this in the node's table, if there is one, and what is counted
+/// of it. The frame is read from its record again: then one on a port without a type isn't put into
+/// memory for it.
+#[inline(never)]
+fn tell_typed<K: LineSink>(
+    node: &Node,
+    writer: &mut LineWriter,
+    lines: &mut K,
+    gathered: &mut TextBuffer,
+    rec: &Record,
+    met: Met,
+) -> Result<Seen, NoMemory>
+    ensures buses { writes_for writer.new ≡ writes_for writer.old }
+    ensures told { IfOk result (λ _. let said = framed_lines node.now rec.now met in
+        HasTold (writes_for writer.old) said (text_of gathered.old) (text_of gathered.new)
+        (K.lines lines.old) (K.lines lines.new)) }
+    ensures counts { IfOk result (λ counted.
+        Counts counted (framed_lines node.now rec.now met) false) }
+    ensures err { OnErr result (K.lines lines.new ≡ K.lines lines.old) }
+    ensures untold { K.failed lines.new ≡ K.failed lines.old }
+{
+    let Some(frame) = frame_of(rec) else {
+        return Ok(Seen::of(None, false));
+    };
+    let told = node.told_met(&frame, met);
+    tell(writer, lines, gathered, told)?;
+    Ok(Seen::of(told, false))
 }
 
 /// Tells on which buses there was no room for a transfer.

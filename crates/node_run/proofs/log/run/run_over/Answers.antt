@@ -1,16 +1,16 @@
-use Rattle.std.proofs.Common.{◌≡◌, ◌≤◌, refl, sym, ap, ap₂, subst, ◌∙◌, []}
+use Rattle.std.proofs.Common.{◌≤◌, refl, sym, ap, ap₂, subst, ◌∙◌, []}
 use Rattle.node_plan.specs.Bound.{bound_of}
 use Rattle.node_core.specs.declared.numbers.Numbers.{Numbers}
 use Rattle.node_core.specs.Writer.{writes_for}
 use Rattle.node_run.specs.declared.status.Status.TheVariants as status
-use Rattle.node_run.specs.Failures.{Failures, failures}
+use Rattle.node_run.specs.Failures.{failures}
 use Rattle.node_run.specs.Goes.{state, state_in}
 use Rattle.node_run.specs.HasRun.{HasRun}
-use Rattle.node_run.specs.Listens.{failed_since, views}
+use Rattle.node_run.specs.Listens.{views}
 use Rattle.node_run.specs.Ran.{reported, At}
 use Rattle.node_run.specs.ValueLines.{flow}
 use Rattle.node_run.proofs.Fails.{failed_none}
-use Rattle.node_run.proofs.Runs.{are_runs, bound_all, over_all, run_bound, run_gone, run_held, stages_of}
+use Rattle.node_run.proofs.Runs.{are_runs, bound_all, over_all, run_bound, run_gone, run_held}
 use Rattle.node_run.proofs.Starts.{at_none, has_none, hears_none}
 use Rattle.node_run.proofs.log.run.run_over.Goals as goal
 

@@ -1,7 +1,6 @@
-use Rattle.std.proofs.Common.{◌≡◌, ◌∙◌, ◌++◌, ◌∷◌, [], ℕ, Bool, List, Some, length, refl, sym, ap, ap₂, subst, append-nil, rules}
+use Rattle.std.proofs.Common.{◌∙◌, ◌++◌, ◌∷◌, [], Bool, List, Some, length, refl, sym, ap, ap₂, subst, append-nil, rules}
 use Rattle.std.specs.Prelude.{if◌then◌else◌}
 use Rattle.line_text.specs.Buffer.{text_of}
-use Rattle.node_core.specs.Files.{is_failed}
 use Rattle.node_core.specs.Keeps.{keeps}
 use Rattle.node_core.specs.LineSinks.{BeginsList, put_behind}
 use Rattle.node_core.specs.Queues.{leaving}

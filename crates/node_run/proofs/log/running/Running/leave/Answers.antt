@@ -1,4 +1,4 @@
-use Rattle.std.proofs.Common.{◌≡◌, ◌∙◌, ◌<◌, ◌^◌, refl, sym, arith}
+use Rattle.std.proofs.Common.{◌∙◌, ◌<◌, ◌^◌, refl, sym, arith}
 use Rattle.line_text.specs.Buffer.{text_of}
 use Rattle.node_core.specs.Keeps.{keeps}
 use Rattle.node_core.specs.Writer.{writes_for}

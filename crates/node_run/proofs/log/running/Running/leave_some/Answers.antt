@@ -1,4 +1,4 @@
-use Rattle.std.proofs.Common.{◌≡◌, ◌∙◌, ◌++◌, List, length, refl, ap, subst, arith, map, rules}
+use Rattle.std.proofs.Common.{◌∙◌, ◌++◌, List, refl, ap, subst, arith, map, rules}
 use Rattle.line_text.specs.Buffer.{text_of}
 use Rattle.node_core.specs.Keeps.{keeps}
 use Rattle.node_core.specs.LineSinks.{BeginsList}

@@ -1,4 +1,4 @@
-use Rattle.std.proofs.Common.{◌≡◌, ◌∙◌, Option, None, Some, false, [], ◌∷◌, refl, sym, ap, subst, arith}
+use Rattle.std.proofs.Common.{◌≡◌, ◌∙◌, Option, None, Some, false, [], refl, sym, ap, subst, arith}
 use Rattle.std.specs.Prelude.{is_some}
 use Rattle.std.specs.Option.{ForSome}
 use Rattle.line_text.specs.Buffer.{text_of}
@@ -16,7 +16,7 @@ use Rattle.node_run.specs.Goes.{state, state_in}
 use Rattle.node_run.specs.Tells.{HasTold}
 use Rattle.node_run.proofs.Takes.{broke_following, broke_untold, came_to, came_to_none, runs_behind, served_by, text_behind}
 use Rattle.node_run.proofs.Tells.{put_none, told_none}
-use Rattle.node_run.proofs.log.running.Running.take.Goals as goal
+use Rattle.node_run.proofs.log.running.Running.take_any.Goals as goal
 
 is_none_so : (o : Option HeardFrame) → is_some o ≡ false → o ≡ None
 is_none_so None e = refl

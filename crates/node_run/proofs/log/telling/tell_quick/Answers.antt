@@ -1,0 +1,53 @@
+use Rattle.std.proofs.Common.{Bool, true, false, IfOk, sym, subst}
+use Rattle.line_text.specs.Buffer.{text_of}
+use Rattle.node_core.specs.Quick.{quick_lines}
+use Rattle.node_core.specs.Writer.{writes_for}
+use Rattle.node_core.proofs.Messages.{ignored_says, held_says, bad_says, whole_good, delivered_good}
+use Rattle.node_run.specs.Tells.{Counts}
+use Rattle.node_run.proofs.Tells.{told_silent, counts_silent}
+use Rattle.node_run.proofs.log.telling.tell_quick.Goals as goal
+
+pub tell_ended-requires-clause-good : goal.tell_ended-requires-clause-good
+tell_ended-requires-clause-good g c = whole_good c.args.node.now c.args.quick.now c.in-Whole.is
+
+pub tell_ended-requires-in-Delivered-clause-good : goal.tell_ended-requires-in-Delivered-clause-good
+tell_ended-requires-in-Delivered-clause-good g c = delivered_good c.args.node.now c.args.quick.now c.in-Delivered.field-0 c.in-Delivered.is
+
+pub returns-in-Ignored-clause-told : goal.returns-in-Ignored-clause-told
+returns-in-Ignored-clause-told g c =
+    told_silent (writes_for c.args.writer.now) _ (text_of c.args.gathered.now) (g.K.LineSink.lines c.args.lines.now) (ignored_says c.args.node.now c.args.quick.now c.in-Ignored.is).lines
+
+pub returns-in-Ignored-clause-counts : goal.returns-in-Ignored-clause-counts
+returns-in-Ignored-clause-counts g c =
+    let said = ignored_says c.args.node.now c.args.quick.now c.in-Ignored.is in
+    counts_silent c.of.result _ false _ (record { delivered = c.of.ensures.delivered; badcrc = c.of.ensures.badcrc; nosession = c.of.ensures.nosession }) said.lines said.is_bad
+
+pub returns-in-Held-clause-told : goal.returns-in-Held-clause-told
+returns-in-Held-clause-told g c =
+    told_silent (writes_for c.args.writer.now) _ (text_of c.args.gathered.now) (g.K.LineSink.lines c.args.lines.now) (held_says c.args.node.now c.args.quick.now c.in-Held.is).lines
+
+pub returns-in-Held-clause-counts : goal.returns-in-Held-clause-counts
+returns-in-Held-clause-counts g c =
+    let said = held_says c.args.node.now c.args.quick.now c.in-Held.is in
+    counts_silent c.of-in-Held.result _ false _ (record { delivered = c.of-in-Held.ensures.delivered; badcrc = c.of-in-Held.ensures.badcrc; nosession = c.of-in-Held.ensures.nosession }) said.lines said.is_bad
+
+pub returns-in-BadCrc-clause-told : goal.returns-in-BadCrc-clause-told
+returns-in-BadCrc-clause-told g c =
+    told_silent (writes_for c.args.writer.now) _ (text_of c.args.gathered.now) (g.K.LineSink.lines c.args.lines.now) (bad_says c.args.node.now c.args.quick.now c.requires.placed c.in-BadCrc.is).lines
+
+pub returns-in-BadCrc-clause-counts : goal.returns-in-BadCrc-clause-counts
+returns-in-BadCrc-clause-counts g c =
+    let said = bad_says c.args.node.now c.args.quick.now c.requires.placed c.in-BadCrc.is in
+    counts_silent c.of-in-BadCrc.result _ true _ (record { delivered = c.of-in-BadCrc.ensures.delivered; badcrc = c.of-in-BadCrc.ensures.badcrc; nosession = c.of-in-BadCrc.ensures.nosession }) said.lines said.is_bad
+
+pub returns-in-Whole-clause-counts : goal.returns-in-Whole-clause-counts
+returns-in-Whole-clause-counts g c =
+    let node = c.args.node.now in
+    let quick = c.args.quick.now in
+    subst (λ (bad : Bool). IfOk c.tell_ended.result (λ counted. Counts counted (quick_lines node quick) bad)) (sym (whole_good node quick c.in-Whole.is)) c.tell_ended.ensures.counts
+
+pub returns-in-Delivered-clause-counts : goal.returns-in-Delivered-clause-counts
+returns-in-Delivered-clause-counts g c =
+    let node = c.args.node.now in
+    let quick = c.args.quick.now in
+    subst (λ (bad : Bool). IfOk c.tell_ended-in-Delivered.result (λ counted. Counts counted (quick_lines node quick) bad)) (sym (delivered_good node quick c.in-Delivered.field-0 c.in-Delivered.is)) c.tell_ended-in-Delivered.ensures.counts
