@@ -9,3 +9,5 @@ pub mod RepeatLemmas
 pub mod WithinLemmas
 pub mod SearchLemmas
 pub mod ResidueLemmas
+pub mod ListedLemmas
+pub mod SameLemmas

@@ -8,6 +8,10 @@ use Rattle.bit_length.specs.Lengths.{Numbers, Same, Joins, IsWithin}
 abbrev pub in_run : ℕ → ℕ → Run → Bool
 in_run step n r = (n % step == r.residue) && (nat_le r.first (n / step) && nat_le (n / step) r.last)
 
+-- whether two runs are the same
+abbrev pub is_same : Run → Run → Bool
+is_same r s = (r.residue == s.residue) && ((r.first == s.first) && (r.last == s.last))
+
 -- whether a run stands no later than one of a residue that begins at a quotient
 abbrev pub starts_by : ℕ → ℕ → Run → Bool
 starts_by residue quotient r =

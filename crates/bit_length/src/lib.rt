@@ -7,6 +7,7 @@
 ghost use Rattle.std.specs.Prelude.{◌≡◌};
 
 mod coarse;
+mod listed;
 mod merge;
 mod parts;
 mod residues;

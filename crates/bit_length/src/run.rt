@@ -1,5 +1,5 @@
 ghost use Rattle.std.specs.Prelude.{◌≡◌, ℕ, ◌+◌, ◌*◌, ◌%◌, ◌^◌, ◌<◌, ◌≤◌, IsTrue, ◌↔◌, if◌then◌else◌, IfSome};
-ghost use Rattle.bit_length.specs.Runs.{in_run, starts_by, IsRun, InRun};
+ghost use Rattle.bit_length.specs.Runs.{in_run, is_same, starts_by, IsRun, InRun};
 ghost use Rattle.bit_length.specs.Lengths.{Same, Only, Sums, Repeats, Pads, IsNext, SomeLeaves, padded as padded_of};
 
 use crate::LONGEST;
@@ -77,6 +77,13 @@ impl Run {
         ensures { result ≡ in_run step n self.now }
     {
         n % step == self.residue && self.first <= n / step && n / step <= self.last
+    }
+
+    /// Whether both are the same run.
+    pub fn is(&self, o: &Run) -> bool
+        ensures { result ≡ is_same self.now o.now }
+    {
+        self.residue == o.residue && self.first == o.first && self.last == o.last
     }
 
     /// Whether the run stands no later, in the order of runs, than one that begins at a quotient.
@@ -216,4 +223,19 @@ impl Run {
         }
         false
     }
+}
+
+/// Whether some runs are the same as others, one by one.
+pub fn are_same(runs: &[Run], others: &[Run]) -> bool
+    ensures { IsTrue result → runs.now ≡ others.now }
+{
+    if runs.len() != others.len() {
+        return false;
+    }
+    for at in 0..runs.len() {
+        if !runs[at].is(&others[at]) {
+            return false;
+        }
+    }
+    true
 }

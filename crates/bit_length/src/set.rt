@@ -6,10 +6,11 @@ ghost use Rattle.bit_length.specs.Runs.{IsRun, InRun, InSome, AreRunsOf, HasClas
 ghost use Rattle.bit_length.specs.Members.{lesser_of};
 
 use crate::coarse::coarse_runs;
+use crate::listed::listed;
 use crate::merge::{Merged, merge_runs};
 use crate::parts::{MOST_PARTS, classes, parts_of, push_parts};
 use crate::residues::{residues, unmarked};
-use crate::run::Run;
+use crate::run::{Run, are_same};
 use crate::search::run_with;
 use crate::steps::{common_divisor, common_multiple};
 use crate::sums::{moved, pads, sums, wide_sums};
@@ -197,7 +198,8 @@ impl LengthSet {
         Ok(parts)
     }
 
-    /// How many runs of a step `runs_at` makes, where they aren't too many.
+    /// The room that `runs_at` takes at first; want of memory where it would make more than
+    /// `MOST_PARTS` runs. No clause tells when memory is wanting, so none tells of this limit.
     fn parts_at(&self, step: u64) -> Result<usize, NoMemory> {
         let cost = self.cost(step);
         if cost > MOST_PARTS {
@@ -500,12 +502,42 @@ impl LengthSet {
             return Ok(LengthSet::zero(self.alloc()));
         }
         let half = self.repeat_within(n / 2)?;
+        if self.is_less_work(&half, n - n / 2) {
+            return self.repeat_from(half, n / 2, n);
+        }
         let both = half.sum_within(&half)?;
         if n % 2 == 0 {
             Ok(both)
         } else {
             self.sum_within(&both)
         }
+    }
+
+    /// All sums of `n` members, from those of fewer: one member more at a time.
+    fn repeat_from(&self, sums: LengthSet, fewer: u32, n: u32) -> Result<LengthSet, NoMemory>
+        requires fewer { fewer ≤ n }
+        requires sums { Same (Has sums) (Repeats (Has self.now) fewer) }
+        requires short { (k : ℕ) → Repeats (Has self.now) n k → k ≤ 2 ^ 32 }
+        ensures { IfOk result (λ s. Same (Has s) (Repeats (Has self.now) n)) }
+    {
+        let mut sums = sums;
+        for _ in fewer..n {
+            sums = self.sum_within(&sums)?;
+        }
+        Ok(sums)
+    }
+
+    /// How many runs the set is kept as.
+    fn run_count(&self) -> u64 {
+        (self.others.len() as u64).saturating_add(1)
+    }
+
+    /// Whether it is less work to add so many members to some sums, one after another, than to add
+    /// the sums to themselves.
+    fn is_less_work(&self, sums: &LengthSet, n: u32) -> bool {
+        let adding = self.run_count().saturating_mul(n as u64);
+        let runs = sums.run_count();
+        adding < runs && adding.saturating_mul(runs) <= MOST_PARTS
     }
 
     /// Whether the step and all residues are multiples of `to`, so that all members are.
@@ -651,15 +683,9 @@ impl LengthSet {
     pub fn members(&self, alloc: Global) -> Result<List<u64>, NoMemory>
         ensures { IfOk result (λ r. r ≡ self.now) }
     {
-        // The check knows of a field's value that the members ascend.
-        let _ = &self.step;
-        let mut members = Vec::new(alloc);
-        let mut from = 0;
-        while let Some(n) = self.next(from) {
-            members.push(n)?;
-            from = n + 1;
-        }
-        Ok(List::new(members))
+        let room = self.count() as usize;
+        let others = self.others.as_slice();
+        Ok(listed(alloc, others, &self.last, self.step, room)?)
     }
 
     /// Whether both have the same members.
@@ -673,6 +699,9 @@ impl LengthSet {
     pub fn is_within(&self, o: &LengthSet) -> bool
         ensures { IsTrue result ↔ IsWithin (Has self.now) (Has o.now) }
     {
+        if self.is_kept_as(o) {
+            return true;
+        }
         if !o.has_run(&self.last, self.step) {
             return false;
         }
@@ -682,6 +711,19 @@ impl LengthSet {
             }
         }
         true
+    }
+
+    /// Whether both are kept as the same runs of one step.
+    fn is_kept_as(&self, o: &LengthSet) -> bool
+        ensures { IsTrue result → self.now ≡ o.now }
+    {
+        if self.step != o.step {
+            return false;
+        }
+        if !self.last.is(&o.last) {
+            return false;
+        }
+        are_same(self.others.as_slice(), o.others.as_slice())
     }
 
     /// Whether each member of a run is a member of the set.

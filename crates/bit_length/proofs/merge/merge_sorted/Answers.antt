@@ -1,7 +1,7 @@
-use Rattle.std.proofs.Common.{◌<◌, ◌++◌, ◌∷◌, [], get_or, take, arith, refl, ap, sym, subst, ◌∙◌, length}
+use Rattle.std.proofs.Common.{◌<◌, get_or, take, arith, refl, ap, sym, subst, ◌∙◌, length}
 use Rattle.std.proofs.lemmas.List.{take_more, take_all}
 use Rattle.std.proofs.lemmas.List.Elements.{All-get_or}
-use Rattle.bit_length.specs.Runs.{IsRun, IsAtMost, MergesInto}
+use Rattle.bit_length.specs.Runs.{IsRun, IsAtMost}
 use Rattle.bit_length.proofs.SetLemmas.{no_run}
 use Rattle.bit_length.proofs.MergeLemmas.{merge_none, merge_all, order_from, takes_at}
 use Rattle.bit_length.proofs.merge.merge_sorted.Goals as goal

@@ -1,5 +1,5 @@
 use Rattle.std.proofs.Common.{rules, take, arith}
-use Rattle.std.proofs.lemmas.List.{take_more_set, get_or-set_other, length-set}
+use Rattle.std.proofs.lemmas.List.{take_more_set, get_or-set_other}
 use Rattle.bit_length.proofs.MergeLemmas.{take_joined, take_next}
 use Rattle.bit_length.proofs.merge.take_run.Goals as goal
 

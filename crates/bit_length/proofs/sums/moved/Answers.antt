@@ -1,6 +1,6 @@
-use Rattle.std.proofs.Common.{◌+◌, ◌∷◌, inl}
+use Rattle.std.proofs.Common.{inl}
 use Rattle.std.proofs.lemmas.List.Elements.{All-take, All-drop}
-use Rattle.bit_length.specs.Runs.{IsRun, InRun, InSome}
+use Rattle.bit_length.specs.Runs.{IsRun, InRun}
 use Rattle.bit_length.proofs.SumLemmas.{moved_runs, of_below, of_above, sum_short}
 use Rattle.bit_length.proofs.sums.moved.Goals as goal
 

@@ -1,4 +1,4 @@
-use Rattle.std.proofs.Common.{◌+◌, ◌<◌, ◌≡◌, ◌%◌, ℕ, length, get_or, inl, inr, arith, subst}
+use Rattle.std.proofs.Common.{◌<◌, ◌≡◌, ◌%◌, ℕ, length, get_or, inl, inr, arith, subst}
 use Rattle.std.proofs.lemmas.Bool.{cases_lt}
 use Rattle.bit_length.proofs.SetLemmas.{no_run}
 use Rattle.bit_length.proofs.SumLemmas.{all_padded}
