@@ -1,5 +1,5 @@
 //! Constants by their names.
-ghost use Rattle.std.specs.Prelude.{◌≡◌, ◌++◌, ◌∷◌, [], Ok, Err, IfSome, MatchOption, OnOk};
+ghost use Rattle.std.specs.Prelude.{◌≡◌, ◌++◌, ◌∷◌, [], Ok, Err, IfSome, MatchOption, OnOk, OnErr};
 ghost use Rattle.const_expr.specs.Constants.{IsConst};
 ghost use Rattle.const_expr.specs.Member.{AreConstants, named_in};
 
@@ -59,9 +59,10 @@ impl Constants {
         }
     }
 
-    /// Adds a constant behind all others.
+    /// Adds a constant behind all others. Where memory is wanting the constants stay as they were.
     pub fn push(&mut self, alloc: Global, constant: NamedConst) -> Result<(), NoMemory>
-        ensures { OnOk result (self.new ≡ self.old ++ constant ∷ []) }
+        ensures added { OnOk result (self.new ≡ self.old ++ constant ∷ []) }
+        ensures kept { OnErr result (self.new ≡ self.old) }
     {
         let place = self.list.len();
         let name = String::from_str(alloc, constant.name.as_str())?;

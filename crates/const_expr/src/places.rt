@@ -1,5 +1,6 @@
 //! The places of the types of a scope.
-ghost use Rattle.std.specs.Prelude.{◌≡◌, ◌∷◌, ◌++◌, [], length, List as ListOf, None, MatchOption, OnOk};
+ghost use Rattle.std.specs.Prelude.{◌≡◌, ◌∷◌, ◌++◌, [], length, List as ListOf, None, MatchOption, OnOk, OnErr};
+ghost use Rattle.std.specs.BTreeMap.{IsUnchanged};
 ghost use Rattle.dsdl_names.specs.declared.TypeId.{TypeId as TypeIdOf};
 ghost use Rattle.dsdl_types.specs.Finding.{definition_of};
 ghost use Rattle.const_expr.specs.Places.{ArePlaces, ArePlacesOf, IsFound};
@@ -42,10 +43,12 @@ pub fn find<'a>(
     }
 }
 
-/// Adds the place of a type whose definition stands behind all others.
+/// Adds the place of a type whose definition stands behind all others. Where memory is wanting the
+/// places stay as they were.
 pub fn add_place(places: &mut TypePlaces, id: TypeId, place: usize) -> Result<(), NoMemory>
-    ensures { OnOk result ((ids : ListOf TypeIdOf) → place ≡ length ids →
+    ensures added { OnOk result ((ids : ListOf TypeIdOf) → place ≡ length ids →
         ArePlacesOf ids places.old → ArePlacesOf (ids ++ id ∷ []) places.new) }
+    ensures kept { OnErr result (IsUnchanged places.old places.new) }
 {
     order_of_types();
     if !places.contains_key(&id) {

@@ -1,4 +1,5 @@
 //! The room that is left for the fields of a namespace.
+ghost use Rattle.std.specs.Prelude.{◌≡◌, ◌<◌, ◌+◌, OnErr, OnOk};
 ghost use Rattle.dsdl_resolve.specs.Places.{ArePlacesIn};
 
 use crate::finding::Places;
@@ -9,8 +10,13 @@ use dsdl_links::type_of;
 use dsdl_parse::{Reference, Scalar, Statement};
 use std::alloc::Global;
 
-/// Takes so many fields and paddings from the room that is left.
-fn take(fields: u32, room: &mut u32) -> Result<(), NoMemory> {
+/// Takes so many fields and paddings from the room that is left. Want of memory is the answer exactly
+/// where there is no room for them; it stays as it was then.
+fn take(fields: u32, room: &mut u32) -> Result<(), NoMemory>
+    ensures taken { OnOk result (room.old ≡ fields + room.new) }
+    ensures full { OnErr result (room.old < fields) }
+    ensures kept { OnErr result (room.new ≡ room.old) }
+{
     if fields > *room {
         return Err(NoMemory);
     }

@@ -6,8 +6,8 @@ use Rattle.const_expr.proofs.FirstItem.{is_none, is_some_of}
 use Rattle.const_expr.proofs.PlaceLemmas.{places_kept, places_more}
 use Rattle.const_expr.proofs.places.add_place.Goals as goal
 
-pub returns-in_ok-insert : goal.returns-in_ok-insert
-returns-in_ok-insert c = λ ids last are.
+pub returns-in_ok-insert-clause-added : goal.returns-in_ok-insert-clause-added
+returns-in_ok-insert-clause-added c = λ ids last are.
     let old = c.args.places.now in
     let new = c.insert.new.self in
     let id = c.args.id in
@@ -17,8 +17,8 @@ returns-in_ok-insert c = λ ids last are.
     let updates = subst (λ R. Updates R old new id (Some c.args.place)) (λ n a b. c.order_of_types.ensures a b n) c.in_ok-insert.ensures.updates in
     places_more ids id old are new c.args.place last none updates
 
-pub returns-else-not-contains_key : goal.returns-else-not-contains_key
-returns-else-not-contains_key c = λ ids last are.
+pub returns-else-not-contains_key-clause-added : goal.returns-else-not-contains_key-clause-added
+returns-else-not-contains_key-clause-added c = λ ids last are.
     let old = c.args.places.now in
     let id = c.args.id in
     let taken : c.contains_key.result ≡ true = search rules in
