@@ -1,0 +1,4 @@
+pub mod Sessions
+pub mod Ports
+pub mod Tables
+pub mod Deliveries

@@ -1,0 +1,5 @@
+pub mod Discards
+pub mod Reasons
+pub mod Told
+pub mod Asked
+pub mod Laws
