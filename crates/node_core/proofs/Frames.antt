@@ -1,5 +1,5 @@
 -- A record with its lines, its reply and the lines on that.
-use Rattle.std.proofs.Common.{◌≡◌, ◌∙◌, ◌≤◌, ℕ, Bool, List, ◌++◌, length, map, take, Option, Some, sym, ap, subst, arith, append_assoc, length-append, take-take}
+use Rattle.std.proofs.Common.{◌≡◌, ◌∙◌, ℕ, Bool, List, ◌++◌, length, map, take, Option, Some, sym, ap, subst, append_assoc}
 use Rattle.std.proofs.Math.Seq.{take-append_seam}
 use Rattle.cy_outside.specs.Files.{Files as TreeFiles}
 use Rattle.tail_frame.specs.declared.logged.Record.{Record}
@@ -18,11 +18,14 @@ use Rattle.node_core.specs.declared.line.Line.TheVariants.{Full}
 use Rattle.node_core.specs.declared.node.Node.{Node}
 use Rattle.node_core.specs.declared.request.Request.{Request}
 
--- what is behind a list is cut back to a front of it
-pub cut_again : (old told both all : List Line) → both ≡ old ++ told → take (length both) all ≡ both → take (length old) all ≡ old
-cut_again old told both all e h =
-    let shorter : length old ≤ length both = omega (arith, ap length e, length-append old told) in
-    sym (take-take (length old) (length both) all shorter) ∙ (ap (take (length old)) (h ∙ e) ∙ take-append_seam old told)
+-- what is behind a list is cut back to it
+pub cut_again : (old told both all : List Line) → both ≡ old ++ told → all ≡ both → take (length old) all ≡ old
+cut_again old told both all e h = ap (take (length old)) (h ∙ e) ∙ take-append_seam old told
+
+-- what is put behind it leaves it in front
+pub in_front : (old told both full all : List Line) → both ≡ old ++ told → all ≡ both ++ full → take (length old) all ≡ old
+in_front old told both full all e h =
+    ap (take (length old)) (h ∙ (ap (λ (t : List Line). t ++ full) e ∙ append_assoc old told full)) ∙ take-append_seam old (told ++ full)
 
 -- a request was answered: its reply was pushed, with the lines on full buses
 pub did_answer : (told : Option TreeFiles) (moment : ℕ) (request : Option Request) (r : Request) (old new : Node)

@@ -52,7 +52,7 @@ pub hear_lines : OutcomeTells → (node : Node) (table : Table PortShape) (f : F
     → answer_lines (type_at table (key_of f.ident)) f answer ≡ on_port node.plan f log (port_on (ports_of node.plan) f)
 hear_lines tells node table f log answer keeps s told =
     let key = key_of f.ident in
-    let type_is = first_type key.kind key.port table.ports.items (ports node.plan) (keeps.ports ∙ s.ports_are) (types_stay (ports node.plan) node.table.ports.items table.ports.items keeps.shapes s.types) in
+    let type_is = first_type key.kind key.port table.ports.items (ports node.plan) (keeps.ports ∙ s.ports_are) (types_stay (ports node.plan) node.table table keeps.shapes s.types).types in
     ap (λ (t : Option Sch). answer_lines t f answer) type_is
     ∙ told_lines tells node.plan (ports_of node.plan) f log answer (planned _ _ _ _ f log _ answer s.timeout s.ports_are (told log) s.sessions)
 

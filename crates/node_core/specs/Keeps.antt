@@ -1,14 +1,14 @@
 -- What a node keeps beside its sessions.
-use Rattle.std.specs.Prelude.{◌≡◌, ◌+◌, ◌%◌, ℕ, Bool, List, ◌++◌, map, Option, Some}
+use Rattle.std.specs.Prelude.{◌≡◌, ◌+◌, ◌%◌, ℕ, Bool, List, [], ◌++◌, map, Option, Some}
 use Rattle.cy_outside.specs.Files.{Files as TreeFiles}
 use Rattle.node_plan.specs.declared.plan.Plan.{Plan}
 use Rattle.tail_frame.specs.declared.logged.Record.{Record}
 use Rattle.node_core.specs.Buses.{queue_of}
-use Rattle.node_core.specs.Queues.{Sends, fulls, push_all}
+use Rattle.node_core.specs.Queues.{Queue, Sends, fulls, push_all}
 use Rattle.node_core.specs.Sending.{registers_after, registers_behind, reply_on}
 use Rattle.node_core.specs.Stands.{Stands}
 use Rattle.node_core.specs.Files.{IsServed, is_failed}
-use Rattle.node_core.specs.Steps.{IsServedAt, Step, Heard, Kept, node_lines, pushed, records}
+use Rattle.node_core.specs.Steps.{IsServedAt, Step, Heard, Kept, empty_queue, node_lines, pushed, records}
 use Rattle.node_core.specs.declared.file_reply.FileReply.{FileReply}
 use Rattle.node_core.specs.declared.line.Line.{Line}
 use Rattle.node_core.specs.declared.node.Node.{Node}
@@ -22,6 +22,14 @@ keeps node = record {
   tid = node.tid;
   registers = node.registers;
 }
+
+-- a list without the frames that wait
+abbrev pub emptied : Queue → Queue
+emptied q = record q { waiting = [] }
+
+-- a node has a list for each bus of its plan, with the plan's places
+abbrev pub HasQueues : Node → Type 0
+HasQueues node = map emptied (keeps node).queues ≡ map (empty_queue node.plan.queue) node.plan.buses
 
 -- as if a transfer were pushed
 abbrev pub sent : Option Sends → Kept → Kept

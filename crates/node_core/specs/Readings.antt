@@ -1,5 +1,5 @@
 -- What a payload says (Cyphal Specification, section 3.7).
-use Rattle.std.specs.Prelude.{ℕ, List, take, Option, Some, None}
+use Rattle.std.specs.Prelude.{◌≡◌, ◌≤◌, ◌+◌, ℕ, List, length, take, Option, Some, None}
 use Rattle.cy_bits.specs.Bits.{bits}
 use Rattle.dsdl_types.specs.Paths.{path_text}
 use Rattle.dsdl_types.specs.Reading.{Read, Got, own}
@@ -23,3 +23,8 @@ of_read s (read.Bad path why) = Bad (path_text path) (read_why why)
 abbrev pub reading_of : Option Sch → List ℕ → Reading
 reading_of None payload = Raw
 reading_of (Some s) payload = of_read s (own s 0 (bits (take (bytes_of s) payload)))
+
+-- so many bytes of a payload are read as a type: the first of these, behind which sixteen more stand
+pub record IsKept (s : Sch) (payload : List ℕ) (count : ℕ) (bytes : List ℕ) : Type 0 where
+  pub read : take count bytes ≡ take (bytes_of s) payload
+  pub slack : count + 16 ≤ length bytes

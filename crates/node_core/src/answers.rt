@@ -47,6 +47,7 @@ impl Node {
         ensures stands { StandsAsBefore self.old self.new }
         ensures keeps { OnOk result
             (keeps self.new ≡ questioned self.old.plan question (keeps self.old)) }
+        ensures queues { (keeps self.new).queues ≡ (keeps self.old).queues }
         ensures size { IfOk result (λ n. n ≤ 512) }
         ensures payload { let registers = (keeps self.old).registers in IfOk result (λ n.
             take n out.new ≡ answer_to self.old.plan registers file.now question) }

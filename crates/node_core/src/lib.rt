@@ -30,6 +30,7 @@ mod second;
 mod sending;
 mod serving;
 mod transfer;
+mod typed_text;
 mod word;
 mod words;
 

@@ -3,6 +3,7 @@ ghost use Rattle.std.specs.Prelude.{◌≡◌, ◌≤◌, ◌+◌, ◌*◌, [], 
 ghost use Rattle.line_text.specs.Buffer.{room_of, text_of};
 ghost use Rattle.node_core.specs.Puts.{Puts};
 ghost use Rattle.node_core.specs.Text.{end_text};
+ghost use Rattle.value_put.specs.Told.{Begins};
 
 use crate::bus_words::BusWords;
 use crate::line::{FullLine, Refused};
@@ -10,6 +11,7 @@ use crate::line_ref::{LineRef, RxRef, TxRef};
 use crate::numbers::Numbers;
 use crate::port_word::PortWord;
 use crate::second::Second;
+use crate::typed_text::put_typed;
 use crate::words::{
     LINE, put_key, put_label, put_payload, put_place, put_raw, put_reading, put_received,
     put_transfer, reserve_for, reserve_with,
@@ -18,6 +20,7 @@ use cy_bits::{NoMemory, ShortList};
 use line_text::TextBuffer;
 use node_plan::BusPlan;
 use std::alloc::Global;
+use value_put::Stop;
 
 /// Puts the lines of a report together. It keeps the words that lines have in common.
 ///
@@ -33,6 +36,8 @@ pub struct LineWriter {
     names: BusWords,
     /// The port of the last line on one.
     port: PortWord,
+    /// The bytes of the last payload that was read, and some behind them that don't count.
+    bytes: TextBuffer,
 }
 
 #[tactic(auto, unfolding(crate::specs::Writer::writes_for))]
@@ -48,6 +53,7 @@ impl LineWriter {
             second: Second::of(0),
             names: BusWords::new(buses),
             port: PortWord::of(0),
+            bytes: TextBuffer::new(alloc),
         }
     }
 
@@ -114,6 +120,40 @@ impl LineWriter {
     /// Appends the text of a transfer on a port that may have a type.
     #[inline(never)]
     fn push_typed(&mut self, text: &mut TextBuffer, rx: RxRef<'_>) -> Result<(), NoMemory>
+        ensures buses { writes_for self.new ≡ writes_for self.old }
+        ensures ok { OnOk result (Writes self.old (LineRef.Rx rx.entry) text.old text.new) }
+        ensures err { OnErr result (text_of text.new ≡ text_of text.old) }
+    {
+        let start = text.len();
+        match self.push_at_once(text, &rx) {
+            Ok(()) => Ok(()),
+            Err(_) => {
+                text.cut(start);
+                self.push_by_value(text, rx)
+            }
+        }
+    }
+
+    /// The same without a value. Where it stops, nothing is said of the payload, and some of the text
+    /// may be appended.
+    #[inline(always)]
+    fn push_at_once(&mut self, text: &mut TextBuffer, rx: &RxRef<'_>) -> Result<(), Stop>
+        ensures buses { writes_for self.new ≡ writes_for self.old }
+        ensures told { OnOk result (Writes self.old (LineRef.Rx rx.now) text.old text.new) }
+        ensures front { Begins (text_of text.old) (text_of text.new) }
+    {
+        let Some(shape) = rx.port_type else {
+            return Err(Stop::GivesUp);
+        };
+        reserve_for(text, rx.payload)?;
+        self.put_front(text, rx);
+        put_typed(shape, rx.payload, &mut self.bytes, text)
+    }
+
+    /// The same by the value: it names the path and the cause where the payload can't be read.
+    #[cold]
+    #[inline(never)]
+    fn push_by_value(&mut self, text: &mut TextBuffer, rx: RxRef<'_>) -> Result<(), NoMemory>
         ensures buses { writes_for self.new ≡ writes_for self.old }
         ensures ok { OnOk result (Writes self.old (LineRef.Rx rx.entry) text.old text.new) }
         ensures err { OnErr result (text_of text.new ≡ text_of text.old) }

@@ -71,7 +71,7 @@ impl Node {
     ghost use Rattle.node_core.specs.Shapes.{port_schema};
     ghost use Rattle.node_core.specs.Came.{answer_in, heard_is_bad, came_lines, came_request};
     ghost use Rattle.node_core.specs.Came.{met_lines, TellsRequest};
-    ghost use Rattle.node_core.specs.Keeps.{DidStep, keeps};
+    ghost use Rattle.node_core.specs.Keeps.{DidStep, HasQueues, keeps};
     ghost use Rattle.node_core.specs.Sending.{IsRequestTo};
     ghost use Rattle.node_core.specs.Steps.{kept};
     ghost use Rattle.node_core.specs.declared.line.Line.{Line as LineOf};
@@ -108,8 +108,9 @@ impl Node {
     /// Takes the next record of the log, at a moment not before the last one, and appends the lines
     /// on what it gives, and those on the buses that have no room for its reply. A request of a
     /// file is asked of the tree. Memory is taken for these lines, for a new source's session, and
-    /// for what is asked of registers and files; where it is wanting, the lines are left as they
-    /// were, and the node, which may have taken the record, keeps its ports and its bound.
+    /// for what is asked of registers and files; where it is wanting, the lines and the frames that
+    /// wait are left as they were, and the node, which may have taken the record, keeps its ports
+    /// and its bound.
     pub fn frame<T: Tree>(
         &mut self,
         rec: &Record,
@@ -124,6 +125,8 @@ impl Node {
             self.old self.new lines.old lines.new step.failed) }
         ensures badcrc { IfOk result (λ step. TellsBadCrc self.old rec.now step.badcrc) }
         ensures behind { take (length lines.old) lines.new ≡ lines.old }
+        ensures queues { HasQueues self.old → HasQueues self.new }
+        ensures unsent { OnErr result ((keeps self.new).queues ≡ (keeps self.old).queues) }
         ensures err { OnErr result (lines.new ≡ lines.old) }
         ensures memory { OnErr result (TakesOrNot rec.now self.old self.new) }
         ensures files { T.files tree.new ≡ T.files tree.old }

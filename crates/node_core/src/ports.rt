@@ -6,6 +6,7 @@ ghost use Rattle.node_plan.specs.IsPlan.{IsPlan, IsShape};
 ghost use Rattle.node_plan.specs.Ports.{PlanPort, extent_of, ports, service_extent, type_in};
 ghost use Rattle.node_core.specs.Shapes.{port_schema, port_type, shape_extent};
 ghost use Rattle.node_core.specs.Tables.{IsTableOf, port_with};
+ghost use Rattle.node_core.specs.Types.{schema_by};
 ghost use Rattle.rx_table.specs.Ports.{port_at};
 ghost use Rattle.rx_table.specs.Views.{subscriptions};
 
@@ -76,6 +77,7 @@ fn subscribe(
     requires some { 0 < sources }
     requires few { sources ≤ 128 }
     requires small { shape_extent shape ≤ 65536 }
+    requires schema { port_schema shape ≡ schema_by (shape_extent shape) (port_type shape) }
     requires room { length table.old.ports.items < 2 ^ 16 }
     requires other { port_at kind port (subscriptions port_schema table.old) ≡ None }
     ensures { (timeout : ℕ) (ps : List PlanPort) → IsTableOf timeout ps table.old
@@ -94,6 +96,8 @@ fn sub_shape(alloc: Global, shape: &SubShape) -> Result<PortShape, NoMemory>
     requires small { extent_of shape.now ≤ 65536 }
     ensures extent { IfOk result (λ made. shape_extent made ≡ extent_of shape.now) }
     ensures port_type { IfOk result (λ made. port_type made ≡ type_in shape.now) }
+    ensures schema { IfOk result (λ made.
+        port_schema made ≡ schema_by (extent_of shape.now) (type_in shape.now)) }
 {
     match shape {
         SubShape::Raw(extent) => Ok(PortShape::Raw(RawShape::new(alloc, *extent)?)),
@@ -109,6 +113,8 @@ fn service_shape(alloc: Global, service: &Service) -> Result<PortShape, NoMemory
     ensures extent { IfOk result (λ made. shape_extent made ≡ service_extent service.now) }
     ensures port_type { IfOk result (λ made.
         port_type made ≡ option_map schema_of service.now.request) }
+    ensures schema { let request = option_map schema_of service.now.request in IfOk result (λ made.
+        port_schema made ≡ schema_by (service_extent service.now) request) }
 {
     match service.request {
         Some(name) => {

@@ -50,7 +50,7 @@ impl Second {
     {
         self.come_to(moment);
         self.front.put(text);
-        text.put_micros((moment - self.start) as u32);
+        text.put_six_digits((moment - self.start) as u32);
     }
 
     /// Becomes the second of a moment, where it isn't yet.

@@ -1,9 +1,9 @@
 //! What a node sends.
-ghost use Rattle.std.specs.Prelude.{◌≡◌, ◌<◌, ◌≤◌, IfOk, OnOk, Some, length, map, take};
+ghost use Rattle.std.specs.Prelude.{◌≡◌, ◌<◌, ◌≤◌, IfOk, OnErr, OnOk, Some, length, map};
 ghost use Rattle.std.specs.Option.{ForSome};
 ghost use Rattle.file_service.specs.Causes.{TellsFault};
 ghost use Rattle.node_core.specs.Files.{FitsFileReply};
-ghost use Rattle.node_core.specs.Keeps.{DidAnswer, answered, beaten, keeps, reply_by};
+ghost use Rattle.node_core.specs.Keeps.{DidAnswer, HasQueues, answered, beaten, keeps, reply_by};
 ghost use Rattle.node_core.specs.Pops.{Pops, queue_at};
 ghost use Rattle.node_core.specs.Queues.{fulls, waiting};
 ghost use Rattle.node_core.specs.Sending.{IsRequestTo, beat};
@@ -14,7 +14,7 @@ use crate::answers::MAX_REPLY;
 use crate::file_reply::FileReply;
 use crate::line::{FullLine, Line};
 use crate::node::Node;
-use crate::pushes::push_fulls;
+use crate::pushes::{put_fulls, take_with_room};
 use crate::request::Request;
 use crate::transfer::{HEARTBEAT, Transfer, beat_ident};
 use cy_bits::{List, NoMemory, ShortList};
@@ -28,7 +28,8 @@ impl Node {
     /// 5.3.3). The reply to a request of a file is what the tree told for it. Tells on which buses
     /// there is no room for the reply, at a moment in microseconds. Memory is taken for what is
     /// asked of registers and files; where it is wanting, the node is not to be used further: its
-    /// plan and its sessions are as they were, and of the rest nothing is known.
+    /// plan, its sessions and the frames that wait are as they were, and of its registers nothing is
+    /// known.
     #[inline(never)]
     pub fn reply(
         &mut self,
@@ -46,6 +47,8 @@ impl Node {
         ensures fulls { let old = keeps self.old in
             let reply = reply_by self.old.plan (Some request) file.now old in
             IfOk result (λ full. map Full full ≡ fulls moment reply old.queues) }
+        ensures queues { HasQueues self.old → HasQueues self.new }
+        ensures unsent { OnErr result ((keeps self.new).queues ≡ (keeps self.old).queues) }
     {
         let mut out = [0; MAX_REPLY];
         let ident = request.reply_ident(self.plan.node);
@@ -60,8 +63,8 @@ impl Node {
     }
 
     /// Serves a request and replies to it, if there is one, and puts the lines on full buses behind
-    /// others. Answers whether the tree failed. Where memory is wanting, some of these lines are
-    /// put.
+    /// others. Answers whether the tree failed. Where memory is wanting, neither a line nor a frame
+    /// is put.
     pub(crate) fn answer<T: Tree>(
         &mut self,
         moment: u64,
@@ -75,7 +78,9 @@ impl Node {
         ensures stands { StandsAsBefore self.old self.new }
         ensures did { IfOk result (DidAnswer (T.files tree.old) moment request
             self.old self.new lines.old lines.new) }
-        ensures behind { take (length lines.old) lines.new ≡ lines.old }
+        ensures queues { HasQueues self.old → HasQueues self.new }
+        ensures unsent { OnErr result ((keeps self.new).queues ≡ (keeps self.old).queues) }
+        ensures err { OnErr result (lines.new ≡ lines.old) }
         ensures files { T.files tree.new ≡ T.files tree.old }
         ensures cause { IfOk result (λ failed.
             TellsFault failed (T.faults tree.old) (T.faults tree.new)) }
@@ -85,9 +90,18 @@ impl Node {
             return Ok(false);
         };
         let file = self.serve(&request, tree)?;
-        let fulls = self.reply(moment, request, &file)?;
-        push_fulls(lines, &fulls)?;
-        Ok(file.is_failed())
+        let mut said = take_with_room(self.alloc, lines)?;
+        match self.reply(moment, request, &file) {
+            Ok(fulls) => {
+                put_fulls(&mut said, &fulls);
+                *lines = List::new(said);
+                Ok(file.is_failed())
+            }
+            Err(refused) => {
+                *lines = List::new(said);
+                Err(refused)
+            }
+        }
     }
 
     /// Puts the heartbeat of a tick behind the frames that wait on each bus (Cyphal Specification,

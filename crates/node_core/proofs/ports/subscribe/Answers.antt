@@ -10,6 +10,6 @@ returns-in-Ok c = λ timeout ps h.
     let p = port_with c.args.kind c.args.port c.args.sources c.args.shape in record {
       waits = c.in-Ok.ensures.timeout ∙ h.waits;
       ports_are = ports_more ps p _ _ h.ports_are c.in-Ok.ensures.ports;
-      types = types_more ps p _ _ c.args.shape refl h.types c.in-Ok.ensures.shapes;
+      types = types_more ps p _ _ c.args.shape refl c.requires.schema h.types c.in-Ok.ensures.shapes;
       stands = stands_again _ _ _ _ _ _ h.waits c.in-Ok.ensures.stands h.stands;
     }

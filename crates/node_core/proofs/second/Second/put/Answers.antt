@@ -13,4 +13,4 @@ returns-clause-text c =
     let second = c.come_to.new.self in
     let number = number_is second.start c.args.moment second.whole c.come_to.ensures.from c.come_to.ensures.upto in
     let micros = micros_are second.start c.args.moment second.whole c.come_to.ensures.from c.come_to.ensures.upto in
-    rw (c.put_micros.ensures.text, c.put.ensures.text, second.front_is, number, micros) (simp append_assoc)
+    rw (c.put_six_digits.ensures.text, c.put.ensures.text, second.front_is, number, micros) (simp append_assoc)
