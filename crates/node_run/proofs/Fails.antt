@@ -1,15 +1,13 @@
 -- In which requests the tree failed, from step to step.
-use Rattle.std.proofs.Common.{◌≡◌, ◌∙◌, ◌≤◌, ℕ, Bool, true, false, zero, suc, List, [], ◌∷◌, ◌++◌, Option, inl, inr, refl, sym, ap, subst, arith, append-nil, append_assoc, length-append}
+use Rattle.std.proofs.Common.{◌≡◌, ◌∙◌, ◌≤◌, ℕ, Bool, true, false, zero, suc, List, [], ◌∷◌, ◌++◌, Option, inl, inr, refl, sym, ap, subst, arith, append-nil, length-append}
 use Rattle.std.specs.Prelude.{if◌then◌else◌}
 use Rattle.file_service.specs.Causes.{TellsFault}
-use Rattle.log_loop.specs.Gone.{FirstOf}
 use Rattle.node_core.specs.Files.{is_failed}
 use Rattle.node_core.specs.LineSinks.{put_behind}
 use Rattle.node_core.specs.Steps.{Heard, Step, failed_at, failed_lines, ticks_from}
 use Rattle.node_core.specs.declared.file_reply.FileReply.{FileReply}
 use Rattle.tail_frame.specs.declared.logged.Record.{Record}
 use Rattle.node_run.specs.Failures.{AreFailures, FailsAs, FailsUntold, Failures, HasRisen, TellsFailures, failures}
-use Rattle.node_run.specs.Ran.{FailedBefore}
 use Rattle.node_run.proofs.Tells.{put_more, put_none}
 
 -- before the first step
@@ -66,12 +64,6 @@ pub failed_broke : (past : List Step) (old mid new : Option (List ℕ)) (a b c :
     → TellsFailures (failed_lines past) (failures old new a c)
 failed_broke past old mid new a b c h u = record { told = u.told ∙ h.tells.told; rose = risen_later (failed_lines past) a b c h.tells.rose u.count }
 
-pub before_some : (newer past all : List Step) (f : Failures) → all ≡ newer ++ past → TellsFailures (failed_lines past) f → FailedBefore all f
-before_some newer past all f e t = record { past = past; first = record { newer = newer; parts = e }; tells = t }
-
-pub before_all : (all : List Step) (f : Failures) → AreFailures (failed_lines all) f → FailedBefore all f
-before_all all f h = before_some [] all all f refl h.tells
-
--- with newer steps that it didn't come to
-pub before_more : (all past : List Step) (f : Failures) → FirstOf all past → FailedBefore past f → FailedBefore all f
-before_more all past f first b = before_some (first.newer ++ b.first.newer) b.past all f (first.parts ∙ (ap (λ (t : List Step). first.newer ++ t) b.first.parts ∙ sym (append_assoc first.newer b.first.newer b.past))) b.tells
+-- so many ticks later
+pub tells_later : (first number n : ℕ) (past : List Step) (f : Failures) → TellsFailures (failed_lines past) f → TellsFailures (failed_lines (ticks_from first number n ++ past)) f
+tells_later first number n past f = subst (λ (ls : List ℕ). TellsFailures ls f) (sym (ticks_fail_not first number n past))

@@ -12,11 +12,13 @@ use Rattle.node_core.specs.Queues.{Queue, fulls, leaving, waiting}
 use Rattle.node_core.proofs.Waits.{all_stay, none_leaves}
 use Rattle.node_plan.specs.declared.plan.BusPlan.{BusPlan}
 use Rattle.node_core.specs.Stands.{Stands}
-use Rattle.node_core.specs.Steps.{Step, Tick, Kept, ticks_from, emptying, kept, left, lines, lines_at, lines_behind, moment_of, numbers, pushed, received_at, records, sends}
+use Rattle.node_core.specs.Steps.{Step, Tick, Kept, ticks_from, emptying, failed_lines, kept, left, lines, lines_at, lines_behind, moment_of, numbers, pushed, received_at, records, sends}
 use Rattle.node_core.specs.Text.{text}
+use Rattle.node_run.specs.Failures.{Failures, TellsFailures}
 use Rattle.node_run.specs.Goes.{BreaksOff, Broke, GoesOn, IsFew, Runs, State, report_of, with_sent}
 use Rattle.node_run.specs.Tells.{HasTold}
-use Rattle.node_run.specs.Ran.{AtFirst, Emptied, Reported, At, first_lines, next_lines}
+use Rattle.node_run.specs.Ran.{AtFirst, Reported, At, first_lines, next_lines}
+use Rattle.node_run.proofs.Fails.{tells_later}
 use Rattle.node_run.proofs.Steps.{behind_newer, length_behind, tick_more, ticks_split}
 use Rattle.node_run.proofs.Tells.{put_more, text_append, told_more, told_none}
 
@@ -45,8 +47,8 @@ runs_next plan before s past old new h same stands keep buses told counted held 
 
 -- Where it breaks off.
 
-pub first_none : (plan : Plan) (newer past : List Step) (refusal : Option LogError) (r : Reported) → At plan past r → AtFirst plan (newer ++ past) refusal r
-first_none plan newer past refusal r a = record {
+pub first_none : (plan : Plan) (newer past : List Step) (refusal : Option LogError) (r : Reported) (f : Failures) → At plan past r → TellsFailures (failed_lines past) f → AtFirst plan (newer ++ past) refusal r f
+first_none plan newer past refusal r f a failed = record {
   newer = newer;
   past = past;
   parts = refl;
@@ -54,18 +56,21 @@ first_none plan newer past refusal r a = record {
   rest = next_lines plan newer past refusal;
   next = refl;
   at = record { reported = a.reported ∙ ap (put_behind r.old) (sym (append-nil (lines plan past))); counted = a.counted };
+  failed = failed;
 }
 
 -- before it told a line of these steps
-pub broke_none : (plan : Plan) (before : Option (List Line)) (newer past : List Step) (old new : State) → Runs plan before old past → new.told ≡ old.told → new.numbers ≡ old.numbers → Broke plan (report_of before new) (newer ++ past)
-broke_none plan before newer past old new h told counted = record {
-  first = λ refusal. first_none plan newer past refusal (report_of before new) (record { reported = told ∙ h.at.reported; counted = counted ∙ h.at.counted });
+pub broke_none : (plan : Plan) (before : Option (List Line)) (newer past : List Step) (old new : State) (f : Failures) → Runs plan before old past → new.told ≡ old.told → new.numbers ≡ old.numbers → TellsFailures (failed_lines past) f
+    → Broke plan (report_of before new) f (newer ++ past)
+broke_none plan before newer past old new f h told counted failed = record {
+  first = λ refusal. first_none plan newer past refusal (report_of before new) f (record { reported = told ∙ h.at.reported; counted = counted ∙ h.at.counted }) failed;
   within = subst (λ (n : Numbers). n.held ≤ bound_of plan) (sym counted) h.within;
 }
 
 -- when it had told some lines of a step
-pub broke_in : (plan : Plan) (before : Option (List Line)) (s : Step) (past : List Step) (old new : State) (ls : List Line) → Runs plan before old past → ls ≡ lines_at plan s past → BeginsList ls old.told new.told → new.numbers ≡ old.numbers → Broke plan (report_of before new) (s ∷ past)
-broke_in plan before s past old new ls h e b counted = record {
+pub broke_in : (plan : Plan) (before : Option (List Line)) (s : Step) (past : List Step) (old new : State) (f : Failures) (ls : List Line) → Runs plan before old past → ls ≡ lines_at plan s past → BeginsList ls old.told new.told → new.numbers ≡ old.numbers → TellsFailures (failed_lines past) f
+    → Broke plan (report_of before new) f (s ∷ past)
+broke_in plan before s past old new f ls h e b counted failed = record {
   first = λ refusal. record {
     newer = s ∷ [];
     past = past;
@@ -77,6 +82,7 @@ broke_in plan before s past old new ls h e b counted = record {
       reported = b.put ∙ (ap (λ o. put_behind o b.front) h.at.reported ∙ put_more before (lines plan past) b.front);
       counted = counted ∙ h.at.counted;
     };
+    failed = failed;
   };
   within = subst (λ (n : Numbers). n.held ≤ bound_of plan) (sym counted) h.within;
 }
@@ -94,10 +100,10 @@ nothing [] b e = refl
 nothing (x ∷ a) b e = cc
 
 -- with newer steps that it didn't come to
-pub broke_grow : (plan : Plan) (n all : List Step) (r : Reported) → Broke plan r all → Broke plan r (n ++ all)
-broke_grow plan n all r b = record { first = λ refusal. grow refusal (b.first (Some error.Failed)); within = b.within }
+pub broke_grow : (plan : Plan) (n all : List Step) (r : Reported) (g : Failures) → Broke plan r g all → Broke plan r g (n ++ all)
+broke_grow plan n all r g b = record { first = λ refusal. grow refusal (b.first (Some error.Failed)); within = b.within }
   where
-    grown : (refusal : Option LogError) (f : AtFirst plan all (Some error.Failed) r) (newer : List Step) → all ≡ newer ++ f.past → next_lines plan newer f.past (Some error.Failed) ≡ f.told ++ f.rest → AtFirst plan (n ++ all) refusal r
+    grown : (refusal : Option LogError) (f : AtFirst plan all (Some error.Failed) r g) (newer : List Step) → all ≡ newer ++ f.past → next_lines plan newer f.past (Some error.Failed) ≡ f.told ++ f.rest → AtFirst plan (n ++ all) refusal r g
     grown refusal f [] parts next = record {
       newer = n;
       past = f.past;
@@ -106,6 +112,7 @@ broke_grow plan n all r b = record { first = λ refusal. grow refusal (b.first (
       rest = next_lines plan n f.past refusal;
       next = ap (λ t. t ++ next_lines plan n f.past refusal) (sym (nothing f.told f.rest next));
       at = f.at;
+      failed = f.failed;
     }
     grown refusal f (s ∷ t) parts next = record {
       newer = n ++ s ∷ t;
@@ -115,26 +122,15 @@ broke_grow plan n all r b = record { first = λ refusal. grow refusal (b.first (
       rest = f.rest;
       next = next_grow plan n s t f.past refusal (Some error.Failed) ∙ next;
       at = f.at;
+      failed = f.failed;
     }
 
-    grow : (refusal : Option LogError) → AtFirst plan all (Some error.Failed) r → AtFirst plan (n ++ all) refusal r
+    grow : (refusal : Option LogError) → AtFirst plan all (Some error.Failed) r g → AtFirst plan (n ++ all) refusal r g
     grow refusal f = grown refusal f f.newer f.parts f.next
 
--- what left at the end is reported, and not counted
-pub first_emptied : (plan : Plan) (all : List Step) (r : Reported) → Emptied plan all r → AtFirst plan all None r
-first_emptied plan all r a = record {
-  newer = [];
-  past = all;
-  parts = refl;
-  told = emptying plan all;
-  rest = [];
-  next = sym (append-nil (emptying plan all));
-  at = a;
-}
-
--- a part of that is reported
-pub first_cut : (plan : Plan) (all : List Step) (r : Reported) (mid : Option (List Line)) → mid ≡ put_behind r.old (lines plan all) → BeginsList (emptying plan all) mid r.new → r.numbers ≡ numbers plan all → AtFirst plan all None r
-first_cut plan all r mid m b counted = record {
+-- a part of what left at the end is reported, and not counted
+pub first_cut : (plan : Plan) (all : List Step) (r : Reported) (f : Failures) (mid : Option (List Line)) → mid ≡ put_behind r.old (lines plan all) → BeginsList (emptying plan all) mid r.new → r.numbers ≡ numbers plan all → TellsFailures (failed_lines all) f → AtFirst plan all None r f
+first_cut plan all r f mid m b counted failed = record {
   newer = [];
   past = all;
   parts = refl;
@@ -142,6 +138,7 @@ first_cut plan all r mid m b counted = record {
   rest = b.rest;
   next = b.whole;
   at = record { reported = b.put ∙ (ap (λ o. put_behind o b.front) m ∙ put_more r.old (lines plan all) b.front); counted = counted };
+  failed = failed;
 }
 
 -- One after the other.
@@ -204,15 +201,15 @@ none_sent moment qs n low e =
 -- Ticks, in one of which it broke off.
 
 pub ticks_broke : (first number due n at moment : ℕ) → n < due → at ≡ number + n → moment ≡ first + (number + n) * 1000000 → (old mid new : State) (t now : List ℕ) → GoesOn (ticks_from first number n) old mid t now → BreaksOff (Tick at moment ∷ []) mid new → BreaksOff (ticks_from first number due) old new
-ticks_broke first number due n at moment below e f old mid new t now goes breaks plan before past few h =
+ticks_broke first number due n at moment below e f old mid new t now goes breaks plan before past g few h failed =
     let size = length_behind first number due past in
     let done = length_behind first number n past in
     let few_done : IsFew (ticks_from first number n ++ past) = omega (arith, few, size, done) in
     let few_more : IsFew (Tick at moment ∷ (ticks_from first number n ++ past)) = omega (arith, few, size, done) in
-    let b = breaks plan before (ticks_from first number n ++ past) few_more (goes plan before past few_done h).0 in
+    let b = breaks plan before (ticks_from first number n ++ past) g few_more (goes plan before past few_done h).0 (tells_later first number n past g failed) in
     let d = due - (n + 1) in
     let split = ticks_split first number (n + 1) d in
     let more = ap (λ (ts : List Step). ts ++ past) (tick_more first number n at moment e f) in
     let all : due ≡ (n + 1) + d = omega arith in
     let whole = ap (λ (ts : List Step). ts ++ past) (ap (ticks_from first number) all ∙ split.1) ∙ append_assoc split.0 (ticks_from first number (n + 1)) past in
-    subst (Broke plan (report_of before new)) (sym whole) (broke_grow plan split.0 (ticks_from first number (n + 1) ++ past) (report_of before new) (subst (Broke plan (report_of before new)) more b))
+    subst (Broke plan (report_of before new) g) (sym whole) (broke_grow plan split.0 (ticks_from first number (n + 1) ++ past) (report_of before new) g (subst (Broke plan (report_of before new) g) more b))

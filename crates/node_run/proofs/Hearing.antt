@@ -16,9 +16,9 @@ use Rattle.node_run.specs.declared.log.clock.Clock.{Clock}
 use Rattle.node_run.specs.Goes.{BreaksOff, Broke, GoesOn, IsFew, IsFrom, IsLast, Runs, State, last_tick, next_behind, report_of, ticks_left}
 use Rattle.node_run.specs.Hears.{Hears, IsServedMet, step_text, ticks_of}
 use Rattle.node_run.specs.Listens.{BreaksAt, BreaksOn}
-use Rattle.node_run.specs.Failures.{Failures}
+use Rattle.node_run.specs.Failures.{Failures, TellsFailures}
 use Rattle.node_run.specs.Ran.{Reported}
-use Rattle.node_run.proofs.Fails.{ticks_fail_not}
+use Rattle.node_run.proofs.Fails.{tells_later, ticks_fail_not}
 use Rattle.node_run.proofs.Goes.{broke_grow, goes_more}
 use Rattle.node_run.proofs.Steps.{length_behind}
 use Rattle.node_run.proofs.Ticks.{Before, before_are}
@@ -71,9 +71,10 @@ module _ (plan : Plan) (before : Option (List Line)) (rec : Record) (past : List
       let all = few_ticks plan rec (met_records past) low in omega (arith, size, all, are.number_is, h.few, few)
 
   -- it broke off in a tick
-  pub broke_ticks : (file : FileReply) (new : State) → ((x : ℕ) → IsFrom x from.number from.next rec.moment → BreaksOff (ticks_from x from.number left) old new) → Broke plan (report_of before new) (steps plan (met rec file ∷ past))
-  broke_ticks file new b =
-      subst (Broke plan (report_of before new)) (same file) (broke_grow plan (Heard rec file ∷ []) (ticks ++ steps plan past) (report_of before new) (b first are.first plan before (steps plan past) few_here h.runs))
+  pub broke_ticks : (file : FileReply) (new : State) (f : Failures) → TellsFailures (failed_lines (steps plan past)) f → ((x : ℕ) → IsFrom x from.number from.next rec.moment → BreaksOff (ticks_from x from.number left) old new)
+      → Broke plan (report_of before new) f (steps plan (met rec file ∷ past))
+  broke_ticks file new f failed b =
+      subst (Broke plan (report_of before new) f) (same file) (broke_grow plan (Heard rec file ∷ []) (ticks ++ steps plan past) (report_of before new) f (b first are.first plan before (steps plan past) f few_here h.runs failed))
 
   module _ (mid : State) (t now : List ℕ) (goes : (x : ℕ) → IsFrom x from.number from.next rec.moment → GoesOn (ticks_from x from.number left) old mid t now) where
     runs_mid : Runs plan before mid (ticks ++ steps plan past)
@@ -88,14 +89,14 @@ module _ (plan : Plan) (before : Option (List Line)) (rec : Record) (past : List
         served_met told file (subst (λ (p : Plan). IsServedAt told p (Heard rec file) (ticks ++ steps plan past)) runs_mid.same (by (ticks ++ steps plan past) runs_mid.stands))
 
     -- or in the record's step
-    pub breaks_at : (told : Option Files) (new : State) (f : Failures) → BreaksOn told rec mid new f → BreaksAt told plan rec (ticks ++ steps plan past) (report_of before new)
-    breaks_at told new f b = b.breaks plan before (ticks ++ steps plan past) runs_mid
+    pub breaks_at : (told : Option Files) (new : State) (f since : Failures) → TellsFailures (failed_lines (steps plan past)) since → BreaksOn told rec mid new f → BreaksAt told plan rec (ticks ++ steps plan past) (report_of before new) since
+    breaks_at told new f since failed b = b.breaks plan before (ticks ++ steps plan past) since runs_mid (tells_later first from.number left (steps plan past) since failed)
 
-    pub served_broken : (told : Option Files) (r : Reported) (b : BreaksAt told plan rec (ticks ++ steps plan past) r) → IsServedMet told plan (met rec b.file) past
-    served_broken told r b = served_met told b.file b.served
+    pub served_broken : (told : Option Files) (r : Reported) (f : Failures) (b : BreaksAt told plan rec (ticks ++ steps plan past) r f) → IsServedMet told plan (met rec b.file) past
+    served_broken told r f b = served_met told b.file b.served
 
-    pub broke_record : (told : Option Files) (r : Reported) (b : BreaksAt told plan rec (ticks ++ steps plan past) r) → Broke plan r (steps plan (met rec b.file ∷ past))
-    broke_record told r b = subst (Broke plan r) (same b.file) b.broke
+    pub broke_record : (told : Option Files) (r : Reported) (f : Failures) (b : BreaksAt told plan rec (ticks ++ steps plan past) r f) → Broke plan r f (steps plan (met rec b.file ∷ past))
+    broke_record told r f b = subst (Broke plan r f) (same b.file) b.broke
 
     module _ (file : FileReply) (new : State) (after : List ℕ) (goes_on : GoesOn (Heard rec file ∷ []) mid new now after) where
       both : Runs plan before new (Heard rec file ∷ (ticks ++ steps plan past)) × (after ≡ t ++ text plan.buses (lines_behind plan (Heard rec file ∷ ticks) (steps plan past)))

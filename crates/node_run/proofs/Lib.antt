@@ -9,6 +9,7 @@ pub mod Takes
 pub mod Ticks
 pub mod Fails
 pub mod Hearing
+pub mod FailedLines
 pub mod Listens
 pub mod Runs
 pub mod Streams

@@ -10,16 +10,15 @@ use Rattle.node_core.specs.Files.{is_failed}
 use Rattle.node_core.specs.Keeps.{keeps}
 use Rattle.node_core.specs.LineSinks.{put_behind}
 use Rattle.node_core.specs.declared.line.Line.{Line}
-use Rattle.node_core.specs.Steps.{Heard, Met, Step, failed_at, failed_lines, met, new_steps, steps, ticks_from}
+use Rattle.node_core.specs.Steps.{Heard, Met, Step, failed_at, failed_lines, met, steps, ticks_from}
 use Rattle.node_core.specs.declared.file_reply.FileReply.{FileReply}
 use Rattle.node_core.proofs.Served.{something_served}
 use Rattle.node_run.specs.Failures.{AreFailures, FailsAs, FailsUntold, TellsFailures, failures}
 use Rattle.node_run.specs.Goes.{BreaksOff, GoesOn, IsFrom, IsLast, last_tick, next_behind, state_in, ticks_left}
 use Rattle.node_run.specs.Hears.{IsServedMet, run_voice}
-use Rattle.node_run.specs.Ran.{FailedBefore}
 use Rattle.node_run.specs.Listens.{AsksNone, BreaksOn, HasBrokenOff, HasHeardAll, HasTaken, IsOver, Views, failed_since, failures_in, reported_since, some_met}
 use Rattle.node_run.specs.declared.log.running.Running.{Running}
-use Rattle.node_run.proofs.Fails.{before_some, failed_broke, failed_next}
+use Rattle.node_run.proofs.Fails.{failed_broke, failed_next}
 use Rattle.node_run.proofs.Hearing.{breaks_at, broke_record, broke_ticks, failed_same, heard_text, hears_next, served_broken, served_record}
 
 -- By two calls, one after the other.
@@ -61,9 +60,6 @@ module _ (K T : Type 0) (v : Views K T) (rec : Record) (old mid : Running K T) (
     tells_broken : (now : Running K T) → FailsUntold (failures (v.failed old.lines.now) (v.failed now.lines.now) (v.faults old.tree.now) (v.faults now.tree.now)) → TellsFailures (failed_lines all) (failed_since v first now)
     tells_broken now u = failed_broke all (v.failed first.lines.now) (v.failed old.lines.now) (v.failed now.lines.now) (v.faults first.tree.now) (v.faults old.tree.now) (v.faults now.tree.now) h.failed u
 
-    failed_broken : (now : Running K T) (file : FileReply) → FailsUntold (failures (v.failed old.lines.now) (v.failed now.lines.now) (v.faults old.tree.now) (v.faults now.tree.now)) → FailedBefore (steps plan (met rec file ∷ past)) (failed_since v first now)
-    failed_broken now file u = before_some (new_steps plan (met rec file) past) all (steps plan (met rec file ∷ past)) (failed_since v first now) refl (tells_broken now u)
-
     -- it broke off in a tick
     pub breaks_ticks : ((x : ℕ) → IsFrom x old.clock.number old.clock.next rec.moment → BreaksOff (ticks_from x old.clock.number left) (state_in v.lines old) (state_in v.lines mid)) → Breaks voice_of (HasBrokenOff v) mid rec first past
     breaks_ticks b =
@@ -73,8 +69,9 @@ module _ (K T : Type 0) (v : Views K T) (rec : Record) (old mid : Running K T) (
           may = some.may;
           breaks = record {
             over = over_then h.over (over_none v.files asks);
-            broke = broke_ticks plan before rec past (state_in v.lines old) old.clock h.hears low last few some.event.file (state_in v.lines mid) b;
-            failed = failed_broken mid some.event.file (record { told = asks.untold; count = let e = same_faults in omega arith });
+            broke =
+                broke_ticks plan before rec past (state_in v.lines old) old.clock h.hears low last few some.event.file (state_in v.lines mid) (failed_since v first mid)
+                (tells_broken mid (record { told = asks.untold; count = let e = same_faults in omega arith })) b;
           };
         }
 
@@ -85,15 +82,16 @@ module _ (K T : Type 0) (v : Views K T) (rec : Record) (old mid : Running K T) (
       -- in the record's step
       pub breaks_record : BreaksOn (v.files mid.tree.now) rec (state_in v.lines mid) (state_in v.lines new) (failures_in v.failed v.faults mid new) → Breaks voice_of (HasBrokenOff v) new rec first past
       breaks_record b =
-          let at = breaks_at plan before rec past (state_in v.lines old) old.clock h.hears low last few (state_in v.lines mid) t now goes (v.files mid.tree.now) (state_in v.lines new) (failures_in v.failed v.faults mid new) b in
-          let served = served_broken plan before rec past (state_in v.lines old) old.clock h.hears low last few (state_in v.lines mid) t now goes (v.files mid.tree.now) (reported_since v first new) at in record {
+          let f = failed_since v first new in
+          let failed = tells_broken new (record { told = b.untold.told ∙ asks.untold; count = let e = same_faults in let more = b.untold.count in omega arith }) in
+          let at = breaks_at plan before rec past (state_in v.lines old) old.clock h.hears low last few (state_in v.lines mid) t now goes (v.files mid.tree.now) (state_in v.lines new) (failures_in v.failed v.faults mid new) f failed b in
+          let served = served_broken plan before rec past (state_in v.lines old) old.clock h.hears low last few (state_in v.lines mid) t now goes (v.files mid.tree.now) (reported_since v first new) f at in record {
             event = met rec at.file;
             of = refl;
             may = subst (λ (told : Option Files). IsServedMet told plan (met rec at.file) past) same_files served;
             breaks = record {
               over = over_new;
-              broke = broke_record plan before rec past (state_in v.lines old) old.clock h.hears low last few (state_in v.lines mid) t now goes (v.files mid.tree.now) (reported_since v first new) at;
-              failed = failed_broken new at.file (record { told = b.untold.told ∙ asks.untold; count = let e = same_faults in let more = b.untold.count in omega arith });
+              broke = broke_record plan before rec past (state_in v.lines old) old.clock h.hears low last few (state_in v.lines mid) t now goes (v.files mid.tree.now) (reported_since v first new) f at;
             };
           }
 

@@ -19,21 +19,21 @@ use Rattle.node_plan.specs.declared.plan.Plan.{Plan}
 use Rattle.node_core.specs.declared.line.Line.{Line}
 use Rattle.node_core.specs.declared.numbers.Numbers.{Numbers}
 use Rattle.node_core.specs.Steps.{AreServed, Met, Step, emptying, end_numbers, failed_lines, first_of, lines, lines_on, met_records, new_steps, steps, ticks_before, ticks_done, ticks_from, ticks_until, ticks_upto}
+use Rattle.node_core.specs.LineSinks.{put_behind}
 use Rattle.node_core.specs.Text.{text, end_text}
 use Rattle.node_run.specs.declared.log.running.Running.{Running}
 use Rattle.node_run.specs.declared.status.Status.{Status}
 use Rattle.node_run.specs.declared.status.Status.TheVariants as status
 use Rattle.node_run.specs.Failures.{AreFailures, Failures}
 use Rattle.node_run.specs.HasRun.{HasRun}
-use Rattle.node_run.specs.Ran.{Reported, reported, Tells, AtEnd, AtFirst, due_lines, due_numbers, end_sent, Failed, FailedBefore, Settled, Begun, Upto, Ran, names_of, whole_text, status_of}
+use Rattle.node_run.specs.Ran.{Reported, reported, Tells, AtEnd, AtFirst, due_lines, due_numbers, next_lines, end_sent, Settled, Begun, CutOff, Upto, Ran, names_of, whole_text, status_of}
 use Rattle.node_run.specs.Taken.{IsOfTaken}
 use Rattle.node_run.specs.Streamed.{IsReported, IsStreamed, ReportsBytes}
 use Rattle.node_run.specs.Goes.{Broke, Runs, State, report_of, state_in}
 use Rattle.node_run.specs.Hears.{CutShort, HasEnded, run_voice}
 use Rattle.node_run.specs.Listens.{HasBrokenOff, HasEndedBehind, HasHeardAll, IsCutShort, IsOver, Views, failed_since}
 use Rattle.node_run.specs.ValueLines.{flow}
-use Rattle.node_run.proofs.Fails.{before_all, before_more}
-use Rattle.node_run.proofs.Goes.{broke_grow, broke_none, first_emptied}
+use Rattle.node_run.proofs.Goes.{broke_grow}
 use Rattle.node_run.proofs.Steps.{first_steps, lines_newer}
 use Rattle.node_run.proofs.Tells.{text_append}
 
@@ -75,8 +75,8 @@ whole_said told plan past (Some e) = ap (λ t. t ++ []) (said_text told plan pas
 pub record AreRuns (plan : Plan) (before : Option (List Line)) (s : State) (sent : ℕ) (f : Failures) (stages : Stages Met) : Type 0 where
   pub heard : (past : List Met) → stages.heard past → Runs plan before s (steps plan past) × AreFailures (failed_lines (steps plan past)) f
   pub ended : (past : List Met) → stages.ended past → HasEnded plan (report_of before s) sent past × AreFailures (failed_lines (steps plan past)) f
-  pub broke : (past : List Met) → stages.broke past → Broke plan (report_of before s) (steps plan past) × FailedBefore (steps plan past) f
-  pub cut : (past : List Met) → stages.cut_short past → CutShort plan (report_of before s) past × AreFailures (failed_lines (steps plan past)) f
+  pub broke : (past : List Met) → stages.broke past → Broke plan (report_of before s) f (steps plan past)
+  pub cut : (past : List Met) → stages.cut_short past → CutShort plan (report_of before s) f past
 
 abbrev pub stages_of : {K T : Type 0} → Views K T → Running K T → Running K T → Stages Met
 stages_of v first now = record { heard = HasHeardAll v first now; ended = HasEndedBehind v first now; broke = HasBrokenOff v first now; cut_short = IsCutShort v first now }
@@ -85,8 +85,8 @@ pub are_runs : {K T : Type 0} (v : Views K T) (first now : Running K T) → AreR
 are_runs v first now = record {
   heard = λ past h. (h.hears.runs, h.failed);
   ended = λ past h. (h.ended, h.failed);
-  broke = λ past h. (h.broke, h.failed);
-  cut = λ past h. (h.cut, h.failed);
+  broke = λ past h. h.broke;
+  cut = λ past h. h.cut;
 }
 
 -- A whole run.
@@ -107,73 +107,93 @@ module _ (told : Option Files) (plan : Plan) (before : Option (List Line)) (s : 
       }
 
   settled : (events : List Met) (is refusal : Option LogError) (r : Reported) (done : List Met → Type 0) (before_text after : Option (List ℕ)) → ((past : List Met) → done past → Tells (due_lines plan (steps plan past) is) (due_numbers plan (steps plan past) is) r)
-      → refusal ≡ is → HeardAll (run_voice told plan) done events refusal before_text after → Settled plan (steps plan events) refusal r before_text after
-  settled events is refusal r done before_text after at e x = record {
+      → ((past : List Met) → done past → AreFailures (failed_lines (steps plan past)) f) → refusal ≡ is → HeardAll (run_voice told plan) done events refusal before_text after → Settled plan (steps plan events) refusal r f before_text after
+  settled events is refusal r done before_text after at failed e x = record {
     at = subst (λ (y : Option LogError). Tells (due_lines plan (steps plan events) y) (due_numbers plan (steps plan events) y) r) (sym e) (at events x.hears);
+    failed = failed events x.hears;
     written = x.written ∙ ap (behind before_text) (whole_said told plan events refusal);
   }
 
   -- exactly these records are reported and written, whatever came behind them
-  settled_upto : (past : List Met) (before_text after : Option (List ℕ)) → stages.heard past → after ≡ behind before_text (said (run_voice told plan) past) → Settled plan (steps plan past) (Some error.Failed) steps_report before_text after
+  settled_upto : (past : List Met) (before_text after : Option (List ℕ)) → stages.heard past → after ≡ behind before_text (said (run_voice told plan) past) → Settled plan (steps plan past) (Some error.Failed) steps_report f before_text after
   settled_upto past before_text after k w = record {
     at = (runs.heard past k).0.at;
+    failed = (runs.heard past k).1;
     written = w ∙ ap (behind before_text) (said_text told plan past ∙ sym (append-nil (text plan.buses (lines plan (steps plan past)))));
   }
 
-  upto : (events : List Met) (before_text after : Option (List ℕ)) → HeardUpto (run_voice told plan) stages.heard events before_text after → Upto plan events steps_report before_text after
+  upto : (events : List Met) (before_text after : Option (List ℕ)) → HeardUpto (run_voice told plan) stages.heard events before_text after → Upto plan events steps_report f before_text after
   upto events before_text after u = record { came = u.came; first = u.first; settled = settled_upto u.came before_text after u.hears u.written }
 
-  begun : (events : List Met) (refusal : Option LogError) (done : List Met → Type 0) (before_text after : Option (List ℕ)) → ((past : List Met) → done past → Broke plan steps_report (steps plan past)) → HeardFirst (run_voice told plan) done events refusal before_text after
-      → Begun plan (steps plan events) refusal steps_report before_text after
-  begun events refusal done before_text after g x =
+  -- memory was wanting in a step, or in the last lines
+  begun : (events : List Met) (refusal : Option LogError) (before_text after : Option (List ℕ)) → HeardFirst (run_voice told plan) stages.broke events refusal before_text after → Begun plan (steps plan events) refusal steps_report f before_text after
+  begun events refusal before_text after x =
       let n = first_steps plan events x.came x.first in record {
-        first = subst (λ (ss : List Step). AtFirst plan ss refusal steps_report) (sym n.parts) ((broke_grow plan n.newer (steps plan x.came) steps_report (g x.came x.is)).first refusal);
+        first = subst (λ (ss : List Step). AtFirst plan ss refusal steps_report f) (sym n.parts) ((broke_grow plan n.newer (steps plan x.came) steps_report f (runs.broke x.came x.is)).first refusal);
         written = subst (λ t. Begins t before_text after) (whole_said told plan events refusal) x.written;
       }
 
-  begun_whole : (events : List Met) (refusal : Option LogError) (done : List Met → Type 0) (before_text after : Option (List ℕ)) → ((past : List Met) → done past → AtFirst plan (steps plan past) None steps_report) → HeardWhole (run_voice told plan) done events refusal before_text after
-      → Begun plan (steps plan events) refusal steps_report before_text after
-  begun_whole events refusal done before_text after g x = record {
-    first = subst (λ (z : Option LogError). AtFirst plan (steps plan events) z steps_report) (sym x.read) (g events x.is);
+  begun_whole : (events : List Met) (refusal : Option LogError) (before_text after : Option (List ℕ)) → HeardWhole (run_voice told plan) stages.cut_short events refusal before_text after → Begun plan (steps plan events) refusal steps_report f before_text after
+  begun_whole events refusal before_text after x = record {
+    first = subst (λ (z : Option LogError). AtFirst plan (steps plan events) z steps_report f) (sym x.read) (runs.cut events x.is).first;
     written = subst (λ t. Begins t before_text after) (whole_said told plan events refusal) x.written;
   }
 
-  clean : (past : List Met) → stages.heard past → Broke plan steps_report (steps plan past)
-  clean past k = broke_none plan before [] (steps plan past) s s (runs.heard past k).0 refl refl
+  -- a write failed behind a step, or behind the last line
+  cut_off : (events : List Met) (refusal : Option LogError) (before_text after : Option (List ℕ)) → HeardFirst (run_voice told plan) stages.heard events refusal before_text after → CutOff plan (steps plan events) refusal steps_report f before_text after
+  cut_off events refusal before_text after x =
+      let n = first_steps plan events x.came x.first in
+      let past = steps plan x.came in
+      let h = runs.heard x.came x.is in record {
+        first = record {
+          newer = n.newer;
+          past = past;
+          parts = n.parts;
+          told = [];
+          rest = next_lines plan n.newer past refusal;
+          next = refl;
+          at = record { reported = h.0.at.reported ∙ ap (put_behind before) (sym (append-nil (lines plan past))); counted = h.0.at.counted };
+          failed = h.1.tells;
+        };
+        failed = h.1;
+        written = subst (λ t. Begins t before_text after) (whole_said told plan events refusal) x.written;
+      }
 
-  emptied : (past : List Met) → stages.ended past → AtFirst plan (steps plan past) None steps_report
-  emptied past k = first_emptied plan (steps plan past) steps_report (runs.ended past k).0.at
+  cut_whole : (events : List Met) (refusal : Option LogError) (before_text after : Option (List ℕ)) → HeardWhole (run_voice told plan) stages.ended events refusal before_text after → CutOff plan (steps plan events) refusal steps_report f before_text after
+  cut_whole events refusal before_text after x =
+      let all = steps plan events in
+      let h = runs.ended events x.is in
+      subst (λ (z : Option LogError). CutOff plan all z steps_report f before_text after) (sym x.read) (record {
+        first = record {
+          newer = [];
+          past = all;
+          parts = refl;
+          told = emptying plan all;
+          rest = [];
+          next = sym (append-nil (emptying plan all));
+          at = h.0.at;
+          failed = h.1.tells;
+        };
+        failed = h.1;
+        written = subst (λ t. Begins t before_text after) (whole_said told plan events None) (subst (λ (z : Option LogError). Begins (all_said (run_voice told plan) events z) before_text after) x.read x.written);
+      })
 
   ran : (events : List Met) (refusal : Option LogError) (how : Ended) (before_text after : Option (List ℕ)) → Gone (run_voice told plan) stages events refusal how before_text after
-      → Ran plan events refusal (status_of how) (reported before s.told (end_sent how s.numbers sent)) before_text after
-  ran events refusal end.Ok before_text after g = (g.0, settled events None refusal end_report stages.ended before_text after at_end g.0 g.1)
-  ran events refusal (end.Log line why) before_text after g = (g.0, settled events (Some _) refusal steps_report stages.heard before_text after (λ past k. (runs.heard past k).0.at) g.0 g.1)
-  ran events refusal end.LogLong before_text after g = (g.0, settled events (Some _) refusal steps_report stages.heard before_text after (λ past k. (runs.heard past k).0.at) g.0 g.1)
+      → Ran plan events refusal (status_of how) (reported before s.told (end_sent how s.numbers sent)) f before_text after
+  ran events refusal end.Ok before_text after g = (g.0, settled events None refusal end_report stages.ended before_text after at_end (λ past k. (runs.ended past k).1) g.0 g.1)
+  ran events refusal (end.Log line why) before_text after g = (g.0, settled events (Some _) refusal steps_report stages.heard before_text after (λ past k. (runs.heard past k).0.at) (λ past k. (runs.heard past k).1) g.0 g.1)
+  ran events refusal end.LogLong before_text after g = (g.0, settled events (Some _) refusal steps_report stages.heard before_text after (λ past k. (runs.heard past k).0.at) (λ past k. (runs.heard past k).1) g.0 g.1)
   ran events refusal end.ReadFault before_text after g = upto events before_text after g
   ran events refusal end.WriteFault before_text after g = elim g [
-    | inl x ↦ begun events refusal stages.heard before_text after clean x
-    | inr x ↦ begun_whole events refusal stages.ended before_text after emptied x
+    | inl x ↦ cut_off events refusal before_text after x
+    | inr x ↦ cut_whole events refusal before_text after x
   ]
   ran events refusal end.NoMemory before_text after g = elim g [
-    | inl x ↦ begun events refusal stages.broke before_text after (λ past k. (runs.broke past k).0) x
-    | inr x ↦ begun_whole events refusal stages.cut_short before_text after (λ past k. (runs.cut past k).0.first) x
+    | inl x ↦ begun events refusal before_text after x
+    | inr x ↦ begun_whole events refusal before_text after x
   ]
 
-  fails : (events : List Met) (refusal : Option LogError) (how : Ended) (before_text after : Option (List ℕ)) → Gone (run_voice told plan) stages events refusal how before_text after → Failed plan events (status_of how) f
-  fails events refusal end.Ok before_text after g = (runs.ended events g.1.hears).1
-  fails events refusal (end.Log line why) before_text after g = (runs.heard events g.1.hears).1
-  fails events refusal end.LogLong before_text after g = (runs.heard events g.1.hears).1
-  fails events refusal end.ReadFault before_text after g = record { came = g.came; first = g.first; are = (runs.heard g.came g.hears).1 }
-  fails events refusal end.WriteFault before_text after g = elim g [
-    | inl x ↦ record { came = x.came; first = x.first; are = (runs.heard x.came x.is).1 }
-    | inr x ↦ record { came = events; first = record { newer = []; parts = refl }; are = (runs.ended events x.is).1 }
-  ]
-  fails events refusal end.NoMemory before_text after g = elim g [
-    | inl x ↦ before_more (steps plan events) (steps plan x.came) f (first_steps plan events x.came x.first) (runs.broke x.came x.is).1
-    | inr x ↦ before_all (steps plan events) f (runs.cut events x.is).1
-  ]
-
-  has_taken : (events : List Met) (left new before_text after : Option (List ℕ)) → HeardTaken (names_of plan) (run_voice told plan) stages.heard events left new before_text after → IsOfTaken plan events (flow left new before_text after) steps_report
+  has_taken : (events : List Met) (left new before_text after : Option (List ℕ)) → HeardTaken (names_of plan) (run_voice told plan) stages.heard events left new before_text after → IsOfTaken plan events (flow left new before_text after) steps_report f
   has_taken events left new before_text after t = record {
     taken = t.taken;
     took = t.took;
@@ -241,13 +261,12 @@ module _ (told : Option Files) (plan : Plan) (before : Option (List Line)) (s : 
     of_log = g.of_log.records_are;
     served = are_served told plan g.events g.of_log.may;
     ran = ran g.events (log_of (names_of plan) g.bytes).refusal how before_text after g.gone;
-    failed = fails g.events (log_of (names_of plan) g.bytes).refusal how before_text after g.gone;
     taken = taken_by how g.taken;
     streamed = has_streamed g.events (log_of (names_of plan) g.bytes).refusal left new how before_text after g.gone g.streamed;
   }
     where
       taken_by : (how : Ended) → (how ≡ end.ReadFault → HeardTaken (names_of plan) (run_voice told plan) stages.heard g.events left new before_text after) → status_of how ≡ status.ReadFault
-          → IsOfTaken plan g.events (flow left new before_text after) (reported before s.told (end_sent how s.numbers sent))
+          → IsOfTaken plan g.events (flow left new before_text after) (reported before s.told (end_sent how s.numbers sent)) f
       taken_by end.Ok t e = absurd cc
       taken_by (end.Log line why) t e = absurd cc
       taken_by end.LogLong t e = absurd cc

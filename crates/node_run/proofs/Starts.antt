@@ -30,7 +30,7 @@ use Rattle.node_run.specs.Failures.{failures}
 use Rattle.node_run.specs.HasRun.{HasRun}
 use Rattle.node_run.specs.Ran.{names_of, newest_first, reported, no_numbers, At, AtFirst, whole_text}
 use Rattle.node_run.specs.ValueLines.{flow}
-use Rattle.node_run.proofs.Fails.{before_some, failed_none}
+use Rattle.node_run.proofs.Fails.{failed_none}
 use Rattle.node_run.proofs.Goes.{first_none}
 use Rattle.node_run.proofs.Runs.{are_served}
 use Rattle.node_run.proofs.Streams.{streamed_none}
@@ -85,10 +85,9 @@ has_none told plan left lines bound before failed faults b =
       of_log = some.are;
       served = are_served told plan some.mets some.may;
       ran = record {
-        first = subst (λ (ss : List Step). AtFirst plan ss log.refusal r) (append-nil all) (first_none plan all [] log.refusal r (at_none plan lines 0 bound (sym (held_none plan)) b));
+        first = subst (λ (ss : List Step). AtFirst plan ss log.refusal r f) (append-nil all) (first_none plan all [] log.refusal r f (at_none plan lines 0 bound (sym (held_none plan)) b) (failed_none failed faults).tells);
         written = begins_none (whole_text plan all log.refusal) before;
       };
-      failed = before_some all [] all f (sym (append-nil all)) (failed_none failed faults).tells;
       taken = λ e. absurd cc;
       streamed = streamed_none plan some.mets left before status.NoMemory r;
     }

@@ -61,20 +61,20 @@ no_refusal : (e : LogError) → None ≡ Some e → ⊥
 no_refusal e h = cc
 
 -- where a log was read to its end and no fault came, all was run, or memory was wanting
-only : (mets : List Met) (stat : Status) (r : Reported) (before after : Option (List ℕ)) → Ran generated_plan mets None stat r before after → (stat ≡ status.ReadFault → ⊥) → (stat ≡ status.WriteFault → ⊥) → (stat ≡ status.Ok) ⊎ (stat ≡ status.NoMemory)
-only mets status.Ok r before after h read write = inl refl
-only mets status.Usage r before after h read write = absurd h
-only mets (status.Dsdl file line why) r before after h read write = absurd h
-only mets (status.Plan line why) r before after h read write = absurd h
-only mets (status.Log line why) r before after h read write = absurd (no_refusal _ h.0)
-only mets (status.Text line) r before after h read write = absurd h
-only mets (status.Unreadable line path why) r before after h read write = absurd h
-only mets (status.NotNewer path why) r before after h read write = absurd h
-only mets status.LogLong r before after h read write = absurd (no_refusal _ h.0)
-only mets (status.NoFile path) r before after h read write = absurd h
-only mets status.ReadFault r before after h read write = absurd (read refl)
-only mets status.WriteFault r before after h read write = absurd (write refl)
-only mets status.NoMemory r before after h read write = inr refl
+only : (mets : List Met) (stat : Status) (r : Reported) (f : Failures) (before after : Option (List ℕ)) → Ran generated_plan mets None stat r f before after → (stat ≡ status.ReadFault → ⊥) → (stat ≡ status.WriteFault → ⊥) → (stat ≡ status.Ok) ⊎ (stat ≡ status.NoMemory)
+only mets status.Ok r f before after h read write = inl refl
+only mets status.Usage r f before after h read write = absurd h
+only mets (status.Dsdl file line why) r f before after h read write = absurd h
+only mets (status.Plan line why) r f before after h read write = absurd h
+only mets (status.Log line why) r f before after h read write = absurd (no_refusal _ h.0)
+only mets (status.Text line) r f before after h read write = absurd h
+only mets (status.Unreadable line path why) r f before after h read write = absurd h
+only mets (status.NotNewer path why) r f before after h read write = absurd h
+only mets status.LogLong r f before after h read write = absurd (no_refusal _ h.0)
+only mets (status.NoFile path) r f before after h read write = absurd h
+only mets status.ReadFault r f before after h read write = absurd (read refl)
+only mets status.WriteFault r f before after h read write = absurd (write refl)
+only mets status.NoMemory r f before after h read write = inr refl
 
 module _ (number : ℕ) (reads : IsRead number) (told : Option Files) (bytes : List ℕ) (are : bytes ≡ log_text number) (new before after : Option (List ℕ)) (stat : Status) (r : Reported) (f : Failures) where
   abbrev HasRunBy : Plan → Type 0
@@ -86,8 +86,8 @@ module _ (number : ℕ) (reads : IsRead number) (told : Option Files) (bytes : L
   log_is : (h : HasRunBy generated_plan) → log_of (names_of generated_plan) h.bytes ≡ whole
   log_is h = ap (log_of (names_of generated_plan)) (h.is ∙ are) ∙ reads
 
-  ran_whole : (h : HasRunBy generated_plan) → Ran generated_plan h.mets None stat r before after
-  ran_whole h = subst (λ (log : Log). Ran generated_plan h.mets log.refusal stat r before after) (log_is h) h.ran
+  ran_whole : (h : HasRunBy generated_plan) → Ran generated_plan h.mets None stat r f before after
+  ran_whole h = subst (λ (log : Log). Ran generated_plan h.mets log.refusal stat r f before after) (log_is h) h.ran
 
   -- no file was asked for
   mets_are : NothingServed → (h : HasRunBy generated_plan) → h.mets ≡ without_files (records_by number)
@@ -102,12 +102,12 @@ module _ (number : ℕ) (reads : IsRead number) (told : Option Files) (bytes : L
     -- where all was run, the numbers are those of the log
     pub all_run : NothingServed → stat ≡ status.Ok → r.numbers ≡ generated_numbers number
     all_run nothing e =
-        let ok : Ran generated_plan there.mets None status.Ok r before after = subst (λ (s : Status). Ran generated_plan there.mets None s r before after) e (ran_whole there) in
+        let ok : Ran generated_plan there.mets None status.Ok r f before after = subst (λ (s : Status). Ran generated_plan there.mets None s r f before after) e (ran_whole there) in
         ok.1.at.counted ∙ (same_numbers there.mets ∙ ap (λ (mets : List Met). numbers generated_plan (steps generated_plan mets)) (mets_are nothing there))
 
     -- and that, or want of memory, is all that can come
     pub either : (stat ≡ status.ReadFault → ⊥) → (stat ≡ status.WriteFault → ⊥) → (stat ≡ status.Ok) ⊎ (stat ≡ status.NoMemory)
-    either read write = only there.mets stat r before after (ran_whole there) read write
+    either read write = only there.mets stat r f before after (ran_whole there) read write
 
 no_entries : entries (empty {X = List ℕ} {R = slice_cmp nat_cmp}) ≡ []
 no_entries = nil_from_length _ (sym (len-entries _) ∙ len-empty (slice_cmp nat_cmp) (List ℕ))

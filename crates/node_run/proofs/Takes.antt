@@ -15,7 +15,7 @@ use Rattle.node_core.specs.Heard.{IsElsewhere}
 use Rattle.node_core.specs.Quick.{AsksNothing}
 use Rattle.node_core.specs.Shapes.{port_schema}
 use Rattle.node_core.specs.Stands.{Gives, Holds, IsWithinBound, Stands, StandsAsBefore, Takes, TellsBadCrc}
-use Rattle.node_core.specs.Steps.{Step, Heard, IsServedAt, Kept, got, held_at, is_bad_at, is_nosession, is_rx, kept, lines_at, one_if, pushed, records, request_on, sends}
+use Rattle.node_core.specs.Steps.{Step, Heard, IsServedAt, Kept, failed_lines, got, held_at, is_bad_at, is_nosession, is_rx, kept, lines_at, one_if, pushed, records, request_on, sends}
 use Rattle.node_core.specs.Text.{text}
 use Rattle.node_core.specs.declared.came.Came.{Came}
 use Rattle.node_core.specs.declared.file_reply.FileReply.{FileReply}
@@ -24,7 +24,7 @@ use Rattle.node_core.specs.declared.node.Node.{Node}
 use Rattle.node_core.specs.declared.numbers.Numbers.{Numbers}
 use Rattle.node_core.specs.declared.request.Request.{Request}
 use Rattle.node_run.specs.Follows.{BrokeFollowing, Follows, asked, following}
-use Rattle.node_run.specs.Failures.{Failures}
+use Rattle.node_run.specs.Failures.{Failures, TellsFailures}
 use Rattle.node_run.specs.Goes.{Broke, IsFew, Runs, State, report_of, state}
 use Rattle.node_run.specs.Hears.{counted}
 use Rattle.node_run.specs.Leaves.{IsSameNode}
@@ -123,7 +123,7 @@ module _ (files : Option Files) (rec : Record) (old : State) (node : Node) (new 
 
   pub breaks_again : BreaksOn files rec (state node old.buses old.told old.numbers) new f → BreaksOn files rec old new f
   breaks_again x = record {
-    breaks = λ plan first past h. x.breaks plan first past (runs_again plan first past old node h same keep stands);
+    breaks = λ plan first past since h told. x.breaks plan first past since (runs_again plan first past old node h same keep stands) told;
     untold = x.untold;
   }
 
@@ -135,13 +135,13 @@ served_by told rec old node ls request bad file c s past stands =
     (subst (λ (p : Plan). IsServed told p request file) c.same s)
 
 -- It broke off before it told of the record.
-pub broke_untold : (files : Option Files) (plan : Plan) (before : Option (List Line)) (rec : Record) (past : List Step) (old new : State) → Runs plan before old past → new.told ≡ old.told → new.numbers ≡ old.numbers
-    → BreaksAt files plan rec past (report_of before new)
-broke_untold files plan before rec past old new h told counted =
+pub broke_untold : (files : Option Files) (plan : Plan) (before : Option (List Line)) (rec : Record) (past : List Step) (old new : State) (since : Failures) → Runs plan before old past → TellsFailures (failed_lines past) since → new.told ≡ old.told → new.numbers ≡ old.numbers
+    → BreaksAt files plan rec past (report_of before new) since
+broke_untold files plan before rec past old new since h failed told counted =
     let some = something_served files plan rec past in record {
       file = some.0;
       served = some.1;
-      broke = broke_none plan before (Heard rec some.0 ∷ []) past old new h told counted;
+      broke = broke_none plan before (Heard rec some.0 ∷ []) past old new since h told counted failed;
     }
 
 -- What follows.
@@ -185,9 +185,9 @@ module _ (plan : Plan) (before : Option (List Line)) (rec : Record) (past : List
     served_there files d = subst (λ (p : Plan). IsServed files p request file) (sym plan_is) (subst (λ (r : Option Request). IsServed files plan r file) (sym asked_is) d)
 
     -- it broke off when its own lines were told, and the first of those that follow
-    broke_behind : (new : State) (o : Option (List Line)) → o ≡ put_behind old.told told → BeginsList due o new.told → new.numbers ≡ old.numbers → Broke plan (report_of before new) (s ∷ past)
-    broke_behind new o put b same =
-        broke_in plan before s past old new _ h (all_lines_are plan before s past old h k (answered node.plan request file k) ek em told full lines_are ef) (begins_later told _ old.told o new.told put b) same
+    broke_behind : (new : State) (since : Failures) (o : Option (List Line)) → TellsFailures (failed_lines past) since → o ≡ put_behind old.told told → BeginsList due o new.told → new.numbers ≡ old.numbers → Broke plan (report_of before new) since (s ∷ past)
+    broke_behind new since o failed put b same =
+        broke_in plan before s past old new since _ h (all_lines_are plan before s past old h k (answered node.plan request file k) ek em told full lines_are ef) (begins_later told _ old.told o new.told put b) same failed
 
     module _ (buses : List BusPlan) (o : Option (List Line)) (t now after : List ℕ) (names : buses ≡ old.buses) (first : HasTold old.buses told t now old.told o) (fin : State) (same : IsSameNode node fin.node) (behind : fin.buses ≡ buses) (f : Follows (asked request file) rec.moment (state node buses o old.numbers) fin now after) where
       stands : Stands fin.node (rec ∷ records past)
@@ -216,12 +216,12 @@ module _ (plan : Plan) (before : Option (List Line)) (rec : Record) (past : List
           runs_next plan before s past old (record fin { numbers = numbers }) h (same.plan ∙ c.same) stands (kept_next plan s past k (answered node.plan request file k) (keeps fin.node) ek em f.keeps_are) (behind ∙ names) all.put counted_is low
 
   -- it broke off in what follows
-  pub broke_following : (files : Option Files) (buses : List BusPlan) (o : Option (List Line)) (new : State) (f : Failures) → o ≡ put_behind old.told told
-      → BrokeFollowing files rec request (state node buses o old.numbers) new f → BreaksAt files plan rec past (report_of before new)
-  broke_following files buses o new f put b =
+  pub broke_following : (files : Option Files) (buses : List BusPlan) (o : Option (List Line)) (new : State) (f since : Failures) → TellsFailures (failed_lines past) since → o ≡ put_behind old.told told
+      → BrokeFollowing files rec request (state node buses o old.numbers) new f → BreaksAt files plan rec past (report_of before new) since
+  broke_following files buses o new f since failed put b =
       let some = something_served files plan rec past in
       let x = b.part some.0 (served_there some.0 files some.1) in record {
         file = x.file;
         served = served_at x.file files x.served;
-        broke = broke_behind x.file new o put x.part.told x.part.uncounted;
+        broke = broke_behind x.file new since o failed put x.part.told x.part.uncounted;
       }

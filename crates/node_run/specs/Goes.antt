@@ -13,11 +13,12 @@ use Rattle.node_core.specs.Keeps.{keeps}
 use Rattle.node_core.specs.LineSinks.{put_behind}
 use Rattle.node_core.specs.Queues.{Queue, waiting}
 use Rattle.node_core.specs.Stands.{Stands}
-use Rattle.node_core.specs.Steps.{Step, records, kept, lines, lines_behind}
+use Rattle.node_core.specs.Steps.{Step, failed_lines, records, kept, lines, lines_behind}
 use Rattle.node_core.specs.Text.{text}
 use Rattle.node_core.specs.Writer.{writes_for}
 use Rattle.node_run.specs.declared.log.clock.Clock.{Clock}
 use Rattle.node_run.specs.declared.log.running.Running.{Running}
+use Rattle.node_run.specs.Failures.{Failures, TellsFailures}
 use Rattle.node_run.specs.Ran.{Reported, reported, At, AtFirst, next_lines}
 
 -- what a run has come to: its node, the buses whose names its lines have, the lines that were put,
@@ -51,14 +52,15 @@ pub record Runs (plan : Plan) (before : Option (List Line)) (s : State) (all : L
   pub within : s.numbers.held ≤ bound_of plan
 
 -- it broke off in one of these steps
-pub record Broke (plan : Plan) (r : Reported) (all : List Step) : Type 0 where
-  pub first : (refusal : Option LogError) → AtFirst plan all refusal r
+pub record Broke (plan : Plan) (r : Reported) (f : Failures) (all : List Step) : Type 0 where
+  pub first : (refusal : Option LogError) → AtFirst plan all refusal r f
   pub within : r.numbers.held ≤ bound_of plan
 
 -- it has not
-abbrev pub unbroken : (plan : Plan) (before : Option (List Line)) (s : State) (all : List Step)
-    → Runs plan before s all → Broke plan (report_of before s) all
-unbroken plan before s all h = record {
+abbrev pub unbroken : (plan : Plan) (before : Option (List Line)) (s : State) (f : Failures) (all : List Step)
+    → Runs plan before s all → TellsFailures (failed_lines all) f
+    → Broke plan (report_of before s) f all
+unbroken plan before s f all h failed = record {
   first = λ refusal. record {
     newer = [];
     past = all;
@@ -70,6 +72,7 @@ unbroken plan before s all h = record {
       reported = h.at.reported ∙ ap (put_behind before) (sym (append-nil (lines plan all)));
       counted = h.at.counted;
     };
+    failed = failed;
   };
   within = h.within;
 }
@@ -87,11 +90,12 @@ GoesOn newer old new gathered_old gathered_new =
     → Runs plan before new (newer ++ past)
     × (gathered_new ≡ gathered_old ++ text plan.buses (lines_behind plan newer past))
 
--- a run breaks off in one of these newer steps
+-- a run breaks off in one of these newer steps, where of those behind them these failures are told
 abbrev pub BreaksOff : List Step → State → State → Type 0
 BreaksOff newer old new =
-    (plan : Plan) (before : Option (List Line)) (past : List Step)
-    → IsFew (newer ++ past) → Runs plan before old past → Broke plan (report_of before new) (newer ++ past)
+    (plan : Plan) (before : Option (List Line)) (past : List Step) (f : Failures)
+    → IsFew (newer ++ past) → Runs plan before old past → TellsFailures (failed_lines past) f
+    → Broke plan (report_of before new) f (newer ++ past)
 
 -- the numbers with so many more frames that were sent
 abbrev pub with_sent : Numbers → ℕ → Numbers

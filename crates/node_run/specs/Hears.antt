@@ -12,6 +12,7 @@ use Rattle.node_core.specs.Steps.{Heard, IsServedAt, Met, met_records, first_of,
 use Rattle.node_core.specs.Text.{text, end_text}
 use Rattle.node_run.specs.declared.log.clock.Clock.{Clock}
 use Rattle.node_run.specs.declared.log.tally.Seen.{Seen}
+use Rattle.node_run.specs.Failures.{Failures}
 use Rattle.node_run.specs.Ran.{Reported, AtFirst, Emptied}
 use Rattle.node_run.specs.Goes.{State, Runs, Broke}
 
@@ -41,8 +42,8 @@ pub record Hears (plan : Plan) (before : Option (List Line)) (s : State) (clock 
   pub few_ticks : clock.number ≤ 2 ^ 45
 
 -- it broke off in a step of the newest of these records, or behind them
-abbrev pub BrokeOff : Plan → Reported → List Met → Type 0
-BrokeOff plan r past = Broke plan r (steps plan past)
+abbrev pub BrokeOff : Plan → Reported → Failures → List Met → Type 0
+BrokeOff plan r f past = Broke plan r f (steps plan past)
 
 -- the last line is said, and so many frames were sent in all
 pub record HasEnded (plan : Plan) (r : Reported) (sent : ℕ) (past : List Met) : Type 0 where
@@ -51,8 +52,8 @@ pub record HasEnded (plan : Plan) (r : Reported) (sent : ℕ) (past : List Met) 
   pub within : r.numbers.held ≤ bound_of plan
 
 -- it broke off behind the last of these records, the last of the log
-pub record CutShort (plan : Plan) (r : Reported) (past : List Met) : Type 0 where
-  pub first : AtFirst plan (steps plan past) None r
+pub record CutShort (plan : Plan) (r : Reported) (f : Failures) (past : List Met) : Type 0 where
+  pub first : AtFirst plan (steps plan past) None r f
   pub within : r.numbers.held ≤ bound_of plan
 
 -- the text of what a record gives, with the ticks before it

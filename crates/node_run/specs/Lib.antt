@@ -16,3 +16,4 @@ pub mod Taken
 pub mod Tells
 pub mod ValueLines
 pub mod HasRun
+pub mod FailedLines

@@ -9,10 +9,10 @@ use Rattle.node_core.specs.Laws.{SomethingServed}
 use Rattle.node_core.specs.Steps.{Heard, IsServedAt, Met, Step, failed_lines, met, met_records, steps, ticks_before}
 use Rattle.node_core.specs.declared.file_reply.FileReply.{FileReply}
 use Rattle.node_core.specs.declared.line.Line.{Line}
-use Rattle.node_run.specs.Failures.{AreFailures, Failures, FailsAs, FailsUntold, failures}
+use Rattle.node_run.specs.Failures.{AreFailures, Failures, FailsAs, FailsUntold, TellsFailures, failures}
 use Rattle.node_run.specs.Goes.{Broke, GoesOn, Runs, State, report_of, state_in, unbroken}
 use Rattle.node_run.specs.Hears.{BrokeOff, CutShort, HasEnded, Hears, run_voice}
-use Rattle.node_run.specs.Ran.{FailedBefore, Reported}
+use Rattle.node_run.specs.Ran.{Reported}
 use Rattle.node_run.specs.declared.log.running.Running.{Running}
 
 -- a run is over the sink and the tree that it was over, whose files stayed
@@ -66,14 +66,12 @@ pub record HasEndedBehind {K T : Type 0} (v : Views K T) (first now : Running K 
 -- it broke off in a step of the newest of these records, or behind them
 pub record HasBrokenOff {K T : Type 0} (v : Views K T) (first now : Running K T) (past : List Met) : Type 0 where
   pub over : IsOver v.files first now
-  pub broke : BrokeOff first.node.now.plan (reported_since v first now) past
-  pub failed : FailedBefore (steps first.node.now.plan past) (failed_since v first now)
+  pub broke : BrokeOff first.node.now.plan (reported_since v first now) (failed_since v first now) past
 
 -- it broke off in its last lines behind these records
 pub record IsCutShort {K T : Type 0} (v : Views K T) (first now : Running K T) (past : List Met) : Type 0 where
   pub over : IsOver v.files first now
-  pub cut : CutShort first.node.now.plan (reported_since v first now) past
-  pub failed : AreFailures (failed_lines (steps first.node.now.plan past)) (failed_since v first now)
+  pub cut : CutShort first.node.now.plan (reported_since v first now) (failed_since v first now) past
 
 -- what was heard is not broken off
 abbrev pub unbroken_off : {K T : Type 0} (v : Views K T) (first now : Running K T) (past : List Met)
@@ -81,8 +79,8 @@ abbrev pub unbroken_off : {K T : Type 0} (v : Views K T) (first now : Running K 
 unbroken_off v first now past h =
     let all = steps first.node.now.plan past in record {
       over = h.over;
-      broke = unbroken first.node.now.plan (v.lines first.lines.now) (state_in v.lines now) all h.hears.runs;
-      failed = record { past = all; first = record { newer = []; parts = refl }; tells = h.failed.tells };
+      broke = unbroken first.node.now.plan (v.lines first.lines.now) (state_in v.lines now) (failed_since v first now) all
+          h.hears.runs h.failed.tells;
     }
 
 -- there is something that the tree may tell for a record
@@ -101,13 +99,15 @@ pub record HasTaken (told : Option Files) (rec : Record) (old new : State) (befo
   pub fails : FailsAs file (Heard rec file) f
 
 -- a run of a plan broke off on a record behind these steps, by what the tree told of a file or might have told
-pub record BreaksAt (told : Option Files) (plan : Plan) (rec : Record) (past : List Step) (r : Reported) : Type 0 where
+pub record BreaksAt (told : Option Files) (plan : Plan) (rec : Record) (past : List Step) (r : Reported)
+    (f : Failures) : Type 0 where
   pub file : FileReply
   pub served : IsServedAt told plan (Heard rec file) past
-  pub broke : Broke plan r (Heard rec file ∷ past)
+  pub broke : Broke plan r f (Heard rec file ∷ past)
 
--- it broke off on a record, whatever steps it was behind
+-- it broke off on a record, whatever steps it was behind and whichever of their failures are told
 pub record BreaksOn (told : Option Files) (rec : Record) (old new : State) (f : Failures) : Type 0 where
-  pub breaks : (plan : Plan) (before : Option (List Line)) (past : List Step) → Runs plan before old past
-      → BreaksAt told plan rec past (report_of before new)
+  pub breaks : (plan : Plan) (before : Option (List Line)) (past : List Step) (since : Failures)
+      → Runs plan before old past → TellsFailures (failed_lines past) since
+      → BreaksAt told plan rec past (report_of before new) since
   pub untold : FailsUntold f

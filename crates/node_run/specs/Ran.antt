@@ -95,9 +95,10 @@ next_lines plan [] past None = emptying plan past
 next_lines plan [] past (Some refusal) = []
 next_lines plan (step ∷ newer) past refusal = first_lines plan step newer past
 
--- The first of these steps are reported and counted, and of what comes next the first lines are
--- reported, and nothing is counted.
-pub record AtFirst (plan : Plan) (all : List Step) (refusal : Option LogError) (r : Reported) : Type 0 where
+-- The first of these steps are reported and counted, and the requests among them in which the tree
+-- failed are told. Of what comes next the first lines are reported, and nothing is counted or told.
+pub record AtFirst (plan : Plan) (all : List Step) (refusal : Option LogError) (r : Reported)
+    (f : Failures) : Type 0 where
   pub newer : List Step
   pub past : List Step
   pub parts : all ≡ newer ++ past
@@ -105,6 +106,7 @@ pub record AtFirst (plan : Plan) (all : List Step) (refusal : Option LogError) (
   pub rest : List Line
   pub next : next_lines plan newer past refusal ≡ told ++ rest
   pub at : Tells (lines plan past ++ told) (numbers plan past) r
+  pub failed : TellsFailures (failed_lines past) f
 
 -- the last line comes only where the log was read to its end
 abbrev pub end_part : Plan → List Step → Option LogError → List ℕ
@@ -115,56 +117,48 @@ end_part plan all (Some refusal) = []
 abbrev pub whole_text : Plan → List Step → Option LogError → List ℕ
 whole_text plan all refusal = text plan.buses (due_lines plan all refusal) ++ end_part plan all refusal
 
--- all is reported, counted and written
-pub record Settled (plan : Plan) (all : List Step) (refusal : Option LogError) (r : Reported) (before after : Option (List ℕ)) : Type 0 where
+-- all is reported, counted and written, and the requests in which the tree failed are told
+pub record Settled (plan : Plan) (all : List Step) (refusal : Option LogError) (r : Reported)
+    (f : Failures) (before after : Option (List ℕ)) : Type 0 where
   pub at : Tells (due_lines plan all refusal) (due_numbers plan all refusal) r
+  pub failed : AreFailures (failed_lines all) f
   pub written : after ≡ behind before (whole_text plan all refusal)
 
 -- the first steps are reported and counted, and a beginning of it is written
-pub record Begun (plan : Plan) (all : List Step) (refusal : Option LogError) (r : Reported) (before after : Option (List ℕ)) : Type 0 where
-  pub first : AtFirst plan all refusal r
+pub record Begun (plan : Plan) (all : List Step) (refusal : Option LogError) (r : Reported)
+    (f : Failures) (before after : Option (List ℕ)) : Type 0 where
+  pub first : AtFirst plan all refusal r f
+  pub written : Begins (whole_text plan all refusal) before after
+
+-- the same where a write failed: no step broke off, so the tree failed in no other request
+pub record CutOff (plan : Plan) (all : List Step) (refusal : Option LogError) (r : Reported)
+    (f : Failures) (before after : Option (List ℕ)) : Type 0 where
+  pub first : AtFirst plan all refusal r f
+  pub failed : AreFailures (failed_lines first.past) f
   pub written : Begins (whole_text plan all refusal) before after
 
 -- exactly the first records are reported and written, each of them whole
-pub record Upto (plan : Plan) (mets : List Met) (r : Reported) (before after : Option (List ℕ)) : Type 0 where
+pub record Upto (plan : Plan) (mets : List Met) (r : Reported) (f : Failures)
+    (before after : Option (List ℕ)) : Type 0 where
   pub came : List Met
   pub first : FirstOf mets came
-  pub settled : Settled plan (steps plan came) (Some error.Failed) r before after
+  pub settled : Settled plan (steps plan came) (Some error.Failed) r f before after
 
 -- what a run has done over a log with these records that ends so, by its status
-abbrev pub Ran : Plan → List Met → Option LogError → Status → Reported → Option (List ℕ) → Option (List ℕ) → Type 0
-Ran plan mets refusal status.Ok r before after =
-    (refusal ≡ None) × Settled plan (steps plan mets) refusal r before after
-Ran plan mets refusal (status.Log line why) r before after =
-    (refusal ≡ Some (refusal_of line why)) × Settled plan (steps plan mets) refusal r before after
-Ran plan mets refusal status.LogLong r before after =
-    (refusal ≡ Some error.LogLong) × Settled plan (steps plan mets) refusal r before after
-Ran plan mets refusal status.ReadFault r before after = Upto plan mets r before after
-Ran plan mets refusal status.WriteFault r before after = Begun plan (steps plan mets) refusal r before after
-Ran plan mets refusal status.NoMemory r before after = Begun plan (steps plan mets) refusal r before after
-Ran plan mets refusal other r before after = ⊥
-
--- the requests in which the tree failed among the first of these records
-pub record FailedUpto (plan : Plan) (mets : List Met) (f : Failures) : Type 0 where
-  pub came : List Met
-  pub first : FirstOf mets came
-  pub are : AreFailures (failed_lines (steps plan came)) f
-
--- those among the first of these steps, behind which one broke off
-pub record FailedBefore (all : List Step) (f : Failures) : Type 0 where
-  pub past : List Step
-  pub first : FirstOf all past
-  pub tells : TellsFailures (failed_lines past) f
-
--- the requests in which the tree failed in a run, by its status
-abbrev pub Failed : Plan → List Met → Status → Failures → Type 0
-Failed plan mets status.Ok f = AreFailures (failed_lines (steps plan mets)) f
-Failed plan mets (status.Log line why) f = AreFailures (failed_lines (steps plan mets)) f
-Failed plan mets status.LogLong f = AreFailures (failed_lines (steps plan mets)) f
-Failed plan mets status.ReadFault f = FailedUpto plan mets f
-Failed plan mets status.WriteFault f = FailedUpto plan mets f
-Failed plan mets status.NoMemory f = FailedBefore (steps plan mets) f
-Failed plan mets other f = ⊥
+abbrev pub Ran : Plan → List Met → Option LogError → Status → Reported → Failures
+    → Option (List ℕ) → Option (List ℕ) → Type 0
+Ran plan mets refusal status.Ok r f before after =
+    (refusal ≡ None) × Settled plan (steps plan mets) refusal r f before after
+Ran plan mets refusal (status.Log line why) r f before after =
+    (refusal ≡ Some (refusal_of line why)) × Settled plan (steps plan mets) refusal r f before after
+Ran plan mets refusal status.LogLong r f before after =
+    (refusal ≡ Some error.LogLong) × Settled plan (steps plan mets) refusal r f before after
+Ran plan mets refusal status.ReadFault r f before after = Upto plan mets r f before after
+Ran plan mets refusal status.WriteFault r f before after =
+    CutOff plan (steps plan mets) refusal r f before after
+Ran plan mets refusal status.NoMemory r f before after =
+    Begun plan (steps plan mets) refusal r f before after
+Ran plan mets refusal other r f before after = ⊥
 
 -- the status of a run that the log ended
 abbrev pub refused : LogError → Status

@@ -4,6 +4,7 @@ pub mod bound_text;
 pub mod clock;
 pub mod generated;
 mod labelled;
+pub mod laws;
 pub mod run;
 pub mod running;
 mod sending;

@@ -66,12 +66,13 @@ pub(crate) fn tell_quick<K: LineSink>(
     ensures untold { K.failed lines.new ≡ K.failed lines.old }
 {
     match quick.step {
-        Step::Ignored => Ok(Seen::of(None, false)),
-        Step::Held => Ok(Seen::of(None, false)),
-        Step::BadCrc => Ok(Seen::of(None, true)),
-        Step::Whole => tell_ended(node, writer, lines, gathered, rec, quick),
-        Step::Delivered(_) => tell_ended(node, writer, lines, gathered, rec, quick),
+        Step::Ignored => return Ok(Seen::of(None, false)),
+        Step::Held => return Ok(Seen::of(None, false)),
+        Step::BadCrc => return Ok(Seen::of(None, true)),
+        Step::Whole => {}
+        Step::Delivered(_) => {}
     }
+    tell_ended(node, writer, lines, gathered, rec, quick)
 }
 
 /// The same of one that ended a transfer.
@@ -125,8 +126,27 @@ fn tell_untyped<K: LineSink>(
             writer.push_raw(gathered, &rx)?;
             lines.put(&LineRef::Rx(rx))
         }
-        _ => tell(writer, lines, gathered, told),
+        _ => tell_other(writer, lines, gathered, told),
     }
+}
+
+/// Tells a line that is none of a transfer, apart from where that is told.
+#[cold]
+#[inline(never)]
+fn tell_other<K: LineSink>(
+    writer: &mut LineWriter,
+    lines: &mut K,
+    gathered: &mut TextBuffer,
+    told: Option<LineRef<'_>>,
+) -> Result<(), NoMemory>
+    ensures buses { writes_for writer.new ≡ writes_for writer.old }
+    ensures told { let said = told_lines told.entry in
+        OnOk result (HasTold (writes_for writer.old) said (text_of gathered.old)
+        (text_of gathered.new) (K.lines lines.old) (K.lines lines.new)) }
+    ensures err { OnErr result (K.lines lines.new ≡ K.lines lines.old) }
+    ensures untold { K.failed lines.new ≡ K.failed lines.old }
+{
+    tell(writer, lines, gathered, told)
 }
 
 /// Tells the line on a frame that came to this in the node's table, if there is one, and what is counted

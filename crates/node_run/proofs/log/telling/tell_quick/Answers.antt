@@ -1,17 +1,19 @@
-use Rattle.std.proofs.Common.{Bool, true, false, IfOk, sym, subst}
+use Rattle.std.proofs.Common.{◌≡◌, Bool, true, false, IfOk, sym, subst}
 use Rattle.line_text.specs.Buffer.{text_of}
-use Rattle.node_core.specs.Quick.{quick_lines}
+use Rattle.node_core.specs.Quick.{quick_is_bad, quick_lines}
 use Rattle.node_core.specs.Writer.{writes_for}
 use Rattle.node_core.proofs.Messages.{ignored_says, held_says, bad_says, whole_good, delivered_good}
 use Rattle.node_run.specs.Tells.{Counts}
 use Rattle.node_run.proofs.Tells.{told_silent, counts_silent}
 use Rattle.node_run.proofs.log.telling.tell_quick.Goals as goal
+use Rattle.node_run.proofs.log.telling.tell_quick.Goals.{in-Whole, in-Delivered}
 
 pub tell_ended-requires-clause-good : goal.tell_ended-requires-clause-good
-tell_ended-requires-clause-good g c = whole_good c.args.node.now c.args.quick.now c.in-Whole.is
-
-pub tell_ended-requires-in-Delivered-clause-good : goal.tell_ended-requires-in-Delivered-clause-good
-tell_ended-requires-in-Delivered-clause-good g c = delivered_good c.args.node.now c.args.quick.now c.in-Delivered.field-0 c.in-Delivered.is
+tell_ended-requires-clause-good g c =
+    elim c.match-quick.branch [
+      in-Whole w ↦ whole_good c.args.node.now c.args.quick.now w.in-Whole.is
+    | in-Delivered w ↦ delivered_good c.args.node.now c.args.quick.now w.in-Delivered.field-0 w.in-Delivered.is
+    ]
 
 pub returns-in-Ignored-clause-told : goal.returns-in-Ignored-clause-told
 returns-in-Ignored-clause-told g c =
@@ -40,14 +42,12 @@ returns-in-BadCrc-clause-counts g c =
     let said = bad_says c.args.node.now c.args.quick.now c.requires.placed c.in-BadCrc.is in
     counts_silent c.of-in-BadCrc.result _ true _ (record { delivered = c.of-in-BadCrc.ensures.delivered; badcrc = c.of-in-BadCrc.ensures.badcrc; nosession = c.of-in-BadCrc.ensures.nosession }) said.lines said.is_bad
 
-pub returns-in-Whole-clause-counts : goal.returns-in-Whole-clause-counts
-returns-in-Whole-clause-counts g c =
+pub returns-clause-counts : goal.returns-clause-counts
+returns-clause-counts g c =
     let node = c.args.node.now in
     let quick = c.args.quick.now in
-    subst (λ (bad : Bool). IfOk c.tell_ended.result (λ counted. Counts counted (quick_lines node quick) bad)) (sym (whole_good node quick c.in-Whole.is)) c.tell_ended.ensures.counts
-
-pub returns-in-Delivered-clause-counts : goal.returns-in-Delivered-clause-counts
-returns-in-Delivered-clause-counts g c =
-    let node = c.args.node.now in
-    let quick = c.args.quick.now in
-    subst (λ (bad : Bool). IfOk c.tell_ended-in-Delivered.result (λ counted. Counts counted (quick_lines node quick) bad)) (sym (delivered_good node quick c.in-Delivered.field-0 c.in-Delivered.is)) c.tell_ended-in-Delivered.ensures.counts
+    let good : quick_is_bad node quick ≡ false = elim c.match-quick.branch [
+      in-Whole w ↦ whole_good node quick w.in-Whole.is
+    | in-Delivered w ↦ delivered_good node quick w.in-Delivered.field-0 w.in-Delivered.is
+    ] in
+    subst (λ (bad : Bool). IfOk c.tell_ended.result (λ counted. Counts counted (quick_lines node quick) bad)) (sym good) c.tell_ended.ensures.counts

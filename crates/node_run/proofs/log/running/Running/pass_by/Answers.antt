@@ -20,8 +20,8 @@ returns-in_err-leave-clause-err g c =
     let part = c.in_err-leave.ensures.followed.err in
     let put = lines self.lines.now in
     on_err _ c.from_residual.result (record {
-      breaks = λ plan before past h.
-          broke_following plan before rec past (state_in lines self) h self.node.now [] None false to files (writes_for self.writer.now) put (state_in lines c.leave.new.self) _ (put_none put) part;
+      breaks = λ plan before past since h failed.
+          broke_following plan before rec past (state_in lines self) h self.node.now [] None false to files (writes_for self.writer.now) put (state_in lines c.leave.new.self) _ since failed (put_none put) part;
       untold = part.untold;
     })
 

@@ -30,7 +30,7 @@ returns-in_err-came-clause-err g c =
     let old = state_in lines self in
     let new = state c.step.new.self (writes_for self.writer.now) (lines self.lines.now) self.tally.numbers in
     on_err _ c.from_residual.result (record {
-      breaks = λ plan before past h. broke_untold files plan before c.args.rec.now past old new h refl refl;
+      breaks = λ plan before past since h failed. broke_untold files plan before c.args.rec.now past old new since h failed refl refl;
       untold = record { told = refl; count = omega arith };
     })
 
@@ -53,8 +53,8 @@ returns-in_err-leave-clause-err g c =
     let part = c.in_err-leave.ensures.followed.err in
     let put = lines self.lines.now in
     on_err _ c.from_residual-in_err-leave.result (record {
-      breaks = λ plan before past h.
-          broke_following plan before rec past (state_in lines self) h node [] None came.badcrc to files (writes_for self.writer.now) put (state_in lines c.leave.new.self) _ (put_none put) part;
+      breaks = λ plan before past since h failed.
+          broke_following plan before rec past (state_in lines self) h node [] None came.badcrc to files (writes_for self.writer.now) put (state_in lines c.leave.new.self) _ since failed (put_none put) part;
       untold = part.untold;
     })
 
@@ -96,7 +96,7 @@ returns-in_err-tell-clause-err g c =
     let files = g.T.Tree.files self.tree.now in
     let new = state c.step.new.self (writes_for c.tell.new.writer) (lines c.tell.new.lines) self.tally.numbers in
     on_err _ c.from_residual-in_err-tell.result (record {
-      breaks = λ plan before past h. broke_untold files plan before c.args.rec.now past (state_in lines self) new h c.in_err-tell.ensures.err refl;
+      breaks = λ plan before past since h failed. broke_untold files plan before c.args.rec.now past (state_in lines self) new since h failed c.in_err-tell.ensures.err refl;
       untold = record { told = c.tell.ensures.untold; count = omega arith };
     })
 
@@ -123,8 +123,8 @@ returns-in_err-follow-clause-err g c =
     let to = came_to rec self.node.now node came told request c.step.ensures.plan c.step.ensures.keeps step.stands step.lines step.badcrc step.request c.told-told.ensures (ap (came_request came) (sym c.told-told.ensures)) in
     let part = c.in_err-follow.ensures.followed.err in
     on_err _ c.from_residual-in_err-follow.result (record {
-      breaks = λ plan before past h.
-          broke_following plan before rec past (state_in lines self) h node told request came.badcrc to files (writes_for c.tell.new.writer) (lines c.tell.new.lines) (state_in lines c.follow.new.self) _ c.in_ok-tell.ensures.adds part;
+      breaks = λ plan before past since h failed.
+          broke_following plan before rec past (state_in lines self) h node told request came.badcrc to files (writes_for c.tell.new.writer) (lines c.tell.new.lines) (state_in lines c.follow.new.self) _ since failed c.in_ok-tell.ensures.adds part;
       untold = record { told = part.untold.told ∙ c.tell.ensures.untold; count = part.untold.count };
     })
 

@@ -37,7 +37,7 @@ returns-in_err-seen-clause-err g c =
     let files = g.T.Tree.files self.tree.now in
     let new = state c.quick.new.self (writes_for c.tell_quick.new.writer) (lines c.tell_quick.new.lines) self.tally.numbers in
     on_err _ c.from_residual.result (record {
-      breaks = λ plan before past h. broke_untold files plan before c.args.rec.now past (state_in lines self) new h c.in_err-seen.ensures.err refl;
+      breaks = λ plan before past since h failed. broke_untold files plan before c.args.rec.now past (state_in lines self) new since h failed c.in_err-seen.ensures.err refl;
       untold = record { told = c.tell_quick.ensures.untold; count = omega arith };
     })
 
@@ -57,8 +57,8 @@ returns-in_err-leave-clause-err g c =
     let to = came_quick rec self.node.now node told bad c.quick.ensures.plan c.quick.ensures.keeps quick.stands quick.lines quick.badcrc quick.asks in
     let part = c.in_err-leave.ensures.followed.err in
     on_err _ c.from_residual-in_err-leave.result (record {
-      breaks = λ plan before past h.
-          broke_following plan before rec past (state_in lines self) h node told None bad to files (writes_for c.tell_quick.new.writer) (lines c.tell_quick.new.lines) (state_in lines c.leave.new.self) _ c.in_ok-seen.ensures.told.put part;
+      breaks = λ plan before past since h failed.
+          broke_following plan before rec past (state_in lines self) h node told None bad to files (writes_for c.tell_quick.new.writer) (lines c.tell_quick.new.lines) (state_in lines c.leave.new.self) _ since failed c.in_ok-seen.ensures.told.put part;
       untold = record { told = part.untold.told ∙ c.tell_quick.ensures.untold; count = part.untold.count };
     })
 

@@ -26,10 +26,10 @@ returns-in_err-sent-clause-err g c =
     let moment = self.clock.next in
     let s : Step = Tick number moment in
     let k = keeps self.node.now in
-    on_err _ c.from_residual.result (λ plan before past few h.
+    on_err _ c.from_residual.result (λ plan before past f few h failed.
     let em : keeps c.tick-full.new.self ≡ pushed plan s past k = c.tick-full.ensures.keeps ∙ ap (λ (p : Plan). beaten (beat p number k.tid) k) h.same in
     let ef : map Full c.tick-full.result ≡ fulls moment (Some (beat plan number k.tid)) k.queues = c.tick-full.ensures.fulls ∙ ap (λ (p : Plan). fulls moment (Some (beat p number k.tid)) k.queues) h.same in
-    broke_in plan before s past old new _ h (all_lines_are plan before s past old h k (keeps c.tick-full.new.self) h.keeps_are em [] (map Full c.tick-full.result) refl ef) c.in_err-sent.ensures.err refl)
+    broke_in plan before s past old new f _ h (all_lines_are plan before s past old h k (keeps c.tick-full.new.self) h.keeps_are em [] (map Full c.tick-full.result) refl ef) c.in_err-sent.ensures.err refl failed)
 
 pub returns-clause-ok : goal.returns-clause-ok
 returns-clause-ok g c plan before past few h =

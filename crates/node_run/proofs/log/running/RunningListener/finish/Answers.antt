@@ -8,6 +8,7 @@ use Rattle.node_core.specs.Queues.{rounds, waiting}
 use Rattle.node_core.specs.Steps.{Kept, emptying, end_numbers, failed_lines, lines, steps}
 use Rattle.node_core.specs.Text.{end_text, text}
 use Rattle.node_core.proofs.Steps.{on_err}
+use Rattle.node_run.specs.Failures.{failures}
 use Rattle.node_run.specs.Ran.{reported}
 use Rattle.node_run.proofs.Counts.{sent_at_end}
 use Rattle.node_run.proofs.Fails.{failed_stay}
@@ -25,10 +26,11 @@ returns-in_err-emptied-clause-cut_short g c =
     let all = steps plan past in
     let same : _ ≡ emptying plan all = ap (λ (k : Kept). rounds (waiting k.queues) self.clock.last k.queues) h.runs.keeps_are ∙ h.clock_is.last in record {
       over = record { lines = hh.over.lines; tree = hh.over.tree; told = hh.over.told };
-      failed = failed_stay (failed_lines all) (g.K.LineSink.failed first.lines.now) (g.K.LineSink.failed self.lines.now) (g.K.LineSink.failed c.empty.new.lines) (g.T.Tree.faults first.tree.now) (g.T.Tree.faults self.tree.now) c.empty.ensures.untold hh.failed;
       cut = record {
-        first = first_cut plan all (reported (K first.lines.now) (K c.empty.new.lines) self.tally.numbers) (K self.lines.now) h.runs.at.reported
-            (subst (λ (ls : List Line). BeginsList ls (K self.lines.now) (K c.empty.new.lines)) same c.in_err-emptied.ensures.err) h.runs.at.counted;
+        first = first_cut plan all (reported (K first.lines.now) (K c.empty.new.lines) self.tally.numbers) (failures (g.K.LineSink.failed first.lines.now) (g.K.LineSink.failed c.empty.new.lines) (g.T.Tree.faults first.tree.now) (g.T.Tree.faults self.tree.now))
+            (K self.lines.now) h.runs.at.reported
+            (subst (λ (ls : List Line). BeginsList ls (K self.lines.now) (K c.empty.new.lines)) same c.in_err-emptied.ensures.err) h.runs.at.counted
+            (failed_stay (failed_lines all) (g.K.LineSink.failed first.lines.now) (g.K.LineSink.failed self.lines.now) (g.K.LineSink.failed c.empty.new.lines) (g.T.Tree.faults first.tree.now) (g.T.Tree.faults self.tree.now) c.empty.ensures.untold hh.failed).tells;
         within = h.runs.within;
       };
     })
@@ -43,10 +45,11 @@ returns-in_err-push_end-clause-cut_short g c =
     let all = steps plan past in
     let same : _ ≡ emptying plan all = ap (λ (k : Kept). rounds (waiting k.queues) self.clock.last k.queues) h.runs.keeps_are ∙ h.clock_is.last in record {
       over = record { lines = hh.over.lines; tree = hh.over.tree; told = hh.over.told };
-      failed = failed_stay (failed_lines all) (g.K.LineSink.failed first.lines.now) (g.K.LineSink.failed self.lines.now) (g.K.LineSink.failed c.empty.new.lines) (g.T.Tree.faults first.tree.now) (g.T.Tree.faults self.tree.now) c.empty.ensures.untold hh.failed;
       cut = record {
-        first = first_cut plan all (reported (K first.lines.now) (K c.empty.new.lines) self.tally.numbers) (K self.lines.now) h.runs.at.reported
-            (record { front = emptying plan all; rest = []; whole = sym (append-nil (emptying plan all)); put = c.in_ok-emptied.ensures.told.put ∙ ap (put_behind (K self.lines.now)) same }) h.runs.at.counted;
+        first = first_cut plan all (reported (K first.lines.now) (K c.empty.new.lines) self.tally.numbers) (failures (g.K.LineSink.failed first.lines.now) (g.K.LineSink.failed c.empty.new.lines) (g.T.Tree.faults first.tree.now) (g.T.Tree.faults self.tree.now))
+            (K self.lines.now) h.runs.at.reported
+            (record { front = emptying plan all; rest = []; whole = sym (append-nil (emptying plan all)); put = c.in_ok-emptied.ensures.told.put ∙ ap (put_behind (K self.lines.now)) same }) h.runs.at.counted
+            (failed_stay (failed_lines all) (g.K.LineSink.failed first.lines.now) (g.K.LineSink.failed self.lines.now) (g.K.LineSink.failed c.empty.new.lines) (g.T.Tree.faults first.tree.now) (g.T.Tree.faults self.tree.now) c.empty.ensures.untold hh.failed).tells;
         within = h.runs.within;
       };
     })
