@@ -1,0 +1,4 @@
+pub mod Floats
+pub mod Pieces
+pub mod Words
+pub mod Json
