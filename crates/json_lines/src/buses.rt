@@ -1,0 +1,28 @@
+//! The buses whose names lines have.
+ghost use Rattle.std.specs.Prelude.{◌≡◌};
+
+use cy_bits::{BusName, ShortList};
+use node_plan::BusPlan;
+
+/// The same buses.
+pub fn copy_of(buses: &ShortList<BusPlan, 3>) -> ShortList<BusPlan, 3>
+    ensures { result ≡ buses.now }
+{
+    let mut copied = ShortList::new();
+    for bus in buses.as_slice() {
+        copied.push(copy_of_bus(bus));
+    }
+    copied
+}
+
+/// The same bus.
+fn copy_of_bus(bus: &BusPlan) -> BusPlan
+    ensures { result ≡ bus.now }
+{
+    let text = bus.name.as_str();
+    BusPlan {
+        name: BusName::new(text).unwrap(),
+        mtu: bus.mtu,
+        rate: bus.rate,
+    }
+}
