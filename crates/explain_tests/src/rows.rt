@@ -1,0 +1,233 @@
+//! Logs with what is said of each of their frames and sessions.
+
+/// A plan, a log, what is written, and how it ends.
+#[derive(Drop)]
+pub struct Row {
+    pub plan: &'static str,
+    pub log: &'static [u8],
+    pub written: &'static [u8],
+}
+
+/// Every reason that there is, and each word behind one.
+pub const EVERY: Row = Row {
+    plan: "plan 1
+node 10
+bus can0
+bus can1
+silent
+sub 100 2 raw 8
+",
+    log: b"(1.000000) can0 10E06401#01E0
+(1.000001) can0 10606401#
+(1.000002) can0 10606401#01C0
+(1.000003) can0 11606405#00010203040506A7
+(1.000004) can0 10606401#01A0
+(1.000005) can0 10606401#40
+(1.000006) can0 1060640A#01E0
+(1.000007) can0 136B957B#E1
+(1.000008) can0 10606501#01E0
+(1.000009) can0 11606405#AAE7
+(1.000010) can0 10606401#0001020304050600
+(1.000011) can0 10606401#00010203040506A1
+(1.000012) can0 10606401#0001020304050621
+(1.000013) can0 10606401#0001020304050602
+(1.000014) can1 10606401#00010203040506A1
+(1.000015) can0 10606401#00010203040506A2
+(1.000016) can0 10606401#07178D42
+(1.000017) can0 10606401#07178D42
+(1.000018) can0 10606401#00010203040506A2
+(1.000019) can0 10606401#00010203040506A3
+(1.000020) can0 10606401#07178E43
+(1.000021) can0 10606402#01E0
+(1.000022) can0 10606403#01E0
+(1.000023) can0 10606403#0001020304050600
+(1.000024) can0 123#00
+(1.000025) can0 10606401#00010203040506A4
+(3.000026) can1 10606401#01E5
+(3.000027) can0 10606401#07178D44
+(3.000028) can1 10606401#00010203040506A6
+(5.000029) can1 10606401#02E5
+",
+    written: b"frame 1 1.000000 can0 - - - - discarded identifier
+frame 2 1.000001 can0 - - - - discarded empty
+frame 3 1.000002 can0 - - - - discarded toggle
+frame 4 1.000003 can0 - - - - discarded anonymous
+frame 5 1.000004 can0 - - - - discarded short
+frame 6 1.000005 can0 - - - - discarded bare
+frame 7 1.000006 can0 msg 100 10 0 own
+frame 8 1.000007 can0 req 430 123 1 elsewhere 42
+frame 9 1.000008 can0 msg 101 1 0 unsubscribed
+frame 10 1.000009 can0 msg 100 - 7 delivered 10
+frame 11 1.000010 can0 msg 100 1 0 unknown
+frame 12 1.000011 can0 msg 100 1 1 begun
+frame 13 1.000012 can0 msg 100 1 1 stray toggle 12
+frame 14 1.000013 can0 msg 100 1 2 stray tid 1
+frame 15 1.000014 can1 msg 100 1 1 standby can0 1
+frame 16 1.000015 can0 msg 100 1 2 begun over 12
+frame 17 1.000016 can0 msg 100 1 2 delivered 16
+frame 18 1.000017 can0 msg 100 1 2 stray none
+frame 19 1.000018 can0 msg 100 1 2 copy 17
+frame 20 1.000019 can0 msg 100 1 3 begun
+frame 21 1.000020 can0 msg 100 1 3 badcrc 20
+frame 22 1.000021 can0 msg 100 2 0 delivered 22
+frame 23 1.000022 can0 msg 100 3 0 nosession
+frame 24 1.000023 can0 msg 100 3 0 unknown
+frame 26 1.000025 can0 msg 100 1 4 begun
+frame 27 3.000026 can1 msg 100 1 5 delivered 27 over 26 from can0 2000001
+frame 28 3.000027 can0 msg 100 1 4 standby can1 1
+frame 29 3.000028 can1 msg 100 1 6 begun
+frame 30 5.000029 can1 msg 100 1 5 delivered 30 over 29
+session msg 100 1 can1 delivered 3 badcrc 1 copies 1 standby 2 stray 3 abandoned 3 handovers 1 gaps 2
+session msg 100 2 can0 delivered 1 badcrc 0 copies 0 standby 0 stray 0 abandoned 0 handovers 0 gaps 0
+end records 29 sessions 2
+",
+};
+
+/// Heartbeats and a sensor on two buses, of which one falls silent.
+pub const TWO_BUSES: Row = Row {
+    plan: "plan 1
+node 10
+bus can0
+bus can1
+timeout 2000000
+silent
+sub 7509 2 raw 7
+sub 1100 1 raw 32
+",
+    log: b"(1700000000.000000) can0 107D552A#01000000000000E0
+(1700000000.000600) can1 107D552A#01000000000000E0
+(1700000000.005000) can0 107D5507#64000000000000E0
+(1700000001.000000) can0 107D552A#02000000000000E1
+(1700000001.000600) can1 107D552A#02000000000000E1
+(1700000001.000900) can0 107D552A#02000000000000E1
+(1700000001.005000) can0 107D5507#65000000000000E1
+(1700000002.000000) can0 107D552A#03000000000000E2
+(1700000002.000600) can1 107D552A#03000000000000E2
+(1700000002.005000) can0 107D5507#66000000000000E2
+(1700000002.010000) can0 10644C07#00010203040506A5
+(1700000002.010150) can0 10644C07#0708090A0B0C0D05
+(1700000002.010210) can0 10644C07#0708090A0B0C0D05
+(1700000002.010300) can0 10644C07#0E0F101112135A25
+(1700000002.010450) can0 10644C07#7445
+(1700000003.000000) can0 107D552A#04000000000000E3
+(1700000003.000600) can1 107D552A#04000000000000E3
+(1700000003.005000) can0 107D5507#67000000000000E3
+(1700000003.100000) can0 123#0011
+(1700000004.000600) can1 107D552A#05000000000000E4
+(1700000005.000600) can1 107D552A#06000000000000E5
+(1700000006.000600) can1 107D552A#07000000000000E6
+(1700000007.000600) can1 107D552A#08000000000000E7
+(1700000010.500000) can1 107D552A#0D000000000000E7 R
+(1700000010.500100) can0 107D5563#01000000000000E0
+(1700000010.501000) can0 10644C07#00010203040506A6
+(1700000010.501150) can0 10644C07#0608090A0B0C0D06
+(1700000010.501300) can0 10644C07#0E0F101112135A26
+(1700000010.501450) can0 10644C07#7446
+(1700000010.502000) can1 11644C05#AAE0
+",
+    written: b"frame 1 1700000000.000000 can0 msg 7509 42 0 delivered 1
+frame 2 1700000000.000600 can1 msg 7509 42 0 standby can0 600
+frame 3 1700000000.005000 can0 msg 7509 7 0 delivered 3
+frame 4 1700000001.000000 can0 msg 7509 42 1 delivered 4
+frame 5 1700000001.000600 can1 msg 7509 42 1 standby can0 600
+frame 6 1700000001.000900 can0 msg 7509 42 1 copy 4
+frame 7 1700000001.005000 can0 msg 7509 7 1 delivered 7
+frame 8 1700000002.000000 can0 msg 7509 42 2 delivered 8
+frame 9 1700000002.000600 can1 msg 7509 42 2 standby can0 600
+frame 10 1700000002.005000 can0 msg 7509 7 2 delivered 10
+frame 11 1700000002.010000 can0 msg 1100 7 5 begun
+frame 12 1700000002.010150 can0 msg 1100 7 5 taken 11
+frame 13 1700000002.010210 can0 msg 1100 7 5 stray toggle 11
+frame 14 1700000002.010300 can0 msg 1100 7 5 taken 11
+frame 15 1700000002.010450 can0 msg 1100 7 5 delivered 11
+frame 16 1700000003.000000 can0 msg 7509 42 3 delivered 16
+frame 17 1700000003.000600 can1 msg 7509 42 3 standby can0 600
+frame 18 1700000003.005000 can0 msg 7509 7 3 delivered 18
+frame 20 1700000004.000600 can1 msg 7509 42 4 standby can0 1000600
+frame 21 1700000005.000600 can1 msg 7509 42 5 delivered 21 from can0 2000600
+frame 22 1700000006.000600 can1 msg 7509 42 6 delivered 22
+frame 23 1700000007.000600 can1 msg 7509 42 7 delivered 23
+frame 24 1700000010.500000 can1 msg 7509 42 7 delivered 24
+frame 25 1700000010.500100 can0 msg 7509 99 0 nosession
+frame 26 1700000010.501000 can0 msg 1100 7 6 begun
+frame 27 1700000010.501150 can0 msg 1100 7 6 taken 26
+frame 28 1700000010.501300 can0 msg 1100 7 6 taken 26
+frame 29 1700000010.501450 can0 msg 1100 7 6 badcrc 26
+frame 30 1700000010.502000 can1 msg 1100 - 0 delivered 30
+session msg 7509 42 can1 delivered 8 badcrc 0 copies 1 standby 5 stray 0 abandoned 0 handovers 1 gaps 2
+session msg 7509 7 can0 delivered 4 badcrc 0 copies 0 standby 0 stray 0 abandoned 0 handovers 0 gaps 0
+session msg 1100 7 can0 delivered 1 badcrc 1 copies 0 standby 0 stray 1 abandoned 0 handovers 0 gaps 0
+end records 29 sessions 3
+",
+};
+
+/// A sensor on two buses, whose active bus is given up after a second of silence.
+pub const SENSOR: Row = Row {
+    plan: "plan 1
+node 10
+bus can0
+bus can1
+timeout 1000000
+silent
+sub 1100 1 raw 32
+",
+    log: b"(1700000100.000000) can0 10644C07#0A01E0
+(1700000100.000200) can1 10644C07#0A01E0
+(1700000100.500000) can0 10644C07#0A02E1
+(1700000100.500200) can1 10644C07#0A02E1
+(1700000101.000200) can1 10644C07#0A03E2
+(1700000101.500000) can1 10644C07#0A04E3
+(1700000102.000200) can1 10644C07#0A05E4
+(1700000102.500000) can0 10644C07#0A06E5
+(1700000102.500200) can1 10644C07#0A06E5
+(1700000103.000000) can0 10644C07#0A07E6
+(1700000103.000200) can1 10644C07#0A07E6
+",
+    written: b"frame 1 1700000100.000000 can0 msg 1100 7 0 delivered 1
+frame 2 1700000100.000200 can1 msg 1100 7 0 standby can0 200
+frame 3 1700000100.500000 can0 msg 1100 7 1 delivered 3
+frame 4 1700000100.500200 can1 msg 1100 7 1 standby can0 200
+frame 5 1700000101.000200 can1 msg 1100 7 2 standby can0 500200
+frame 6 1700000101.500000 can1 msg 1100 7 3 standby can0 1000000
+frame 7 1700000102.000200 can1 msg 1100 7 4 delivered 7 from can0 1500200
+frame 8 1700000102.500000 can0 msg 1100 7 5 standby can1 499800
+frame 9 1700000102.500200 can1 msg 1100 7 5 delivered 9
+frame 10 1700000103.000000 can0 msg 1100 7 6 standby can1 499800
+frame 11 1700000103.000200 can1 msg 1100 7 6 delivered 11
+session msg 1100 7 can1 delivered 5 badcrc 0 copies 0 standby 6 stray 0 abandoned 0 handovers 1 gaps 1
+end records 11 sessions 1
+",
+};
+
+/// Requests of the services of a plan that has registers.
+pub const SERVICES: Row = Row {
+    plan: "plan 2
+node 42
+bus can0 64 4096
+silent
+register trim rw {integer16: {value: [-3]}}
+limits trim -100 100
+register unit ro {string: {value: #6D56}}
+",
+    log: b"(1700000800.000000) can0 1360557B##00000E0
+(1700000800.001000) can0 1360557B##00100E1
+(1700000800.002000) can0 1360557B##00200E2
+(1700000801.000000) can0 1360157B##0047472696D00E3
+(1700000802.000000) can0 1360157B##0047472696D06010A000000E4
+(1700000803.000000) can0 1360157B##0047472696D0601C8000000E5
+(1700000804.000000) can0 1360157B##004756E69740102006B5600E6
+(1700000805.000000) can0 1360157B##0046E6F6E6500E7
+",
+    written: b"frame 1 1700000800.000000 can0 req 385 123 0 delivered 1
+frame 2 1700000800.001000 can0 req 385 123 1 delivered 2
+frame 3 1700000800.002000 can0 req 385 123 2 delivered 3
+frame 4 1700000801.000000 can0 req 384 123 3 delivered 4
+frame 5 1700000802.000000 can0 req 384 123 4 delivered 5
+frame 6 1700000803.000000 can0 req 384 123 5 delivered 6
+frame 7 1700000804.000000 can0 req 384 123 6 delivered 7
+frame 8 1700000805.000000 can0 req 384 123 7 delivered 8
+session req 384 123 can0 delivered 5 badcrc 0 copies 0 standby 0 stray 0 abandoned 0 handovers 0 gaps 0
+session req 385 123 can0 delivered 3 badcrc 0 copies 0 standby 0 stray 0 abandoned 0 handovers 0 gaps 0
+end records 8 sessions 2
+",
+};

@@ -1,0 +1,10 @@
+pub mod Texts
+pub mod Loops
+pub mod Lasts
+pub mod Slots
+pub mod Said
+pub mod Reported
+pub mod Weaker
+pub mod Nodes
+pub mod AsRun
+pub mod Runs

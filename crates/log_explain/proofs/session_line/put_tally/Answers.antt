@@ -1,0 +1,5 @@
+use Rattle.std.proofs.Common.{append_assoc}
+use Rattle.log_explain.proofs.session_line.put_tally.Goals as goal
+
+pub returns : goal.returns
+returns c = simp (c.in_ok-push.ensures.ok, c.in_ok-put_count-8.ensures {u = tt}, c.in_ok-put_count-7.ensures {u = tt}, c.in_ok-put_count-6.ensures {u = tt}, c.in_ok-put_count-5.ensures {u = tt}, c.in_ok-put_count-4.ensures {u = tt}, c.in_ok-put_count-3.ensures {u = tt}, c.in_ok-put_count-2.ensures {u = tt}, c.in_ok-put_count.ensures {u = tt}, append_assoc)

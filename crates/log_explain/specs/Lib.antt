@@ -1,0 +1,10 @@
+pub mod Counts
+pub mod Places
+pub mod Sessions
+pub mod SessionLines
+pub mod Lines
+pub mod Slots
+pub mod Text
+pub mod Explained
+pub mod Explains
+pub mod Laws
