@@ -2,9 +2,9 @@
 #   It takes some two minutes, proves nothing and leaves nothing; it shows at most 1 MiB of what is written.
 # make run [PLAN=FILE] [LOG=FILE] [ROOT=FOLDER]: the same of `cyphal run ROOT PLAN`. Without PLAN and LOG it takes those of
 #   examples/first, without ROOT no types.
-# make build: proves the program and leaves it, optimised, as build/cyphal. From nothing that proves every crate below it:
-#   49 minutes on four processors with 24 GB of memory.
-# make install [PREFIX=FOLDER] [DESTDIR=FOLDER]: copies build/cyphal, its man page, completions, guide and examples.
+# make build: proves the program and leaves it, optimised, as build/cyphal, and build/cyphal-draw beside it. From nothing that
+#   proves every crate below it: 49 minutes on four processors with 24 GB of memory.
+# make install [PREFIX=FOLDER] [DESTDIR=FOLDER]: copies build/cyphal, cyphal-draw, man page, completions, guide and examples.
 # make uninstall [PREFIX=FOLDER] [DESTDIR=FOLDER]: removes what make install copies.
 # make deb: makes a package of Debian of the same, build/cyphal_VERSION_ARCHITECTURE.deb.
 # make test: the whole gate: proofs, must-fail edits, tests and programs, pages.
@@ -50,6 +50,7 @@ build:
 	cd crates/cyphal && rt run -- --version
 	mkdir -p build
 	cp crates/cyphal/out/cyphal build/cyphal
+	cp share/cyphal/draw build/cyphal-draw
 
 built:
 	@test -x build/cyphal || { echo 'There is no build/cyphal: make build proves the program and leaves it.' >&2; exit 1; }
@@ -57,15 +58,16 @@ built:
 install: built
 	$(INSTALL) -d $(BIN) $(MAN) $(BASH_COMPLETIONS) $(ZSH_COMPLETIONS) $(DOC)
 	$(INSTALL) -m 755 build/cyphal $(BIN)/cyphal
+	$(INSTALL) -m 755 share/cyphal/draw $(BIN)/cyphal-draw
 	$(INSTALL) -m 644 docs/cyphal.1 $(MAN)/cyphal.1
 	$(INSTALL) -m 644 completions/cyphal.bash $(BASH_COMPLETIONS)/cyphal
 	$(INSTALL) -m 644 completions/_cyphal $(ZSH_COMPLETIONS)/_cyphal
 	$(INSTALL) -m 644 LICENSE CHANGELOG.md docs/guide.md docs/theorems.md $(DOC)
-	cp -R examples $(DOC)
-	chmod -R u=rwX,go=rX $(DOC)/examples
+	cp -R examples docs/pictures $(DOC)
+	chmod -R u=rwX,go=rX $(DOC)/examples $(DOC)/pictures
 
 uninstall:
-	rm -f $(BIN)/cyphal $(MAN)/cyphal.1 $(BASH_COMPLETIONS)/cyphal $(ZSH_COMPLETIONS)/_cyphal
+	rm -f $(BIN)/cyphal $(BIN)/cyphal-draw $(MAN)/cyphal.1 $(BASH_COMPLETIONS)/cyphal $(ZSH_COMPLETIONS)/_cyphal
 	rm -rf $(DOC)
 
 # As Debian has it: /usr, the man page and the changes compressed, the licence as copyright, zsh's folder for packages.

@@ -8,11 +8,11 @@ _cyphal()
         return
     fi
     if [ "$COMP_CWORD" -eq 1 ]; then
-        mapfile -t COMPREPLY < <(compgen -W 'compile compat encode decode run bound migrate gen monitor allocate fetch --help --version' -- "$word")
+        mapfile -t COMPREPLY < <(compgen -W 'compile compat encode decode run bound migrate gen monitor allocate fetch explain order survey --help --version' -- "$word")
         return
     fi
     case $command:$COMP_CWORD in
-        run:2 | bound:2 | migrate:2 | compile:2 | compat:2 | encode:2 | decode:2)
+        run:2 | bound:2 | migrate:2 | explain:2 | compile:2 | compat:2 | encode:2 | decode:2)
             compopt -o filenames
             mapfile -t COMPREPLY < <(compgen -d -W 'none' -- "$word")
             ;;
@@ -37,11 +37,14 @@ _cyphal_services()
     _cyphal_files "$1" -l
 }
 
-# The names of the types whose files below a folder have a line --- (-l), or have none (-L).
+# The names of the types whose files below a folder have a line --- (-l), or have none (-L). The folder may have quotes, and
+# a tilde in front.
 _cyphal_files()
 {
-    [ -d "$1" ] || return
-    (cd -- "$1" && find . -name '*.dsdl' -exec grep "$2" -E '^[[:blank:]]*---+[[:blank:]]*(#.*)?$' {} + | sed -n \
+    local root=${1//[\"\'\\]/}
+    root=${root/#\~/$HOME}
+    [ -d "$root" ] || return
+    (cd -- "$root" && find . -name '*.dsdl' -exec grep "$2" -E '^[[:blank:]]*---+[[:blank:]]*(#.*)?$' {} + | sed -n \
         -e 's,^\./,,' \
         -e 's,\([^/]*/\)[0-9][0-9]*\.\([^/.]*\.[0-9]*\.[0-9]*\.dsdl\)$,\1\2,' \
         -e 's,/,.,g' \

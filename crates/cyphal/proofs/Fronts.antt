@@ -6,6 +6,7 @@ use Rattle.node_plan.specs.declared.plan.Plan.{Plan}
 use Rattle.node_core.specs.LineSinks.{put_behind}
 use Rattle.node_core.specs.Steps.{Met, Step, lines, lines_at, lines_behind, emptying, all_lines, steps}
 use Rattle.node_core.specs.declared.line.Line.{Line}
+use Rattle.node_run.specs.Failures.{Failures}
 use Rattle.node_run.specs.Ran.{Reported, Tells, AtFirst, due_lines, due_numbers, first_lines, next_lines}
 use Rattle.node_run.proofs.Steps.{first_steps, lines_newer}
 
@@ -54,8 +55,8 @@ pub record IsFront (plan : Plan) (all : List Step) (refusal : Option LogError) (
 
 module _ (plan : Plan) (all : List Step) (refusal : Option LogError) (r : Reported) where
   -- where it broke off
-  pub first_front : AtFirst plan all refusal r → IsFront plan all refusal r
-  first_front f =
+  pub first_front : (failed : Failures) → AtFirst plan all refusal r failed → IsFront plan all refusal r
+  first_front failed f =
       let more = next_due plan f.newer f.past refusal in
       let before = lines plan f.past in
       record {

@@ -30,6 +30,7 @@ use Rattle.node_core.specs.Text.{text}
 use Rattle.session_lines.specs.Reported.{rxs, of_key, IsSession, StepsReportAll}
 use Rattle.session_lines.specs.Values.{type_of, IsSentTo, SayValues, SaysDueValue}
 use Rattle.session_lines.proofs.Sending.{rxs_append}
+use Rattle.node_run.specs.Failures.{Failures}
 use Rattle.node_run.specs.HasRun.{HasRun}
 use Rattle.node_run.specs.Ran.{Reported, Ran, names_of, newest_first, due_lines, end_part, whole_text}
 use Rattle.node_run.specs.Streamed.{IsStreamed}
@@ -52,7 +53,7 @@ use Rattle.cyphal.proofs.Fronts.{IsFront, first_front, whole_front, came_lines, 
 use Rattle.cyphal.proofs.Mets.{met_all}
 
 -- what was run over a log with these records that ends so
-module _ (plan : Plan) (mets : List Met) (refusal : Option LogError) (r : Reported) (before after : Option (List ℕ)) where
+module _ (plan : Plan) (mets : List Met) (refusal : Option LogError) (r : Reported) (f : Failures) (before after : Option (List ℕ)) where
   -- the steps of the log, and its text
   abbrev all : List Step
   all = steps plan mets
@@ -66,7 +67,7 @@ module _ (plan : Plan) (mets : List Met) (refusal : Option LogError) (r : Report
       let more = came_lines plan mets came refusal first in
       record { mine = lines plan (steps plan came); rest = more.0; put = put; whole = more.1 }
 
-  front : (stat : Status) → Ran plan mets refusal stat r before after → IsFront plan all refusal r
+  front : (stat : Status) → Ran plan mets refusal stat r f before after → IsFront plan all refusal r
   front status.Ok x = whole_front plan all refusal r x.1.at
   front status.Usage x = absurd x
   front (status.Dsdl file n w) x = absurd x
@@ -78,11 +79,11 @@ module _ (plan : Plan) (mets : List Met) (refusal : Option LogError) (r : Report
   front status.LogLong x = whole_front plan all refusal r x.1.at
   front (status.NoFile path) x = absurd x
   front status.ReadFault x = came_front x.came x.first x.settled.at.reported
-  front status.WriteFault x = first_front plan all refusal r x.first
-  front status.NoMemory x = first_front plan all refusal r x.first
+  front status.WriteFault x = first_front plan all refusal r f x.first
+  front status.NoMemory x = first_front plan all refusal r f x.first
 
   -- where the run wasn't cut short, all of them were put
-  whole : (stat : Status) → is_settled stat ≡ true → Ran plan mets refusal stat r before after → r.new ≡ put_behind r.old (due_lines plan all refusal)
+  whole : (stat : Status) → is_settled stat ≡ true → Ran plan mets refusal stat r f before after → r.new ≡ put_behind r.old (due_lines plan all refusal)
   whole status.Ok s x = x.1.at.reported
   whole status.Usage s x = absurd x
   whole (status.Dsdl file n w) s x = absurd x
@@ -98,7 +99,7 @@ module _ (plan : Plan) (mets : List Met) (refusal : Option LogError) (r : Report
   whole status.NoMemory s x = absurd (true≢false (sym s))
 
   -- and all was written
-  written_whole : (stat : Status) → is_settled stat ≡ true → Ran plan mets refusal stat r before after → after ≡ behind before text_in
+  written_whole : (stat : Status) → is_settled stat ≡ true → Ran plan mets refusal stat r f before after → after ≡ behind before text_in
   written_whole status.Ok s x = x.1.written
   written_whole status.Usage s x = absurd x
   written_whole (status.Dsdl file n w) s x = absurd x
@@ -130,7 +131,7 @@ module _ (plan : Plan) (mets : List Met) (refusal : Option LogError) (r : Report
         written = w ∙ ap (behind before) (append-nil first);
       }
 
-  written_first : (stat : Status) → Ran plan mets refusal stat r before after → Begins text_in before after
+  written_first : (stat : Status) → Ran plan mets refusal stat r f before after → Begins text_in before after
   written_first status.Ok x = begins_whole x.1.written
   written_first status.Usage x = absurd x
   written_first (status.Dsdl file n w) x = absurd x
@@ -154,8 +155,8 @@ did_run words told came plan bytes d a = subst (λ (o : Option Command). (job_as
 pub record RunOver (plan : Plan) (tree : Files) (bytes : List ℕ) (told : Told) (came : Outcome) : Type 0 where
   pub mets : List Met
   pub are : AreMet plan tree bytes mets
-  pub ran : Ran plan mets (log_in plan bytes).refusal came.status came.reported told.written came.written
-  pub taken : came.status ≡ status.ReadFault → IsOfTaken plan mets (flow_of told came) came.reported
+  pub ran : Ran plan mets (log_in plan bytes).refusal came.status came.reported came.failures told.written came.written
+  pub taken : came.status ≡ status.ReadFault → IsOfTaken plan mets (flow_of told came) came.reported came.failures
   pub streamed : IsStreamed plan mets (flow_of told came) came.status came.reported
 
 module _ (one : HaveOneAnswer × OnePlan) (words : List (List ℕ)) (told : Told) (came : Outcome) (plan : Plan) (bytes : List ℕ) (a : Asked words told plan bytes) where
@@ -176,7 +177,7 @@ module _ (one : HaveOneAnswer × OnePlan) (words : List (List ℕ)) (told : Told
           of_log = r.of_log ∙ ap (λ (b : List ℕ). newest_first (log_of (names_of plan) b)) is;
           served = subst (λ (f : Option Files). AreServed f plan (steps plan r.mets)) a.is_tree r.served;
         };
-        ran = subst (λ (b : List ℕ). Ran plan r.mets (log_of (names_of plan) b).refusal came.status came.reported told.written came.written) is r.ran;
+        ran = subst (λ (b : List ℕ). Ran plan r.mets (log_of (names_of plan) b).refusal came.status came.reported came.failures told.written came.written) is r.ran;
         taken = r.taken;
         streamed = r.streamed;
       }
@@ -311,8 +312,8 @@ module _ {L : Type 0} (one : HaveOneAnswer × OnePlan) (words : List (List ℕ))
           let refusal = (log_in plan bytes).refusal in record {
             mets = r.mets;
             are = r.are;
-            written = λ s. written_whole plan r.mets refusal came.reported told.written came.written came.status s r.ran;
-            begun = written_first plan r.mets refusal came.reported told.written came.written came.status r.ran;
+            written = λ s. written_whole plan r.mets refusal came.reported came.failures told.written came.written came.status s r.ran;
+            begun = written_first plan r.mets refusal came.reported came.failures told.written came.written came.status r.ran;
           }
 
   pub headline_of : HeadlineOf words told came
@@ -347,7 +348,7 @@ module _ {L : Type 0} (one : HaveOneAnswer × OnePlan) (words : List (List ℕ))
           let m = met_all (Some a.tree) plan law.served (logged_in plan bytes) in
           record { mets = m.mets; is = m.records_are; rest = lines_of plan bytes m.mets; whole = ap (λ t. t ++ lines_of plan bytes m.mets) none }
       by_run (inr r) =
-          let f = front plan r.mets (log_in plan bytes).refusal came.reported told.written came.written came.status r.ran in
+          let f = front plan r.mets (log_in plan bytes).refusal came.reported came.failures told.written came.written came.status r.ran in
           record { mets = r.mets; is = r.are.of_log; rest = f.rest; whole = f.whole ∙ ap (λ t. t ++ f.rest) (same_put mine f.mine h f.put) }
 
   -- where all that counts was run
@@ -359,7 +360,7 @@ module _ {L : Type 0} (one : HaveOneAnswer × OnePlan) (words : List (List ℕ))
       by_run (inr r) = record {
         mets = r.mets;
         is = r.are.of_log;
-        all = same_put mine (lines_of plan bytes r.mets) h (whole plan r.mets (log_in plan bytes).refusal came.reported told.written came.written came.status s r.ran);
+        all = same_put mine (lines_of plan bytes r.mets) h (whole plan r.mets (log_in plan bytes).refusal came.reported came.failures told.written came.written came.status s r.ran);
       }
 
   pub once_of : OncePut words told came

@@ -1,4 +1,5 @@
 pub mod ClapWords
+pub mod NameCuts
 pub mod Parts
 pub mod Plans
 pub mod Migrations

@@ -16,7 +16,7 @@ use Rattle.node_run.specs.declared.status.Status.{Status}
 use Rattle.node_run.specs.declared.status.Status.TheVariants as status
 use Rattle.value_lines.specs.Decoded.{Decodes}
 use Rattle.value_lines.specs.Encoded.{Encodes}
-use Rattle.cyphal.specs.Words.{Command, Compile, Compat, Encode, Decode, Run, Gen}
+use Rattle.cyphal.specs.Words.{Command, Compile, Compat, Encode, Decode, Run, Gen, Order, Survey}
 use Rattle.cyphal.specs.Job.{Told, Job}
 use Rattle.cyphal.specs.LogEnds.{EndsAsLog}
 use Rattle.cyphal.specs.Plans.{EndsAt}
@@ -24,12 +24,14 @@ use Rattle.cyphal.specs.jobs.{job_of}
 use Rattle.cyphal.specs.jobs.Bound.{bounded}
 use Rattle.cyphal.specs.jobs.Compat.{Compares}
 use Rattle.cyphal.specs.jobs.Compile.{Compiles}
+use Rattle.cyphal.specs.jobs.Order.{EndsAsLines}
 use Rattle.cyphal.specs.jobs.Run.{over}
 use Rattle.cyphal.specs.jobs.Values.{AnswersLines}
 use Rattle.cyphal.specs.Expected.{job_asked}
 use Rattle.cyphal.proofs.Loaded.{Comes, loaded, Found, found_told, not_loaded, one}
 use Rattle.cyphal.proofs.LogEnds.{one_log_end}
 use Rattle.cyphal.proofs.Plans.{one_end}
+use Rattle.cyphal.proofs.statuses.Order.{one_order}
 
 -- a command has one status, where all that decides it is told
 abbrev pub IsSingle : Job → Type 0
@@ -106,9 +108,13 @@ module _ (laws : HaveOneAnswer × OnePlan) (encodes : HasOneStatus Encodes) (dec
       let all = both (is_some told.files) (is_some told.input) h in
       one_end laws root path (over told.input) (λ plan. one_log_end (names_of plan) told.input all.1) told.files all.0 s t a b
 
-  -- by the log of the input, of the buses that are heard without a plan
-  by_log : (input : Option (List ℕ)) (s t : Status) → is_some input ≡ true → EndsAsLog bus_names input s → EndsAsLog bus_names input t → s ≡ t
-  by_log input s t h a b = one_log_end bus_names input h s t a b
+  -- by the log of the input, of these buses
+  by_log : (names : List (List ℕ)) (input : Option (List ℕ)) (s t : Status) → is_some input ≡ true → EndsAsLog names input s → EndsAsLog names input t → s ≡ t
+  by_log names input s t h a b = one_log_end names input h s t a b
+
+  -- by the lines of the input
+  by_order : (window : ℕ) (input : Option (List ℕ)) (s t : Status) → is_some input ≡ true → EndsAsLines window input s → EndsAsLines window input t → s ≡ t
+  by_order window input s t h a b = one_order window input h s t a b
 
   -- a command whose status is decided as that of another needs no case of its own
   single : (command : Command) → IsSingle (job_of command)
@@ -118,7 +124,9 @@ module _ (laws : HaveOneAnswer × OnePlan) (encodes : HasOneStatus Encodes) (dec
   single (Decode root name) told s t h a b = by_lines Decodes decodes root name told s t h a b
   single (Run root path) told s t h a b = by_running root path told s t h a b
   single (Gen number) told s t h a b = a ∙ sym b
-  single other told s t h a b = search (by_log, by_plan, by_running, by_compiling)
+  single (Order window) told s t h a b = by_order window told.input s t h a b
+  single (Survey names) told s t h a b = by_log names told.input s t h a b
+  single other told s t h a b = search (by_log bus_names, by_plan, by_running, by_compiling)
 
   pub one_status : (command : Option Command) → IsSingle (job_asked command)
   one_status None told s t h a b = a ∙ sym b

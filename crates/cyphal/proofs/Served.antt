@@ -1,9 +1,10 @@
 -- In which requests of files the tree failed, by the command.
 use Rattle.std.proofs.Common.{◌≡◌, ◌∙◌, ◌⊎◌, inl, inr, ℕ, false, List, [], ◌∷◌, Option, Some, None, refl, sym, ap, subst}
+use Rattle.frame_log.specs.Log.{log_of}
 use Rattle.node_core.specs.LineSinks.{put_behind}
 use Rattle.node_core.specs.Steps.{failed_lines, steps}
 use Rattle.node_run.specs.Failures.{AreFailures, Failures}
-use Rattle.node_run.specs.Ran.{Failed}
+use Rattle.node_run.specs.Ran.{Ran, names_of}
 use Rattle.node_run.specs.declared.status.Status.{Status}
 use Rattle.node_run.specs.declared.status.Status.TheVariants as status
 use Rattle.cyphal.specs.Words.{Command, Run, command_of}
@@ -26,8 +27,10 @@ stays_or_fails (line ∷ lines) f old a = inr (none_told line lines f.new (a.tel
 module _ (told : Told) (came : Outcome) where
   run_done : (root path : List ℕ) → came.failures.old ≡ Some [] → came.status ≡ status.Ok → HasRunAt root path told came → StaysOrFails came.failures
   run_done root path old ok r =
-      stays_or_fails (failed_lines (steps r.plan r.run.mets)) came.failures old
-      (subst (λ (s : Status). Failed r.plan r.run.mets s came.failures) ok r.run.failed)
+      let refusal = (log_of (names_of r.plan) r.run.bytes).refusal in
+      let ran : Ran r.plan r.run.mets refusal status.Ok came.reported came.failures told.written came.written =
+      subst (λ (s : Status). Ran r.plan r.run.mets refusal s came.reported came.failures told.written came.written) ok r.run.ran in
+      stays_or_fails (failed_lines (steps r.plan r.run.mets)) came.failures old ran.1.failed
 
   did_asked : (command : Option Command) → ((job_asked command).serves ≡ false → came.failures.faults_new ≡ came.failures.faults) → came.failures.old ≡ Some [] → came.status ≡ status.Ok
       → (job_asked command).did told came → StaysOrFails came.failures

@@ -3,3 +3,4 @@ pub mod Values
 pub mod Run
 pub mod Gen
 pub mod Reach
+pub mod Order

@@ -1,3 +1,4 @@
+pub mod BusNames
 pub mod Words
 pub mod ClapShape
 pub mod ErrorLine

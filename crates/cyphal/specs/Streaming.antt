@@ -16,12 +16,13 @@ pub record OverMet (plan : Plan) (tree : Files) (bytes : List ℕ)
   pub are : AreMet plan tree bytes mets
   pub is : holds mets
 
--- a run whose input failed: the report and what is written are those of the records whose line and
--- newline were taken, each of them whole, and of no other
+-- a run whose input failed: the report, the failures in it, and what is written are those of the
+-- records whose line and newline were taken, each of them whole, and of no other
 abbrev pub TakenOf : List (List ℕ) → Told → Outcome → Type 0
 TakenOf words told came =
     (plan : Plan) (bytes : List ℕ) (a : Asked words told plan bytes)
-    → OverMet plan a.tree bytes (λ mets. IsOfTaken plan mets (flow_of told came) came.reported)
+    → OverMet plan a.tree bytes
+    (λ mets. IsOfTaken plan mets (flow_of told came) came.reported came.failures)
 
 -- however a run ended: no more than 8,192 bytes were taken of the input before the lines on what
 -- came before them were written

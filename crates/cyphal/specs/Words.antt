@@ -3,6 +3,9 @@ use Rattle.std.specs.Prelude.{ℕ, Bool, false, ◌==◌, nat_le, ◌&&◌, not,
 use Rattle.std.specs.List.{list_all}
 use Rattle.std.specs.Str.{bytes_eq}
 use Rattle.dsdl_names.specs.Words.{number_to}
+use Rattle.cyphal.specs.BusNames.{buses_given}
+use Rattle.cyphal.specs.declared.bus_names.BusNames.{BusNames}
+use Rattle.cyphal.specs.declared.bus_names.BusNames.TheVariants.{One, Two, Three}
 use Rattle.cyphal.specs.declared.words.Accepted.{Accepted}
 use Rattle.cyphal.specs.declared.words.Accepted.TheVariants as accepted
 
@@ -10,8 +13,10 @@ use Rattle.cyphal.specs.declared.words.Accepted.TheVariants as accepted
 -- than another, values of one of them as bytes, bytes as values of it, a run of the plan at this
 -- path, which is read in the namespace of the root, its memory bound, its text in version 2, the
 -- run of the log that is made of this number, who is online in the log of the input, which a node
--- with this node-ID hears, node-IDs for the nodes of that log that have none, or the file that a
--- node with this node-ID fetches of another one over that log
+-- with this node-ID hears, node-IDs for the nodes of that log that have none, the file that a node
+-- with this node-ID fetches of another one over that log, the lines of a log in the order of their
+-- moments, with a window of so many microseconds, what the buses with these names carry, or what
+-- became of each frame of a log by such a plan
 pub data Command : Type 0 where
   Compile : List ℕ → Command
   Compat : List ℕ → List ℕ → List ℕ → Command
@@ -24,6 +29,15 @@ pub data Command : Type 0 where
   Monitor : ℕ → Command
   Allocate : ℕ → Command
   Fetch : ℕ → ℕ → List ℕ → Command
+  Order : ℕ → Command
+  Survey : List (List ℕ) → Command
+  Explain : List ℕ → List ℕ → Command
+
+-- the names of buses, the first one first
+abbrev pub names_of : BusNames → List (List ℕ)
+names_of (One a) = a.name.now ∷ []
+names_of (Two a b) = a.name.now ∷ b.name.now ∷ []
+names_of (Three a b c) = a.name.now ∷ b.name.now ∷ c.name.now ∷ []
 
 -- the command of accepted words
 abbrev pub asked_by : Accepted → Command
@@ -38,6 +52,9 @@ asked_by (accepted.Gen number) = Gen number
 asked_by (accepted.Monitor own) = Monitor own.number
 asked_by (accepted.Allocate own) = Allocate own.number
 asked_by (accepted.Fetch file) = Fetch file.own.number file.server.number file.path.now
+asked_by (accepted.Order window) = Order window
+asked_by (accepted.Survey buses) = Survey (names_of buses)
+asked_by (accepted.Explain root plan) = Explain root.now plan.now
 
 -- an argument isn't empty and begins with no hyphen
 abbrev pub is_argument : List ℕ → Bool
@@ -77,6 +94,10 @@ number_given word = number_to 4294967295 word
 abbrev pub node_given : List ℕ → Option ℕ
 node_given word = number_to 127 word
 
+-- a window is such a number too, up to a minute in microseconds
+abbrev pub window_given : List ℕ → Option ℕ
+window_given word = number_to 60000000 word
+
 -- a path has at most 255 bytes, each a space or a visible character of ASCII
 abbrev pub is_visible : ℕ → Bool
 is_visible byte = nat_le 32 byte && nat_le byte 126
@@ -102,14 +123,17 @@ abbrev pub named_of_one : List ℕ → List ℕ → Option Command
 named_of_one word argument =
     if bytes_eq word (codes "compile") then Some (Compile argument)
     else (if bytes_eq word (codes "gen") then option_map Gen (number_given argument)
-    else named_of_node word (node_given argument))
+    else (if bytes_eq word (codes "order") then option_map Order (window_given argument)
+    else (if bytes_eq word (codes "survey") then option_map Survey (buses_given argument)
+    else named_of_node word (node_given argument))))
 
 -- the command that a word names, of a root and a plan
 abbrev pub named_of_plan : List ℕ → List ℕ → List ℕ → Option Command
 named_of_plan word root plan =
     if bytes_eq word (codes "run") then Some (Run root plan)
     else (if bytes_eq word (codes "bound") then Some (Bound root plan)
-    else (if bytes_eq word (codes "migrate") then Some (Migrate root plan) else None))
+    else (if bytes_eq word (codes "migrate") then Some (Migrate root plan)
+    else (if bytes_eq word (codes "explain") then Some (Explain root plan) else None)))
 
 -- the command that a word names, of a root and another argument
 abbrev pub named_of_two : List ℕ → List ℕ → List ℕ → Option Command
@@ -126,8 +150,9 @@ named_of_three word first second third =
     then fetch_given (node_given first) (node_given second) third else None)
 
 -- what the words ask for, where they are accepted: `compile ROOT`, `compat ROOT NEW OLD`, `encode
--- ROOT TYPE`, `decode ROOT TYPE`, `run ROOT PLAN`, `bound ROOT PLAN`, `migrate ROOT PLAN`, `gen
--- NUMBER`, `monitor NODE`, `allocate NODE` or `fetch NODE SERVER PATH`
+-- ROOT TYPE`, `decode ROOT TYPE`, `run ROOT PLAN`, `bound ROOT PLAN`, `migrate ROOT PLAN`, `explain
+-- ROOT PLAN`, `gen NUMBER`, `order MICROS`, `survey BUSES`, `monitor NODE`, `allocate NODE` or `fetch
+-- NODE SERVER PATH`
 abbrev pub command_of : List (List ℕ) → Option Command
 command_of [] = None
 command_of (word ∷ []) = None

@@ -8,6 +8,9 @@ pub mod Migrate
 pub mod Gen
 pub mod Reach
 pub mod Fetch
+pub mod Order
+pub mod Survey
+pub mod Explain
 use Rattle.node_reach.specs.Allocated.{allocate_voice}
 use Rattle.node_reach.specs.Fetched.{client_of}
 use Rattle.node_reach.specs.Monitored.{monitor_voice}
@@ -25,6 +28,9 @@ use Rattle.cyphal.specs.jobs.Migrate.{migrate_job}
 use Rattle.cyphal.specs.jobs.Gen.{gen_job}
 use Rattle.cyphal.specs.jobs.Reach.{reach_job}
 use Rattle.cyphal.specs.jobs.Fetch.{fetch_job}
+use Rattle.cyphal.specs.jobs.Order.{order_job}
+use Rattle.cyphal.specs.jobs.Survey.{survey_job}
+use Rattle.cyphal.specs.jobs.Explain.{explain_job}
 
 -- what a command asks for
 abbrev pub job_of : Command → Job
@@ -39,3 +45,6 @@ job_of (command.Gen number) = gen_job number
 job_of (command.Monitor own) = reach_job (monitor_voice own)
 job_of (command.Allocate own) = reach_job (allocate_voice own)
 job_of (command.Fetch own server path) = fetch_job (client_of own server path)
+job_of (command.Order window) = order_job window
+job_of (command.Survey names) = survey_job names
+job_of (command.Explain root path) = explain_job root path

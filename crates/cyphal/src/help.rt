@@ -7,7 +7,7 @@ ghost use Rattle.cyphal.specs.Words.{command_of};
 use crate::words::HELP;
 
 /// What `--version` answers.
-pub const VERSION: &str = "cyphal 0.1.0\n";
+pub const VERSION: &str = "cyphal 0.2.0\n";
 
 /// What the program itself answers, where the words ask for that alone. Such words are no command.
 pub fn own_answer(words: &[String]) -> Option<&'static str>

@@ -14,11 +14,14 @@ pub mod compat;
 pub mod compile;
 pub mod decoded;
 pub mod encoded;
+pub mod explain;
 pub mod fetch;
 pub mod generated;
 pub mod migrate;
+pub mod ordered;
 pub mod reach;
 pub mod run;
+pub mod survey;
 
 use crate::counted::Counted;
 use crate::words::Accepted;
@@ -28,14 +31,17 @@ use compile::compile_root;
 use cy_outside::{Sink, Source, Tree};
 use decoded::decode_lines;
 use encoded::encode_lines;
+use explain::explain_plan;
 use fetch::fetch_file;
 use generated::generated;
 use migrate::migrate_plan;
 use node_core::LineSink;
 use node_run::Status;
+use ordered::order_lines;
 use reach::{Hearing, hear_log};
 use run::run_plan;
 use std::alloc::Global;
+use survey::survey_buses;
 
 /// Does what a command asks for.
 pub fn carry_out<T: Tree, L: Source, O: Sink, K: LineSink>(
@@ -69,6 +75,9 @@ pub fn carry_out<T: Tree, L: Source, O: Sink, K: LineSink>(
             Counted::nothing(decode_lines(alloc, root, name, tree, input, out))
         }
         Accepted::Run { root, plan } => run_plan(alloc, root, plan, tree, input, out, lines),
+        Accepted::Explain { root, plan } => {
+            Counted::nothing(explain_plan(alloc, root, plan, tree, input, out))
+        }
         Accepted::Bound { root, plan } => {
             Counted::nothing(bound_plan(alloc, root, plan, tree, out))
         }
@@ -83,5 +92,7 @@ pub fn carry_out<T: Tree, L: Source, O: Sink, K: LineSink>(
             Counted::nothing(hear_log(alloc, Hearing::Allocate, own, input, out))
         }
         Accepted::Fetch { file } => Counted::nothing(fetch_file(alloc, file, input, out)),
+        Accepted::Order { window } => Counted::nothing(order_lines(alloc, window, input, out)),
+        Accepted::Survey { buses } => Counted::nothing(survey_buses(alloc, buses, input, out)),
     }
 }

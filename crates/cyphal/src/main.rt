@@ -5,6 +5,8 @@ ghost use Rattle.std.specs.Prelude.{◌≡◌};
 ghost use Rattle.cyphal.specs.ErrorLine.{code_of};
 
 mod arguments;
+mod bus_names;
+mod bus_word;
 #[cfg(test)]
 mod calls;
 mod counted;

@@ -1,7 +1,7 @@
 //! The number of a word.
 ghost use Rattle.std.specs.Prelude.{◌≡◌, ◌<◌, ◌≤◌, ℕ, IfSome, option_map};
 ghost use Rattle.dsdl_names.specs.Words.{at_most, decimal_from, number_of, number_to};
-ghost use Rattle.cyphal.specs.Words.{number_given, node_given};
+ghost use Rattle.cyphal.specs.Words.{number_given, node_given, window_given};
 
 use crate::node_id::NodeId;
 
@@ -13,6 +13,13 @@ pub fn number_of(word: &[u8]) -> Option<u32>
     ensures { result ≡ number_given word.now }
 {
     number_to(word, 4_294_967_295)
+}
+
+/// The window of such a word, in microseconds, where it is at most a minute.
+pub fn window_of(word: &[u8]) -> Option<u32>
+    ensures { result ≡ window_given word.now }
+{
+    number_to(word, 60_000_000)
 }
 
 /// The node-ID of such a word, where it is at most 127.

@@ -19,7 +19,7 @@ fn the_program_writes_to_its_output_and_errors_elsewhere(rt: HostRuntime) -> Res
         },
         Call {
             words: &["--version"],
-            written: b"cyphal 0.1.0\n",
+            written: b"cyphal 0.2.0\n",
             ..CALL
         },
         Call {

@@ -1,10 +1,11 @@
 //! Which words are a command, what its arguments are, and what `--help` says of it.
 ghost use Rattle.std.specs.Prelude.{◌≡◌, IfOk, OnErr, is_some, map, option_map, string_bytes, true};
-ghost use Rattle.cyphal.specs.Words.{Gen, Monitor, Allocate, asked_by, named_of_one, named_of_node, named_of_two, named_of_plan, named_of_three, command_of};
+ghost use Rattle.cyphal.specs.Words.{Gen, Order, Survey, Monitor, Allocate, asked_by, names_of, named_of_one, named_of_node, named_of_two, named_of_plan, named_of_three, command_of};
 
 use crate::arguments::{are_arguments, are_three, is_argument, one_word, three_words, two_words};
+use crate::bus_names::BusNames;
 use crate::node_id::NodeId;
-use crate::number::{node_of, number_of};
+use crate::number::{node_of, number_of, window_of};
 use crate::remote_file::RemoteFile;
 use cy_bits::NoMemory;
 use std::alloc::Global;
@@ -37,6 +38,11 @@ pub enum Accepted<'a> {
         root: &'a str,
         plan: &'a str,
     },
+    /// Writes what became of each frame of a log by such a plan.
+    Explain {
+        root: &'a str,
+        plan: &'a str,
+    },
     /// Writes the memory bound of such a plan.
     Bound {
         root: &'a str,
@@ -63,6 +69,15 @@ pub enum Accepted<'a> {
     Fetch {
         file: RemoteFile<'a>,
     },
+    /// Writes the lines of a log in the order of their moments, of which none comes more
+    /// microseconds late than `window`.
+    Order {
+        window: u32,
+    },
+    /// Writes what the buses with these names carry.
+    Survey {
+        buses: BusNames<'a>,
+    },
 }
 
 /// What `--help` answers: of each command its word, its arguments and what it does.
@@ -88,6 +103,10 @@ cyphal run ROOT PLAN
     runs a node by the plan in the file PLAN over the log on standard input,
     and writes its report; the types that the plan names are those of ROOT
 
+cyphal explain ROOT PLAN
+    writes what became of each frame of the log on standard input by the plan in
+    the file PLAN, and how each session fared
+
 cyphal bound ROOT PLAN
     writes how many bytes the plan's sessions hold at most
 
@@ -110,6 +129,14 @@ cyphal fetch NODE SERVER PATH
     fetches the file PATH of the node SERVER over such a log, and writes the
     requests that it makes, and the file
 
+cyphal order MICROS
+    writes the lines of the log on standard input in the order of their moments,
+    where none comes more than MICROS microseconds late, 0 to 60000000
+
+cyphal survey BUSES
+    reads the log on standard input without a plan, and writes what each bus and
+    each flow carries; BUSES is the names of its buses, as can0,can1
+
 cyphal --help, cyphal --version
     write this, or the version
 
@@ -120,9 +147,9 @@ statuses: 0 done, 1 usage, 2 DSDL file refused, 3 plan refused, 4 log refused,
 ";
 
 /// The command that the words are, so `compile ROOT`, `compat ROOT NEW OLD`, `encode ROOT TYPE`,
-/// `decode ROOT TYPE`, `run ROOT PLAN`, `bound ROOT PLAN`, `migrate ROOT PLAN`, `gen NUMBER`,
-/// `monitor NODE`, `allocate NODE` or `fetch NODE SERVER PATH`; none where they aren't accepted. It
-/// wants memory where they are.
+/// `decode ROOT TYPE`, `run ROOT PLAN`, `bound ROOT PLAN`, `migrate ROOT PLAN`, `explain ROOT PLAN`,
+/// `gen NUMBER`, `order MICROS`, `survey BUSES`, `monitor NODE`, `allocate NODE` or `fetch NODE SERVER
+/// PATH`; none where they aren't accepted. It wants memory where they are.
 pub fn command_of<'a>(alloc: Global, words: &'a [String]) -> Result<Option<Accepted<'a>>, NoMemory>
     ensures is { let asked = command_of (map string_bytes words.entry.now) in
         IfOk result (λ given. option_map asked_by given ≡ asked) }
@@ -186,6 +213,10 @@ fn of_one<'a>(word: &str, argument: &'a str) -> Option<Accepted<'a>>
         Some(Accepted::Compile { root: argument })
     } else if word == "gen" {
         of_number(number_of(argument.as_bytes()))
+    } else if word == "order" {
+        of_window(window_of(argument.as_bytes()))
+    } else if word == "survey" {
+        of_buses(BusNames::new(argument))
     } else {
         of_node(word, node_of(argument.as_bytes()))
     }
@@ -197,6 +228,26 @@ fn of_number<'a>(number: Option<u32>) -> Option<Accepted<'a>>
 {
     match number {
         Some(number) => Some(Accepted::Gen { number }),
+        None => None,
+    }
+}
+
+/// The order of a log with a window, if there is one.
+fn of_window<'a>(window: Option<u32>) -> Option<Accepted<'a>>
+    ensures { option_map asked_by result ≡ option_map Order window }
+{
+    match window {
+        Some(window) => Some(Accepted::Order { window }),
+        None => None,
+    }
+}
+
+/// The survey of buses, if there are any.
+fn of_buses<'a>(buses: Option<BusNames<'a>>) -> Option<Accepted<'a>>
+    ensures { option_map asked_by result ≡ option_map Survey (option_map names_of buses.entry) }
+{
+    match buses {
+        Some(buses) => Some(Accepted::Survey { buses }),
         None => None,
     }
 }
@@ -268,6 +319,8 @@ fn of_plan<'a>(word: &str, root: &'a str, plan: &'a str) -> Option<Accepted<'a>>
         Some(Accepted::Bound { root, plan })
     } else if word == "migrate" {
         Some(Accepted::Migrate { root, plan })
+    } else if word == "explain" {
+        Some(Accepted::Explain { root, plan })
     } else {
         None
     }

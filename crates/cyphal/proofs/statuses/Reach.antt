@@ -9,7 +9,6 @@ use Rattle.log_loop.specs.Listened.{HasListened as Listened}
 use Rattle.log_loop.specs.Voice.{Voice}
 use Rattle.log_loop.specs.declared.ended.Ended.{Ended}
 use Rattle.log_loop.specs.declared.ended.Ended.TheVariants as end
-use Rattle.node_reach.specs.Buses.{bus_names}
 use Rattle.node_run.specs.Ran.{status_of}
 use Rattle.node_run.specs.declared.status.Status.{Status}
 use Rattle.node_run.specs.declared.status.Status.TheVariants as status
@@ -18,7 +17,7 @@ use Rattle.cyphal.specs.Job.{is_fault}
 use Rattle.cyphal.specs.LogEnds.{ending, EndsAsLog}
 use Rattle.cyphal.proofs.LogEnds.{named}
 
-module _ (said : Voice Record) where
+module _ (names : List (List ℕ)) (said : Voice Record) where
   -- an end that is no fault is that of the log
   ended_so : (events : List Record) (refusal : Option LogError) (how : Ended) (before after : Option (List ℕ)) → is_fault (status_of how) ≡ false
       → Gone said (any_stages Record) events refusal how before after → status_of how ≡ ending refusal
@@ -31,12 +30,12 @@ module _ (said : Voice Record) where
 
   -- of the log that the input has, where it is told
   pub ends_as_log : (input left : Option (List ℕ)) (how : Ended) (before after : Option (List ℕ)) (stat : Status) → stat ≡ status_of how → is_fault stat ≡ false
-      → Listened bus_names said (any_stages Record) input left how before after → EndsAsLog bus_names input stat
+      → Listened names said (any_stages Record) input left how before after → EndsAsLog names input stat
   ends_as_log None left how before after stat e h g = tt
   ends_as_log (Some bytes) left how before after stat e h g =
       e
-      ∙ (ended_so g.events (log_of bus_names g.bytes).refusal how before after (sym (ap is_fault e) ∙ h) g.gone
-      ∙ ap (λ (b : List ℕ). ending (log_of bus_names b).refusal) g.is)
+      ∙ (ended_so g.events (log_of names g.bytes).refusal how before after (sym (ap is_fault e) ∙ h) g.gone
+      ∙ ap (λ (b : List ℕ). ending (log_of names b).refusal) g.is)
 
 -- no end of a log is a refusal before it
 no_refusal : (ended : Ended) → is_refused (status_of ended) ≡ true → ⊥

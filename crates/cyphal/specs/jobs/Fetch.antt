@@ -1,4 +1,5 @@
 -- `fetch NODE SERVER PATH`: a file of another node, over the log of the input.
+use Rattle.node_reach.specs.Buses.{bus_names}
 use Rattle.node_reach.specs.Fetched.{fetch_voice}
 use Rattle.node_reach.specs.FetchedFile.{WritesFile}
 use Rattle.node_reach.specs.declared.client.Client.{Client}
@@ -11,7 +12,7 @@ use Rattle.cyphal.specs.jobs.Reach.{HasListened, reach_job}
 -- its end, its replies are those of a server that answers from one file, and the end behind all of
 -- them is Done, the last line is that of this very file.
 pub record HasFetched (client : Client) (stat : Status) (told : Flow) : Type 0 where
-  pub listened : HasListened (fetch_voice client) stat told
+  pub listened : HasListened bus_names (fetch_voice client) stat told
   pub fetched : WritesFile client told.left listened.ended told.before told.after
 
 -- it ends as the log does

@@ -44,7 +44,7 @@ pub fn hear_log<L: Source, O: Sink>(
         HasCauseOver true false result old new) }
     ensures ran { let told = flow (L.left input.old) (L.left input.new)
         (O.written out.old) (O.written out.new) in
-        HasListened (voice_of hearing own.number) result told }
+        HasListened bus_names (voice_of hearing own.number) result told }
 {
     status_of(heard(alloc, hearing, own, input, out))
 }

@@ -65,3 +65,21 @@ returns-in-Fetch-clause-done g c =
     let done = c.fetch_file.ensures in
     for_given _ _ _ _ _ _ c.in-Fetch.is
     (read_out _ _ c.fetch_file.result _ _ refl c.nothing-in-Fetch.result c.nothing-in-Fetch.ensures g.L.Source.left _ _ _ _ refl done.answer (done.cause (g.T.Tree.faults c.args.tree.now)) (inr done.ran) (λ d n. (d, n)))
+
+pub returns-in-Order-clause-done : goal.returns-in-Order-clause-done
+returns-in-Order-clause-done g c =
+    let done = c.order_lines.ensures in
+    for_given _ _ _ _ _ _ c.in-Order.is
+    (read_out _ _ c.order_lines.result _ _ refl c.nothing-in-Order.result c.nothing-in-Order.ensures g.L.Source.left _ _ _ _ refl done.answer (done.cause (g.T.Tree.faults c.args.tree.now)) (inr done.ran) (λ d n. (d, n)))
+
+pub returns-in-Survey-clause-done : goal.returns-in-Survey-clause-done
+returns-in-Survey-clause-done g c =
+    let done = c.survey_buses.ensures in
+    for_given _ _ _ _ _ _ c.in-Survey.is
+    (read_out _ _ c.survey_buses.result _ _ refl c.nothing-in-Survey.result c.nothing-in-Survey.ensures g.L.Source.left _ _ _ _ refl done.answer (done.cause (g.T.Tree.faults c.args.tree.now)) (inr done.ran) (λ d n. (d, n)))
+
+pub returns-in-Explain-clause-done : goal.returns-in-Explain-clause-done
+returns-in-Explain-clause-done g c =
+    let done = c.explain_plan.ensures in
+    for_given _ _ _ _ _ _ c.in-Explain.is
+    (read_out _ _ c.explain_plan.result _ _ refl c.nothing-in-Explain.result c.nothing-in-Explain.ensures g.L.Source.left _ _ _ _ refl done.answer done.cause done.ran (λ d n. (d, n)))

@@ -1,4 +1,5 @@
 use Rattle.std.proofs.Common.{List, ℕ, refl, subst}
+use Rattle.node_reach.specs.Buses.{bus_names}
 use Rattle.node_reach.specs.Fetched.{client_of, fetch_voice}
 use Rattle.node_run.specs.ValueLines.{flow}
 use Rattle.cyphal.specs.jobs.Fetch.{HasFetched}
@@ -8,7 +9,7 @@ use Rattle.cyphal.proofs.jobs.fetch.fetch_file.Goals as goal
 pub returns-clause-answer : goal.returns-clause-answer
 returns-clause-answer g c h =
     let client = client_of c.args.file.own.number c.args.file.server.number c.as_bytes-path.result.now in
-    ends_as_log (fetch_voice client) _ _ c.fetch.result _ _ c.status_of.result c.status_of.ensures h c.fetch.ensures.listened
+    ends_as_log bus_names (fetch_voice client) _ _ c.fetch.result _ _ c.status_of.result c.status_of.ensures h c.fetch.ensures.listened
 
 pub returns-clause-usage : goal.returns-clause-usage
 returns-clause-usage g c = no_usage c.fetch.result c.status_of.result c.status_of.ensures

@@ -1,0 +1,35 @@
+use Rattle.std.proofs.Common.{inr}
+use Rattle.log_explain.specs.Explained.{explain_voice}
+use Rattle.node_run.specs.Ran.{names_of}
+use Rattle.cyphal.specs.jobs.Run.{over}
+use Rattle.cyphal.proofs.Plans.{refused_at, good_at}
+use Rattle.cyphal.proofs.statuses.Reach.{ends_as_log, no_usage, cause_of}
+use Rattle.cyphal.proofs.jobs.explain.explain_plan.Goals as goal
+
+pub returns-in-Err-clause-answer : goal.returns-in-Err-clause-answer
+returns-in-Err-clause-answer g c h =
+    refused_at (over (g.L.Source.left c.args.input.now)) c.args.root.now c.args.path.now (g.T.Tree.files c.args.tree.now) c.in-Err.status (c.in-Err.ensures.answer h)
+
+pub returns-clause-answer : goal.returns-clause-answer
+returns-clause-answer g c h =
+    let plan = c.in-Ok.plan in
+    good_at (over (g.L.Source.left c.args.input.now)) c.args.root.now c.args.path.now (g.T.Tree.files c.args.tree.now) c.status_of.result plan c.in-Ok.ensures.plan
+    (ends_as_log (names_of plan) (explain_voice plan) _ _ c.explain_log.result _ _ c.status_of.result c.status_of.ensures h c.explain_log.ensures.listened) h
+
+pub returns-clause-usage : goal.returns-clause-usage
+returns-clause-usage g c = no_usage c.explain_log.result c.status_of.result c.status_of.ensures
+
+pub returns-clause-cause : goal.returns-clause-cause
+returns-clause-cause g c =
+    cause_of c.explain_log.result c.status_of.result c.status_of.ensures _ _ c.in-Ok.ensures.kept c.explain_log.ensures.read c.explain_log.ensures.write c.explain_log.ensures.kept
+
+pub returns-clause-ran : goal.returns-clause-ran
+returns-clause-ran g c = inr (record {
+  plan = c.in-Ok.plan;
+  is = c.in-Ok.ensures.plan;
+  listened = record {
+    ended = c.explain_log.result;
+    is = c.status_of.ensures;
+    listened = c.explain_log.ensures.listened;
+  };
+})

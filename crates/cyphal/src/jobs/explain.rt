@@ -1,0 +1,100 @@
+//! `explain ROOT PLAN`: what became of each frame of the log of the input, by a plan.
+ghost use Rattle.std.specs.Prelude.{◌≡◌, ◌⊎◌, false};
+ghost use Rattle.node_run.specs.ValueLines.{flow};
+ghost use Rattle.cyphal.specs.Cause.{outside, HasCauseOver};
+ghost use Rattle.cyphal.specs.Job.{is_fault, printed, TookNothing};
+ghost use Rattle.cyphal.specs.Plans.{EndsAt};
+ghost use Rattle.cyphal.specs.jobs.Explain.{explain_job, HasExplainedAt};
+ghost use Rattle.cyphal.specs.jobs.Run.{over};
+
+use crate::plan_file::plan_at;
+use cy_outside::{Sink, Source, Tree};
+use log_explain::explain_log;
+use node_run::{Status, status_of};
+use std::alloc::Global;
+
+/// Writes what became of each frame of the log of the input, by the plan at a path, which is read
+/// in the namespace of a root, and how each session fared. It answers no request.
+pub fn explain_plan<T: Tree, L: Source, O: Sink>(
+    alloc: Global,
+    root: &str,
+    path: &str,
+    tree: &mut T,
+    input: &mut L,
+    out: &mut O,
+) -> Status
+    ensures answer { is_fault result ≡ false
+        → EndsAt (over (L.left input.old)) root.now path.now (T.files tree.old) result }
+    ensures usage { ¬ (result ≡ Status.Usage) }
+    ensures cause { let job = explain_job root.now path.now in
+        let old = outside (T.faults tree.old) (L.faults input.old) (O.faults out.old) input.old in
+        let new = outside (T.faults tree.new) (L.faults input.new) (O.faults out.new) input.new in
+        HasCauseOver job.takes_input job.serves result old new }
+    ensures ran { let print = printed result (O.written out.old) (O.written out.new) in
+        let old = outside (T.faults tree.old) (L.faults input.old) (O.faults out.old) input.old in
+        let new = outside (T.faults tree.new) (L.faults input.new) (O.faults out.new) input.new in
+        let told = flow (L.left input.old) (L.left input.new) print.before print.after in
+        TookNothing print old new
+        ⊎ HasExplainedAt root.now path.now (T.files tree.old) result told }
+{
+    let plan = match plan_at(alloc, root, path, tree) {
+        Ok(plan) => plan,
+        Err(status) => return status,
+    };
+    status_of(explain_log(alloc, plan, input, out))
+}
+
+#[cfg(test)]
+mod tests {
+    use crate::calls::{Call, RUN, USAGE, come_to};
+    use std::test::Fail;
+
+    const EXPLAINED: [Call; 4] = [
+        Call {
+            words: &["explain", "none", "plan"],
+            written: b"frame 1 0.000000 can0 msg 7509 42 0 delivered 1\n\
+                  session msg 7509 42 can0 delivered 1 badcrc 0 copies 0 standby 0 stray 0 \
+                  abandoned 0 handovers 0 gaps 0\n\
+                  end records 1 sessions 1\n",
+            ..RUN
+        },
+        Call {
+            words: &["explain", "none", "other"],
+            code: 12,
+            written: b"",
+            line: b"cyphal: not found: other\n",
+            ..RUN
+        },
+        Call {
+            words: &["explain", "none", "plan"],
+            text: b"hello\n",
+            code: 4,
+            written: b"",
+            line: b"cyphal: log line 1: BadLine\n",
+            ..RUN
+        },
+        Call {
+            words: &["explain", "none", "plan"],
+            input: &[0],
+            code: 8,
+            written: b"",
+            line: b"cyphal: read fault\n",
+            ..RUN
+        },
+    ];
+
+    #[test]
+    fn each_frame_has_its_reason(rt: HostRuntime) -> Result<(), Fail> {
+        come_to(&rt, rt.alloc(), &EXPLAINED)
+    }
+
+    const REFUSED: [Call; 1] = [Call {
+        words: &["explain", "plan"],
+        ..USAGE
+    }];
+
+    #[test]
+    fn other_words_are_refused(rt: HostRuntime) -> Result<(), Fail> {
+        come_to(&rt, rt.alloc(), &REFUSED)
+    }
+}

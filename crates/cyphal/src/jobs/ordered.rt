@@ -1,0 +1,132 @@
+//! `order MICROS`: the lines of a log in the order of their moments.
+ghost use Rattle.std.specs.Prelude.{◌≡◌, ℕ, true, false};
+ghost use Rattle.cy_outside.specs.Outside.{Rose};
+ghost use Rattle.node_run.specs.ValueLines.{flow};
+ghost use Rattle.cyphal.specs.Cause.{outside, HasCauseOver};
+ghost use Rattle.cyphal.specs.Job.{is_fault};
+ghost use Rattle.cyphal.specs.jobs.Order.{EndsAsLines, HasOrdered, IsOrderedUntil};
+
+use cy_outside::{Sink, Source};
+use line_loop::LinesEnded;
+use line_order::order_log;
+use node_reach::Ended;
+use node_run::{Status, status_of};
+use std::alloc::Global;
+
+/// Writes the lines of the log of the input in the order of their moments, where none comes later than a window allows, in
+/// microseconds. It is given no tree, so each count of a tree's faults stays.
+pub fn order_lines<L: Source, O: Sink>(
+    alloc: Global,
+    window: u32,
+    input: &mut L,
+    out: &mut O,
+) -> Status
+    ensures answer { is_fault result ≡ false → EndsAsLines window (L.left input.old) result }
+    ensures usage { ¬ (result ≡ Status.Usage) }
+    ensures cause { (tree : ℕ)
+        → (let old = outside tree (L.faults input.old) (O.faults out.old) input.old in
+        let new = outside tree (L.faults input.new) (O.faults out.new) input.new in
+        HasCauseOver true false result old new) }
+    ensures ran { let told = flow (L.left input.old) (L.left input.new)
+        (O.written out.old) (O.written out.new) in
+        HasOrdered window result told }
+{
+    status_of(ordered(alloc, window, input, out))
+}
+
+/// How the log ends.
+fn ordered<L: Source, O: Sink>(alloc: Global, window: u32, input: &mut L, out: &mut O) -> Ended
+    ensures ordered { let told = flow (L.left input.old) (L.left input.new)
+        (O.written out.old) (O.written out.new) in
+        IsOrderedUntil window result told }
+    ensures read { result ≡ Ended.ReadFault → Rose (L.faults input.old) (L.faults input.new) }
+    ensures write { result ≡ Ended.WriteFault → Rose (O.faults out.old) (O.faults out.new) }
+    ensures kept { result ≡ Ended.Ok
+        → (L.faults input.new ≡ L.faults input.old) × (O.faults out.new ≡ O.faults out.old) }
+{
+    match order_log(alloc, u64::from(window), input, out) {
+        LinesEnded::Ok => Ended::Ok,
+        LinesEnded::Refused(refusal) => Ended::Log {
+            line: refusal.line,
+            why: refusal.why,
+        },
+        LinesEnded::TooLong => Ended::LogLong,
+        LinesEnded::ReadFault => Ended::ReadFault,
+        LinesEnded::WriteFault => Ended::WriteFault,
+        LinesEnded::NoMemory => Ended::NoMemory,
+    }
+}
+
+#[cfg(test)]
+mod tests {
+    use crate::calls::{CALL, Call, USAGE, come_to};
+    use std::test::Fail;
+
+    /// A command that is given no file; each call of the tree would fail.
+    const ORDER: Call = Call { tree: &[0], ..CALL };
+
+    const ORDERED: [Call; 5] = [
+        Call {
+            words: &["order", "10"],
+            text: b"(1.000010)  can0 123#01\n(1.000000) vcan10  123#02 R\r\n\n",
+            written: b"(1.000000) vcan10 123#02 R\n(1.000010) can0 123#01\n",
+            ..ORDER
+        },
+        Call {
+            words: &["order", "9"],
+            text: b"(1.000010)  can0 123#01\n(1.000000) vcan10  123#02\n",
+            code: 4,
+            written: b"(1.000010) can0 123#01\n",
+            line: b"cyphal: log line 2: TimeBack\n",
+            ..ORDER
+        },
+        Call {
+            words: &["order", "0"],
+            text: b"(1.000000) can0 123#01\nhello\n",
+            code: 4,
+            written: b"(1.000000) can0 123#01\n",
+            line: b"cyphal: log line 2: BadLine\n",
+            ..ORDER
+        },
+        Call {
+            words: &["order", "60000000"],
+            input: &[0],
+            code: 8,
+            line: b"cyphal: read fault\n",
+            ..ORDER
+        },
+        Call {
+            words: &["order", "60000000"],
+            text: b"(1.000000) can0 123#01",
+            out: &[0],
+            code: 9,
+            line: b"cyphal: write fault\n",
+            ..ORDER
+        },
+    ];
+
+    #[test]
+    fn a_log_is_brought_into_order(rt: HostRuntime) -> Result<(), Fail> {
+        come_to(&rt, rt.alloc(), &ORDERED)
+    }
+
+    const REFUSED: [Call; 3] = [
+        Call {
+            words: &["order", "60000001"],
+            ..USAGE
+        },
+        Call {
+            words: &["order", "01"],
+            ..USAGE
+        },
+        Call {
+            words: &["order"],
+            ..USAGE
+        },
+    ];
+
+    #[test]
+    fn other_windows_are_refused(rt: HostRuntime) -> Result<(), Fail> {
+        come_to(&rt, rt.alloc(), &REFUSED)
+    }
+}

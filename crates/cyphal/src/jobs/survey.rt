@@ -1,0 +1,132 @@
+//! `survey BUSES`: what the buses of the log of the input carry, without a plan.
+ghost use Rattle.std.specs.Prelude.{◌≡◌, ℕ, true, false};
+ghost use Rattle.cy_outside.specs.Outside.{Rose};
+ghost use Rattle.tail_frame.specs.declared.logged.Record.{Record};
+ghost use Rattle.log_loop.specs.Gone.{any_stages};
+ghost use Rattle.log_loop.specs.Listened.{HasListened as Listened};
+ghost use Rattle.bus_survey.specs.Surveyed.{survey_voice};
+ghost use Rattle.node_run.specs.ValueLines.{flow};
+ghost use Rattle.cyphal.specs.Cause.{outside, HasCauseOver};
+ghost use Rattle.cyphal.specs.Job.{is_fault};
+ghost use Rattle.cyphal.specs.LogEnds.{EndsAsLog};
+ghost use Rattle.cyphal.specs.Words.{names_of};
+ghost use Rattle.cyphal.specs.jobs.Reach.{HasListened};
+
+use crate::bus_names::BusNames;
+use bus_survey::{Ended, survey};
+use cy_outside::{Sink, Source};
+use node_run::{Status, status_of};
+use std::alloc::Global;
+
+/// Hears the log of the input, of these buses, and writes behind it what each of them and each flow
+/// carries. It is given no tree, so each count of a tree's faults stays.
+pub fn survey_buses<L: Source, O: Sink>(
+    alloc: Global,
+    buses: BusNames<'_>,
+    input: &mut L,
+    out: &mut O,
+) -> Status
+    ensures answer { is_fault result ≡ false
+        → EndsAsLog (names_of buses.entry) (L.left input.old) result }
+    ensures usage { ¬ (result ≡ Status.Usage) }
+    ensures cause { (tree : ℕ)
+        → (let old = outside tree (L.faults input.old) (O.faults out.old) input.old in
+        let new = outside tree (L.faults input.new) (O.faults out.new) input.new in
+        HasCauseOver true false result old new) }
+    ensures ran { let names = names_of buses.entry in
+        let told = flow (L.left input.old) (L.left input.new)
+        (O.written out.old) (O.written out.new) in
+        HasListened names (survey_voice names) result told }
+{
+    status_of(surveyed(alloc, buses, input, out))
+}
+
+/// How hearing the log ends.
+fn surveyed<L: Source, O: Sink>(
+    alloc: Global,
+    buses: BusNames<'_>,
+    input: &mut L,
+    out: &mut O,
+) -> Ended
+    ensures listened { let names = names_of buses.entry in
+        Listened names (survey_voice names) (any_stages Record)
+        (L.left input.old) (L.left input.new) result (O.written out.old) (O.written out.new) }
+    ensures read { result ≡ Ended.ReadFault → Rose (L.faults input.old) (L.faults input.new) }
+    ensures write { result ≡ Ended.WriteFault → Rose (O.faults out.old) (O.faults out.new) }
+    ensures kept { result ≡ Ended.Ok
+        → (L.faults input.new ≡ L.faults input.old) × (O.faults out.new ≡ O.faults out.old) }
+{
+    survey(alloc, &buses.listed(), input, out)
+}
+
+#[cfg(test)]
+mod tests {
+    use crate::calls::{CALL, Call, USAGE, come_to};
+    use std::test::Fail;
+
+    /// A command that is given no file; each call of the tree would fail.
+    const HEAR: Call = Call { tree: &[0], ..CALL };
+
+    const SURVEYED: [Call; 4] = [
+        Call {
+            words: &["survey", "can0,vcan_10"],
+            text: b"(1.000000) can0 107D552A#01000000000000E0\n\
+                  (2.000000) vcan_10 107D552A#01000000000000E0\n\
+                  (2.500000) can0 107D552A#02000000000000E2\n\
+                  (2.600000) can0 10FD552A#02000000000000E2\n",
+            written: b"bus can0 records 3 discarded 1 first 1.000000 last 2.600000 silence 1500000\n\
+                  bus vcan_10 records 1 discarded 0 first 2.000000 last 2.000000 silence 0\n\
+                  port msg 7509 42 - can0 frames 2 starts 2 copies 0 gaps 1 bytes 16 every 1500000 1500000\n\
+                  port msg 7509 42 - vcan_10 frames 1 starts 1 copies 0 gaps 0 bytes 8 every - -\n\
+                  end records 4 discarded 1 nodes 1\n",
+            ..HEAR
+        },
+        Call {
+            words: &["survey", "a,b,c"],
+            written: b"bus a records 0 discarded 0 first - last - silence 0\n\
+                  bus b records 0 discarded 0 first - last - silence 0\n\
+                  bus c records 0 discarded 0 first - last - silence 0\n\
+                  end records 0 discarded 0 nodes 0\n",
+            ..HEAR
+        },
+        Call {
+            words: &["survey", "can1"],
+            text: b"(0.000000) can0 107D552A#01000000000000E0\n",
+            code: 4,
+            line: b"cyphal: log line 1: UnknownBus\n",
+            ..HEAR
+        },
+        Call {
+            words: &["survey", "can0"],
+            input: &[0],
+            code: 8,
+            line: b"cyphal: read fault\n",
+            ..HEAR
+        },
+    ];
+
+    #[test]
+    fn a_log_is_surveyed(rt: HostRuntime) -> Result<(), Fail> {
+        come_to(&rt, rt.alloc(), &SURVEYED)
+    }
+
+    const REFUSED: [Call; 3] = [
+        Call {
+            words: &["survey", "can0,can0"],
+            ..USAGE
+        },
+        Call {
+            words: &["survey", "a,b,c,d"],
+            ..USAGE
+        },
+        Call {
+            words: &["survey", "can0", "can1"],
+            ..USAGE
+        },
+    ];
+
+    #[test]
+    fn other_words_are_refused(rt: HostRuntime) -> Result<(), Fail> {
+        come_to(&rt, rt.alloc(), &REFUSED)
+    }
+}
