@@ -6,7 +6,7 @@ ghost use Rattle.node_core.specs.InTime.{IsInTime, IsInTime-prop};
 use crate::bus_queues::BusQueues;
 use crate::came::{Came, Heard};
 use crate::fed::{is_bad, line_on};
-use crate::heard::{frame_for, subject_in};
+use crate::heard::subject_in;
 use crate::line::Line;
 use crate::line_ref::LineRef;
 use crate::port_shape::PortShape;
@@ -19,7 +19,7 @@ use cy_outside::Tree;
 use node_plan::Plan;
 use node_status::info_payload;
 use register_service::Limited;
-use rx_table::{Met, Table};
+use rx_table::{Met, Table, frame_for};
 use std::alloc::Global;
 use tail_frame::{Frame, Record};
 

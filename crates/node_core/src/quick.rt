@@ -16,11 +16,11 @@ ghost use Rattle.node_core.specs.Told.{answer_is_bad, told_lines};
 ghost use Rattle.node_core.specs.Types.{type_at};
 
 use crate::fed::{line_on, untyped_line};
-use crate::heard::{frame_for, subject_in};
+use crate::heard::subject_in;
 use crate::line_ref::LineRef;
 use crate::node::Node;
 use rx_session::Step;
-use rx_table::{Met, PortMet};
+use rx_table::{Met, PortMet, frame_for};
 use tail_frame::{Frame, Record};
 
 /// Where the identifier of a record leads, before the record is read as a frame.

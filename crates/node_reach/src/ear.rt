@@ -2,12 +2,11 @@
 ghost use Rattle.node_reach.specs.InTime.{IsInTime, IsInTime-prop};
 ghost use Rattle.node_reach.specs.PortTypes.{type_schema};
 
-use crate::frames::frame_for;
 use crate::transfer::{Transfer, transfer_of};
 use can_id::Kind;
 use cy_bits::NoMemory;
 use rx_table::laws::outcome_tells;
-use rx_table::{Met, SubscribeError, Table};
+use rx_table::{Met, SubscribeError, Table, frame_for};
 use std::alloc::Global;
 use std_types::{StdName, StdType, std_type};
 use tail_frame::{Frame, Record};

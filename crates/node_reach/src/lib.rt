@@ -12,7 +12,6 @@ mod ear;
 mod fetch_lines;
 mod fetching;
 mod file_fetch;
-mod frames;
 mod lines;
 mod monitoring;
 mod network;

@@ -2,11 +2,13 @@
 #![tactic(auto)]
 
 pub mod fed;
+mod filter;
 pub mod laws;
 pub mod port;
 pub mod subjects;
 pub mod table;
 
 pub use fed::{Fed, Met, PortMet, SubscribeError};
+pub use filter::frame_for;
 pub use port::Port;
 pub use table::Table;

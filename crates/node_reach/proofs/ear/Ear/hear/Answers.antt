@@ -16,15 +16,15 @@ invariant_of-self-in-None c =
 
 pub returns-in_ok-met-in-Some-clause-hears : goal.returns-in_ok-met-in-Some-clause-hears
 returns-in_ok-met-in-Some-clause-hears c =
-    (λ ears past h. hears_some c.args.self.now _ c.args.rec.now (record { own = refl; timeout = c.step.ensures.keeps.timeout; ports = c.step.ensures.keeps.ports; latest = refl; behind = c.requires.moment }) ears past h (seen c.in-Some.frame) (c.in-Some.ensures {u = tt}).frame (c.in_ok-met-in-Some.ensures {u = tt}).stands)
+    (λ ears past h. hears_some c.args.self.now _ c.args.rec.now (record { own = refl; timeout = c.step.ensures.keeps.timeout; ports = c.step.ensures.keeps.ports; latest = refl; behind = c.requires.moment }) ears past h (seen c.in-Some.frame) (c.in-Some.ensures {u = tt}).value (c.in_ok-met-in-Some.ensures {u = tt}).stands)
 
 pub returns-in_ok-met-in-Some-clause-told : goal.returns-in_ok-met-in-Some-clause-told
 returns-in_ok-met-in-Some-clause-told c = λ ears past h.
-    told_some c.args.self.now c.args.rec.now ears past h c.outcome_tells.ensures (seen c.in-Some.frame) _ (c.in-Some.ensures {u = tt}).frame (c.in_ok-met-in-Some.ensures {u = tt}).told
+    told_some c.args.self.now c.args.rec.now ears past h c.outcome_tells.ensures (seen c.in-Some.frame) _ (c.in-Some.ensures {u = tt}).value (c.in_ok-met-in-Some.ensures {u = tt}).told
 
 pub returns-in-None-clause-hears : goal.returns-in-None-clause-hears
 returns-in-None-clause-hears c =
-    (λ ears past h. hears_none c.args.self.now _ c.args.rec.now (record { own = refl; timeout = refl; ports = refl; latest = refl; behind = c.requires.moment }) ears past h (c.in-None.ensures {u = tt}).frame refl)
+    (λ ears past h. hears_none c.args.self.now _ c.args.rec.now (record { own = refl; timeout = refl; ports = refl; latest = refl; behind = c.requires.moment }) ears past h (c.in-None.ensures {u = tt}).value refl)
 
 pub returns-in-None-clause-told : goal.returns-in-None-clause-told
-returns-in-None-clause-told c = λ ears past h. told_none c.args.self.now c.args.rec.now ears past h (c.in-None.ensures {u = tt}).frame
+returns-in-None-clause-told c = λ ears past h. told_none c.args.self.now c.args.rec.now ears past h (c.in-None.ensures {u = tt}).value

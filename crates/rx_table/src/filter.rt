@@ -1,4 +1,5 @@
-ghost use Rattle.std.specs.Prelude.{◌≡◌, IfSome, option_map};
+//! The filter of a node: the frames that are for it.
+ghost use Rattle.std.specs.Prelude.{◌≡◌, ◌<◌, true, IfSome, option_map};
 ghost use Rattle.can_id.specs.Identifiers.{IsIdent};
 ghost use Rattle.tail_frame.specs.Frames.{seen};
 ghost use Rattle.rx_table.specs.Heard.{is_for, frame_for};
@@ -6,11 +7,14 @@ ghost use Rattle.rx_table.specs.Heard.{is_for, frame_for};
 use can_id::Ident;
 use tail_frame::{Frame, Record, frame_of};
 
-/// The frame that a record is, or `None` where it is discarded, is the node's own, or is of a service of another node.
-pub(crate) fn frame_for(node: u8, rec: &Record) -> Option<Frame<'_>>
-    ensures frame { option_map seen result ≡ frame_for node rec.now }
+/// The frame that a record is, or `None` where it is discarded, is the node's own, or is of a
+/// service of another node (sections 4.1 and 4.2 of the Cyphal Specification).
+#[inline(always)]
+pub fn frame_for(node: u8, rec: &Record) -> Option<Frame<'_>>
+    ensures value { option_map seen result ≡ frame_for node rec.now }
     ensures moment { IfSome result (λ frame. frame.moment ≡ rec.now.moment) }
-    ensures ident { IfSome result (λ frame. IsIdent frame.ident) }
+    ensures ranges { IfSome result (λ frame. (frame.tail.tid < 32) × IsIdent frame.ident) }
+    ensures own { IfSome result (λ frame. is_for node frame.ident ≡ true) }
 {
     let frame = frame_of(rec)?;
     if is_for(node, frame.ident) {
@@ -21,6 +25,7 @@ pub(crate) fn frame_for(node: u8, rec: &Record) -> Option<Frame<'_>>
 }
 
 /// Whether a frame is for the node.
+#[inline(always)]
 fn is_for(node: u8, ident: Ident) -> bool
     ensures { result ≡ is_for node ident }
 {
