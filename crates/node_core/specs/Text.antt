@@ -27,10 +27,6 @@ kind_text Message = codes "msg"
 kind_text Request = codes "req"
 kind_text Response = codes "res"
 
--- the name of a bus in a line on a message, with what stands on both sides of it
-abbrev pub message_word : BusPlan → List ℕ
-message_word bus = 32 ∷ bus.name ++ codes " msg "
-
 -- the sender's node-ID; an anonymous message has none
 abbrev pub source_text : Option ℕ → List ℕ
 source_text None = codes "-"
@@ -47,9 +43,13 @@ reading_text Raw = codes "raw"
 reading_text (Good value text) = text
 reading_text (Bad path why) = codes "!" ++ unreadable_text path why
 
--- the name of a bus and a kind, with a space on each side of each
-abbrev pub bus_and_kind : List BusPlan → ℕ → Kind → List ℕ
-bus_and_kind buses bus kind = 32 ∷ spaced (bus_text buses bus ∷ kind_text kind ∷ [])
+-- the name of a bus, a kind and a port, with a space in front and one behind each
+abbrev pub port_words : List BusPlan → ℕ → Kind → ℕ → List ℕ
+port_words buses bus kind port = 32 ∷ spaced (bus_text buses bus ∷ kind_text kind ∷ decimal port ∷ [])
+
+-- those of a message
+abbrev pub message_words : List BusPlan → ℕ → ℕ → List ℕ
+message_words buses bus port = port_words buses bus Message port
 
 -- on which bus, at which port and from whom
 abbrev pub key_words : List BusPlan → ℕ → Key → List (List ℕ)

@@ -1,30 +1,36 @@
 //! The names of buses in lines.
-ghost use Rattle.std.specs.Prelude.{◌≡◌, map};
-ghost use Rattle.node_core.specs.Text.{message_word};
+ghost use Rattle.std.specs.Prelude.{◌≡◌, ◌≤◌, length};
+ghost use Rattle.node_core.specs.Text.{bus_text, message_words};
 ghost use Rattle.node_core.specs.Words.{word_text};
 
 use crate::word::Word;
 use crate::words::kind_word;
 use can_id::Kind;
 use cy_bits::{BusName, ShortList};
+use itoa::Buffer;
 use line_text::TextBuffer;
 use node_plan::BusPlan;
 
-/// The buses of a plan, and the words of each in a line on a message.
+/// The buses of a plan, and the words of the last line on a message, which many lines in a row have
+/// in common.
 #[derive(Drop)]
 pub struct BusWords {
     /// The buses.
     pub buses: ShortList<BusPlan, 3>,
-    /// For each bus a space, its name, and ` msg `.
-    messages: ShortList<Word, 3>,
-    ghost words_are: { map word_text messages ≡ map message_word buses },
+    /// The bus of the last line on a message.
+    bus: u8,
+    /// The port of the last line on a message.
+    port: u16,
+    /// A space, the name of that bus, `msg` and that port, with a space behind each.
+    word: Word,
+    ghost word_is: { word_text word ≡ message_words buses bus port },
 }
 
 impl BusWords {
-    ghost use Rattle.std.specs.Prelude.{◌≤◌, ◌+◌};
+    ghost use Rattle.std.specs.Prelude.{◌+◌};
     ghost use Rattle.line_text.specs.Buffer.{room_of};
     ghost use Rattle.node_core.specs.Puts.{Puts};
-    ghost use Rattle.node_core.specs.Text.{bus_text, bus_and_kind};
+    ghost use Rattle.node_core.specs.Text.{port_words};
 
     /// The words of these buses.
     pub fn new(buses: &ShortList<BusPlan, 3>) -> BusWords
@@ -32,49 +38,69 @@ impl BusWords {
     {
         BusWords {
             buses: copy_of(buses),
-            messages: messages_of(buses),
+            bus: 0,
+            port: 0,
+            word: message_words(buses, 0, 0),
         }
     }
 
-    /// Puts the name of a bus and a kind behind a text, with a space on each side of each.
+    /// Puts the name of a bus, a kind and a port behind a text, with a space in front and one behind
+    /// each.
     #[inline(always)]
-    pub fn put(&self, text: &mut TextBuffer, bus: u8, kind: Kind)
-        requires { 64 ≤ room_of text.old }
-        ensures text { Puts (bus_and_kind self.now.buses bus kind) text.old text.new }
-        ensures room { room_of text.old ≤ room_of text.new + 32 }
+    pub fn put(&mut self, text: &mut TextBuffer, bus: u8, kind: Kind, port: u16)
+        requires { 128 ≤ room_of text.old }
+        ensures buses { self.new.buses ≡ self.old.buses }
+        ensures text { Puts (port_words self.old.buses bus kind port) text.old text.new }
+        ensures room { room_of text.old ≤ room_of text.new + 64 }
     {
         match kind {
-            Kind::Message => self.put_message(text, bus),
-            Kind::Request => self.put_any(text, bus, kind),
-            Kind::Response => self.put_any(text, bus, kind),
+            Kind::Message => self.put_message(text, bus, port),
+            Kind::Request => self.put_any(text, bus, kind, port),
+            Kind::Response => self.put_any(text, bus, kind, port),
         }
     }
 
-    /// The same of a message.
+    /// The same of a message. Its words become those that are kept.
     #[inline(always)]
-    fn put_message(&self, text: &mut TextBuffer, bus: u8)
+    fn put_message(&mut self, text: &mut TextBuffer, bus: u8, port: u16)
         requires { 64 ≤ room_of text.old }
-        ensures text { Puts (bus_and_kind self.now.buses bus Kind.Message) text.old text.new }
+        ensures buses { self.new.buses ≡ self.old.buses }
+        ensures text { Puts (message_words self.old.buses bus port) text.old text.new }
         ensures room { room_of text.old ≤ room_of text.new + 32 }
     {
-        match self.messages.get(bus as usize) {
-            Some(word) => word.put(text),
-            None => text.put_slice(b"  msg "),
+        if bus != self.bus || port != self.port {
+            self.move_to(bus, port);
         }
+        self.word.put(text);
     }
 
-    /// The same, without the word that is kept.
+    /// Keeps the words of another bus and port.
+    #[inline(never)]
+    fn move_to(&mut self, bus: u8, port: u16)
+        ensures buses { self.new.buses ≡ self.old.buses }
+        ensures bus { self.new.bus ≡ bus }
+        ensures port { self.new.port ≡ port }
+    {
+        let word = message_words(&self.buses, bus, port);
+        self.word = word;
+        self.bus = bus;
+        self.port = port;
+    }
+
+    /// Puts the words of any transfer, without those that are kept.
     #[cold]
     #[inline(never)]
-    fn put_any(&self, text: &mut TextBuffer, bus: u8, kind: Kind)
-        requires { 64 ≤ room_of text.old }
-        ensures text { Puts (bus_and_kind self.now.buses bus kind) text.old text.new }
-        ensures room { room_of text.old ≤ room_of text.new + 32 }
+    fn put_any(&self, text: &mut TextBuffer, bus: u8, kind: Kind, port: u16)
+        requires { 128 ≤ room_of text.old }
+        ensures text { Puts (port_words self.now.buses bus kind port) text.old text.new }
+        ensures room { room_of text.old ≤ room_of text.new + 64 }
     {
         text.put_slice(b" ");
         self.put_name(text, bus);
         text.put_slice(b" ");
         text.put_slice(kind_word(kind));
+        text.put_number(port as u64);
+        text.put_slice(b" ");
     }
 
     /// Puts the name of a bus behind a text.
@@ -83,10 +109,32 @@ impl BusWords {
         ensures text { Puts (bus_text self.now.buses bus) text.old text.new }
         ensures room { room_of text.old ≤ room_of text.new + 15 }
     {
-        if let Some(plan) = self.buses.get(bus as usize) {
-            text.put_slice(plan.name.as_str().as_bytes());
-        }
+        text.put_slice(name_in(&self.buses, bus));
     }
+}
+
+/// The name of the bus at a place of the plan.
+fn name_in(buses: &ShortList<BusPlan, 3>, bus: u8) -> &[u8]
+    ensures name { result.now ≡ bus_text buses.now bus }
+    ensures length { length result.now ≤ 15 }
+{
+    match buses.get(bus as usize) {
+        Some(plan) => plan.name.as_str().as_bytes(),
+        None => &[],
+    }
+}
+
+/// The words of a bus and a port in a line on a message.
+fn message_words(buses: &ShortList<BusPlan, 3>, bus: u8, port: u16) -> Word
+    ensures { word_text result ≡ message_words buses.now bus port }
+{
+    let mut word = Word::new();
+    word.push(b" ");
+    word.push(name_in(buses, bus));
+    word.push(b" msg ");
+    word.push(Buffer::new().format(port).as_bytes());
+    word.push(b" ");
+    word
 }
 
 /// The same buses.
@@ -110,26 +158,4 @@ fn copy_of_bus(bus: &BusPlan) -> BusPlan
         mtu: bus.mtu,
         rate: bus.rate,
     }
-}
-
-/// The words of each bus in a line on a message.
-fn messages_of(buses: &ShortList<BusPlan, 3>) -> ShortList<Word, 3>
-    ensures { map word_text result ≡ map message_word buses.now }
-{
-    let mut messages = ShortList::new();
-    for bus in buses.as_slice() {
-        messages.push(message_of(bus));
-    }
-    messages
-}
-
-/// The words of a bus in a line on a message.
-fn message_of(bus: &BusPlan) -> Word
-    ensures { word_text result ≡ message_word bus.now }
-{
-    let mut word = Word::new();
-    word.push(b" ");
-    word.push(bus.name.as_str().as_bytes());
-    word.push(b" msg ");
-    word
 }

@@ -19,7 +19,6 @@ pub mod line_writer;
 pub mod node;
 pub mod numbers;
 pub mod port_shape;
-mod port_word;
 mod ports;
 mod pushes;
 mod question;

@@ -9,7 +9,6 @@ use crate::bus_words::BusWords;
 use crate::line::{FullLine, Refused};
 use crate::line_ref::{LineRef, RxRef, TxRef};
 use crate::numbers::Numbers;
-use crate::port_word::PortWord;
 use crate::second::Second;
 use crate::typed_text::put_typed;
 use crate::words::{
@@ -32,10 +31,8 @@ pub struct LineWriter {
     alloc: Global,
     /// The second of the last `rx` line.
     second: Second,
-    /// The names of the buses.
+    /// The names of the buses, and the words of the last line on a message.
     names: BusWords,
-    /// The port of the last line on one.
-    port: PortWord,
     /// The bytes of the last payload that was read, and some behind them that don't count.
     bytes: TextBuffer,
 }
@@ -52,7 +49,6 @@ impl LineWriter {
             alloc,
             second: Second::of(0),
             names: BusWords::new(buses),
-            port: PortWord::of(0),
             bytes: TextBuffer::new(alloc),
         }
     }
@@ -175,7 +171,7 @@ impl LineWriter {
             room_of text.old ≤ room_of text.new + digits + 200 }
     {
         self.second.put(text, rx.moment);
-        put_key(&self.names, &mut self.port, text, rx.bus, &rx.key);
+        put_key(&mut self.names, text, rx.bus, &rx.key);
         put_transfer(text, rx);
         put_payload(text, rx.payload);
     }
@@ -191,7 +187,7 @@ impl LineWriter {
         text.reserve(LINE)?;
         text.put_slice(b"nosession ");
         text.put_moment(refused.moment);
-        put_key(&self.names, &mut self.port, text, refused.bus, &refused.key);
+        put_key(&mut self.names, text, refused.bus, &refused.key);
         text.put_number(refused.line);
         text.put_slice(b"\n");
         Ok(())

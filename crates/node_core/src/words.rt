@@ -13,7 +13,6 @@ use crate::bus_words::BusWords;
 use crate::line::Reading;
 use crate::line_ref::RxRef;
 use crate::numbers::Numbers;
-use crate::port_word::PortWord;
 use crate::word::Word;
 use can_id::{Key, Kind};
 use cy_bits::NoMemory;
@@ -73,13 +72,13 @@ fn long_part(reading: &Reading) -> &[u8]
 /// Appends on which bus, at which port and from whom, with a space in front and one behind each
 /// word.
 #[inline(always)]
-pub fn put_key(names: &BusWords, port: &mut PortWord, text: &mut TextBuffer, bus: u8, key: &Key)
+pub fn put_key(names: &mut BusWords, text: &mut TextBuffer, bus: u8, key: &Key)
     requires { 160 ≤ room_of text.old }
-    ensures text { Puts (32 ∷ spaced (key_words names.now.buses bus key.now)) text.old text.new }
+    ensures buses { names.new.buses ≡ names.old.buses }
+    ensures text { Puts (32 ∷ spaced (key_words names.old.buses bus key.now)) text.old text.new }
     ensures room { room_of text.old ≤ room_of text.new + 68 }
 {
-    names.put(text, bus, key.kind);
-    port.put(text, key.port);
+    names.put(text, bus, key.kind, key.port);
     put_source(text, key.source);
 }
 
