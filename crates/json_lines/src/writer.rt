@@ -47,8 +47,8 @@ impl JsonWriter {
         }
     }
 
-    /// Appends the JSON text of a line. Memory is taken for the text, and for what the payload says where the port has a
-    /// type; want of it leaves the text as it was.
+    /// Appends the JSON text of a line. Memory is taken for the text, and for what the payload
+    /// says where the port has a type; want of it leaves the text as it was.
     pub fn push(&mut self, text: &mut TextBuffer, line: &LineRef<'_>) -> Result<(), NoMemory>
         ensures buses { writes_for self.new ≡ writes_for self.old }
         ensures ok { OnOk result (Writes self.old line.now text.old text.new) }
@@ -62,7 +62,8 @@ impl JsonWriter {
         }
     }
 
-    /// Appends the last line of a report that was read to its end. Want of memory leaves the text as it was.
+    /// Appends the last line of a report that was read to its end. Want of memory leaves the text
+    /// as it was.
     pub fn push_end(text: &mut TextBuffer, numbers: &Numbers) -> Result<(), NoMemory>
         ensures ok { OnOk result (PutsBytes (end_json numbers.now) text.old text.new) }
         ensures err { OnErr result (text_of text.new ≡ text_of text.old) }

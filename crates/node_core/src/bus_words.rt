@@ -44,8 +44,8 @@ impl BusWords {
         }
     }
 
-    /// Puts the name of a bus, a kind and a port behind a text, with a space in front and one behind
-    /// each.
+    /// Puts the name of a bus, a kind and a port behind a text, with a space in front and one
+    /// behind each.
     #[inline(always)]
     pub fn put(&mut self, text: &mut TextBuffer, bus: u8, kind: Kind, port: u16)
         requires { 128 ≤ room_of text.old }

@@ -130,8 +130,8 @@ impl LineWriter {
         }
     }
 
-    /// The same without a value. Where it stops, nothing is said of the payload, and some of the text
-    /// may be appended.
+    /// The same without a value. Where it stops, nothing is said of the payload, and some of the
+    /// text may be appended.
     #[inline(always)]
     fn push_at_once(&mut self, text: &mut TextBuffer, rx: &RxRef<'_>) -> Result<(), Stop>
         ensures buses { writes_for self.new ≡ writes_for self.old }

@@ -79,9 +79,9 @@ impl Node {
         }
     }
 
-    /// Takes the next record of the log, at a moment not before the last one, if it is a message of a
-    /// source whose session is found without a search; its identifier leads to the port at this place.
-    /// `None` says nothing, and leaves the sessions as they were.
+    /// Takes the next record of the log, at a moment not before the last one, if it is a message
+    /// of a source whose session is found without a search; its identifier leads to the port at
+    /// this place. `None` says nothing, and leaves the sessions as they were.
     #[inline(always)]
     pub fn quick<'a>(&mut self, rec: &'a Record, place: usize) -> Option<Quick<'a>>
         requires latest { self.old.latest ≤ rec.now.moment }

@@ -28,8 +28,8 @@ impl Node {
     /// 5.3.3). The reply to a request of a file is what the tree told for it. Tells on which buses
     /// there is no room for the reply, at a moment in microseconds. Memory is taken for what is
     /// asked of registers and files; where it is wanting, the node is not to be used further: its
-    /// plan, its sessions and the frames that wait are as they were, and of its registers nothing is
-    /// known.
+    /// plan, its sessions and the frames that wait are as they were, and of its registers nothing
+    /// is known.
     #[inline(never)]
     pub fn reply(
         &mut self,

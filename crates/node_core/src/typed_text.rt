@@ -15,8 +15,9 @@ use value_put::{Bits, Stop, put_own};
 /// A payload of which more bytes are read is read by its value.
 const MANY: usize = 1 << 20;
 
-/// Appends a space, what a payload says as a type, and a newline. The bytes that are read are copied into a buffer that
-/// is used again. Where it stops, nothing is said of the payload, and some of the text may be appended.
+/// Appends a space, what a payload says as a type, and a newline. The bytes that are read are
+/// copied into a buffer that is used again. Where it stops, nothing is said of the payload, and
+/// some of the text may be appended.
 pub fn put_typed(
     shape: &CompiledShape,
     payload: &[u8],
@@ -34,7 +35,8 @@ pub fn put_typed(
     put_one(b'\n', text)
 }
 
-/// Copies the bytes of a payload that are read as a type, puts sixteen more behind them, and answers how many they are.
+/// Copies the bytes of a payload that are read as a type, puts sixteen more behind them, and
+/// answers how many they are.
 #[inline(always)]
 fn keep(shape: &CompiledShape, payload: &[u8], bytes: &mut TextBuffer) -> Result<u64, Stop>
     ensures kept { IfOk result (λ count.

@@ -1,5 +1,5 @@
-//! Commands over a log that need no plan: who is given which node-ID, who is online, the network's time, and a file of
-//! another node.
+//! Commands over a log that need no plan: who is given which node-ID, who is online, the
+//! network's time, and a file of another node.
 #![tactic(auto)]
 
 mod allocating;

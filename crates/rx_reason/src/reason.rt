@@ -17,8 +17,8 @@ pub enum Reason {
     NoSession,
     /// It is on another bus than the active one, and changes nothing.
     Standby(Silence),
-    /// It is a start with the transfer-ID of the last delivery, and isn't late. The last frame of that
-    /// delivery stands on this line.
+    /// It is a start with the transfer-ID of the last delivery, and isn't late. The last frame of
+    /// that delivery stands on this line.
     Copy(u64),
     /// It is a start, and begins a transfer of several frames.
     Begun(Change),
@@ -29,7 +29,8 @@ pub enum Reason {
         /// What changes with it, where it is the first frame too.
         change: Change,
     },
-    /// It ends a transfer whose bytes don't fit their CRC, and whose first frame stands on this line.
+    /// It ends a transfer whose bytes don't fit their CRC, and whose first frame stands on this
+    /// line.
     BadCrc(u64),
     /// It is taken into a transfer whose first frame stands on this line.
     Taken(u64),
@@ -37,8 +38,8 @@ pub enum Reason {
     StrayNone,
     /// It isn't a start, and the transfer that is running has this other transfer-ID.
     StrayTid(u8),
-    /// It isn't a start, and has the toggle of the frame before, of the transfer that is running and
-    /// whose first frame stands on this line: it is a repeat, or a frame between was lost.
+    /// It isn't a start, and has the toggle of the frame before, of the transfer that is running
+    /// and whose first frame stands on this line: it is a repeat, or a frame between was lost.
     StrayToggle(u64),
 }
 

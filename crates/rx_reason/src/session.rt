@@ -11,8 +11,8 @@ use redundancy::Force;
 use rx_session::{Part, Session};
 use tail_frame::Frame;
 
-/// Why a frame of a session's key comes to what it does, where the session's last delivery ends on a
-/// line. It changes nothing.
+/// Why a frame of a session's key comes to what it does, where the session's last delivery ends
+/// on a line. It changes nothing.
 pub(crate) fn reason_in<S: Shape>(
     session: &Session<S>,
     frame: &Frame,

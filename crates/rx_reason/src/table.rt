@@ -13,9 +13,9 @@ use dsdl_types::Shape;
 use rx_table::{Port, Table};
 use tail_frame::Frame;
 
-/// Why a frame comes to what it does at a node with this node-ID, whose sessions are those of a table.
-/// It is asked before the frame is heard, and changes nothing. `last` is the line on which the last
-/// delivery of the frame's session ends; where it has none, any number serves.
+/// Why a frame comes to what it does at a node with this node-ID, whose sessions are those of a
+/// table. It is asked before the frame is heard, and changes nothing. `last` is the line on which
+/// the last delivery of the frame's session ends; where it has none, any number serves.
 pub fn reason_of_frame<S: Shape>(table: &Table<S>, own: u8, frame: &Frame, last: u64) -> Reason
     ensures { TellsFrame own table.now.timeout (states_of S.shape table.now) (seen frame.now) last
         result }

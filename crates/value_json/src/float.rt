@@ -13,8 +13,8 @@ use line_text::TextBuffer;
 use ryu::raw::{LEN, format};
 use std::num::{f32_from_bits_with_nan, f64_from_bits_with_nan};
 
-/// Puts the float of so many raw bits, of which there are 16, 32 or 64: as a number that reads back as it, or
-/// as the string `NaN`, `Infinity` or `-Infinity`. A float16 is put as a float32.
+/// Puts the float of so many raw bits, of which there are 16, 32 or 64: as a number that reads
+/// back as it, or as the string `NaN`, `Infinity` or `-Infinity`. A float16 is put as a float32.
 #[tactic(auto, using(crate::proofs::Front::begins))]
 pub fn put_float(width: u8, bits: u64, text: &mut TextBuffer) -> Result<(), NoMemory>
     requires { bits < 2 ^ width }

@@ -16,10 +16,11 @@ use cy_bits::NoMemory;
 use dsdl_types::{Body, Field, Schema, Value};
 use line_text::TextBuffer;
 
-/// Appends the JSON text of a value of a schema. A truth value is `true` or `false`, a whole number is decimal, and a
-/// float is a number that reads back as it, or the string `NaN`, `Infinity` or `-Infinity`. An array of 8-bit
-/// unsigned integers, whose items all lie in 0 to 255, is an object of their hex and, where they are printable ASCII,
-/// their text; any other array is an array. A structure is an object of its fields without its padding, and a union one
+/// Appends the JSON text of a value of a schema. A truth value is `true` or `false`, a whole
+/// number is decimal, and a float is a number that reads back as it, or the string `NaN`,
+/// `Infinity` or `-Infinity`. An array of 8-bit unsigned integers, whose items all lie in 0 to
+/// 255, is an object of their hex and, where they are printable ASCII, their text; any other
+/// array is an array. A structure is an object of its fields without its padding, and a union one
 /// of its variant. The one error is want of memory, which leaves the text as it was.
 pub fn put_value(text: &mut TextBuffer, schema: &Schema, value: &Value) -> Result<(), NoMemory>
     requires { Fits (sch schema.now) (val value.now) }

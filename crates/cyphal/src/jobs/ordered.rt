@@ -13,8 +13,9 @@ use node_reach::Ended;
 use node_run::{Status, status_of};
 use std::alloc::Global;
 
-/// Writes the lines of the log of the input in the order of their moments, where none comes later than a window allows, in
-/// microseconds. It is given no tree, so each count of a tree's faults stays.
+/// Writes the lines of the log of the input in the order of their moments, where none comes later
+/// than a window allows, in microseconds. It is given no tree, so each count of a tree's faults
+/// stays.
 pub fn order_lines<L: Source, O: Sink>(
     alloc: Global,
     window: u32,

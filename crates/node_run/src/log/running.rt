@@ -106,8 +106,8 @@ impl<'a, K: LineSink, T: Tree> Listener for Running<'a, K, T> {
 }
 
 impl<'a, K: LineSink, T: Tree> Running<'a, K, T> {
-    /// The step of a record. A message of a source whose session is found without a search, and a record
-    /// on no port of the plan, go the quick way.
+    /// The step of a record. A message of a source whose session is found without a search, and a
+    /// record on no port of the plan, go the quick way.
     #[inline(always)]
     fn take(&mut self, rec: &Record, gathered: &mut TextBuffer) -> Result<(), NoMemory>
         requires moment { self.old.node.now.latest ≤ rec.now.moment }

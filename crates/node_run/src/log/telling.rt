@@ -43,8 +43,8 @@ pub(crate) fn tell<K: LineSink>(
     }
 }
 
-/// Tells the line on a message that the node heard last, by its record, if there is one, and what is
-/// counted of it.
+/// Tells the line on a message that the node heard last, by its record, if there is one, and what
+/// is counted of it.
 #[inline(always)]
 pub(crate) fn tell_quick<K: LineSink>(
     node: &Node,
@@ -149,9 +149,9 @@ fn tell_other<K: LineSink>(
     tell(writer, lines, gathered, told)
 }
 
-/// Tells the line on a frame that came to this in the node's table, if there is one, and what is counted
-/// of it. The frame is read from its record again: then one on a port without a type isn't put into
-/// memory for it.
+/// Tells the line on a frame that came to this in the node's table, if there is one, and what is
+/// counted of it. The frame is read from its record again: then one on a port without a type
+/// isn't put into memory for it.
 #[inline(never)]
 fn tell_typed<K: LineSink>(
     node: &Node,
