@@ -162,8 +162,8 @@ impl<'a, K: LineSink, T: Tree> Running<'a, K, T> {
         Ok(())
     }
 
-    /// The step of a record whose identifier leads to the port at a place.
-    #[inline(always)]
+    /// The step of a record whose identifier leads to the port at a place. Each kind of run calls it in
+    /// one place alone, so it is put there without a mark; a mark would be dropped, since it is large.
     fn take_at(
         &mut self,
         rec: &Record,

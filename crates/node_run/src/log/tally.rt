@@ -43,6 +43,21 @@ impl Seen {
             nosession: nosession_in(told),
         }
     }
+
+    /// What is counted of a record on which nothing is told, by whether it dropped a transfer for its
+    /// CRC.
+    #[inline(always)]
+    pub fn silent(badcrc: bool) -> Seen
+        ensures delivered { result.delivered ≡ 0 }
+        ensures badcrc { result.badcrc ≡ one_if badcrc }
+        ensures nosession { result.nosession ≡ 0 }
+    {
+        Seen {
+            delivered: 0,
+            badcrc: one_if(badcrc),
+            nosession: 0,
+        }
+    }
 }
 
 impl Tally {

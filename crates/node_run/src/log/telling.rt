@@ -66,9 +66,9 @@ pub(crate) fn tell_quick<K: LineSink>(
     ensures untold { K.failed lines.new ≡ K.failed lines.old }
 {
     match quick.step {
-        Step::Ignored => return Ok(Seen::of(None, false)),
-        Step::Held => return Ok(Seen::of(None, false)),
-        Step::BadCrc => return Ok(Seen::of(None, true)),
+        Step::Ignored => return Ok(Seen::silent(false)),
+        Step::Held => return Ok(Seen::silent(false)),
+        Step::BadCrc => return Ok(Seen::silent(true)),
         Step::Whole => {}
         Step::Delivered(_) => {}
     }
