@@ -1,5 +1,10 @@
 pub mod Lists
+pub mod Merge
 pub mod SortedLemmas
 pub mod Steps
 pub mod LawLemmas
 pub mod Places
+pub mod Windows
+pub mod Rows
+pub mod FrontLemmas
+pub mod PlainLemmas

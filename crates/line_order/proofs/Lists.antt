@@ -1,9 +1,10 @@
 -- Entries that are put into order, and those of them that are due.
 use Rattle.std.proofs.Common.{◌≡◌, ◌∙◌, ◌+◌, ◌<◌, ◌≤◌, ℕ, Bool, true, false, List, [], ◌∷◌, ◌++◌, refl, sym, ap, subst, append_assoc, arith}
-use Rattle.std.specs.Prelude.{cond, if◌then◌else◌, nat_lt, ⊤}
+use Rattle.std.specs.Prelude.{cond, if◌then◌else◌, nat_lt}
 use Rattle.std.specs.List.{filter}
 use Rattle.std.proofs.lemmas.Bool.Decides.{nat_tests}
 use Rattle.line_order.specs.Held.{AreBelow, AreDue, first_due}
+use Rattle.line_order.specs.Moments.{AreFrom, AreUpTo, Rises}
 use Rattle.line_order.specs.Order.{Entry, put, ordered, is_due, due, texts}
 
 pub yes : {X : Type 0} (t : Bool) (a b : X) → t ≡ true → (if t then a else b) ≡ a
@@ -13,21 +14,6 @@ yes false a b h = absurd cc
 pub no : {X : Type 0} (t : Bool) (a b : X) → t ≡ false → (if t then a else b) ≡ b
 no true a b h = absurd cc
 no false a b h = refl
-
--- each moment is this one at most
-abbrev pub AreUpTo : ℕ → List Entry → Type 0
-AreUpTo m [] = ⊤
-AreUpTo m (e ∷ es) = (e.moment ≤ m) × AreUpTo m es
-
--- each moment is this one at least
-abbrev pub AreFrom : ℕ → List Entry → Type 0
-AreFrom m [] = ⊤
-AreFrom m (e ∷ es) = (m ≤ e.moment) × AreFrom m es
-
--- the moments never fall
-abbrev pub Rises : List Entry → Type 0
-Rises [] = ⊤
-Rises (e ∷ es) = AreFrom e.moment es × Rises es
 
 from_less : (m n : ℕ) (es : List Entry) → n ≤ m → AreFrom m es → AreFrom n es
 from_less m n [] h a = tt
@@ -45,7 +31,7 @@ from_put : (m : ℕ) (e : Entry) (es : List Entry) → m ≤ e.moment → AreFro
 from_put m e [] h a = (h, tt)
 from_put m e (x ∷ xs) h a = put_case e x xs (λ l. AreFrom m l) (λ less. (h, a)) (λ le. (a.0, from_put m e xs h a.1))
 
-rises_put : (e : Entry) (es : List Entry) → Rises es → Rises (put e es)
+pub rises_put : (e : Entry) (es : List Entry) → Rises es → Rises (put e es)
 rises_put e [] r = (tt, tt)
 rises_put e (x ∷ xs) r =
     put_case e x xs (λ l. Rises l) (λ less. let le : e.moment ≤ x.moment = omega (arith, less) in ((le, from_less x.moment e.moment xs le r.0), r))
@@ -128,7 +114,7 @@ pub below_more : (m n : ℕ) (es : List Entry) → m ≤ n → AreBelow m es →
 below_more m n [] h b = tt
 below_more m n (e ∷ es) h b = (omega (arith, b.0), below_more m n es h b.1)
 
-below_put : (n : ℕ) (e : Entry) (es : List Entry) → e.number < n → AreBelow n es → AreBelow n (put e es)
+pub below_put : (n : ℕ) (e : Entry) (es : List Entry) → e.number < n → AreBelow n es → AreBelow n (put e es)
 below_put n e [] h b = (h, tt)
 below_put n e (x ∷ xs) h b = put_case e x xs (λ l. AreBelow n l) (λ less. (h, b)) (λ le. (b.0, below_put n e xs h b.1))
 

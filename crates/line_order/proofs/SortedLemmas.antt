@@ -7,7 +7,8 @@ use Rattle.line_order.specs.Form.{Said, NoForm, Nothing, Line, said_of}
 use Rattle.line_order.specs.Held.{AreBelow}
 use Rattle.line_order.specs.Order.{Entry, entries_of, greatest, put, ordered, with_said}
 use Rattle.line_order.specs.Sorted.{IsBefore, IsBeforeAll, Ascends, IsIn, IsOrderOf, AreInOrder, oldest_first}
-use Rattle.line_order.proofs.Lists.{AreUpTo, below_more, below_ordered, put_behind, put_case}
+use Rattle.line_order.specs.Moments.{AreUpTo}
+use Rattle.line_order.proofs.Lists.{below_more, below_ordered, put_behind, put_case}
 
 -- each number is above those behind it
 abbrev pub Falls : List Entry → Type 0
@@ -151,11 +152,11 @@ order_one es xs ys p q = ascends_one xs ys p.ascends q.ascends (λ e h. q.each e
 
 -- Entries in order.
 
-up_to_more : (m n : ℕ) (es : List Entry) → m ≤ n → AreUpTo m es → AreUpTo n es
+pub up_to_more : (m n : ℕ) (es : List Entry) → m ≤ n → AreUpTo m es → AreUpTo n es
 up_to_more m n [] h u = tt
 up_to_more m n (e ∷ es) h u = (omega (arith, u.0), up_to_more m n es h u.1)
 
-up_to_put : (m : ℕ) (e : Entry) (es : List Entry) → e.moment ≤ m → AreUpTo m es → AreUpTo m (put e es)
+pub up_to_put : (m : ℕ) (e : Entry) (es : List Entry) → e.moment ≤ m → AreUpTo m es → AreUpTo m (put e es)
 up_to_put m e [] h u = (h, tt)
 up_to_put m e (x ∷ xs) h u = put_case e x xs (λ l. AreUpTo m l) (λ less. (h, u)) (λ le. (u.0, up_to_put m e xs h u.1))
 
@@ -163,7 +164,7 @@ up_to_greatest : (es : List Entry) → AreUpTo (greatest es) (ordered es)
 up_to_greatest [] = tt
 up_to_greatest (e ∷ es) = up_to_put (greatest (e ∷ es)) e (ordered es) (omega arith) (up_to_more (greatest es) (greatest (e ∷ es)) (ordered es) (omega arith) (up_to_greatest es))
 
-put_last : (e : Entry) (es : List Entry) → AreUpTo e.moment es → put e es ≡ es ++ (e ∷ [])
+pub put_last : (e : Entry) (es : List Entry) → AreUpTo e.moment es → put e es ≡ es ++ (e ∷ [])
 put_last e es u = ap (λ (l : List Entry). put e l) (sym (append-nil es)) ∙ put_behind e es [] u
 
 oldest_more : (es last : List Entry) → reverse_aux es last ≡ reverse_aux es [] ++ last

@@ -2,5 +2,10 @@ pub mod Form
 pub mod Said
 pub mod Order
 pub mod Answers
+pub mod Row
+pub mod Moments
+pub mod Queue
+pub mod Front
+pub mod Plain
 pub mod Held
 pub mod Sorted

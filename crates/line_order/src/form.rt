@@ -1,5 +1,5 @@
 //! What a line says.
-ghost use Rattle.std.specs.Prelude.{◌≡◌, ◌≤◌, ◌<◌, ◌^◌, option_map, length, IfOk, IfSome};
+ghost use Rattle.std.specs.Prelude.{◌≡◌, ◌≤◌, ◌<◌, ◌^◌, ◌++◌, ◌∷◌, [], option_map, length, IfOk, IfSome};
 ghost use Rattle.frame_log.specs.Line.{after, bus_of, cut, decimal_from, seconds_of, without_return};
 ghost use Rattle.line_order.specs.Form.{behind_spaces, form_of, micros_of, moment_of, said_of, spaced, with_rest};
 ghost use Rattle.line_order.specs.Said.{said_by, said_by_parts, text_of_parts};
@@ -33,19 +33,18 @@ pub enum Found<'a> {
 }
 
 impl Parts<'_> {
-    /// The line with one space between its parts, and a newline.
+    /// The line with one space between its parts, without a newline.
     pub fn text(&self, alloc: Global) -> Result<Vec<u8>, NoMemory>
-        ensures { IfOk result (λ text. text.items ≡ text_of_parts self.now) }
+        ensures { IfOk result (λ text. text.items ++ 10 ∷ [] ≡ text_of_parts self.now) }
     {
         let size = self.stamp.len().saturating_add(self.bus.len());
-        let size = size.saturating_add(self.rest.len()).saturating_add(4);
+        let size = size.saturating_add(self.rest.len()).saturating_add(3);
         let mut text = Vec::with_capacity(alloc, size)?;
         text.extend_from_slice(self.stamp)?;
         text.extend_from_slice(b") ")?;
         text.extend_from_slice(self.bus)?;
         text.push(b' ')?;
         text.extend_from_slice(self.rest)?;
-        text.push(b'\n')?;
         Ok(text)
     }
 }
@@ -61,7 +60,8 @@ fn cut(b: u8, s: &[u8]) -> Option<(&[u8], &[u8])>
 }
 
 /// The number of at most 12 digits.
-fn decimal(digits: &[u8]) -> Option<u64>
+#[inline(always)]
+pub fn decimal(digits: &[u8]) -> Option<u64>
     requires { length digits.now ≤ 12 }
     ensures value { result ≡ decimal_from 0 digits.now }
     ensures bound { IfSome result (λ n. n < 10 ^ 12) }
@@ -77,7 +77,7 @@ fn decimal(digits: &[u8]) -> Option<u64>
 }
 
 /// What follows the byte `b`, which stands in front.
-fn after(b: u8, s: &[u8]) -> Option<&[u8]>
+pub fn after(b: u8, s: &[u8]) -> Option<&[u8]>
     ensures { option_map (λ r. r.now) result ≡ after b s.now }
 {
     match s {
@@ -87,7 +87,7 @@ fn after(b: u8, s: &[u8]) -> Option<&[u8]>
 }
 
 /// SECONDS, 1 to 12 digits, and the point.
-fn seconds(s: &[u8]) -> Option<(u64, &[u8])>
+pub fn seconds(s: &[u8]) -> Option<(u64, &[u8])>
     ensures value { option_map (λ p. (p.0, p.1.now)) result ≡ seconds_of s.now }
     ensures bound { IfSome result (λ p. p.0 < 10 ^ 12) }
 {

@@ -6,8 +6,8 @@ ghost use Rattle.line_order.specs.Answers.{bounds, order_voice, refusal_of, too_
 ghost use Rattle.line_order.specs.Order.{Entry, texts};
 ghost use Rattle.line_order.specs.Sorted.{AreInOrder, AreTimely, IsLate, IsOrderOf, IsOrdered, entries_in, oldest_first};
 
-/// Where no line of an input is refused, what is said is the one list of its lines that is sorted by moment and stable, so
-/// each line once. Lines that are in order stay so.
+/// Where no line of an input is refused, what is said is the one list of its lines that is sorted by
+/// moment and stable, so each line once. Lines that are in order stay so.
 pub fn in_order()
     ensures sorted { (window : ℕ) (bytes text : List ℕ)
         → IsReply (order_voice window) bytes text end.Ok → IsOrdered bytes text }
@@ -17,8 +17,8 @@ pub fn in_order()
         → text ≡ texts (oldest_first (entries_in bytes)) }
 {}
 
-/// A line is refused as late exactly where its moment and the window together are below the greatest moment before it;
-/// where no line of an input is refused, none is late.
+/// A line is refused as late exactly where its moment and the window together are below the greatest
+/// moment before it; where no line of an input is refused, none is late.
 pub fn late_lines()
     ensures exactly { (window : ℕ) (past : List (List ℕ)) (line : List ℕ)
         → (refusal_of window past line ≡ Some (too_late (length past + 1)))

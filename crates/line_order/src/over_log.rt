@@ -11,12 +11,15 @@ use cy_outside::{Sink, Source};
 use line_loop::{LineBounds, LinesEnded, listen_lines};
 use std::alloc::Global;
 
-/// Writes the lines of a log in the order of their moments, of equal ones in that of the input, with one space between
-/// their parts. Each is written as soon as the greatest moment is at least its own and the window together; those that are
-/// left are written at the end, or before a line is refused.
+/// Writes the lines of a log in the order of their moments, of equal ones in that of the input, with
+/// one space between their parts. Each is written as soon as the greatest moment is at least its own
+/// and the window together; those that are left are written at the end, or before a line is refused.
 ///
-/// `BadLine` comes with a line that has no form or more than 4,096 bytes, `TimeBack` with one whose moment and the window
-/// together are below the greatest moment before it, and `TooLong` where the input has more than 2^28 bytes.
+/// Memory grows with the lines that are held at once: with those of the window, and not with the log.
+///
+/// `BadLine` comes with a line that has no form or more than 4,096 bytes, `TimeBack` with one whose
+/// moment and the window together are below the greatest moment before it, and `TooLong` where the
+/// input has more than 2^28 bytes.
 pub fn order_log<L: Source, O: Sink>(
     alloc: Global,
     window: u64,

@@ -73,6 +73,30 @@ fn lines_come_in_the_order_of_their_moments(rt: HostRuntime) -> Result<(), Fail>
             LinesEnded::Ok,
         ),
         row(
+            10,
+            b"(1.000010) can0 a
+(1.000010) can1 b
+(1.000000) can0 c
+(1.000000) can1 d\r
+(1.000010) can0 e",
+            b"(1.000000) can0 c
+(1.000000) can1 d
+(1.000010) can0 a
+(1.000010) can1 b
+(1.000010) can0 e
+",
+            LinesEnded::Ok,
+        ),
+        row(
+            0,
+            b"(1.000000) vcan10 x
+(1.000000) can0can0can0can x
+(1.000000) can0can0can0can0 x
+",
+            b"(1.000000) vcan10 x\n(1.000000) can0can0can0can x\n",
+            refused(3, LogWhy::BadLine),
+        ),
+        row(
             0,
             b"(2.000000) a x\nhello\n",
             b"(2.000000) a x\n",
