@@ -129,7 +129,7 @@ pub fn read_some<L: Source>(input: &mut L, piece: &mut [u8]) -> Result<usize, Fa
     ensures cause { OnErr result (Rose (L.faults input.old) (L.faults input.new)) }
     ensures kept { OnOk result (L.faults input.new ≡ L.faults input.old) }
 {
-    let Ok(n) = input.read(piece) else {
+    let Ok(n) = input.read_over(piece) else {
         return Err(Failed);
     };
     Ok(n)
