@@ -1,4 +1,5 @@
--- What `explain` says of a log. Records are a list with the newest first; `past` is what came before.
+-- What `explain` says of a log. Records are a list with the newest first; `past` is what came
+-- before.
 use Rattle.std.specs.Prelude.{ℕ, List, ◌++◌, length, map}
 use Rattle.log_loop.specs.Voice.{Voice, plain_voice}
 use Rattle.node_core.specs.Heard.{ports_of}

@@ -13,7 +13,8 @@ use Rattle.log_explain.specs.Explained.{listens_by}
 use Rattle.log_explain.specs.Lines.{line_on, lines}
 use Rattle.log_explain.specs.declared.line.FrameLine.{FrameLine}
 
--- the lines of the log on which the first and the last frame of each transfer stand that these lines of a run tell
+-- the lines of the log on which the first and the last frame of each transfer stand that these
+-- lines of a run tell
 abbrev pub rx_lines : List Line → List (ℕ × ℕ)
 rx_lines [] = []
 rx_lines (Rx rx ∷ lines) = (rx.first, rx.last) ∷ rx_lines lines
@@ -44,12 +45,16 @@ refused_at line _ = []
 abbrev pub refused_lines : FrameLine → List ℕ
 refused_lines line = refused_at line.line line.reason
 
--- a record is told as delivered, as refused a session, and as a bad CRC exactly where a run of the same plan, whose lines
--- on what a record gives these are, tells the same of it, and with the same lines of the log
+-- a record is told as delivered, as refused a session, and as a bad CRC exactly where a run of the
+-- same plan, whose lines on what a record gives these are, tells the same of it, and with the same
+-- lines of the log
 pub record AsRun : Type 0 where
-  pub delivered : (plan : Plan) (rec : Record) (past : List Record) → delivered_lines (line_on (listens_by plan) rec past) ≡ rx_lines (got plan rec past)
-  pub refused : (plan : Plan) (rec : Record) (past : List Record) → refused_lines (line_on (listens_by plan) rec past) ≡ nosession_lines (got plan rec past)
-  pub bad_crcs : (plan : Plan) (rec : Record) (past : List Record) → is_badcrc (line_on (listens_by plan) rec past).reason ≡ is_bad_at plan rec past
+  pub delivered : (plan : Plan) (rec : Record) (past : List Record)
+      → delivered_lines (line_on (listens_by plan) rec past) ≡ rx_lines (got plan rec past)
+  pub refused : (plan : Plan) (rec : Record) (past : List Record)
+      → refused_lines (line_on (listens_by plan) rec past) ≡ nosession_lines (got plan rec past)
+  pub bad_crcs : (plan : Plan) (rec : Record) (past : List Record)
+      → is_badcrc (line_on (listens_by plan) rec past).reason ≡ is_bad_at plan rec past
 
 -- those of the lines on all records, the first one first
 abbrev pub told_lines : List FrameLine → List (ℕ × ℕ)
@@ -60,9 +65,16 @@ abbrev pub told_refusals : List FrameLine → List ℕ
 told_refusals [] = []
 told_refusals (line ∷ past) = told_refusals past ++ refused_lines line
 
--- over a whole log, whatever files the tree of the run told: the transfers that are told as delivered are those of the
--- run's `rx` lines, in their order; so it is of the start frames without a session; and as many bad CRCs are told
+-- over a whole log, whatever files the tree of the run told: the transfers that are told as
+-- delivered are those of the run's `rx` lines, in their order; so it is of the start frames without
+-- a session; and as many bad CRCs are told
 pub record AsRuns : Type 0 where
-  pub delivered : (plan : Plan) (mets : List Met) → told_lines (lines (listens_by plan) (met_records mets)) ≡ rx_lines (all_lines plan (steps plan mets))
-  pub refused : (plan : Plan) (mets : List Met) → told_refusals (lines (listens_by plan) (met_records mets)) ≡ nosession_lines (all_lines plan (steps plan mets))
-  pub bad_crcs : (plan : Plan) (mets : List Met) → count is_badcrc (lines (listens_by plan) (met_records mets)) ≡ badcrcs plan (steps plan mets)
+  pub delivered : (plan : Plan) (mets : List Met)
+      → told_lines (lines (listens_by plan) (met_records mets))
+      ≡ rx_lines (all_lines plan (steps plan mets))
+  pub refused : (plan : Plan) (mets : List Met)
+      → told_refusals (lines (listens_by plan) (met_records mets))
+      ≡ nosession_lines (all_lines plan (steps plan mets))
+  pub bad_crcs : (plan : Plan) (mets : List Met)
+      → count is_badcrc (lines (listens_by plan) (met_records mets))
+      ≡ badcrcs plan (steps plan mets)

@@ -1,4 +1,5 @@
--- The lines on a log of a node that listens. Records and lines are lists with the newest first; `past` is what came before.
+-- The lines on a log of a node that listens. Records and lines are lists with the newest first;
+-- `past` is what came before.
 use Rattle.std.specs.Prelude.{ℕ, Bool, false, ◌&&◌, ◌==◌, if◌then◌else◌, List, [], ◌∷◌, ◌++◌, Option, Some, None}
 use Rattle.can_id.specs.Identifiers.{key_of}
 use Rattle.redundancy.specs.Force.{force}
@@ -45,12 +46,15 @@ is_source source (Some node) = node == source
 
 abbrev pub is_in : SessionKey → Option Transfer → Bool
 is_in key None = false
-is_in key (Some t) = same_kind t.key.kind key.kind && ((t.key.port == key.port) && is_source key.source t.key.source)
+is_in key (Some t) =
+    same_kind t.key.kind key.kind
+    && ((t.key.port == key.port) && is_source key.source t.key.source)
 
 -- the lines of a session
 abbrev pub of_session : SessionKey → List FrameLine → List FrameLine
 of_session key [] = []
-of_session key (line ∷ past) = if is_in key line.transfer then line ∷ of_session key past else of_session key past
+of_session key (line ∷ past) =
+    if is_in key line.transfer then line ∷ of_session key past else of_session key past
 
 -- what is counted of them
 abbrev pub tally : Listens → SessionKey → List Record → Tally
@@ -73,7 +77,8 @@ sessions_of w past p (source ∷ sources) =
 abbrev pub sessions_on : Listens → List Record → List Port → List Session
 sessions_on w past [] = []
 sessions_on w past (p ∷ ports) =
-    sessions_of w past p (admitted p.kind p.port p.sources (frames w.own past)) ++ sessions_on w past ports
+    sessions_of w past p (admitted p.kind p.port p.sources (frames w.own past))
+    ++ sessions_on w past ports
 
 -- all sessions, in the order of the ports
 abbrev pub sessions : Listens → List Record → List Session

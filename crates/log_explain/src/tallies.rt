@@ -10,7 +10,8 @@ use crate::tally::Tally;
 use cy_bits::NoMemory;
 use std::alloc::Global;
 
-/// What is counted of each session, by its slot: 128 slots stand for each port, one for each source.
+/// What is counted of each session, by its slot: 128 slots stand for each port, one for each
+/// source.
 #[derive(Drop)]
 pub struct Tallies {
     /// By the slots.

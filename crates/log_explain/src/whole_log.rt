@@ -15,8 +15,8 @@ use node_core::Node;
 use node_plan::{BusPlan, Plan};
 use std::alloc::Global;
 
-/// Explains a log at the node of a plan, as if it were silent: writes on each record, before the input
-/// is read again, why it came to what it did, and at the log's end how each session fared.
+/// Explains a log at the node of a plan, as if it were silent: writes on each record, before the
+/// input is read again, why it came to what it did, and at the log's end how each session fared.
 pub fn explain_log<L: Source, O: Sink>(
     alloc: Global,
     plan: Plan,
