@@ -1,4 +1,6 @@
 pub mod Texts
+mod Blocks
+mod Counted
 pub mod Loops
 pub mod Lasts
 pub mod Slots
@@ -6,5 +8,7 @@ pub mod Said
 pub mod Reported
 pub mod Weaker
 pub mod Nodes
+mod Frames
+mod Heard
 pub mod AsRun
 pub mod Runs

@@ -1,5 +1,5 @@
 -- What a node that is explained stands for, as its table does.
-use Rattle.std.proofs.Common.{◌≡◌, ◌∙◌, ℕ, ◌+◌, ◌*◌, ◌-◌, ◌<◌, ◌≤◌, ◌^◌, min, List, [], length, replicate, Some, refl, sym, ap, subst, slice_get, arith}
+use Rattle.std.proofs.Common.{◌≡◌, ◌∙◌, ℕ, ◌+◌, ◌*◌, ◌-◌, ◌<◌, ◌≤◌, ◌^◌, min, List, [], ◌∷◌, ◌++◌, length, replicate, Some, refl, sym, ap, subst, slice_get, arith}
 use Rattle.std.proofs.lemmas.List.{get_or-replicate, length-replicate}
 use Rattle.std.proofs.lemmas.Option.{slice_get_read, slice_get_within}
 use Rattle.tail_frame.specs.declared.logged.Record.{Record}
@@ -10,16 +10,20 @@ use Rattle.rx_reason.specs.Asked.{listens}
 use Rattle.rx_reason.specs.Reasons.{Listens}
 use Rattle.node_plan.specs.declared.plan.Plan.{Plan}
 use Rattle.node_core.specs.Heard.{ports_of}
+use Rattle.line_text.specs.Buffer.{text_of}
+use Rattle.line_text.specs.declared.text_buffer.TextBuffer.{TextBuffer}
+use Rattle.node_core.specs.Puts.{Puts}
 use Rattle.node_core.specs.Shapes.{shape_extent}
 use Rattle.node_core.specs.Stands.{Stands as NodeStands}
 use Rattle.node_core.specs.declared.node.Node.{Node}
 use Rattle.log_explain.specs.Counts.{counts}
-use Rattle.log_explain.specs.Explained.{listens_by, names_of}
+use Rattle.log_explain.specs.Explained.{listens_by, names_of, step_text}
 use Rattle.log_explain.specs.Explains.{Explains}
 use Rattle.log_explain.specs.Lines.{line_on, lines, sessions}
 use Rattle.log_explain.specs.Places.{slot_at}
 use Rattle.log_explain.specs.SessionLines.{count_in, sessions_from}
 use Rattle.log_explain.specs.Slots.{AreCounted, IsLine, Stands}
+use Rattle.log_explain.specs.Text.{frame_text}
 use Rattle.log_explain.specs.declared.explaining.Explaining.{Explaining}
 use Rattle.log_explain.specs.declared.line.FrameLine.{FrameLine}
 use Rattle.log_explain.specs.declared.tally.Tally.{Tally}
@@ -39,11 +43,11 @@ none_counted ports n by_slot e is place source p h few =
     ∙ slice_get_read slots (length slots) (slot_at place source) zero refl inside (sym (get_or-replicate (n * 128) (slot_at place source) zero zero low))
 
 module _ (plan : Plan) (now : Explaining) (past : List Record) (h : Explains plan now past) where
-  abbrev ps : List PortState
+  abbrev pub ps : List PortState
   ps = states shape_extent now.node.table.ports.items
 
   -- what its table listens with
-  abbrev w : Listens
+  abbrev pub w : Listens
   w = listens now.node.plan.node now.node.table.timeout (ports_in ps)
 
   same : w ≡ listens_by plan
@@ -84,8 +88,26 @@ module _ (plan : Plan) (now : Explaining) (past : List Record) (h : Explains pla
       let is : n ≡ length (sessions w past) = omega (arith, e, count, most, few_ports) in
       is ∙ ap (λ (v : Listens). length (sessions v past)) same
 
+-- it heard one record more, and this line is put
+pub hears : (plan : Plan) (old new : Explaining) (past : List Record) (rec : Record) (line : FrameLine) (before after : TextBuffer) (h : Explains plan old past)
+    → IsLine (w plan old past h) new.tallies.by_slot.items past line (line_on (w plan old past h) rec past)
+    → new.node.plan ≡ old.node.plan → new.writer.buses.names ≡ old.writer.buses.names → NodeStands new.node (rec ∷ past) → new.records ≡ old.records + 1
+    → Puts (frame_text old.writer.buses.names line) before after
+    → Explains plan new (rec ∷ past) × Puts (step_text plan rec past) before after
+hears plan old new past rec line before after h x plan_is names st count text =
+    let l = is_line plan old past h new.tallies.by_slot.items rec line x in (
+      record {
+        plan_is = plan_is ∙ h.plan_is;
+        names = names ∙ h.names;
+        stands = st;
+        counted = l.counted;
+        records = omega (arith, count, h.records);
+      },
+      text ∙ (λ i. text_of before ++ frame_text (h.names i) (l.line_is i)),
+    )
+
 -- a node that heard nothing yet
-pub begun : (plan : Plan) (now : Explaining) (node : Node) → now.node ≡ node → node.plan ≡ plan → now.names ≡ names_of plan → NodeStands node [] → now.tallies.by_slot.items ≡ replicate (length node.table.ports.items * 128) (counts []) → now.records ≡ 0 → Explains now.node.plan now []
+pub begun : (plan : Plan) (now : Explaining) (node : Node) → now.node ≡ node → node.plan ≡ plan → now.writer.buses.names ≡ names_of plan → NodeStands node [] → now.tallies.by_slot.items ≡ replicate (length node.table.ports.items * 128) (counts []) → now.records ≡ 0 → Explains now.node.plan now []
 begun plan now node same is names st slots zero =
     let size : length node.table.ports.items ≡ length (ports_of now.node.plan) =
     sym (length_ports shape_extent node.table.ports.items) ∙ (ap length st.ports_are ∙ sym (ap (λ (n : Node). length (ports_of n.plan)) same)) in

@@ -1,9 +1,11 @@
--- What is counted of the lines of a session. Lines are a list with the newest first; `past` is what came before.
+-- What is counted of the lines of a session. Lines are a list with the newest first; `past` is what
+-- came before.
 use Rattle.std.specs.Prelude.{ℕ, Bool, true, false, not, ◌+◌, ◌%◌, ◌==◌, if◌then◌else◌, List, [], ◌∷◌, Option, Some, None, is_some}
+use Rattle.rx_reason.specs.Laws.{is_badcrc}
 use Rattle.rx_reason.specs.Reasons.{no_change}
 use Rattle.rx_reason.specs.declared.reason.Change.{Change}
 use Rattle.rx_reason.specs.declared.reason.Reason.{Reason}
-use Rattle.rx_reason.specs.declared.reason.Reason.TheVariants.{Standby, Copy, Begun, Delivered, BadCrc, StrayNone, StrayTid, StrayToggle}
+use Rattle.rx_reason.specs.declared.reason.Reason.TheVariants.{Standby, Copy, Begun, Delivered, StrayNone, StrayTid, StrayToggle}
 use Rattle.log_explain.specs.declared.line.FrameLine.{FrameLine}
 use Rattle.log_explain.specs.declared.line.Transfer.{Transfer}
 use Rattle.log_explain.specs.declared.tally.Last.{Last}
@@ -13,10 +15,6 @@ use Rattle.log_explain.specs.declared.tally.Tally.{Tally}
 abbrev pub is_delivered : Reason → Bool
 is_delivered (Delivered first change) = true
 is_delivered _ = false
-
-abbrev pub is_badcrc : Reason → Bool
-is_badcrc (BadCrc first) = true
-is_badcrc _ = false
 
 abbrev pub is_copy : Reason → Bool
 is_copy (Copy line) = true

@@ -5,6 +5,7 @@ pub mod SessionLines
 pub mod Lines
 pub mod Slots
 pub mod Text
+pub mod Words
 pub mod Explained
 pub mod Explains
 pub mod Laws

@@ -90,17 +90,22 @@ reason_words names NoSession = codes "nosession" ∷ []
 reason_words names (Standby silence) = codes "standby" ∷ silence_words names silence
 reason_words names (Copy line) = codes "copy" ∷ decimal line ∷ []
 reason_words names (Begun change) = codes "begun" ∷ change_words names change
-reason_words names (Delivered first change) = codes "delivered" ∷ decimal first ∷ change_words names change
+reason_words names (Delivered first change) =
+    codes "delivered" ∷ decimal first ∷ change_words names change
 reason_words names (BadCrc first) = codes "badcrc" ∷ decimal first ∷ []
 reason_words names (Taken first) = codes "taken" ∷ decimal first ∷ []
 reason_words names StrayNone = codes "stray" ∷ codes "none" ∷ []
 reason_words names (StrayTid tid) = codes "stray" ∷ codes "tid" ∷ decimal tid ∷ []
 reason_words names (StrayToggle first) = codes "stray" ∷ codes "toggle" ∷ decimal first ∷ []
 
+-- where a record stands, when it was received, and on which bus
+abbrev pub place_words : List (List ℕ) → FrameLine → List (List ℕ)
+place_words names line =
+    codes "frame" ∷ decimal line.line ∷ moment_text line.moment ∷ name_of names line.bus ∷ []
+
 -- the words of a line before its reason
 abbrev pub front_words : List (List ℕ) → FrameLine → List (List ℕ)
-front_words names line =
-    codes "frame" ∷ decimal line.line ∷ moment_text line.moment ∷ name_of names line.bus ∷ transfer_words line.transfer
+front_words names line = place_words names line ++ transfer_words line.transfer
 
 -- the line on a record
 abbrev pub frame_text : List (List ℕ) → FrameLine → List ℕ
@@ -108,16 +113,17 @@ frame_text names line = spaced (front_words names line) ++ line_of (reason_words
 
 abbrev pub tally_words : Tally → List (List ℕ)
 tally_words t =
-    codes "delivered" ∷ decimal t.delivered ∷ codes "badcrc" ∷ decimal t.badcrc ∷ codes "copies" ∷ decimal t.copies
-    ∷ codes "standby" ∷ decimal t.standby ∷ codes "stray" ∷ decimal t.stray
+    codes "delivered" ∷ decimal t.delivered ∷ codes "badcrc" ∷ decimal t.badcrc
+    ∷ codes "copies" ∷ decimal t.copies ∷ codes "standby" ∷ decimal t.standby
+    ∷ codes "stray" ∷ decimal t.stray
     ∷ codes "abandoned" ∷ decimal t.abandoned ∷ codes "handovers" ∷ decimal t.handovers
     ∷ codes "gaps" ∷ decimal t.gaps ∷ []
 
 -- the line on a session
 abbrev pub session_text : List (List ℕ) → Session → List ℕ
 session_text names s = line_of (
-    codes "session" ∷ kind_word s.key.kind ∷ decimal s.key.port ∷ decimal s.key.source ∷ name_or names s.bus
-    ∷ tally_words s.tally)
+    codes "session" ∷ kind_word s.key.kind ∷ decimal s.key.port ∷ decimal s.key.source
+    ∷ name_or names s.bus ∷ tally_words s.tally)
 
 abbrev pub sessions_text : List (List ℕ) → List Session → List ℕ
 sessions_text names [] = []
@@ -126,4 +132,5 @@ sessions_text names (s ∷ sessions) = session_text names s ++ sessions_text nam
 -- the last line: how many records, and how many sessions
 abbrev pub end_text : ℕ → ℕ → List ℕ
 end_text records sessions =
-    line_of (codes "end" ∷ codes "records" ∷ decimal records ∷ codes "sessions" ∷ decimal sessions ∷ [])
+    line_of (codes "end" ∷ codes "records" ∷ decimal records
+    ∷ codes "sessions" ∷ decimal sessions ∷ [])

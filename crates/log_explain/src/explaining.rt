@@ -1,27 +1,39 @@
 //! A node whose frames are explained: the listener that tells why each came to what it did.
-ghost use Rattle.std.specs.Prelude.{◌≡◌, ◌≤◌, ◌*◌, ◌^◌, [], refl, IfOk, length, replicate};
+ghost use Rattle.std.specs.Prelude.{◌≡◌, ◌≤◌, ◌<◌, ◌+◌, ◌*◌, ◌^◌, [], refl, IfOk, OnOk, Some, None, length, replicate};
+ghost use Rattle.can_id.specs.Identifiers.{IsIdent, key_of};
+ghost use Rattle.can_id.specs.declared.key.Kind.{Kind as KindOf};
+ghost use Rattle.tail_frame.specs.Frames.{frame_of, seen};
 ghost use Rattle.tail_frame.specs.declared.logged.Record.{Record};
+ghost use Rattle.rx_table.specs.Views.{place_in, subscriptions};
+ghost use Rattle.line_text.specs.Buffer.{room_of};
+ghost use Rattle.node_core.specs.Heard.{IsElsewhere};
+ghost use Rattle.node_core.specs.Quick.{IsLead};
+ghost use Rattle.node_core.specs.Shapes.{port_schema};
+ghost use Rattle.node_core.specs.Stands.{Takes};
 ghost use Rattle.log_explain.specs.Counts.{counts};
 ghost use Rattle.log_explain.specs.Explained.{explain_voice};
-ghost use Rattle.log_explain.specs.Explains.{Explains};
+ghost use Rattle.log_explain.specs.Explains.{Explains, Hears};
 
-use crate::asked::explain;
-use crate::lines::put_frame;
+use crate::asked::{count, last_line, line_with, passing, place_by, slot_on};
+use crate::line::FrameLine;
+use crate::line_writer::{LINE, LineWriter};
 use crate::session_line::put_end;
 use crate::session_lines::{count_sessions, put_sessions};
 use crate::tallies::Tallies;
+use can_id::{Ident, Kind};
 use cy_bits::{BusName, NoMemory, ShortList};
 use line_text::TextBuffer;
 use log_loop::Listener;
-use node_core::Node;
+use node_core::{Lead, Node};
+use rx_reason::{Reason, discard_of, reason_of_frame};
 use std::alloc::Global;
-use tail_frame::Record;
+use tail_frame::{Frame, Record, frame_of};
 
 /// A node, and what is counted of the lines of its sessions.
 #[derive(Drop)]
 pub struct Explaining {
-    /// The names of the buses.
-    pub names: ShortList<BusName, 3>,
+    /// Puts the lines on records together.
+    pub writer: LineWriter,
     /// The node.
     pub node: Node,
     /// What is counted of each session.
@@ -37,7 +49,7 @@ impl Explaining {
         names: ShortList<BusName, 3>,
         node: Node,
     ) -> Result<Explaining, NoMemory>
-        ensures names { IfOk result (λ now. now.names ≡ names) }
+        ensures names { IfOk result (λ now. now.writer.buses.names ≡ names) }
         ensures node { IfOk result (λ now. now.node ≡ node) }
         ensures counted { length node.table.ports.items ≤ 2 ^ 16 → IfOk result (λ now.
             now.tallies.by_slot.items
@@ -45,13 +57,192 @@ impl Explaining {
         ensures records { IfOk result (λ now. now.records ≡ 0) }
     {
         let tallies = Tallies::new(alloc, node.table.ports.len())?;
+        let writer = LineWriter::new(alloc, names)?;
         Ok(Explaining {
-            names,
+            writer,
             node,
             tallies,
             records: 0,
         })
     }
+
+    /// Hears a record that is on no port, if it is a frame: the node stays as it is.
+    #[inline(never)]
+    fn hear_nowhere(&mut self, rec: &Record, gathered: &mut TextBuffer)
+        requires latest { self.old.node.latest ≤ rec.now.moment }
+        requires few { self.old.records < 2 ^ 28 }
+        requires room { 384 ≤ room_of gathered.old }
+        requires nowhere { IsElsewhere (subscriptions port_schema self.old.node.table) rec.now }
+        ensures heard { Hears rec.now self.old self.new gathered.old gathered.new }
+        ensures latest { self.new.node.latest ≤ rec.now.moment }
+        ensures count { self.new.records ≤ self.old.records + 1 }
+    {
+        if let Some(frame) = frame_of(rec) {
+            if let Ident::Message { .. } = frame.ident {
+                return self.pass_by(rec, &frame, gathered);
+            }
+        }
+        self.hear_aside(rec, gathered);
+    }
+
+    /// The same of any record.
+    #[inline(never)]
+    fn hear_aside(&mut self, rec: &Record, gathered: &mut TextBuffer)
+        requires latest { self.old.node.latest ≤ rec.now.moment }
+        requires few { self.old.records < 2 ^ 28 }
+        requires room { 384 ≤ room_of gathered.old }
+        requires nowhere { IsElsewhere (subscriptions port_schema self.old.node.table) rec.now }
+        ensures heard { Hears rec.now self.old self.new gathered.old gathered.new }
+        ensures latest { self.new.node.latest ≤ rec.now.moment }
+        ensures count { self.new.records ≤ self.old.records + 1 }
+    {
+        match frame_of(rec) {
+            Some(frame) => self.pass_by(rec, &frame, gathered),
+            None => self.hear_none(rec, gathered),
+        }
+    }
+
+    /// Hears a record that is no frame.
+    #[inline(always)]
+    fn hear_none(&mut self, rec: &Record, gathered: &mut TextBuffer)
+        requires latest { self.old.node.latest ≤ rec.now.moment }
+        requires few { self.old.records < 2 ^ 28 }
+        requires room { 384 ≤ room_of gathered.old }
+        requires none { frame_of rec.now ≡ None }
+        ensures heard { Hears rec.now self.old self.new gathered.old gathered.new }
+        ensures latest { self.new.node.latest ≤ rec.now.moment }
+        ensures count { self.new.records ≤ self.old.records + 1 }
+    {
+        let line = FrameLine {
+            line: rec.line,
+            moment: rec.moment,
+            bus: rec.bus,
+            transfer: None,
+            reason: Reason::Discarded(discard_of(rec)),
+        };
+        self.writer.put(gathered, &line);
+        self.records += 1;
+    }
+
+    /// Hears a record that leads there.
+    #[inline(always)]
+    fn hear_by(
+        &mut self,
+        lead: Lead,
+        rec: &Record,
+        gathered: &mut TextBuffer,
+    ) -> Result<(), NoMemory>
+        requires latest { self.old.node.latest ≤ rec.now.moment }
+        requires few { self.old.records < 2 ^ 28 }
+        requires room { 384 ≤ room_of gathered.old }
+        requires lead { IsLead self.old.node rec.now lead }
+        ensures heard { OnOk result (Hears rec.now self.old self.new gathered.old gathered.new) }
+        ensures latest { self.new.node.latest ≤ rec.now.moment }
+        ensures count { self.new.records ≤ self.old.records + 1 }
+    {
+        match frame_of(rec) {
+            Some(frame) => match place_by(&self.node, lead, rec, &frame) {
+                Some(place) => self.hear_at(place, rec, &frame, gathered),
+                None => {
+                    self.hear_aside(rec, gathered);
+                    Ok(())
+                }
+            },
+            None => {
+                self.hear_aside(rec, gathered);
+                Ok(())
+            }
+        }
+    }
+
+    /// Hears a frame on no port.
+    #[inline(always)]
+    fn pass_by(&mut self, rec: &Record, frame: &Frame, gathered: &mut TextBuffer)
+        requires latest { self.old.node.latest ≤ rec.now.moment }
+        requires few { self.old.records < 2 ^ 28 }
+        requires room { 384 ≤ room_of gathered.old }
+        requires frame { frame_of rec.now ≡ Some (seen frame.now) }
+        requires line { frame.now.line ≡ rec.now.line }
+        requires moment { frame.now.moment ≡ rec.now.moment }
+        requires bus { frame.now.bus ≡ rec.now.bus }
+        requires ident { IsIdent frame.now.ident }
+        requires nowhere { let key = key_of frame.now.ident in
+            place_in key.kind key.port self.old.node.table ≡ None }
+        ensures heard { Hears rec.now self.old self.new gathered.old gathered.new }
+        ensures latest { self.new.node.latest ≤ rec.now.moment }
+        ensures count { self.new.records ≤ self.old.records + 1 }
+    {
+        let line = line_with(frame, passing(self.node.plan.node, frame.ident));
+        self.writer.put(gathered, &line);
+        self.records += 1;
+    }
+
+    /// Hears a frame on the port at a place.
+    #[inline(always)]
+    fn hear_at(
+        &mut self,
+        place: usize,
+        rec: &Record,
+        frame: &Frame,
+        gathered: &mut TextBuffer,
+    ) -> Result<(), NoMemory>
+        requires latest { self.old.node.latest ≤ rec.now.moment }
+        requires few { self.old.records < 2 ^ 28 }
+        requires room { 384 ≤ room_of gathered.old }
+        requires frame { frame_of rec.now ≡ Some (seen frame.now) }
+        requires line { frame.now.line ≡ rec.now.line }
+        requires moment { frame.now.moment ≡ rec.now.moment }
+        requires bus { frame.now.bus ≡ rec.now.bus }
+        requires ident { IsIdent frame.now.ident }
+        requires place { let key = key_of frame.now.ident in
+            place_in key.kind key.port self.old.node.table ≡ Some place }
+        ensures heard { OnOk result (Hears rec.now self.old self.new gathered.old gathered.new) }
+        ensures latest { self.new.node.latest ≤ rec.now.moment }
+        ensures count { self.new.records ≤ self.old.records + 1 }
+    {
+        let key = frame.ident.key();
+        let slot = slot_on(place, key.source);
+        let last = last_line(&self.tallies, slot);
+        let reason = reason_of_frame(&self.node.table, self.node.plan.node, frame, last);
+        take(&mut self.node, rec, frame, place)?;
+        let line = line_with(frame, reason);
+        count(&mut self.tallies, slot, &line);
+        self.writer.put(gathered, &line);
+        self.records += 1;
+        Ok(())
+    }
+}
+
+/// Lets a node take a record that is a frame on the port at a place.
+#[inline(always)]
+fn take(node: &mut Node, rec: &Record, frame: &Frame, place: usize) -> Result<(), NoMemory>
+    requires latest { node.old.latest ≤ rec.now.moment }
+    requires frame { frame_of rec.now ≡ Some (seen frame.now) }
+    requires place { let key = key_of frame.now.ident in
+        place_in key.kind key.port node.old.table ≡ Some place }
+    ensures plan { node.new.plan ≡ node.old.plan }
+    ensures latest { node.new.latest ≤ rec.now.moment }
+    ensures takes { OnOk result (Takes rec.now node.old node.new) }
+{
+    match frame.ident.key().kind {
+        Kind::Message => match node.quick(rec, place) {
+            Some(_) => Ok(()),
+            None => take_any(node, rec),
+        },
+        _ => take_any(node, rec),
+    }
+}
+
+/// Lets a node take a record.
+#[inline(never)]
+fn take_any(node: &mut Node, rec: &Record) -> Result<(), NoMemory>
+    requires latest { node.old.latest ≤ rec.now.moment }
+    ensures plan { node.new.plan ≡ node.old.plan }
+    ensures latest { node.new.latest ≤ rec.now.moment }
+    ensures takes { OnOk result (Takes rec.now node.old node.new) }
+{
+    node.step(rec)?;
+    Ok(())
 }
 
 impl Listener for Explaining {
@@ -71,17 +262,24 @@ impl Listener for Explaining {
 
     ghost count = { λ now. now.records };
 
+    #[inline(always)]
     fn hear(&mut self, rec: &Record, gathered: &mut TextBuffer) -> Result<(), NoMemory> {
-        let node = &self.node;
-        let line = explain(&node.table, node.plan.node, &mut self.tallies, rec);
-        put_frame(gathered, &self.names, &line)?;
-        self.node.step(rec)?;
-        self.records += 1;
-        Ok(())
+        gathered.reserve(LINE)?;
+        match self.node.lead(rec) {
+            Lead::Nowhere => {
+                self.hear_nowhere(rec, gathered);
+                Ok(())
+            }
+            lead => {
+                self.hear_by(lead, rec, gathered)?;
+                Ok(())
+            }
+        }
     }
 
     fn finish(&mut self, gathered: &mut TextBuffer) -> Result<(), NoMemory> {
-        put_sessions(gathered, &self.names, &self.node.table, &self.tallies)?;
+        let buses = &self.writer.buses;
+        put_sessions(gathered, &buses.names, &self.node.table, &self.tallies)?;
         put_end(gathered, self.records, count_sessions(&self.node.table))
     }
 

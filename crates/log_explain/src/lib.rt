@@ -2,15 +2,21 @@
 #![tactic(auto)]
 
 mod asked;
+mod bus_words;
 mod explaining;
 pub mod laws;
 pub mod line;
-mod lines;
+mod line_writer;
+mod port_words;
+mod reason_words;
+mod second;
 mod session_line;
 mod session_lines;
 mod tallies;
 pub mod tally;
+mod ten_lines;
 mod whole_log;
+mod word;
 
 pub use line::{FrameLine, Transfer};
 pub use log_loop::Ended;

@@ -1,11 +1,10 @@
 //! The line on a session, and the last line.
-ghost use Rattle.std.specs.Prelude.{◌≡◌, ◌++◌, ◌∷◌, OnOk};
+ghost use Rattle.std.specs.Prelude.{◌≡◌, ◌++◌, ◌∷◌, OnOk, decimal};
 ghost use Rattle.line_text.specs.Buffer.{text_of};
 ghost use Rattle.line_text.specs.Text.{line_of};
 ghost use Rattle.log_explain.specs.SessionLines.{session_in};
-ghost use Rattle.log_explain.specs.Text.{end_text, name_or, session_text, tally_words};
+ghost use Rattle.log_explain.specs.Text.{end_text, kind_word, name_of, name_or, session_text, tally_words};
 
-use crate::lines::{kind_word, name_of, put_count};
 use crate::tally::Tally;
 use can_id::Kind;
 use cy_bits::{BusName, NoMemory, ShortList};
@@ -79,5 +78,37 @@ pub(crate) fn put_end(text: &mut TextBuffer, records: u64, sessions: u64) -> Res
     put_count(text, b"end records ", records)?;
     put_count(text, b" sessions ", sessions)?;
     text.push(b"\n")?;
+    Ok(())
+}
+
+/// The word of what a transfer is for.
+fn kind_word(kind: Kind) -> &'static [u8]
+    ensures { result.now ≡ kind_word kind }
+{
+    match kind {
+        Kind::Message => b"msg",
+        Kind::Request => b"req",
+        Kind::Response => b"res",
+    }
+}
+
+/// The name of a bus, by its place.
+fn name_of(names: &ShortList<BusName, 3>, bus: u8) -> &[u8]
+    ensures { result.now ≡ name_of names.now bus }
+{
+    match names.get(bus as usize) {
+        Some(name) => name.as_str().as_bytes(),
+        None => b"",
+    }
+}
+
+/// Appends a word and a number.
+fn put_count(text: &mut TextBuffer, word: &[u8], count: u64) -> Result<(), NoMemory>
+    ensures { OnOk result
+        (text_of text.new ≡ text_of text.old ++ (word.now ++ decimal count)) }
+{
+    text.push(word)?;
+    text.reserve(24)?;
+    text.put_number(count);
     Ok(())
 }

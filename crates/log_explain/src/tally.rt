@@ -1,6 +1,7 @@
 ghost use Rattle.std.specs.Prelude.{◌≡◌, ◌<◌, ◌+◌, ◌^◌, ◌∷◌, [], List, length};
 ghost use Rattle.log_explain.specs.declared.line.FrameLine.{FrameLine as FrameLineOf};
-ghost use Rattle.log_explain.specs.Counts.{change_of, counts, delivery_in, is_badcrc, is_copy, is_delivered, is_gap, is_standby, is_stray, line_of, one_if};
+ghost use Rattle.rx_reason.specs.Laws.{is_badcrc};
+ghost use Rattle.log_explain.specs.Counts.{change_of, counts, delivery_in, is_copy, is_delivered, is_gap, is_standby, is_stray, line_of, one_if};
 
 use crate::line::FrameLine;
 use rx_reason::{Change, Reason};
@@ -68,7 +69,20 @@ impl Tally {
     }
 
     /// One line more.
+    #[inline(always)]
     pub fn add(&mut self, line: &FrameLine)
+        ensures { (past : List FrameLineOf) → length past < 2 ^ 28 → self.old ≡ counts past
+            → self.new ≡ counts (line.now ∷ past) }
+    {
+        match line.reason {
+            Reason::Taken(_) => {}
+            Reason::Standby(_) => self.standby = plus(self.standby, true),
+            _ => self.add_any(line),
+        }
+    }
+
+    /// The same of any line.
+    fn add_any(&mut self, line: &FrameLine)
         ensures { (past : List FrameLineOf) → length past < 2 ^ 28 → self.old ≡ counts past
             → self.new ≡ counts (line.now ∷ past) }
     {

@@ -1,46 +1,73 @@
-use Rattle.std.proofs.Common.{◌≡◌, ◌∙◌, ℕ, ◌+◌, ◌<◌, ◌≤◌, ◌^◌, Bool, List, [], ◌∷◌, length, Option, Some, None, refl, ap, arith}
-use Rattle.std.specs.Option.{is_some, option_or}
+use Rattle.std.proofs.Common.{◌≡◌, ◌∙◌, ℕ, ◌+◌, Bool, false, List, ◌∷◌, Option, Some, None, refl, sym, ap, arith}
+use Rattle.rx_reason.specs.Laws.{is_badcrc}
 use Rattle.rx_reason.specs.declared.reason.Reason.{Reason}
-use Rattle.log_explain.specs.Counts.{count, delivery_in, gaps, is_abandoned, is_badcrc, is_copy, is_delivered, is_gap, is_handover, is_standby, is_stray, last, one_if, or_else}
+use Rattle.rx_reason.specs.declared.reason.Reason.TheVariants.{Standby, Taken}
+use Rattle.rx_reason.specs.declared.reason.Silence.{Silence}
+use Rattle.log_explain.specs.Counts.{count, delivery_in, delivery_of, gaps, is_abandoned, is_copy, is_delivered, is_gap, is_handover, is_standby, is_stray, last, one_if, or_else}
 use Rattle.log_explain.specs.declared.line.FrameLine.{FrameLine}
+use Rattle.log_explain.specs.declared.line.Transfer.{Transfer}
 use Rattle.log_explain.specs.declared.tally.Last.{Last}
 use Rattle.log_explain.specs.declared.tally.Tally.{Tally}
+use Rattle.log_explain.proofs.Counted.{count_few}
 use Rattle.log_explain.proofs.tally.Tally.add.Goals as goal
 
-one_most : (b : Bool) → one_if b ≤ 1
-one_most Bool.true = omega arith
-one_most Bool.false = omega arith
+none : (n : ℕ) (b : Bool) → b ≡ false → n ≡ n + one_if b
+none n b e = let zero : one_if b ≡ 0 = ap one_if e in omega (arith, zero)
 
--- no more lines are counted than there are
-count_few : (test : Reason → Bool) (ls : List FrameLine) → count test ls ≤ length ls
-count_few test [] = omega arith
-count_few test (line ∷ past) = omega (arith, count_few test past, one_most (test line.reason))
+none_more : (test : Reason → Bool) (line : FrameLine) (past : List FrameLine) → test line.reason ≡ false → count test past ≡ count test (line ∷ past)
+none_more test line past e = none (count test past) (test line.reason) e
 
-gaps_few : (ls : List FrameLine) → gaps ls ≤ length ls
-gaps_few [] = omega arith
-gaps_few (line ∷ past) = omega (arith, gaps_few past, one_most (is_gap (last past) (delivery_in line)))
+no_gap : (before : Option Last) → is_gap before None ≡ false
+no_gap None = refl
+no_gap (Some d) = refl
 
--- one count more
-one_more : (old new m : ℕ) (is b : Bool) → (old < 2 ^ 28 → new ≡ old + one_if is) → old ≡ m → m < 2 ^ 28 → is ≡ b → new ≡ m + one_if b
-one_more old new m is b h e few s = h (omega (arith, e, few)) ∙ (λ i. e i + one_if (s i))
+-- a line that tells no delivery
+gaps_stay : (line : FrameLine) (past : List FrameLine) → delivery_in line ≡ None → gaps past ≡ gaps (line ∷ past)
+gaps_stay line past e = none (gaps past) (is_gap (last past) (delivery_in line)) (ap (is_gap (last past)) e ∙ no_gap (last past))
 
-is_or : (now before : Option Last) → option_or now before ≡ or_else now before
-is_or None before = refl
-is_or (Some d) before = refl
+last_stays : (line : FrameLine) (past : List FrameLine) → delivery_in line ≡ None → last past ≡ last (line ∷ past)
+last_stays line past e = sym (ap (λ d. or_else d (last past)) e)
 
-pub returns : goal.returns
-returns c past few e =
+taken_tells : (line : ℕ) (r : Reason) (first : ℕ) (t : Option Transfer) → r ≡ Taken first → delivery_of line r t ≡ None
+taken_tells line r first None e = refl
+taken_tells line r first (Some t) e = ap (λ (reason : Reason). delivery_of line reason (Some t)) e
+
+standby_tells : (line : ℕ) (r : Reason) (silence : Silence) (t : Option Transfer) → r ≡ Standby silence → delivery_of line r t ≡ None
+standby_tells line r silence None e = refl
+standby_tells line r silence (Some t) e = ap (λ (reason : Reason). delivery_of line reason (Some t)) e
+
+pub returns-in-Taken : goal.returns-in-Taken
+returns-in-Taken c past few e =
     let line = c.args.line.now in
-    let below = λ (n : ℕ) (h : n ≤ length past). (let x : n < 2 ^ 28 = omega (arith, h, few) in x) in
-    let a = one_more _ _ (count is_delivered past) _ _ c.plus-self.ensures (ap (λ (t : Tally). t.delivered) e) (below _ (count_few is_delivered past)) c.is_delivered.ensures in
-    let b = one_more _ _ (count is_badcrc past) _ _ c.plus-self-2.ensures (ap (λ (t : Tally). t.badcrc) e) (below _ (count_few is_badcrc past)) c.is_badcrc.ensures in
-    let d = one_more _ _ (count is_copy past) _ _ c.plus-self-3.ensures (ap (λ (t : Tally). t.copies) e) (below _ (count_few is_copy past)) c.is_copy.ensures in
-    let f = one_more _ _ (count is_standby past) _ _ c.plus-self-4.ensures (ap (λ (t : Tally). t.standby) e) (below _ (count_few is_standby past)) c.is_standby.ensures in
-    let g = one_more _ _ (count is_stray past) _ _ c.plus-self-5.ensures (ap (λ (t : Tally). t.stray) e) (below _ (count_few is_stray past)) c.is_stray.ensures in
-    let h = one_more _ _ (count is_abandoned past) _ _ c.plus-self-6.ensures (ap (λ (t : Tally). t.abandoned) e) (below _ (count_few is_abandoned past)) (c.is_some.ensures ∙ ap (λ change. is_some change.over) c.change_of-change.ensures) in
-    let k = one_more _ _ (count is_handover past) _ _ c.plus-self-7.ensures (ap (λ (t : Tally). t.handovers) e) (below _ (count_few is_handover past)) (c.is_some-2.ensures ∙ ap (λ change. is_some change.from) c.change_of-change.ensures) in
-    let gap : c.is_gap.result ≡ is_gap (last past) (delivery_in line) = c.is_gap.ensures ∙ (λ i. is_gap ((ap (λ (t : Tally). t.last) e) i) (c.delivery_in-delivery.ensures i)) in
-    let l = one_more _ _ (gaps past) _ _ c.plus-self-8.ensures (ap (λ (t : Tally). t.gaps) e) (below _ (gaps_few past)) gap in
-    let m : c.or-self.result ≡ or_else (delivery_in line) (last past) =
-    c.or-self.ensures ∙ (is_or c.delivery_in-delivery.result c.args.self.now.last ∙ (λ i. or_else (c.delivery_in-delivery.ensures i) ((ap (λ (t : Tally). t.last) e) i))) in
-    λ i. record { delivered = a i; badcrc = b i; copies = d i; standby = f i; stray = g i; abandoned = h i; handovers = k i; gaps = l i; last = m i }
+    let is = c.in-Taken.is in
+    let tells : delivery_in line ≡ None = taken_tells line.line line.reason _ line.transfer is in
+    e ∙ (λ i. record {
+      delivered = none_more is_delivered line past (ap is_delivered is) i;
+      badcrc = none_more is_badcrc line past (ap is_badcrc is) i;
+      copies = none_more is_copy line past (ap is_copy is) i;
+      standby = none_more is_standby line past (ap is_standby is) i;
+      stray = none_more is_stray line past (ap is_stray is) i;
+      abandoned = none_more is_abandoned line past (ap is_abandoned is) i;
+      handovers = none_more is_handover line past (ap is_handover is) i;
+      gaps = gaps_stay line past tells i;
+      last = last_stays line past tells i;
+    })
+
+pub returns-in-Standby : goal.returns-in-Standby
+returns-in-Standby c past few e =
+    let line = c.args.line.now in
+    let is = c.in-Standby.is in
+    let tells : delivery_in line ≡ None = standby_tells line.line line.reason _ line.transfer is in
+    let before = ap (λ (t : Tally). t.standby) e in
+    let one = c.plus-self.ensures (omega (arith, before, count_few is_standby past, few)) in
+    λ i. record {
+      delivered = (ap (λ (t : Tally). t.delivered) e ∙ none_more is_delivered line past (ap is_delivered is)) i;
+      badcrc = (ap (λ (t : Tally). t.badcrc) e ∙ none_more is_badcrc line past (ap is_badcrc is)) i;
+      copies = (ap (λ (t : Tally). t.copies) e ∙ none_more is_copy line past (ap is_copy is)) i;
+      standby = (one ∙ (λ j. before j + one_if (is_standby (sym is j)))) i;
+      stray = (ap (λ (t : Tally). t.stray) e ∙ none_more is_stray line past (ap is_stray is)) i;
+      abandoned = (ap (λ (t : Tally). t.abandoned) e ∙ none_more is_abandoned line past (ap is_abandoned is)) i;
+      handovers = (ap (λ (t : Tally). t.handovers) e ∙ none_more is_handover line past (ap is_handover is)) i;
+      gaps = (ap (λ (t : Tally). t.gaps) e ∙ gaps_stay line past tells) i;
+      last = (ap (λ (t : Tally). t.last) e ∙ last_stays line past tells) i;
+    }
