@@ -1,0 +1,161 @@
+-- Once and due, of the lines of a session that say `delivered`.
+use Rattle.std.proofs.Common.{◌≡◌, ◌∙◌, ℕ, ◌<◌, ◌≤◌, false, ◌&&◌, eqb, List, [], ◌∷◌, ◌++◌, length, map, Option, Some, None, refl, sym, ap, subst, inl, inr, arith}
+use Rattle.std.specs.Prelude.{All}
+use Rattle.std.proofs.lemmas.Bool.{cond-false, cond-true, cond_both, eq-eqb, ne_eqb, true≢false}
+use Rattle.std.proofs.lemmas.List.Elements.{All-nil, All-cons, Contains-append_left, Contains-append_right, Contains-push}
+use mathlib.Core.List.{reverse_aux}
+use Rattle.tail_frame.specs.Chains.{KeyRecord, AtEach, chain_bytes, closes_at, without_crc}
+use Rattle.transfer_crc.specs.Crc.{crc_of}
+use Rattle.rx_table.specs.Heard.{frames}
+use Rattle.rx_table.specs.Keys.{EachFrame, IsLog, KeyedFrame, SessionKey, bears_on, history}
+use Rattle.rx_table.specs.Received.{Delivery, Got, Run, alone, begins, not_begun, received}
+use Rattle.frag.specs.Sent.{IsExplainedAt, pair_at, transfer_at}
+use Rattle.frag.specs.declared.sent.Pair.{Pair}
+use Rattle.frag.specs.declared.sent.Sent.{Sent}
+use Rattle.once.specs.Report.{AnyRx, DueInReport, EachRx, IsSentRx, OnceInReport, Rise, Rx, pair_on, reported, rx_of}
+use Rattle.once.specs.Selected.{Each}
+use Rattle.session_lines.specs.Reported.{Reported, of_key}
+use Rattle.log_explain.specs.Laws.{AsRun}
+use Rattle.log_explain.specs.declared.line.FrameLine.{FrameLine}
+use Rattle.explain_laws.specs.Delivered.{DeliveredOnce, DueDelivered, IsAmong, IsOfSent, delivered_in, sent_on}
+use Rattle.explain_laws.proofs.Told.{AreTold, key_in, told_are}
+
+-- ---- the transfer whose frame stands on the line of a delivery is one of the sent list
+
+module _ (sent : Sent) (origin : List Pair) where
+  abbrev Known : List KeyRecord → ℕ → Type 0
+  Known records line = (pair_on origin records line).j < length sent.transfers
+
+  module _ (timeout : ℕ) where
+    abbrev IsExplained : KeyRecord → List KeyRecord → Type 0
+    IsExplained = IsExplainedAt timeout sent (pair_at origin)
+
+    known_here : (r : KeyRecord) (past : List KeyRecord) → IsExplained r past → Known (r ∷ past) r.line
+    known_here r past x =
+        cond_both (eqb r.line r.line) (pair_at origin (length past)) (pair_on origin past r.line) (λ (o : Pair). o.j < length sent.transfers)
+        (λ _. x.is_sent.known) (λ n. absurd (unequal r.line n))
+      where
+        unequal : (n : ℕ) → eqb n n ≡ false → ⊥
+        unequal n e = true≢false (sym (eq-eqb n n refl) ∙ e)
+
+    known_more : (r : KeyRecord) (past : List KeyRecord) → IsExplained r past → (line : ℕ) → Known past line → Known (r ∷ past) line
+    known_more r past x line k =
+        cond_both (eqb r.line line) (pair_at origin (length past)) (pair_on origin past line) (λ (o : Pair). o.j < length sent.transfers)
+        (λ _. x.is_sent.known) (λ _. k)
+
+    abbrev KnownAll : List KeyRecord → List Delivery → Type 0
+    KnownAll h ds = Each (λ d. Known h d.last.line) ds
+
+    more_all : (r : KeyRecord) (past : List KeyRecord) → IsExplained r past → (ds : List Delivery) → KnownAll past ds → KnownAll (r ∷ past) ds
+    more_all r past x [] k = tt
+    more_all r past x (d ∷ ds) k = (known_more r past x d.last.line k.0, more_all r past x ds k.1)
+
+    run_all : (r : KeyRecord) (past : List KeyRecord) → IsExplained r past → (o : Option Run) (ds : List Delivery) → KnownAll (r ∷ past) ds → KnownAll (r ∷ past) (not_begun crc_of timeout r past o ds).delivered
+    run_all r past x None ds k = k
+    run_all r past x (Some run) ds k =
+        let d : Delivery = record { first = run.first; last = r; place = length past; content = without_crc (chain_bytes run.first (r ∷ run.since)) } in
+        cond_both (closes_at run.first run.since r && eqb (crc_of (chain_bytes run.first (r ∷ run.since))) 0) (d ∷ ds) ds (KnownAll (r ∷ past))
+        (λ _. (known_here r past x, k)) (λ _. k)
+
+    known_all : (h : List KeyRecord) → AtEach IsExplained h → KnownAll h (received crc_of timeout h).delivered
+    known_all [] x = tt
+    known_all (r ∷ past) x =
+        let g = received crc_of timeout past in
+        let d : Delivery = record { first = r; last = r; place = length past; content = r.body } in
+        let k = more_all r past x.0 g.delivered (known_all past x.1) in
+        cond_both (begins timeout r past g.delivered) (record { begun = Some (record { first = r; since = [] }); delivered = alone crc_of timeout r past g.delivered }) (not_begun crc_of timeout r past g.begun g.delivered) (λ (w : Got). KnownAll (r ∷ past) w.delivered)
+        (λ _. cond_both r.end (d ∷ g.delivered) g.delivered (KnownAll (r ∷ past)) (λ _. (known_here r past x.0, k)) (λ _. k))
+        (λ _. run_all r past x.0 g.begun g.delivered k)
+
+    -- in the order of the report
+    turned : (extent : ℕ) (h : List KeyRecord) (ds acc : List Delivery) → KnownAll h ds → EachRx (λ rx. Known h rx.last) (map (rx_of extent) acc) → EachRx (λ rx. Known h rx.last) (map (rx_of extent) (reverse_aux ds acc))
+    turned extent h [] acc k a = a
+    turned extent h (d ∷ ds) acc k a = turned extent h ds (d ∷ acc) k.1 (k.0, a)
+
+    pub known : (extent : ℕ) (h : List KeyRecord) → AtEach IsExplained h → EachRx (λ rx. Known h rx.last) (reported timeout extent h)
+    known extent h x = turned extent h (received crc_of timeout h).delivered [] (known_all h x) tt
+
+-- ---- the pair on the line of a record
+
+abbrev Below : ℕ → List KeyRecord → Type 0
+Below n h = AtEach (λ e _. e.line < n) h
+
+below : (key : SessionKey) (m n : ℕ) (log : List KeyedFrame) → EachFrame (λ e. (e.rec.moment ≤ m) × (e.rec.line < n)) log → Below n (history key log)
+below key m n [] x = tt
+below key m n (f ∷ log) x =
+    cond_both (bears_on key f) (f.rec ∷ history key log) (history key log) (Below n) (λ _. (x.0.1, below key m n log x.1)) (λ _. below key m n log x.1)
+
+rising : (key : SessionKey) (log : List KeyedFrame) → IsLog log → AtEach (λ r past. Below r.line past) (history key log)
+rising key [] x = tt
+rising key (f ∷ log) x =
+    cond_both (bears_on key f) (f.rec ∷ history key log) (history key log) (AtEach (λ r past. Below r.line past))
+    (λ _. (below key f.rec.moment f.rec.line log x.0, rising key log x.1)) (λ _. rising key log x.1)
+
+earlier : (n : ℕ) (newer : List KeyRecord) (q : KeyRecord) (past : List KeyRecord) → Below n (newer ++ q ∷ past) → q.line < n
+earlier n [] q past h = h.0
+earlier n (r ∷ newer) q past h = earlier n newer q past h.1
+
+pair_there : (origin : List Pair) (newer : List KeyRecord) (q : KeyRecord) (past : List KeyRecord) → AtEach (λ r past. Below r.line past) (newer ++ q ∷ past) → pair_on origin (newer ++ q ∷ past) q.line ≡ pair_at origin (length past)
+pair_there origin [] q past h = cond-true (eqb q.line q.line) (pair_at origin (length past)) (pair_on origin past q.line) (eq-eqb q.line q.line refl)
+pair_there origin (r ∷ newer) q past h =
+    let less = earlier r.line newer q past h.0 in
+    cond-false (eqb r.line q.line) (pair_at origin (length (newer ++ q ∷ past))) (pair_on origin (newer ++ q ∷ past) q.line) (ne_eqb r.line q.line (λ e. absurd (omega arith)))
+    ∙ pair_there origin newer q past h.1
+
+-- ---- from the lines of a run to those of explain
+
+module _ (key : SessionKey) (sent : Sent) (of_key : sent.key ≡ key_in key) (origin : List Pair) (records : List KeyRecord) where
+  each_is : (extent : ℕ) (ls : List FrameLine) (rs : List Rx) → AreTold key ls rs → EachRx (IsSentRx extent sent origin records) rs → EachRx (λ rx. Known sent origin records rx.last) rs → All (IsOfSent sent origin records) ls
+  each_is extent [] [] t s k = All-nil (IsOfSent sent origin records)
+  each_is extent [] (rx ∷ rs) t s k = absurd t
+  each_is extent (line ∷ ls) [] t s k = absurd t
+  each_is extent (line ∷ ls) (rx ∷ rs) t s k =
+      let at : pair_on origin records rx.last ≡ pair_on origin records line.line = ap (pair_on origin records) (sym t.0.last) in
+      let tid : rx.tid ≡ (transfer_at sent (sent_on origin records line)).tid = s.0.tid ∙ ap (λ (o : Pair). (transfer_at sent o.j).tid) at in
+      All-cons (IsOfSent sent origin records) line ls (record {
+        known = subst (λ (o : Pair). o.j < length sent.transfers) at k.0;
+        transfer = t.0.transfer ∙ (λ i. Some (record { key = sym of_key i; tid = tid i }));
+      }) (each_is extent ls rs t.1 s.1 k.1)
+
+  same_places : (ls : List FrameLine) (rs : List Rx) → AreTold key ls rs → map (sent_on origin records) ls ≡ map (λ rx. (pair_on origin records rx.last).j) rs
+  same_places [] [] t = refl
+  same_places [] (rx ∷ rs) t = absurd t
+  same_places (line ∷ ls) [] t = absurd t
+  same_places (line ∷ ls) (rx ∷ rs) t = let more = same_places ls rs t.1 in λ i. (pair_on origin records (t.0.last i)).j ∷ more i
+
+  further : (line : FrameLine) (ls : List FrameLine) (n j : ℕ) → IsAmong origin records ls n j → IsAmong origin records (line ∷ ls) n j
+  further line ls n j h = record { line = h.line; stands = Contains-append_right (line ∷ []) ls h.line h.stands; number_is = h.number_is; transfer_is = h.transfer_is }
+
+  some_is : (n j : ℕ) → (pair_on origin records n).j ≡ j → (ls : List FrameLine) (rs : List Rx) → AreTold key ls rs → AnyRx (λ rx. rx.last ≡ n) rs → IsAmong origin records ls n j
+  some_is n j at [] [] t h = absurd h
+  some_is n j at [] (rx ∷ rs) t h = absurd t
+  some_is n j at (line ∷ ls) [] t h = absurd t
+  some_is n j at (line ∷ ls) (rx ∷ rs) t (inr more) = further line ls n j (some_is n j at ls rs t.1 more)
+  some_is n j at (line ∷ ls) (rx ∷ rs) t (inl is) =
+      let number = t.0.last ∙ is in record {
+        line = line;
+        stands = Contains-append_left (line ∷ []) ls line (Contains-push [] line);
+        number_is = number;
+        transfer_is = ap (λ (m : ℕ). (pair_on origin records m).j) number ∙ at;
+      }
+
+pub delivered_once : AsRun → Reported → OnceInReport → DeliveredOnce
+delivered_once as_run law once plan key past p sent origin h =
+    let records = of_key plan key past in
+    let told = told_are key as_run plan law past p h.session in
+    let selected = once plan.timeout p.extent sent key origin (frames plan.node past) h.log h.explains in
+    let places = same_places key sent h.explains.of_key origin records (delivered_in plan key past) (reported plan.timeout p.extent records) told in
+    record {
+      sent_ones = each_is key sent h.explains.of_key origin records p.extent (delivered_in plan key past) (reported plan.timeout p.extent records) told selected.sent_ones (known sent origin plan.timeout p.extent records h.explains.explained);
+      in_order = subst Rise (sym places) selected.in_order;
+    }
+
+pub due_delivered : AsRun → Reported → DueInReport → DueDelivered
+due_delivered as_run law due_law plan key past p sent origin q h due =
+    let records = of_key plan key past in
+    let told = told_are key as_run plan law past p h.session in
+    let order = rising key (frames plan.node past) h.log in
+    let pair : pair_on origin records q.line ≡ pair_at origin (length due.past) =
+    ap (λ (t : List KeyRecord). pair_on origin t q.line) due.split ∙ pair_there origin due.newer q due.past (subst (AtEach (λ r past. Below r.line past)) due.split order) in
+    some_is key sent h.explains.of_key origin records q.line due.j (ap (λ (o : Pair). o.j) pair ∙ due.due.end_j) (delivered_in plan key past) (reported plan.timeout p.extent records) told
+    (due_law plan.timeout p.extent sent key origin records q h.explains due)

@@ -1,0 +1,3 @@
+pub mod Delivered
+pub mod Text
+pub mod Written
