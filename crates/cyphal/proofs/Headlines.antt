@@ -29,6 +29,7 @@ use Rattle.node_core.specs.Steps.{AreServed, Met, Step, lines, all_lines, met_re
 use Rattle.node_core.specs.Text.{text}
 use Rattle.session_lines.specs.Reported.{rxs, of_key, IsSession, StepsReportAll}
 use Rattle.session_lines.specs.Values.{type_of, IsSentTo, SayValues, SaysDueValue}
+use Rattle.session_lines.proofs.Frames.{frames_are, are_records, in_order}
 use Rattle.session_lines.proofs.Sending.{rxs_append}
 use Rattle.node_run.specs.Failures.{Failures}
 use Rattle.node_run.specs.HasRun.{HasRun}
@@ -48,7 +49,6 @@ use Rattle.rx_table.specs.Heard.{heard_as}
 use Rattle.cyphal.specs.Laws.{HeadlineLaws}
 use Rattle.cyphal.proofs.Plans.{one_plan}
 use Rattle.cyphal.specs.Headline.{log_in, logged_in, lines_of, report_text, AreMet, Asked, ExplainsIn, OnceIn, DueIn, ValuesIn, DueValuesIn, HeadlineOf, HasPut, OncePut, DuePut, ValuesPut, DueValuesPut}
-use Rattle.cyphal.proofs.Frames.{frames_are, are_records, in_order}
 use Rattle.cyphal.proofs.Fronts.{IsFront, first_front, whole_front, came_lines, steps_due, due_all}
 use Rattle.cyphal.proofs.Mets.{met_all}
 

@@ -9,7 +9,6 @@ pub mod Served
 pub mod LogEnds
 pub mod statuses
 pub mod OneStatus
-pub mod Frames
 pub mod Fronts
 pub mod Mets
 pub mod Headlines

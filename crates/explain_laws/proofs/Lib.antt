@@ -6,4 +6,5 @@ pub mod Text
 pub mod Ranges
 pub mod Logs
 pub mod Written
+pub mod Explained
 pub mod Examples

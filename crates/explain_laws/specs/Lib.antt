@@ -1,3 +1,4 @@
 pub mod Delivered
 pub mod Text
 pub mod Written
+pub mod Explained

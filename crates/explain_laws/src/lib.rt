@@ -5,6 +5,7 @@
 
 ghost use Rattle.explain_laws.specs.Delivered.{DeliveredOnce, DueDelivered, Example};
 ghost use Rattle.explain_laws.specs.Delivered.{SessionsAreTold};
+ghost use Rattle.explain_laws.specs.Explained.{DueExplained, OnceExplained};
 ghost use Rattle.explain_laws.specs.Text.{Example as TextExample, TextTells};
 ghost use Rattle.explain_laws.specs.Written.{ExplainedIsText, ExplainedTells, WrittenHaveOwnText};
 
@@ -33,7 +34,28 @@ pub fn due_delivered()
     once::due_in_report();
 }
 
-/// The premises of these laws can be met.
+/// Once, of each session that is told of an input, where a sent list explains its records by
+/// identifier and data.
+pub fn once_explained()
+    ensures { OnceExplained }
+{
+    sessions_are_told();
+    delivered_once();
+    once::wire_explains_fields();
+    frame_log::ordered();
+}
+
+/// And due.
+pub fn due_explained()
+    ensures { DueExplained }
+{
+    sessions_are_told();
+    due_delivered();
+    once::wire_explains_fields();
+    frame_log::ordered();
+}
+
+/// The premises of `delivered_once` and `due_delivered` can be met.
 pub fn example()
     ensures { Example }
 {
