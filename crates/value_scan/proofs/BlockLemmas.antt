@@ -1,6 +1,7 @@
 -- Texts compared by blocks.
 use Rattle.std.proofs.Common.{◌≡◌, ◌∙◌, ℕ, zero, suc, ◌+◌, ◌-◌, ◌<◌, ◌≤◌, List, [], ◌∷◌, ◌++◌, length, take, drop, get_or, refl, sym, ap, arith, length-drop}
 use Rattle.std.proofs.lemmas.List.{take-append-drop, take-take, take_all, length-take-le}
+use Rattle.std.proofs.Math.Seq.{take-add}
 use Rattle.std.proofs.lemmas.Nat.{le_bytes_4, le_bytes_8}
 use Rattle.std.specs.Int.{from_le_bytes, to_le_bytes, w32, w64}
 
@@ -26,3 +27,11 @@ ends_meet k xs ys same few many front back =
     let d : take k (take (length ys - m) (drop m ys)) ≡ drop m ys = ap (λ l. take k l) (take_all (length ys - m) (drop m ys) (omega (arith, length-drop m ys))) ∙ take_all k (drop m ys) (omega (arith, length-drop m ys)) in
     let b : drop m xs ≡ drop m ys = sym c ∙ back ∙ d in
     sym (take-append-drop m xs) ∙ (λ i. a i ++ b i) ∙ take-append-drop m ys
+
+-- the first sixteen bytes by their halves
+pub halves_meet : (xs ys : List ℕ) → 16 ≤ length xs → 16 ≤ length ys → take 8 xs ≡ take 8 ys → take 8 (take (length xs - 8) (drop 8 xs)) ≡ take 8 (take (length ys - 8) (drop 8 ys)) → take 16 xs ≡ take 16 ys
+halves_meet xs ys many some front back =
+    let a : take 8 (take (length xs - 8) (drop 8 xs)) ≡ take 8 (drop 8 xs) = ap (λ l. take 8 l) (take_all (length xs - 8) (drop 8 xs) (omega (arith, length-drop 8 xs))) in
+    let b : take 8 (take (length ys - 8) (drop 8 ys)) ≡ take 8 (drop 8 ys) = ap (λ l. take 8 l) (take_all (length ys - 8) (drop 8 ys) (omega (arith, length-drop 8 ys))) in
+    let c : take 8 (drop 8 xs) ≡ take 8 (drop 8 ys) = sym a ∙ back ∙ b in
+    take-add 8 8 xs ∙ (λ i. front i ++ c i) ∙ sym (take-add 8 8 ys)

@@ -1,5 +1,7 @@
 -- Decimal digits, one after the other.
-use Rattle.std.proofs.Common.{◌≡◌, ◌∙◌, ℕ, zero, suc, ◌+◌, ◌*◌, ◌/◌, ◌%◌, ◌^◌, ◌<◌, ◌≤◌, List, [], ◌∷◌, ◌++◌, length, take, get_or, refl, sym, ap, arith, ◌⊎◌, inl, inr}
+use Rattle.std.proofs.Common.{◌≡◌, ◌∙◌, ℕ, zero, suc, ◌+◌, ◌*◌, ◌/◌, ◌%◌, ◌^◌, ◌<◌, ◌≤◌, List, [], ◌∷◌, ◌++◌, length, take, get_or, refl, sym, ap, subst, arith, ◌⊎◌, inl, inr}
+use Rattle.std.proofs.Math.Nat.{pow-le-pow_right}
+use Rattle.std.proofs.lemmas.Nat.{pow-add}
 use Rattle.std.proofs.Math.Seq.{take-suc}
 use Rattle.std.proofs.lemmas.Fmt.{decimal_digit, decimal_step}
 use Rattle.std.specs.Fmt.{decimal}
@@ -34,5 +36,44 @@ wrote_all bytes zero n least most so_far (inl h) = absurd (omega arith)
 wrote_all bytes zero n least most so_far (inr h) = let z : n ≡ 0 = so_far.none refl in absurd (omega (arith, h.1))
 wrote_all bytes (suc k) n least most so_far h = (so_far.some (let one : 1 ≤ suc k = omega arith in one)).1
 
-pub zero_text : (bytes : List ℕ) → 0 < length bytes → get_or bytes 0 0 ≡ 48 → decimal 0 ≡ take 1 bytes
-zero_text bytes some is = decimal_digit 0 (omega arith) ∙ sym (take-suc bytes 0 0 some ∙ ap (λ b. b ∷ []) is)
+-- one digit
+pub digit_text : (bytes : List ℕ) (v : ℕ) → 0 < length bytes → get_or bytes 0 0 ≡ 48 + v → v ≤ 9 → decimal v ≡ take 1 bytes
+digit_text bytes v some is small = decimal_digit v (omega arith) ∙ sym (take-suc bytes 0 0 some ∙ ap (λ b. b ∷ []) is)
+
+-- the digits among the first bytes, which may have ended
+pub record Few (bytes : List ℕ) (i len n : ℕ) : Type 0 where
+  pub wrote : Wrote bytes len n
+  pub few : n < 10 ^ len
+  pub within : len ≤ i
+  pub some : 1 ≤ i → 1 ≤ len
+
+pub few_bound : (len n : ℕ) → len ≤ 7 → n < 10 ^ len → n < 10000000
+few_bound len n h few = let pow : 10 ^ len ≤ 10 ^ 7 = pow-le-pow_right {n = 10} (omega arith) h in omega (arith, few, pow)
+
+pub few_more : (bytes : List ℕ) (i len n v m k : ℕ) → i < 8 → i < length bytes → get_or bytes i 0 ≡ 48 + v → v ≤ 9 → 49 ≤ get_or bytes 0 0 → len ≡ i → m ≡ n * 10 + v → k ≡ len + 1 → Few bytes i len n → Few bytes (i + 1) k m
+few_more bytes i len n v m k eight within is small first same e f so_far =
+    let short : len ≤ 7 = omega arith in
+    let bound = few_bound len n short so_far.few in
+    let most : n ≤ 1844674407370955160 = omega (arith, bound) in
+    let so : Wrote bytes i n = subst (λ j. Wrote bytes j n) same so_far.wrote in
+    let all : Wrote bytes (i + 1) m = wrote_more bytes i n v m within is small first most e so in
+    let next : i + 1 ≡ k = omega arith in
+    let below : m < 10 ^ len * 10 = omega (arith, so_far.few) in
+    record {
+      wrote = subst (λ j. Wrote bytes j m) next all;
+      few = subst (λ j. m < 10 ^ j) (sym f) (subst (λ x. m < x) (sym (pow-add 10 len 1)) below);
+      within = omega arith;
+      some = λ h. omega arith;
+    }
+
+pub few_same : (bytes : List ℕ) (i len n : ℕ) → 49 ≤ get_or bytes 0 0 → get_or bytes 0 0 ≤ 57 → (len ≡ i → 10 ≤ (get_or bytes i 0 + 208) % 256) → Few bytes i len n → Few bytes (i + 1) len n
+few_same bytes zero len n least most other so_far =
+    let none : len ≡ 0 = omega (arith, so_far.within) in
+    let h : 10 ≤ (get_or bytes 0 0 + 208) % 256 = other none in
+    absurd (omega (arith, h))
+few_same bytes (suc k) len n least most other so_far = record {
+  wrote = so_far.wrote;
+  few = so_far.few;
+  within = omega (arith, so_far.within);
+  some = λ h. so_far.some (let one : 1 ≤ suc k = omega arith in one);
+}

@@ -124,7 +124,23 @@ impl BitBuffer {
     }
 
     /// Puts zeros up to a multiple of 8 bits behind a start.
+    #[inline(always)]
     pub fn put_gap(&mut self, start: u64) -> Result<(), GivesUp>
+        requires { start ≤ self.old.place }
+        ensures bits { OnOk result
+            (written self.new ≡ written self.old ++ lead true (self.old.place - start)) }
+        ensures place { OnOk result (start ≤ self.new.place) }
+    {
+        if (self.place - start) % 8 == 0 {
+            Ok(())
+        } else {
+            self.put_zeros(start)
+        }
+    }
+
+    /// Puts those zeros, also where there are none.
+    #[inline(never)]
+    fn put_zeros(&mut self, start: u64) -> Result<(), GivesUp>
         requires { start ≤ self.old.place }
         ensures bits { OnOk result
             (written self.new ≡ written self.old ++ lead true (self.old.place - start)) }

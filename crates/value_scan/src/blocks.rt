@@ -25,9 +25,21 @@ fn is_same(one: &[u8], other: &[u8]) -> bool
         four(one) == four(other) && four(&one[len - 4..]) == four(&other[len - 4..])
     } else if len <= 16 {
         eight(one) == eight(other) && eight(&one[len - 8..]) == eight(&other[len - 8..])
+    } else if len <= 32 {
+        is_front_same(one, other) && is_front_same(&one[len - 16..], &other[len - 16..])
     } else {
         one == other
     }
+}
+
+/// Whether the first sixteen bytes of two texts are the same.
+#[inline(always)]
+fn is_front_same(one: &[u8], other: &[u8]) -> bool
+    requires one { 16 ≤ length one.now }
+    requires other { 16 ≤ length other.now }
+    ensures { result ≡ true → take 16 one.now ≡ take 16 other.now }
+{
+    eight(one) == eight(other) && eight(&one[8..]) == eight(&other[8..])
 }
 
 /// Whether two texts of one length below four are the same.

@@ -50,7 +50,8 @@ fn scan_block(most: u32, line: &[u8], at: &mut usize, out: &mut BitBuffer) -> Re
     ensures few { IfOk result (λ n. n ≤ most) }
     ensures place { OnOk result (out.old.place ≤ out.new.place) }
 {
-    let block = bytes_in(behind(line, *at), most);
+    let rest = behind(line, *at)?;
+    let block = bytes_in(rest, most);
     skip(at, 2 * block.size as usize)?;
     out.put(block.word, 8 * block.size)?;
     Ok(block.size)

@@ -1,5 +1,5 @@
 //! Decimal digits.
-ghost use Rattle.std.specs.Prelude.{◌≡◌, ◌≤◌, ◌<◌, IfSome, decimal, length, take};
+ghost use Rattle.std.specs.Prelude.{◌≡◌, ◌≤◌, ◌<◌, true, false, IfSome, decimal, length, take};
 ghost use Rattle.std.specs.Prelude.{slice_index};
 
 /// The greatest number that any digit may follow, so that the number of both is below 2^64.
@@ -23,14 +23,53 @@ pub fn digits_at(bytes: &[u8]) -> Option<Digits>
     if bytes.is_empty() {
         return None;
     }
-    let first = bytes[0];
-    if first == b'0' {
-        return Some(Digits { number: 0, len: 1 });
-    }
-    if first < b'1' || first > b'9' {
+    let first = bytes[0].wrapping_sub(b'0');
+    if first > 9 {
         return None;
     }
+    if bytes.len() == 1 || bytes[1].wrapping_sub(b'0') > 9 || first == 0 {
+        return Some(Digits {
+            number: u64::from(first),
+            len: 1,
+        });
+    }
+    if bytes.len() >= 8 {
+        let few = few_digits(bytes);
+        if few.len < 8 {
+            return Some(few);
+        }
+    }
     Some(digits_of(bytes))
+}
+
+/// The digits among the first eight bytes, of which the first isn't `0`. All eight are gone over,
+/// whatever their number.
+#[inline(always)]
+fn few_digits(bytes: &[u8]) -> Digits
+    requires eight { 8 ≤ length bytes.now }
+    requires least { 49 ≤ slice_index bytes.now 0 }
+    requires most { slice_index bytes.now 0 ≤ 57 }
+    ensures { decimal result.number ≡ take result.len bytes.now }
+{
+    let mut number = 0;
+    let mut len = 0;
+    for index in 0..8 {
+        let value = bytes[index].wrapping_sub(b'0');
+        if goes_on(len, index, value) {
+            number = number * 10 + u64::from(value);
+            len += 1;
+        }
+    }
+    Digits { number, len }
+}
+
+/// Whether a digit of this value stands there, and all bytes before are digits.
+#[inline(always)]
+fn goes_on(len: usize, index: usize, value: u8) -> bool
+    ensures yes { result ≡ true → (len ≡ index) × (value ≤ 9) }
+    ensures no { result ≡ false → len ≡ index → 10 ≤ value }
+{
+    len == index && value <= 9
 }
 
 /// The digits of which the first isn't `0`.

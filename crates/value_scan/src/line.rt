@@ -9,12 +9,12 @@ use crate::hex_text::number_in;
 
 /// The bytes from a place on.
 #[inline(always)]
-pub fn behind<'a>(line: &'a [u8], at: usize) -> &'a [u8]
-    ensures { result.now ≡ drop at line.now }
+pub fn behind<'a>(line: &'a [u8], at: usize) -> Result<&'a [u8], GivesUp>
+    ensures { IfOk result (λ rest. rest.now ≡ drop at line.now) }
 {
     match line.get(at..) {
-        Some(rest) => rest,
-        None => &[],
+        Some(rest) => Ok(rest),
+        None => Err(GivesUp),
     }
 }
 
@@ -35,7 +35,8 @@ pub fn skip(at: &mut usize, len: usize) -> Result<(), GivesUp>
 pub fn eat(line: &[u8], at: &mut usize, text: &[u8]) -> Result<(), GivesUp>
     ensures { OnOk result (drop at.old line.now ≡ text.now ++ drop at.new line.now) }
 {
-    if !begins(behind(line, *at), text) {
+    let rest = behind(line, *at)?;
+    if !begins(rest, text) {
         return Err(GivesUp);
     }
     skip(at, text.len())
@@ -54,7 +55,8 @@ pub fn eat_lead(line: &[u8], at: &mut usize, first: bool) -> Result<(), GivesUp>
 pub fn eat_number(line: &[u8], at: &mut usize) -> Result<u64, GivesUp>
     ensures { IfOk result (λ n. drop at.old line.now ≡ decimal n ++ drop at.new line.now) }
 {
-    let Some(digits) = digits_at(behind(line, *at)) else {
+    let rest = behind(line, *at)?;
+    let Some(digits) = digits_at(rest) else {
         return Err(GivesUp);
     };
     skip(at, digits.len)?;
@@ -68,7 +70,8 @@ pub fn eat_hex(line: &[u8], at: &mut usize, digits: u8) -> Result<u64, GivesUp>
     ensures { IfOk result (λ n. (n < 2 ^ (4 * digits))
         × (drop at.old line.now ≡ hex_digits digits n ++ drop at.new line.now)) }
 {
-    let Some(number) = number_in(behind(line, *at), digits) else {
+    let rest = behind(line, *at)?;
+    let Some(number) = number_in(rest, digits) else {
         return Err(GivesUp);
     };
     skip(at, usize::from(digits))?;

@@ -41,8 +41,31 @@ pub fn scan_own(
 }
 
 /// Scans a value as a part of another type: a delimited one has its header in front.
+#[inline(always)]
 #[cycle(scan)]
 pub fn scan_part(
+    schema: &Schema,
+    line: &[u8],
+    at: &mut usize,
+    out: &mut BitBuffer,
+) -> Result<(), GivesUp>
+    ensures scanned { OnOk result
+        (IsPart (sch schema.now) line.now at.old out.old at.new out.new) }
+    ensures place { OnOk result (out.old.place ≤ out.new.place) }
+{
+    match schema {
+        Schema::Bool => scan_truth(line, at, out),
+        Schema::Uint { bits, .. } => scan_unsigned(*bits, line, at, out),
+        Schema::Int { bits } => scan_signed(*bits, line, at, out),
+        Schema::Float { bits, .. } => scan_float(*bits, line, at, out),
+        _ => scan_composite(schema, line, at, out),
+    }
+}
+
+/// Scans a part that isn't primitive.
+#[inline(always)]
+#[cycle(scan)]
+pub fn scan_composite(
     schema: &Schema,
     line: &[u8],
     at: &mut usize,

@@ -1,5 +1,5 @@
 //! Structures: their fields in order, in braces.
-ghost use Rattle.std.specs.Prelude.{◌≡◌, ◌++◌, ◌-◌, ◌≤◌, true, false, codes, drop, IfOk, OnOk};
+ghost use Rattle.std.specs.Prelude.{◌≡◌, ◌++◌, ◌-◌, ◌≤◌, true, false, codes, drop, length, IfOk, OnOk};
 ghost use Rattle.dsdl_types.specs.Encoding.{lead as lead_bits};
 ghost use Rattle.dsdl_types.specs.Schemas.{is_aligned};
 ghost use Rattle.dsdl_types.specs.Views.{body_of, is_padding, named, sch};
@@ -9,10 +9,12 @@ ghost use Rattle.value_scan.specs.Written.{written};
 ghost use Rattle.value_scan.specs.Scanned.{AreFields, IsFieldScanned, IsOwn};
 
 use crate::bit_buffer::BitBuffer;
+use crate::blocks::begins;
 use crate::gives_up::GivesUp;
-use crate::line::{eat, eat_lead};
+use crate::line::{behind, eat, skip};
 use crate::parts::is_aligned;
-use crate::scan::scan_part;
+use crate::primitives::{scan_float, scan_signed, scan_truth, scan_unsigned};
+use crate::scan::scan_composite;
 use dsdl_types::{Body, Field, Schema};
 
 /// Scans a structure, and puts zeros up to a multiple of 8 bits behind its fields (Cyphal Specification, section
@@ -97,8 +99,16 @@ fn scan_named(
     ensures place { OnOk result (start ≤ out.new.place) }
 {
     eat_front(field, first, line, at)?;
-    put_lead(&field.schema, start, out)?;
-    scan_part(&field.schema, line, at, out)
+    match &field.schema {
+        Schema::Bool => scan_truth(line, at, out),
+        Schema::Uint { bits, .. } => scan_unsigned(*bits, line, at, out),
+        Schema::Int { bits } => scan_signed(*bits, line, at, out),
+        Schema::Float { bits, .. } => scan_float(*bits, line, at, out),
+        _ => {
+            put_lead(&field.schema, start, out)?;
+            scan_composite(&field.schema, line, at, out)
+        }
+    }
 }
 
 /// Goes past what stands in front of a field's value.
@@ -107,9 +117,37 @@ fn eat_front(field: &Field, first: bool, line: &[u8], at: &mut usize) -> Result<
     ensures { OnOk result (drop at.old line.now
         ≡ lead first ++ ((named field.now).0 ++ (codes ": " ++ drop at.new line.now))) }
 {
-    eat_lead(line, at, first)?;
-    eat(line, at, field.name.as_str().as_bytes())?;
-    eat(line, at, b": ")
+    let rest = behind(line, *at)?;
+    let size = front_len(rest, first, field.name.as_str().as_bytes())?;
+    skip(at, size)
+}
+
+/// How many bytes stand in front of the value of a field with a name.
+#[inline(always)]
+fn front_len(bytes: &[u8], first: bool, name: &[u8]) -> Result<usize, GivesUp>
+    ensures { IfOk result (λ n. bytes.now
+        ≡ lead first ++ (name.now ++ (codes ": " ++ drop n bytes.now))) }
+{
+    if first {
+        return name_len(bytes, name);
+    }
+    if !begins(bytes, b", ") {
+        return Err(GivesUp);
+    }
+    Ok(2 + name_len(&bytes[2..], name)?)
+}
+
+/// How many bytes a name, a colon and a space take that stand in front of others.
+#[inline(always)]
+fn name_len(bytes: &[u8], name: &[u8]) -> Result<usize, GivesUp>
+    ensures text { IfOk result (λ n. bytes.now ≡ name.now ++ (codes ": " ++ drop n bytes.now)) }
+    ensures within { IfOk result (λ n. n ≤ length bytes.now) }
+{
+    let len = name.len();
+    if !begins(bytes, name) || !begins(&bytes[len..], b": ") {
+        return Err(GivesUp);
+    }
+    Ok(len + 2)
 }
 
 /// Puts the zeros in front of a type, if it begins at a multiple of 8 bits.

@@ -1,15 +1,16 @@
 use Rattle.std.proofs.Common.{◌≡◌, ◌∙◌, ◌+◌, ◌-◌, ◌/◌, ◌≤◌, ◌++◌, drop, subst, length, ap, sym, arith, true}
 use Rattle.cy_bits.specs.Bits.{bits_of}
-use Rattle.dsdl_types.specs.Views.{named, flds, kind_of, body_of, sch}
+use Rattle.dsdl_types.specs.Views.{named, flds, kind_of, body_of, sch, type_of}
 use Rattle.dsdl_types.specs.Schemas as D
 use Rattle.dsdl_types.specs.Schemas.{holding_bits, tag_bits, variants}
 use Rattle.dsdl_types.specs.Encoding.{own_bits}
 use Rattle.dsdl_types.specs.Fits.{Fits}
 use Rattle.value_text.specs.Texts.{value_text}
 use Rattle.value_scan.specs.Scanned.{IsArray, LeavesVariant, RowScans, Scans, VariantScans}
-use Rattle.dsdl_types.proofs.Equations.{kind_void}
+use Rattle.dsdl_types.proofs.Equations.{kind_bool, kind_float, kind_int, kind_uint, kind_void}
 use Rattle.value_scan.specs.Written.{IsPatched, written}
 use Rattle.value_scan.proofs.Steps.{counted_part, fixed_scanned, if_ok, item_left, left_end, named_left, on_both, on_ok, padding_left, place_is, row_left_end, struct_scanned, uint8_is, union_scanned, var_scanned, variant_found, variant_later, variant_skip}
+use Rattle.value_scan.proofs.SimpleParts.{simple_left, simple_part}
 use Rattle.value_scan.proofs.+scan.Goals as goal
 use Rattle.value_scan.proofs.+scan.Goals.{unions::scan_variant-then-not-is_padding+else-left-eq0, unions::scan_variant-else-not-is_padding}
 
@@ -29,20 +30,76 @@ structures::scan_fields-returns-clause-scanned t c =
     left_end c.args.body.now c.as_slice-field-items.result.now c.loop-field.field-index (drop c.args.at.now c.args.line.now) (drop c.loop-field.at c.args.line.now) (written c.args.out.now) (written c.loop-field.out)
     c.loop-field.first _ c.as_slice-field-items.ensures c.loop-field-test.false c.loop-field.invariant.left
 
-pub structures::scan_named-returns-clause-scanned : goal.structures::scan_named-returns-clause-scanned
-structures::scan_named-returns-clause-scanned t c =
+pub structures::scan_named-returns-in-Bool-clause-scanned : goal.structures::scan_named-returns-in-Bool-clause-scanned
+structures::scan_named-returns-in-Bool-clause-scanned t c =
+    let f = named c.args.field.now in
+    let line = c.args.line.now in
+    let start = c.args.start in
+    let u = c.args.out.now in
+    let v = c.scan_truth.new.out in
+    let k = ap kind_of c.in-Bool.is ∙ kind_bool in
+    on_both c.scan_truth.result
+    (λ own past fs.
+    let size : v.place - start + length (written u) ≡ u.place - start + length (written v) = omega (arith, place_is u, place_is v, c.requires.start, past) in
+    simple_left f.0 f.1 _ c.args.first (drop c.args.at.now line) (drop c.eat_front.new.at line) (drop c.scan_truth.new.at line) (written u) (written v) (u.place - start) (v.place - start) k c.in_ok-eat_front.ensures size own fs)
+    c.scan_truth.ensures.scanned c.scan_truth.ensures.place
+
+pub structures::scan_named-returns-in-Uint-clause-scanned : goal.structures::scan_named-returns-in-Uint-clause-scanned
+structures::scan_named-returns-in-Uint-clause-scanned t c =
+    let f = named c.args.field.now in
+    let line = c.args.line.now in
+    let start = c.args.start in
+    let u = c.args.out.now in
+    let v = c.scan_unsigned.new.out in
+    let k = ap kind_of c.in-Uint.is ∙ kind_uint c.in-Uint.bits _ in
+    on_both c.scan_unsigned.result
+    (λ own past fs.
+    let size : v.place - start + length (written u) ≡ u.place - start + length (written v) = omega (arith, place_is u, place_is v, c.requires.start, past) in
+    simple_left f.0 f.1 _ c.args.first (drop c.args.at.now line) (drop c.eat_front.new.at line) (drop c.scan_unsigned.new.at line) (written u) (written v) (u.place - start) (v.place - start) k c.in_ok-eat_front.ensures size (own _) fs)
+    c.scan_unsigned.ensures.scanned c.scan_unsigned.ensures.place
+
+pub structures::scan_named-returns-in-Int-clause-scanned : goal.structures::scan_named-returns-in-Int-clause-scanned
+structures::scan_named-returns-in-Int-clause-scanned t c =
+    let f = named c.args.field.now in
+    let line = c.args.line.now in
+    let start = c.args.start in
+    let u = c.args.out.now in
+    let v = c.scan_signed.new.out in
+    let k = ap kind_of c.in-Int.is ∙ kind_int c.in-Int.bits in
+    on_both c.scan_signed.result
+    (λ own past fs.
+    let size : v.place - start + length (written u) ≡ u.place - start + length (written v) = omega (arith, place_is u, place_is v, c.requires.start, past) in
+    simple_left f.0 f.1 _ c.args.first (drop c.args.at.now line) (drop c.eat_front.new.at line) (drop c.scan_signed.new.at line) (written u) (written v) (u.place - start) (v.place - start) k c.in_ok-eat_front.ensures size own fs)
+    c.scan_signed.ensures.scanned c.scan_signed.ensures.place
+
+pub structures::scan_named-returns-in-Float-clause-scanned : goal.structures::scan_named-returns-in-Float-clause-scanned
+structures::scan_named-returns-in-Float-clause-scanned t c =
+    let f = named c.args.field.now in
+    let line = c.args.line.now in
+    let start = c.args.start in
+    let u = c.args.out.now in
+    let v = c.scan_float.new.out in
+    let k = ap kind_of c.in-Float.is ∙ kind_float c.in-Float.bits _ in
+    on_both c.scan_float.result
+    (λ own past fs.
+    let size : v.place - start + length (written u) ≡ u.place - start + length (written v) = omega (arith, place_is u, place_is v, c.requires.start, past) in
+    simple_left f.0 f.1 _ c.args.first (drop c.args.at.now line) (drop c.eat_front.new.at line) (drop c.scan_float.new.at line) (written u) (written v) (u.place - start) (v.place - start) k c.in_ok-eat_front.ensures size (own true) fs)
+    c.scan_float.ensures.scanned c.scan_float.ensures.place
+
+pub structures::scan_named-returns-in_ok-put_lead-in_default-clause-scanned : goal.structures::scan_named-returns-in_ok-put_lead-in_default-clause-scanned
+structures::scan_named-returns-in_ok-put_lead-in_default-clause-scanned t c =
     let f = named c.args.field.now in
     let line = c.args.line.now in
     let start = c.args.start in
     let w0 = c.args.out.now in
     let w1 = c.put_lead.new.out in
-    let w2 = c.scan_part.new.out in
-    on_both c.scan_part.result
+    let w2 = c.scan_composite.new.out in
+    on_both c.scan_composite.result
     (λ part past fs.
-    let size : w2.place - start + length (written w0) ≡ w0.place - start + length (written w2) = omega (arith, place_is w0, place_is w2, c.requires.start, c.in_ok-put_lead.ensures.place, past) in
-    named_left f.0 f.1 c.args.first (drop c.args.at.now line) (drop c.eat_front.new.at line) (drop c.scan_part.new.at line) (written w0) (written w1) (written w2) (w0.place - start) (w2.place - start)
-    c.requires.typed c.in_ok-eat_front.ensures c.in_ok-put_lead.ensures.bits size part fs)
-    c.scan_part.ensures.scanned c.scan_part.ensures.place
+    let size : w2.place - start + length (written w0) ≡ w0.place - start + length (written w2) = omega (arith, place_is w0, place_is w2, c.requires.start, c.in_ok-put_lead-in_default.ensures.place, past) in
+    named_left f.0 f.1 c.args.first (drop c.args.at.now line) (drop c.eat_front.new.at line) (drop c.scan_composite.new.at line) (written w0) (written w1) (written w2) (w0.place - start) (w2.place - start)
+    c.requires.typed c.in_ok-eat_front.ensures c.in_ok-put_lead-in_default.ensures.bits size part fs)
+    c.scan_composite.ensures.scanned c.scan_composite.ensures.place
 
 pub structures::scan_struct-returns-clause-scanned : goal.structures::scan_struct-returns-clause-scanned
 structures::scan_struct-returns-clause-scanned t c =
@@ -169,3 +226,19 @@ arrays::scan_array-returns-then-is_uint8-clause-scanned t c =
     if_ok c.scan_bytes.result
     (λ n bytes. subst (λ s. IsArray s n c.args.line.now c.args.at.now c.args.out.now c.scan_bytes.new.at c.scan_bytes.new.out) (sym u.1) (bytes u.0))
     c.scan_bytes.ensures.scanned
+
+pub scan::scan_part-returns-in-Uint-clause-scanned : goal.scan::scan_part-returns-in-Uint-clause-scanned
+scan::scan_part-returns-in-Uint-clause-scanned t c =
+    let line = c.args.line.now in
+    let k = ap type_of (ap kind_of c.in-Uint.is ∙ kind_uint c.in-Uint.bits _) in
+    on_ok c.scan_unsigned.result
+    (λ own. simple_part (sch c.args.schema.now) _ (drop c.args.at.now line) (drop c.scan_unsigned.new.at line) (written c.args.out.now) (written c.scan_unsigned.new.out) k (own _))
+    c.scan_unsigned.ensures.scanned
+
+pub scan::scan_part-returns-in-Float-clause-scanned : goal.scan::scan_part-returns-in-Float-clause-scanned
+scan::scan_part-returns-in-Float-clause-scanned t c =
+    let line = c.args.line.now in
+    let k = ap type_of (ap kind_of c.in-Float.is ∙ kind_float c.in-Float.bits _) in
+    on_ok c.scan_float.result
+    (λ own. simple_part (sch c.args.schema.now) _ (drop c.args.at.now line) (drop c.scan_float.new.at line) (written c.args.out.now) (written c.scan_float.new.out) k (own true))
+    c.scan_float.ensures.scanned

@@ -11,5 +11,5 @@ returns-clause-scanned c =
     let at = c.args.at.now in
     let word = c.bytes_in-block.result.word in
     let n = c.bytes_in-block.result.size in
-    let there : AreInFront n word (drop at line) = subst (λ l. AreInFront n word l) c.behind.ensures c.bytes_in-block.ensures.read in
+    let there : AreInFront n word (drop at line) = subst (λ l. AreInFront n word l) c.in_ok-rest.ensures c.bytes_in-block.ensures.read in
     bytes_put n word (drop at line) (drop c.skip.new.at line) (written c.args.out.now) (written c.put.new.self) there (ap (λ m. drop m line) c.in_ok-skip.ensures ∙ sym (drop-drop (2 * n) at line)) c.in_ok-put.ensures.bits

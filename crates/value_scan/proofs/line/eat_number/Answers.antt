@@ -5,4 +5,4 @@ use Rattle.value_scan.proofs.line.eat_number.Goals as goal
 pub returns : goal.returns
 returns c =
     let digits = c.in-Some.digits in
-    taken c.args.line.now c.behind.result.now (decimal digits.number) c.args.at.now c.skip.new.at digits.len c.behind.ensures c.in-Some.ensures c.in_ok-skip.ensures
+    taken c.args.line.now c.in_ok-rest.rest.now (decimal digits.number) c.args.at.now c.skip.new.at digits.len c.in_ok-rest.ensures c.in-Some.ensures c.in_ok-skip.ensures
