@@ -1,4 +1,4 @@
-"""What bench/run and bench/values measure with: time and instructions of a call, and the program written by hand."""
+"""What the scripts beside it measure with: time, instructions and allocations of a call, and the program written by hand."""
 
 import glob
 import hashlib
@@ -87,3 +87,60 @@ def instructions(command, lines, count):
 def ratio(ours, hand):
     """How many times as long; `-` where there is nothing beside it."""
     return '-' if hand is None else '%.2f' % (ours[1] / max(hand[1], 1e-4))
+
+
+# Refuses the allocation with the number FAIL_AT, counted from 1, and tells at the end how many there were.
+ALLOCATOR = r'''
+#include <stddef.h>
+#include <stdio.h>
+#include <stdlib.h>
+extern void *__libc_malloc(size_t);
+extern void *__libc_realloc(void *, size_t);
+extern void *__libc_calloc(size_t, size_t);
+extern void *__libc_memalign(size_t, size_t);
+static long count, at = -1;
+static int refused(void) {
+    if (at < 0) { const char *word = getenv("FAIL_AT"); at = word ? atol(word) : 0; }
+    return ++count == at;
+}
+void *malloc(size_t n) { return refused() ? NULL : __libc_malloc(n); }
+void *realloc(void *p, size_t n) { return refused() ? NULL : __libc_realloc(p, n); }
+void *calloc(size_t m, size_t n) { return refused() ? NULL : __libc_calloc(m, n); }
+void *aligned_alloc(size_t a, size_t n) { return refused() ? NULL : __libc_memalign(a, n); }
+int posix_memalign(void **p, size_t a, size_t n) {
+    if (refused()) return 12;
+    *p = __libc_memalign(a, n);
+    return *p ? 0 : 12;
+}
+__attribute__((destructor)) static void tell(void) { dprintf(2, "allocations %ld\n", count); }
+'''
+
+
+def allocator(folder):
+    """The library that counts and refuses allocations, built in a folder."""
+    library = os.path.join(folder, 'allocator.so')
+    subprocess.run(['cc', '-O2', '-shared', '-fPIC', '-x', 'c', '-o', library, '-'], input=ALLOCATOR.encode(), check=True)
+    return library
+
+
+def allocating(library, number):
+    """The environment of a call whose allocation with this number is refused; of 0 none is."""
+    return dict(os.environ, LD_PRELOAD=library, FAIL_AT=str(number))
+
+
+def allocations(said):
+    """How many allocations there were, by what a call said; 0 where it didn't come to tell."""
+    count = re.search(r'^allocations (\d+)$', said, re.M)
+    return int(count.group(1)) if count else 0
+
+
+def allocated(command, lines, count):
+    """How many allocations one of `count` lines takes, when as many went before; `-` without a C compiler."""
+    if not shutil.which('cc'):
+        return '-'
+    with tempfile.TemporaryDirectory() as room:
+        library = allocator(room)
+        few, more = (allocations(subprocess.run(
+            command, env=allocating(library, 0), input=b''.join(lines[:n]), stdout=subprocess.DEVNULL,
+            stderr=subprocess.PIPE).stderr.decode('utf-8', 'replace')) for n in (count, 2 * count))
+    return '%.3f' % ((more - few) / count)
