@@ -11,6 +11,10 @@ mod reads;
 #[cfg(test)]
 mod samples;
 #[cfg(test)]
+mod scans;
+#[cfg(test)]
+mod shapes;
+#[cfg(test)]
 mod standard_tests;
 #[cfg(test)]
 mod writes;

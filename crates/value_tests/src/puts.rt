@@ -100,8 +100,8 @@ fn agrees(alloc: Global, layout: &Layout, bytes: &[u8]) -> Result<bool, NoMemory
     }
 }
 
-/// A payload with one byte that is another.
-fn broken(alloc: Global, bytes: &[u8], place: usize, byte: u8) -> Result<Vec<u8>, NoMemory> {
+/// Bytes of which one is another.
+pub fn broken(alloc: Global, bytes: &[u8], place: usize, byte: u8) -> Result<Vec<u8>, NoMemory> {
     let mut broken = Vec::new(alloc);
     for (index, old) in bytes.iter().enumerate() {
         broken.push(if index == place { byte } else { *old })?;
