@@ -7,3 +7,7 @@ pub mod Texts
 pub mod Whole
 pub mod OneOrder
 pub mod OneText
+pub mod Finite
+pub mod Lengths
+pub mod Sorting
+pub mod SomeText
