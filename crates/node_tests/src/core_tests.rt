@@ -1,6 +1,10 @@
+ghost use Rattle.dsdl_types.specs.Laws.{KeepsReadings};
+ghost use Rattle.node_core.specs.Shapes.{port_schema};
+
 use crate::node_log::{Logged, no_files, no_types, record, text_of};
 use can_id::{Key, Kind};
 use cy_bits::{BusName, List, NoMemory, ShortList};
+use dsdl_types::laws::shape_laws;
 use dsdl_types::{Schema, Shape};
 use frag::Frames;
 use line_text::TextBuffer;
@@ -159,11 +163,19 @@ fn last_line_has_its_text(rt: HostRuntime) -> Result<(), NoMemory> {
     Ok(())
 }
 
+/// The extent of a port's type in bytes. A payload and the same cut to that are read alike.
+fn extent_of(shape: &PortShape) -> usize
+    ensures { KeepsReadings (port_schema shape.now) }
+{
+    shape_laws(shape);
+    shape.extent_bytes()
+}
+
 #[test]
 fn raw_bytes_are_a_data_type(rt: HostRuntime) -> Result<(), NoMemory> {
     for (extent, fields) in [(0u16, 0), (1, 1), (64, 1)] {
         let shape = PortShape::Raw(RawShape::new(rt.alloc(), extent as u32)?);
-        assert_eq!(rt; shape.extent_bytes(), extent as usize);
+        assert_eq!(rt; extent_of(&shape), extent as usize);
         let Schema::Struct(body) = shape.schema() else {
             panic!(rt; "no structure");
         };
