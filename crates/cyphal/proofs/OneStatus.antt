@@ -58,7 +58,7 @@ module _ (root : List ℕ) (told : Option Files) (f : Found root told) where
 
   comes_compared : (new old : List ℕ) (stat : Status) → Compares root new old told stat → Comes root (compares new old) f.found stat
   comes_compared new old stat (h, inl n) = not_loaded root (compares new old) told f stat h n
-  comes_compared new old stat (h, inr (names, is, e)) = loaded is.files names (f.are is.files is.are) is.compiled e
+  comes_compared new old stat (h, inr c) = loaded c.is.files c.names (f.are c.is.files c.is.are) c.is.compiled c.ends
 
 module _ (answers : Answering) (root name : List ℕ) (told : Told) where
   comes_answered : (f : Found root told.files) (stat : Status) → AnswersLines answers root name told stat → Comes root (answers_in answers name told) f.found stat

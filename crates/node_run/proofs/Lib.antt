@@ -19,3 +19,4 @@ pub mod Endings
 pub mod Summaries
 pub mod Messages
 pub mod LineStatuses
+pub mod Newer

@@ -3,6 +3,7 @@ use Rattle.std.specs.Prelude.{◌≡◌, ℕ, List, ◌++◌, codes, Option, Som
 use Rattle.std.specs.Str.{bytes_eq}
 use Rattle.cy_outside.specs.Written.{behind, Begins}
 use Rattle.dsdl_types.specs.Difference.{difference}
+use Rattle.dsdl_types.specs.Newer.{Newer}
 use Rattle.dsdl_types.specs.Views.{sch}
 use Rattle.dsdl_types.specs.declared.definition.Parts.{Parts}
 use Rattle.dsdl_types.specs.declared.definition.Parts.TheVariants as parts
@@ -51,6 +52,23 @@ compared_found new old (Some parts) (Some older) = ended (parts_verdict parts ol
 -- how comparing what two names of a namespace stand for ends
 abbrev pub compared : Namespace → List ℕ → List ℕ → Status
 compared names new old = compared_found new old (named names new) (named names old)
+
+-- a message is newer than a message, or both halves of a service are newer than those of another;
+-- each then reads the payloads of the other (`dsdl_types::laws::evolution`)
+abbrev pub AreNewer : Parts → Parts → Type 0
+AreNewer (parts.Message new) (parts.Message old) = Newer (sch new) (sch old)
+AreNewer (parts.Service new newer) (parts.Service old older) =
+    Newer (sch new) (sch old) × Newer (sch newer) (sch older)
+AreNewer new old = ⊥
+
+-- both were found, and the first is newer
+abbrev pub AreFoundNewer : Option Parts → Option Parts → Type 0
+AreFoundNewer (Some new) (Some old) = AreNewer new old
+AreFoundNewer new old = ⊥
+
+-- what the first name stands for in a namespace is newer than what the second does
+abbrev pub IsNewer : Namespace → List ℕ → List ℕ → Type 0
+IsNewer names new old = AreFoundNewer (named names new) (named names old)
 
 -- the line where a type is newer
 abbrev pub newer_line : List ℕ

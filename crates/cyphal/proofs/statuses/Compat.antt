@@ -1,11 +1,11 @@
 -- A comparison's status.
-use Rattle.std.proofs.Common.{◌≡◌, ℕ, false, List, Option, Some, None, sym, subst}
+use Rattle.std.proofs.Common.{◌≡◌, ◌↔◌, ◌∙◌, ℕ, false, List, Option, Some, None, sym, subst}
 use Rattle.dsdl_types.specs.declared.definition.Parts.{Parts}
 use Rattle.dsdl_types.specs.declared.namespace.Namespace.{Namespace}
 use Rattle.compat_check.specs.declared.verdict.Verdict.{Verdict}
 use Rattle.compat_check.specs.declared.verdict.Verdict.TheVariants as verdict
 use Rattle.node_run.specs.NamedTypes.{named as named_in}
-use Rattle.node_run.specs.Compared.{parts_verdict, ended, compared_found, compared, HasCompared}
+use Rattle.node_run.specs.Compared.{parts_verdict, ended, compared_found, compared, HasCompared, IsNewer}
 use Rattle.node_run.specs.declared.status.Status.{Status}
 use Rattle.node_run.specs.declared.status.Status.TheVariants as status
 use Rattle.cyphal.specs.Job.{is_fault}
@@ -25,6 +25,11 @@ compared_answer names new old (status.NoFile path) before after h f = sym h.0
 compared_answer names new old status.ReadFault before after h f = absurd h
 compared_answer names new old status.WriteFault before after h f = absurd cc
 compared_answer names new old status.NoMemory before after h f = absurd cc
+
+-- and it is Ok exactly where the comparison ends well
+pub newer_ends : (names : Namespace) (new old : List ℕ) (stat : Status) → stat ≡ compared names new old
+    → (compared names new old ≡ status.Ok) ↔ IsNewer names new old → (stat ≡ status.Ok) ↔ IsNewer names new old
+newer_ends names new old stat e law = (λ ok. law.0 (sym e ∙ ok), λ newer. e ∙ law.1 newer)
 
 ended_usage : (verdict : Verdict) → ended verdict ≡ status.Usage → ⊥
 ended_usage verdict.Yes e = absurd cc

@@ -1,16 +1,20 @@
 -- `compat ROOT NEW OLD`: whether one type of a root is newer than another.
-use Rattle.std.specs.Prelude.{◌≡◌, ◌⊎◌, ℕ, true, false, ◌||◌, List, Option, is_some}
+use Rattle.std.specs.Prelude.{◌≡◌, ◌⊎◌, ◌↔◌, ℕ, true, false, ◌||◌, List, Option, is_some}
 use Rattle.cy_outside.specs.Files.{Files}
 use Rattle.dsdl_types.specs.declared.namespace.Namespace.{Namespace}
-use Rattle.node_run.specs.Compared.{compared, HasCompared}
+use Rattle.node_run.specs.Compared.{compared, HasCompared, IsNewer}
 use Rattle.node_run.specs.Loaded.{is_none, IsLoaded, IsNotLoaded}
 use Rattle.node_run.specs.declared.status.Status.{Status}
+use Rattle.node_run.specs.declared.status.Status.TheVariants as status
 use Rattle.cyphal.specs.Job.{Job, Printed, ReportsNothing, print_of, is_fault}
 
--- the root has a namespace, and this is how the comparison in it ends
-abbrev pub CompareIn : List ℕ → List ℕ → List ℕ → Option Files → Status → Type 0
-CompareIn root new old files stat =
-    (names : Namespace) × IsLoaded root files names × (stat ≡ compared names new old)
+-- The root has a namespace, and this is how the comparison in it ends: well exactly where the one
+-- type is newer than the other.
+pub record CompareIn (root new old : List ℕ) (files : Option Files) (stat : Status) : Type 0 where
+  pub names : Namespace
+  pub is : IsLoaded root files names
+  pub ends : stat ≡ compared names new old
+  pub newer : (stat ≡ status.Ok) ↔ IsNewer names new old
 
 -- what comparing two types of a root comes to: why the root has no namespace, or how the comparison
 -- in it ends

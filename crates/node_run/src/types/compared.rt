@@ -1,12 +1,12 @@
 //! Whether one type of a namespace is newer than another.
-ghost use Rattle.std.specs.Prelude.{◌≡◌, IfOk, codes};
+ghost use Rattle.std.specs.Prelude.{◌≡◌, ◌↔◌, IfOk, codes};
 ghost use Rattle.cy_outside.specs.Outside.{Rose};
 ghost use Rattle.dsdl_types.specs.Definitions.{IsNamespace};
 ghost use Rattle.dsdl_types.specs.Difference.{difference};
 ghost use Rattle.dsdl_types.specs.Views.{sch};
 ghost use Rattle.compat_check.specs.Verdicts.{verdict_of};
 ghost use Rattle.node_run.specs.NamedTypes.{parts_of};
-ghost use Rattle.node_run.specs.Compared.{half_path, in_half, parts_verdict, HasCompared};
+ghost use Rattle.node_run.specs.Compared.{half_path, in_half, parts_verdict, compared, HasCompared, IsNewer};
 
 use crate::status::Status;
 use crate::types::named::{NamedParts, found};
@@ -21,7 +21,9 @@ use std::alloc::Global;
 /// services the requests are compared, and then the responses. Else nothing is written.
 ///
 /// `NoFile` comes exactly where the namespace hasn't got one of the names, the new one before the
-/// old one, and `NotNewer` exactly where the one isn't newer, with the first difference.
+/// old one, and `NotNewer` exactly where the one isn't newer, with the first difference. Where it
+/// is newer, each reads what the other sends.
+#[tactic(auto, using(crate::proofs::Newer::compared_newer))]
 pub fn compat<O: Sink>(
     alloc: Global,
     names: &Namespace,
@@ -32,6 +34,8 @@ pub fn compat<O: Sink>(
     requires { IsNamespace names.now }
     ensures compared { HasCompared names.now new.now old.now result
         (O.written out.old) (O.written out.new) }
+    ensures newer { (compared names.now new.now old.now ≡ Status.Ok)
+        ↔ IsNewer names.now new.now old.now }
     ensures write { result ≡ Status.WriteFault → Rose (O.faults out.old) (O.faults out.new) }
     ensures kept { result ≡ Status.Ok → O.faults out.new ≡ O.faults out.old }
 {

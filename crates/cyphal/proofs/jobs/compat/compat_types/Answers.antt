@@ -1,11 +1,22 @@
 use Rattle.std.proofs.Common.{inr}
-use Rattle.cyphal.proofs.statuses.Compat.{compared_answer, compared_usage, compared_read}
+use Rattle.cyphal.proofs.statuses.Compat.{compared_answer, compared_usage, compared_read, newer_ends}
 use Rattle.cyphal.proofs.jobs.compat.compat_types.Goals as goal
 
 pub returns-clause-answer : goal.returns-clause-answer
 returns-clause-answer g c h =
     let written = g.O.Sink.written in
-    (h, inr (c.in-Ok.names, c.in-Ok.ensures.loaded, compared_answer c.in-Ok.names c.args.new.now c.args.old.now c.compat.result (written c.args.out.now) (written c.compat.new.out) c.compat.ensures.compared h))
+    let names = c.in-Ok.names in
+    let new = c.args.new.now in
+    let old = c.args.old.now in
+    let ends = compared_answer names new old c.compat.result (written c.args.out.now) (written c.compat.new.out) c.compat.ensures.compared h in (
+      h,
+      inr (record {
+        names = names;
+        is = c.in-Ok.ensures.loaded;
+        ends = ends;
+        newer = newer_ends names new old c.compat.result ends c.compat.ensures.newer;
+      }),
+    )
 
 pub returns-clause-cause : goal.returns-clause-cause
 returns-clause-cause g c =
