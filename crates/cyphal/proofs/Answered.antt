@@ -38,6 +38,7 @@ module _ {L : Type 0} (one : HaveOneAnswer × OnePlan) (encodes : HasOneStatus E
   answered usage law = record {
     answer = done.answer;
     exact = exact;
+    among = done.among;
     usage = usage;
     cause = done.cause;
     ran = done.ran;

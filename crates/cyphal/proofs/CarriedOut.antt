@@ -1,5 +1,5 @@
 -- From what a command did to what is said of any command.
-use Rattle.std.proofs.Common.{◌≡◌, ◌∙◌, ◌⊎◌, inl, inr, ℕ, false, List, Option, refl, sym, ap, subst, arith}
+use Rattle.std.proofs.Common.{◌≡◌, ◌∙◌, ◌⊎◌, inl, inr, ℕ, true, false, List, Option, refl, sym, ap, subst, arith}
 use Rattle.node_core.specs.declared.line.Line.{Line}
 use Rattle.node_run.specs.Failures.{Failures}
 use Rattle.node_run.specs.Ran.{no_numbers, reported}
@@ -33,11 +33,12 @@ module _ (job : Job) (told : Told) (stat : Status) (lines : Option (List Line)) 
 
     -- a command that is given no input
     pub printed_out : {L : Type 0} (old new : Outside L) (after : Option (List ℕ)) (Did : Type 0) → new.input ≡ old.input → new.source ≡ old.source
-        → (is_fault stat ≡ false → job.expects told stat) → HasCause stat (counts old.tree old.out) (counts new.tree new.out) → WroteNothing (printed stat told.written after) ⊎ Did
+        → (is_fault stat ≡ false → job.expects told stat) → job.may_end stat ≡ true → HasCause stat (counts old.tree old.out) (counts new.tree new.out) → WroteNothing (printed stat told.written after) ⊎ Did
         → (Did → ReportsNothing (came told.input after) → job.did told (came told.input after))
         → IsCarriedOut job told (outcome r.status (reported lines lines r.numbers) failed told.input after) old new
-    printed_out old new after Did input source answer cause ran did = as_counted old new told.input after (record {
+    printed_out old new after Did input source answer among cause ran did = as_counted old new told.input after (record {
       answer = answer;
+      among = among;
       cause = record {
         read = λ e. inl (cause.read e, source);
         unread = λ _. source;
@@ -64,11 +65,12 @@ module _ (job : Job) (told : Told) (stat : Status) (lines : Option (List Line)) 
 
     -- a command that is given an input
     pub read_out : {L : Type 0} (left_of : L → Option (List ℕ)) (old new : Outside L) (after : Option (List ℕ)) (Did : Type 0) → told.input ≡ left_of old.source
-        → (is_fault stat ≡ false → job.expects told stat) → HasCauseOver job.takes_input job.serves stat old new → TookNothing (printed stat told.written after) old new ⊎ Did
+        → (is_fault stat ≡ false → job.expects told stat) → job.may_end stat ≡ true → HasCauseOver job.takes_input job.serves stat old new → TookNothing (printed stat told.written after) old new ⊎ Did
         → (Did → ReportsNothing (came (left_of new.source) after) → job.did told (came (left_of new.source) after))
         → IsCarriedOut job told (outcome r.status (reported lines lines r.numbers) failed (left_of new.source) after) old new
-    read_out left_of old new after Did is_input answer cause ran did = as_counted old new (left_of new.source) after (record {
+    read_out left_of old new after Did is_input answer among cause ran did = as_counted old new (left_of new.source) after (record {
       answer = answer;
+      among = among;
       cause = cause;
       ran = by_work ran;
       held = omega arith;

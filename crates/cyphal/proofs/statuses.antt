@@ -4,3 +4,4 @@ pub mod Run
 pub mod Gen
 pub mod Reach
 pub mod Order
+pub mod Among

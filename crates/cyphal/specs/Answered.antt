@@ -17,7 +17,8 @@ use Rattle.cyphal.specs.Headline.{OncePut, DuePut, ValuesPut, DueValuesPut}
 use Rattle.cyphal.specs.Streaming.{TakenOf, StreamedOf}
 use Rattle.cyphal.specs.declared.top.Done.{Done}
 
--- The call did what the words ask for: it ended as they ask, for that reason, and did what it says.
+-- The call did what the words ask for: it ended as they ask, with one of the statuses of their
+-- command whatever is told, for that reason, and did what it says.
 -- The headline, where the words, the files and the input are told, is of what is written; `once`,
 -- `due` and the values are of the lines that were put, where the sink of lines tells them. `taken`
 -- is how far the input is taken where a read fails: not at all, where the tree failed, or up to the
@@ -27,6 +28,7 @@ pub record IsAnswered {L : Type 0} (words : List (List ℕ)) (told : Told) (came
   pub answer : is_fault came.status ≡ false → (job_for words).expects told came.status
   pub exact : (stat : Status) → (job_for words).is_told told ≡ true
       → (job_for words).expects told stat → is_fault came.status ≡ false → came.status ≡ stat
+  pub among : (job_for words).may_end came.status ≡ true
   pub usage : (came.status ≡ status.Usage) ↔ (command_of words ≡ None)
   pub cause : HasCauseOver (job_for words).takes_input (job_for words).serves came.status old new
   pub ran : WasDone words told came old new

@@ -4,6 +4,7 @@ use Rattle.node_run.specs.declared.status.Status.TheVariants as status
 use Rattle.cyphal.specs.Words.{Command, command_of}
 use Rattle.cyphal.specs.Cause.{Outside}
 use Rattle.cyphal.specs.Job.{Told, Outcome, Job, NotDone}
+use Rattle.cyphal.specs.MayEnd.{of_words}
 use Rattle.cyphal.specs.jobs.{job_of}
 
 -- words that are no command ask for their refusal alone
@@ -12,6 +13,7 @@ no_job = record {
   calls_tree = false;
   takes_input = false;
   serves = false;
+  may_end = of_words;
   is_told = λ told. true;
   expects = λ told stat. stat ≡ status.Usage;
   did = λ told came. ⊥;

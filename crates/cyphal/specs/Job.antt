@@ -60,6 +60,8 @@ pub record Job : Type 1 where
   pub takes_input : Bool
   -- whether it answers requests of files of the tree
   pub serves : Bool
+  -- whether it can end with a status, whatever is told
+  pub may_end : Status → Bool
   -- whether all that decides its status is told
   pub is_told : Told → Bool
   -- a status is what it asks for, as far as what is told decides it

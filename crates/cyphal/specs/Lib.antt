@@ -4,6 +4,7 @@ pub mod ClapShape
 pub mod ErrorLine
 pub mod Help
 pub mod Cause
+pub mod MayEnd
 pub mod Job
 pub mod LogEnds
 pub mod Plans

@@ -1,5 +1,5 @@
 //! The file of a plan, read in the namespace of a root.
-ghost use Rattle.std.specs.Prelude.{◌≡◌, ◌⊎◌, ℕ, false, IfOk, IfErr, OnOk, Some};
+ghost use Rattle.std.specs.Prelude.{◌≡◌, ◌⊎◌, ℕ, true, false, IfOk, IfErr, OnOk, Some};
 ghost use Rattle.cy_outside.specs.Files.{ReadsFront};
 ghost use Rattle.cy_outside.specs.Outside.{Rose};
 ghost use Rattle.dsdl_types.specs.Definitions.{IsNamespace};
@@ -7,6 +7,7 @@ ghost use Rattle.dsdl_types.specs.declared.namespace.Namespace.{Namespace as Nam
 ghost use Rattle.node_plan.specs.IsPlan.{IsPlan};
 ghost use Rattle.node_plan.specs.declared.plan.PlanWhy.{PlanWhy as Why};
 ghost use Rattle.cyphal.specs.Job.{is_fault, is_settled};
+ghost use Rattle.cyphal.specs.MayEnd.{of_plan};
 ghost use Rattle.cyphal.specs.Plans.{EndsAt, EndsIn, without_plan, GivesPlan, PlanAt};
 
 use cy_bits::{Bytes, Text};
@@ -28,6 +29,7 @@ pub fn plan_at<T: Tree>(alloc: Global, root: &str, path: &str, tree: &mut T) -> 
     ensures kept { OnOk result (T.faults tree.new ≡ T.faults tree.old) }
     ensures answer { IfErr result (λ stat. is_fault stat ≡ false
         → EndsAt without_plan root.now path.now (T.files tree.old) stat) }
+    ensures among { IfErr result (λ stat. of_plan stat ≡ true) }
     ensures usage { IfErr result (λ stat. ¬ (stat ≡ Status.Usage)) }
     ensures read { IfErr result (λ stat. stat ≡ Status.ReadFault
         → Rose (T.faults tree.old) (T.faults tree.new)) }
@@ -55,6 +57,7 @@ fn plan_in<T: Tree>(
     ensures kept { OnOk result (T.faults tree.new ≡ T.faults tree.old) }
     ensures answer { IfErr result (λ stat. is_fault stat ≡ false
         → EndsIn without_plan names.now path.now (T.files tree.old) stat) }
+    ensures among { IfErr result (λ stat. of_plan stat ≡ true) }
     ensures usage { IfErr result (λ stat. ¬ (stat ≡ Status.Usage)) }
     ensures read { IfErr result (λ stat. stat ≡ Status.ReadFault
         → Rose (T.faults tree.old) (T.faults tree.new)) }
@@ -79,6 +82,7 @@ pub fn text_at<T: Tree>(alloc: Global, path: &str, tree: &mut T) -> Result<Bytes
     ensures kept { OnOk result (T.faults tree.new ≡ T.faults tree.old) }
     ensures answer { (names : Names) → IfErr result (λ stat. is_fault stat ≡ false
         → EndsIn without_plan names path.now (T.files tree.old) stat) }
+    ensures among { IfErr result (λ stat. of_plan stat ≡ true) }
     ensures usage { IfErr result (λ stat. ¬ (stat ≡ Status.Usage)) }
     ensures read { IfErr result (λ stat. stat ≡ Status.ReadFault
         → Rose (T.faults tree.old) (T.faults tree.new)) }
@@ -108,6 +112,7 @@ pub fn plan_refused(error: PlanError) -> Status
     ensures no_memory { error ≡ PlanError.NoMemory → result ≡ Status.NoMemory }
     ensures refused { (n : ℕ) (why : Why) → error ≡ PlanError.Refused n why
         → result ≡ Status.Plan n why }
+    ensures among { of_plan result ≡ true }
 {
     match error {
         PlanError::Refused { n, why } => Status::Plan { line: n, why },

@@ -1,10 +1,11 @@
 -- `bound ROOT PLAN`: the memory bound of a plan.
-use Rattle.std.specs.Prelude.{◌≡◌, ℕ, true, false, List, Option, is_some}
+use Rattle.std.specs.Prelude.{◌≡◌, ℕ, true, false, ◌||◌, List, Option, is_some}
 use Rattle.cy_outside.specs.Files.{Files}
 use Rattle.node_plan.specs.declared.plan.Plan.{Plan}
 use Rattle.node_run.specs.BoundText.{HasBound}
 use Rattle.node_run.specs.declared.status.Status.TheVariants as status
 use Rattle.cyphal.specs.Job.{Job, Printed, ReportsNothing, print_of}
+use Rattle.cyphal.specs.MayEnd.{of_plan, of_text}
 use Rattle.cyphal.specs.Plans.{PlanEnds, EndsAt, PlanAt}
 
 -- each plan has a memory bound
@@ -23,6 +24,7 @@ bound_job root path = record {
   calls_tree = true;
   takes_input = false;
   serves = false;
+  may_end = λ stat. of_plan stat || of_text stat;
   is_told = λ told. is_some told.files;
   expects = λ told stat. EndsAt bounded root path told.files stat;
   did = λ told came.

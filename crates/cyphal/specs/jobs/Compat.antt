@@ -7,6 +7,7 @@ use Rattle.node_run.specs.Loaded.{is_none, IsLoaded, IsNotLoaded}
 use Rattle.node_run.specs.declared.status.Status.{Status}
 use Rattle.node_run.specs.declared.status.Status.TheVariants as status
 use Rattle.cyphal.specs.Job.{Job, Printed, ReportsNothing, print_of, is_fault}
+use Rattle.cyphal.specs.MayEnd.{of_root, of_types}
 
 -- The root has a namespace, and this is how the comparison in it ends: well exactly where the one
 -- type is newer than the other.
@@ -35,6 +36,7 @@ compat_job root new old = record {
   calls_tree = true;
   takes_input = false;
   serves = false;
+  may_end = λ stat. of_root stat || of_types stat;
   is_told = λ told. is_none root || is_some told.files;
   expects = λ told stat. Compares root new old told.files stat;
   did = λ told came.

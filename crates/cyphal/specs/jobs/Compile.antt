@@ -7,6 +7,7 @@ use Rattle.node_run.specs.Loaded.{is_none, IsLoaded, IsNotLoaded}
 use Rattle.node_run.specs.declared.status.Status.{Status}
 use Rattle.node_run.specs.declared.status.Status.TheVariants as status
 use Rattle.cyphal.specs.Job.{Job, Printed, ReportsNothing, print_of}
+use Rattle.cyphal.specs.MayEnd.{of_root, of_text}
 
 -- what compiling the files of a root comes to: their namespace, or why there is none
 abbrev pub Compiles : List ℕ → Option Files → Status → Type 0
@@ -27,6 +28,7 @@ compile_job root = record {
   calls_tree = true;
   takes_input = false;
   serves = false;
+  may_end = λ stat. of_root stat || of_text stat;
   is_told = λ told. is_none root || is_some told.files;
   expects = λ told stat. Compiles root told.files stat;
   did = λ told came.

@@ -1,5 +1,5 @@
 -- `explain ROOT PLAN`: what became of each frame of the log of the input, by a plan.
-use Rattle.std.specs.Prelude.{ℕ, true, false, ◌&&◌, List, Option, is_some}
+use Rattle.std.specs.Prelude.{ℕ, true, false, ◌&&◌, ◌||◌, List, Option, is_some}
 use Rattle.cy_outside.specs.Files.{Files}
 use Rattle.log_explain.specs.Explained.{explain_voice}
 use Rattle.node_plan.specs.declared.plan.Plan.{Plan}
@@ -7,6 +7,7 @@ use Rattle.node_run.specs.Ran.{names_of}
 use Rattle.node_run.specs.ValueLines.{Flow}
 use Rattle.node_run.specs.declared.status.Status.{Status}
 use Rattle.cyphal.specs.Job.{Job, ReportsNothing, flow_of}
+use Rattle.cyphal.specs.MayEnd.{of_plan, of_log}
 use Rattle.cyphal.specs.Plans.{EndsAt, PlanAt}
 use Rattle.cyphal.specs.jobs.Reach.{HasListened}
 use Rattle.cyphal.specs.jobs.Run.{over}
@@ -24,6 +25,7 @@ explain_job root path = record {
   calls_tree = true;
   takes_input = true;
   serves = false;
+  may_end = λ stat. of_plan stat || of_log stat;
   is_told = λ told. is_some told.files && is_some told.input;
   expects = λ told stat. EndsAt (over told.input) root path told.files stat;
   did = λ told came.

@@ -3,6 +3,7 @@ use Rattle.std.specs.Prelude.{◌≡◌, ℕ, true, false}
 use Rattle.node_run.specs.Generated.{HasGenerated}
 use Rattle.node_run.specs.declared.status.Status.TheVariants as status
 use Rattle.cyphal.specs.Job.{Printed, Job, ReportsNothing, print_of}
+use Rattle.cyphal.specs.MayEnd.{of_text}
 
 -- the numbers of the run were written: those that the definitions give of the plan and the log of
 -- the number
@@ -14,6 +15,7 @@ gen_job number = record {
   calls_tree = false;
   takes_input = false;
   serves = false;
+  may_end = of_text;
   is_told = λ told. true;
   expects = λ told stat. stat ≡ status.Ok;
   did = λ told came. HasGeneratedAt number (print_of told came) × ReportsNothing came;

@@ -14,6 +14,7 @@ use Rattle.node_run.specs.Ran.{status_of}
 use Rattle.node_run.specs.ValueLines.{Flow}
 use Rattle.node_run.specs.declared.status.Status.{Status}
 use Rattle.cyphal.specs.Job.{Job, ReportsNothing, flow_of}
+use Rattle.cyphal.specs.MayEnd.{of_log}
 
 -- how a log ends that is brought into order, by how the loop over its lines ends
 abbrev pub log_end : LinesEnded Refusal → Ended
@@ -56,6 +57,7 @@ order_job window = record {
   calls_tree = false;
   takes_input = true;
   serves = false;
+  may_end = of_log;
   is_told = λ told. is_some told.input;
   expects = λ told stat. EndsAsLines window told.input stat;
   did = λ told came.

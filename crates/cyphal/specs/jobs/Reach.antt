@@ -13,6 +13,7 @@ use Rattle.node_run.specs.Ran.{status_of}
 use Rattle.node_run.specs.ValueLines.{Flow}
 use Rattle.node_run.specs.declared.status.Status.{Status}
 use Rattle.cyphal.specs.Job.{Job, ReportsNothing, flow_of}
+use Rattle.cyphal.specs.MayEnd.{of_log}
 use Rattle.cyphal.specs.LogEnds.{EndsAsLog}
 use Rattle.cyphal.specs.declared.jobs.reach.Hearing.{Hearing}
 use Rattle.cyphal.specs.declared.jobs.reach.Hearing.TheVariants as hearing
@@ -39,6 +40,7 @@ heard_job names said = record {
   calls_tree = false;
   takes_input = true;
   serves = false;
+  may_end = of_log;
   is_told = λ told. is_some told.input;
   expects = λ told stat. EndsAsLog names told.input stat;
   did = λ told came.

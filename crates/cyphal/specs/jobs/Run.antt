@@ -1,10 +1,11 @@
 -- `run ROOT PLAN`: a plan over the log of the input.
-use Rattle.std.specs.Prelude.{◌≡◌, ℕ, true, ◌&&◌, List, Option, is_some}
+use Rattle.std.specs.Prelude.{◌≡◌, ℕ, true, ◌&&◌, ◌||◌, List, Option, is_some}
 use Rattle.node_plan.specs.Bound.{bound_of}
 use Rattle.node_plan.specs.declared.plan.Plan.{Plan}
 use Rattle.node_run.specs.HasRun.{HasRun}
 use Rattle.node_run.specs.Ran.{names_of}
 use Rattle.cyphal.specs.Job.{Told, Outcome, Job, flow_of}
+use Rattle.cyphal.specs.MayEnd.{of_plan, of_log}
 use Rattle.cyphal.specs.LogEnds.{EndsAsLog}
 use Rattle.cyphal.specs.Plans.{PlanEnds, EndsAt, PlanAt}
 
@@ -25,6 +26,7 @@ run_job root path = record {
   calls_tree = true;
   takes_input = true;
   serves = true;
+  may_end = λ stat. of_plan stat || of_log stat;
   is_told = λ told. is_some told.files && is_some told.input;
   expects = λ told stat. EndsAt (over told.input) root path told.files stat;
   did = λ told came. HasRunAt root path told came;

@@ -9,6 +9,7 @@ use Rattle.node_run.specs.NamedTypes.{message_named}
 use Rattle.node_run.specs.ValueLines.{Answering, Flow, AreStreamed, Ends, HasAnsweredLines}
 use Rattle.node_run.specs.declared.status.Status.{Status}
 use Rattle.cyphal.specs.Job.{Told, Job, ReportsNothing, flow_of, is_fault}
+use Rattle.cyphal.specs.MayEnd.{of_root, of_values}
 
 -- the root has a namespace, whose types keep the rules, and answering the lines of the input in it
 -- comes to this status
@@ -40,6 +41,7 @@ values_job answers root name = record {
   calls_tree = true;
   takes_input = true;
   serves = false;
+  may_end = λ stat. of_root stat || of_values stat;
   is_told = λ told. (is_none root || is_some told.files) && is_some told.input;
   expects = λ told stat. AnswersLines answers root name told stat;
   did = λ told came.

@@ -1,7 +1,8 @@
 //! `bound ROOT PLAN`: the memory bound of a plan.
-ghost use Rattle.std.specs.Prelude.{◌≡◌, ◌⊎◌, false};
+ghost use Rattle.std.specs.Prelude.{◌≡◌, ◌⊎◌, ◌||◌, true, false};
 ghost use Rattle.cyphal.specs.Job.{is_fault, printed, WroteNothing};
 ghost use Rattle.cyphal.specs.Cause.{counts, HasCause};
+ghost use Rattle.cyphal.specs.MayEnd.{of_plan, of_text};
 ghost use Rattle.cyphal.specs.Plans.{EndsAt};
 ghost use Rattle.cyphal.specs.jobs.Bound.{bounded, HasBoundAt};
 
@@ -20,6 +21,7 @@ pub fn bound_plan<T: Tree, O: Sink>(
 ) -> Status
     ensures answer { is_fault result ≡ false
         → EndsAt bounded root.now path.now (T.files tree.old) result }
+    ensures among { (of_plan result || of_text result) ≡ true }
     ensures cause { let old = counts (T.faults tree.old) (O.faults out.old) in
         let new = counts (T.faults tree.new) (O.faults out.new) in
         HasCause result old new }

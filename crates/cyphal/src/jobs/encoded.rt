@@ -1,9 +1,10 @@
 //! `encode ROOT TYPE`: values of a type as bytes.
-ghost use Rattle.std.specs.Prelude.{◌≡◌, ◌⊎◌, false};
+ghost use Rattle.std.specs.Prelude.{◌≡◌, ◌⊎◌, ◌||◌, true, false};
 ghost use Rattle.value_lines.specs.Encoded.{Encodes};
 ghost use Rattle.node_run.specs.ValueLines.{flow};
 ghost use Rattle.cyphal.specs.Job.{is_fault, printed, told_by, TookNothing};
 ghost use Rattle.cyphal.specs.Cause.{outside, HasCauseOver};
+ghost use Rattle.cyphal.specs.MayEnd.{of_root, of_values};
 ghost use Rattle.cyphal.specs.jobs.Values.{values_job, HasAnsweredAt};
 
 use cy_outside::{Sink, Source, Tree};
@@ -22,6 +23,7 @@ pub fn encode_lines<T: Tree, L: Source, O: Sink>(
 ) -> Status
     ensures answer { let told = told_by (T.files tree.old) (L.left input.old) (O.written out.old) in
         is_fault result ≡ false → (values_job Encodes root.now name.now).expects told result }
+    ensures among { (of_root result || of_values result) ≡ true }
     ensures usage { ¬ (result ≡ Status.Usage) }
     ensures cause { let job = values_job Encodes root.now name.now in
         let old = outside (T.faults tree.old) (L.faults input.old) (O.faults out.old) input.old in

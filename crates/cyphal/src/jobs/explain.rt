@@ -1,8 +1,9 @@
 //! `explain ROOT PLAN`: what became of each frame of the log of the input, by a plan.
-ghost use Rattle.std.specs.Prelude.{◌≡◌, ◌⊎◌, false};
+ghost use Rattle.std.specs.Prelude.{◌≡◌, ◌⊎◌, ◌||◌, true, false};
 ghost use Rattle.node_run.specs.ValueLines.{flow};
 ghost use Rattle.cyphal.specs.Cause.{outside, HasCauseOver};
 ghost use Rattle.cyphal.specs.Job.{is_fault, printed, TookNothing};
+ghost use Rattle.cyphal.specs.MayEnd.{of_plan, of_log};
 ghost use Rattle.cyphal.specs.Plans.{EndsAt};
 ghost use Rattle.cyphal.specs.jobs.Explain.{explain_job, HasExplainedAt};
 ghost use Rattle.cyphal.specs.jobs.Run.{over};
@@ -25,6 +26,7 @@ pub fn explain_plan<T: Tree, L: Source, O: Sink>(
 ) -> Status
     ensures answer { is_fault result ≡ false
         → EndsAt (over (L.left input.old)) root.now path.now (T.files tree.old) result }
+    ensures among { (of_plan result || of_log result) ≡ true }
     ensures usage { ¬ (result ≡ Status.Usage) }
     ensures cause { let job = explain_job root.now path.now in
         let old = outside (T.faults tree.old) (L.faults input.old) (O.faults out.old) input.old in

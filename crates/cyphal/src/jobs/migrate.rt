@@ -1,9 +1,10 @@
 //! `migrate ROOT PLAN`: a plan's text in version 2.
-ghost use Rattle.std.specs.Prelude.{◌≡◌, ◌⊎◌, false, IfErr, IfOk, OnOk};
+ghost use Rattle.std.specs.Prelude.{◌≡◌, ◌⊎◌, ◌||◌, true, false, IfErr, IfOk, OnOk};
 ghost use Rattle.cy_outside.specs.Outside.{Rose};
 ghost use Rattle.dsdl_types.specs.Definitions.{IsNamespace};
 ghost use Rattle.cyphal.specs.Job.{is_fault, is_settled, printed, WroteNothing};
 ghost use Rattle.cyphal.specs.Cause.{counts, HasCause};
+ghost use Rattle.cyphal.specs.MayEnd.{of_plan, of_text};
 ghost use Rattle.cyphal.specs.Plans.{EndsAt, EndsIn, without_plan};
 ghost use Rattle.cyphal.specs.jobs.Bound.{bounded};
 ghost use Rattle.cyphal.specs.jobs.Migrate.{Becomes, BecomesAt, HasMigratedAt};
@@ -27,6 +28,7 @@ pub fn migrate_plan<T: Tree, O: Sink>(
 ) -> Status
     ensures answer { is_fault result ≡ false
         → EndsAt bounded root.now path.now (T.files tree.old) result }
+    ensures among { (of_plan result || of_text result) ≡ true }
     ensures cause { let old = counts (T.faults tree.old) (O.faults out.old) in
         let new = counts (T.faults tree.new) (O.faults out.new) in
         HasCause result old new }
@@ -56,6 +58,7 @@ fn migrated_at<T: Tree>(
     ensures kept { OnOk result (T.faults tree.new ≡ T.faults tree.old) }
     ensures answer { IfErr result (λ stat. is_fault stat ≡ false
         → EndsAt without_plan root.now path.now (T.files tree.old) stat) }
+    ensures among { IfErr result (λ stat. of_plan stat ≡ true) }
     ensures usage { IfErr result (λ stat. ¬ (stat ≡ Status.Usage)) }
     ensures read { IfErr result (λ stat. stat ≡ Status.ReadFault
         → Rose (T.faults tree.old) (T.faults tree.new)) }
@@ -81,6 +84,7 @@ fn migrated_in<T: Tree>(
     ensures kept { OnOk result (T.faults tree.new ≡ T.faults tree.old) }
     ensures answer { IfErr result (λ stat. is_fault stat ≡ false
         → EndsIn without_plan names.now path.now (T.files tree.old) stat) }
+    ensures among { IfErr result (λ stat. of_plan stat ≡ true) }
     ensures usage { IfErr result (λ stat. ¬ (stat ≡ Status.Usage)) }
     ensures read { IfErr result (λ stat. stat ≡ Status.ReadFault
         → Rose (T.faults tree.old) (T.faults tree.new)) }

@@ -1,30 +1,31 @@
 use Rattle.std.proofs.Common.{inr, refl}
 use Rattle.cyphal.proofs.CarriedOut.{for_given, printed_out, read_out}
+use Rattle.cyphal.proofs.statuses.Among.{compile_among, compat_among, gen_among, log_among}
 use Rattle.cyphal.proofs.jobs.carry_out.Goals as goal
 
 pub returns-in-Compile-clause-done : goal.returns-in-Compile-clause-done
 returns-in-Compile-clause-done g c =
     let done = c.compile_root.ensures in
     for_given _ _ _ _ _ _ c.in-Compile.is
-    (printed_out _ _ c.compile_root.result _ _ refl c.nothing.result c.nothing.ensures _ _ _ _ refl refl done.answer done.cause done.ran (λ d n. (d, n)))
+    (printed_out _ _ c.compile_root.result _ _ refl c.nothing.result c.nothing.ensures _ _ _ _ refl refl done.answer (compile_among _ _ c.compile_root.result done.answer) done.cause done.ran (λ d n. (d, n)))
 
 pub returns-in-Compat-clause-done : goal.returns-in-Compat-clause-done
 returns-in-Compat-clause-done g c =
     let done = c.compat_types.ensures in
     for_given _ _ _ _ _ _ c.in-Compat.is
-    (printed_out _ _ c.compat_types.result _ _ refl c.nothing-in-Compat.result c.nothing-in-Compat.ensures _ _ _ _ refl refl done.answer done.cause done.ran (λ d n. (d, n)))
+    (printed_out _ _ c.compat_types.result _ _ refl c.nothing-in-Compat.result c.nothing-in-Compat.ensures _ _ _ _ refl refl done.answer (compat_among _ _ _ _ c.compat_types.result done.answer) done.cause done.ran (λ d n. (d, n)))
 
 pub returns-in-Encode-clause-done : goal.returns-in-Encode-clause-done
 returns-in-Encode-clause-done g c =
     let done = c.encode_lines.ensures in
     for_given _ _ _ _ _ _ c.in-Encode.is
-    (read_out _ _ c.encode_lines.result _ _ refl c.nothing-in-Encode.result c.nothing-in-Encode.ensures g.L.Source.left _ _ _ _ refl done.answer done.cause done.ran (λ d n. (d, n)))
+    (read_out _ _ c.encode_lines.result _ _ refl c.nothing-in-Encode.result c.nothing-in-Encode.ensures g.L.Source.left _ _ _ _ refl done.answer done.among done.cause done.ran (λ d n. (d, n)))
 
 pub returns-in-Decode-clause-done : goal.returns-in-Decode-clause-done
 returns-in-Decode-clause-done g c =
     let done = c.decode_lines.ensures in
     for_given _ _ _ _ _ _ c.in-Decode.is
-    (read_out _ _ c.decode_lines.result _ _ refl c.nothing-in-Decode.result c.nothing-in-Decode.ensures g.L.Source.left _ _ _ _ refl done.answer done.cause done.ran (λ d n. (d, n)))
+    (read_out _ _ c.decode_lines.result _ _ refl c.nothing-in-Decode.result c.nothing-in-Decode.ensures g.L.Source.left _ _ _ _ refl done.answer done.among done.cause done.ran (λ d n. (d, n)))
 
 pub returns-in-Run-clause-done : goal.returns-in-Run-clause-done
 returns-in-Run-clause-done g c =
@@ -34,52 +35,52 @@ pub returns-in-Bound-clause-done : goal.returns-in-Bound-clause-done
 returns-in-Bound-clause-done g c =
     let done = c.bound_plan.ensures in
     for_given _ _ _ _ _ _ c.in-Bound.is
-    (printed_out _ _ c.bound_plan.result _ _ refl c.nothing-in-Bound.result c.nothing-in-Bound.ensures _ _ _ _ refl refl done.answer done.cause done.ran (λ d n. (d, n)))
+    (printed_out _ _ c.bound_plan.result _ _ refl c.nothing-in-Bound.result c.nothing-in-Bound.ensures _ _ _ _ refl refl done.answer done.among done.cause done.ran (λ d n. (d, n)))
 
 pub returns-in-Migrate-clause-done : goal.returns-in-Migrate-clause-done
 returns-in-Migrate-clause-done g c =
     let done = c.migrate_plan.ensures in
     for_given _ _ _ _ _ _ c.in-Migrate.is
-    (printed_out _ _ c.migrate_plan.result _ _ refl c.nothing-in-Migrate.result c.nothing-in-Migrate.ensures _ _ _ _ refl refl done.answer done.cause done.ran (λ d n. (d, n)))
+    (printed_out _ _ c.migrate_plan.result _ _ refl c.nothing-in-Migrate.result c.nothing-in-Migrate.ensures _ _ _ _ refl refl done.answer done.among done.cause done.ran (λ d n. (d, n)))
 
 pub returns-in-Gen-clause-done : goal.returns-in-Gen-clause-done
 returns-in-Gen-clause-done g c =
     let done = c.generated.ensures in
     for_given _ _ _ _ _ _ c.in-Gen.is
-    (printed_out _ _ c.generated.result _ _ refl c.nothing-in-Gen.result c.nothing-in-Gen.ensures _ _ _ _ refl refl done.answer (done.cause (g.T.Tree.faults c.args.tree.now)) (inr done.ran) (λ d n. (d, n)))
+    (printed_out _ _ c.generated.result _ _ refl c.nothing-in-Gen.result c.nothing-in-Gen.ensures _ _ _ _ refl refl done.answer (gen_among _ c.generated.result _ _ done.ran) (done.cause (g.T.Tree.faults c.args.tree.now)) (inr done.ran) (λ d n. (d, n)))
 
 pub returns-in-Monitor-clause-done : goal.returns-in-Monitor-clause-done
 returns-in-Monitor-clause-done g c =
     let done = c.hear_log.ensures in
     for_given _ _ _ _ _ _ c.in-Monitor.is
-    (read_out _ _ c.hear_log.result _ _ refl c.nothing-in-Monitor.result c.nothing-in-Monitor.ensures g.L.Source.left _ _ _ _ refl done.answer (done.cause (g.T.Tree.faults c.args.tree.now)) (inr done.ran) (λ d n. (d, n)))
+    (read_out _ _ c.hear_log.result _ _ refl c.nothing-in-Monitor.result c.nothing-in-Monitor.ensures g.L.Source.left _ _ _ _ refl done.answer (log_among done.ran.ended c.hear_log.result done.ran.is) (done.cause (g.T.Tree.faults c.args.tree.now)) (inr done.ran) (λ d n. (d, n)))
 
 pub returns-in-Allocate-clause-done : goal.returns-in-Allocate-clause-done
 returns-in-Allocate-clause-done g c =
     let done = c.hear_log-in-Allocate.ensures in
     for_given _ _ _ _ _ _ c.in-Allocate.is
-    (read_out _ _ c.hear_log-in-Allocate.result _ _ refl c.nothing-in-Allocate.result c.nothing-in-Allocate.ensures g.L.Source.left _ _ _ _ refl done.answer (done.cause (g.T.Tree.faults c.args.tree.now)) (inr done.ran) (λ d n. (d, n)))
+    (read_out _ _ c.hear_log-in-Allocate.result _ _ refl c.nothing-in-Allocate.result c.nothing-in-Allocate.ensures g.L.Source.left _ _ _ _ refl done.answer (log_among done.ran.ended c.hear_log-in-Allocate.result done.ran.is) (done.cause (g.T.Tree.faults c.args.tree.now)) (inr done.ran) (λ d n. (d, n)))
 
 pub returns-in-Fetch-clause-done : goal.returns-in-Fetch-clause-done
 returns-in-Fetch-clause-done g c =
     let done = c.fetch_file.ensures in
     for_given _ _ _ _ _ _ c.in-Fetch.is
-    (read_out _ _ c.fetch_file.result _ _ refl c.nothing-in-Fetch.result c.nothing-in-Fetch.ensures g.L.Source.left _ _ _ _ refl done.answer (done.cause (g.T.Tree.faults c.args.tree.now)) (inr done.ran) (λ d n. (d, n)))
+    (read_out _ _ c.fetch_file.result _ _ refl c.nothing-in-Fetch.result c.nothing-in-Fetch.ensures g.L.Source.left _ _ _ _ refl done.answer (log_among done.ran.listened.ended c.fetch_file.result done.ran.listened.is) (done.cause (g.T.Tree.faults c.args.tree.now)) (inr done.ran) (λ d n. (d, n)))
 
 pub returns-in-Order-clause-done : goal.returns-in-Order-clause-done
 returns-in-Order-clause-done g c =
     let done = c.order_lines.ensures in
     for_given _ _ _ _ _ _ c.in-Order.is
-    (read_out _ _ c.order_lines.result _ _ refl c.nothing-in-Order.result c.nothing-in-Order.ensures g.L.Source.left _ _ _ _ refl done.answer (done.cause (g.T.Tree.faults c.args.tree.now)) (inr done.ran) (λ d n. (d, n)))
+    (read_out _ _ c.order_lines.result _ _ refl c.nothing-in-Order.result c.nothing-in-Order.ensures g.L.Source.left _ _ _ _ refl done.answer (log_among done.ran.ended c.order_lines.result done.ran.is) (done.cause (g.T.Tree.faults c.args.tree.now)) (inr done.ran) (λ d n. (d, n)))
 
 pub returns-in-Survey-clause-done : goal.returns-in-Survey-clause-done
 returns-in-Survey-clause-done g c =
     let done = c.survey_buses.ensures in
     for_given _ _ _ _ _ _ c.in-Survey.is
-    (read_out _ _ c.survey_buses.result _ _ refl c.nothing-in-Survey.result c.nothing-in-Survey.ensures g.L.Source.left _ _ _ _ refl done.answer (done.cause (g.T.Tree.faults c.args.tree.now)) (inr done.ran) (λ d n. (d, n)))
+    (read_out _ _ c.survey_buses.result _ _ refl c.nothing-in-Survey.result c.nothing-in-Survey.ensures g.L.Source.left _ _ _ _ refl done.answer (log_among done.ran.ended c.survey_buses.result done.ran.is) (done.cause (g.T.Tree.faults c.args.tree.now)) (inr done.ran) (λ d n. (d, n)))
 
 pub returns-in-Explain-clause-done : goal.returns-in-Explain-clause-done
 returns-in-Explain-clause-done g c =
     let done = c.explain_plan.ensures in
     for_given _ _ _ _ _ _ c.in-Explain.is
-    (read_out _ _ c.explain_plan.result _ _ refl c.nothing-in-Explain.result c.nothing-in-Explain.ensures g.L.Source.left _ _ _ _ refl done.answer done.cause done.ran (λ d n. (d, n)))
+    (read_out _ _ c.explain_plan.result _ _ refl c.nothing-in-Explain.result c.nothing-in-Explain.ensures g.L.Source.left _ _ _ _ refl done.answer done.among done.cause done.ran (λ d n. (d, n)))

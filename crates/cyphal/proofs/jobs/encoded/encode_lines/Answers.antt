@@ -2,6 +2,8 @@ use Rattle.std.proofs.Common.{inr}
 use Rattle.value_lines.specs.Encoded.{Encodes}
 use Rattle.node_run.specs.NamedTypes.{message_named}
 use Rattle.node_run.specs.ValueLines.{flow}
+use Rattle.cyphal.specs.MayEnd.{of_root, of_values}
+use Rattle.cyphal.proofs.statuses.Among.{of_first, of_second, root_among, values_among}
 use Rattle.cyphal.proofs.statuses.Values.{answered_ends, no_usage, refused_none}
 use Rattle.cyphal.proofs.jobs.encoded.encode_lines.Goals as goal
 
@@ -11,6 +13,16 @@ returns-clause-answer g c h =
     let name = c.args.name.now in
     let told = flow (g.L.Source.left c.args.input.now) (g.L.Source.left c.encode.new.input) (g.O.Sink.written c.args.out.now) (g.O.Sink.written c.encode.new.out) in
     (h, inr (record { names = names; is = c.in-Ok.ensures.loaded; rules = c.in-Ok.ensures.sound; ends = answered_ends Encodes (message_named names name) name told c.encode.result h c.encode.ensures.did }))
+
+pub returns-in-Err-clause-among : goal.returns-in-Err-clause-among
+returns-in-Err-clause-among g c =
+    let stat = c.in-Err.status in
+    of_first (of_root stat) (of_values stat) (root_among c.args.root.now (g.T.Tree.files c.args.tree.now) stat c.in-Err.ensures.refused)
+
+pub returns-clause-among : goal.returns-clause-among
+returns-clause-among g c =
+    let stat = c.encode.result in
+    of_second (of_root stat) (of_values stat) (values_among Encodes _ c.args.name.now stat _ c.encode.ensures.did)
 
 pub returns-clause-usage : goal.returns-clause-usage
 returns-clause-usage g c = no_usage Encodes _ c.args.name.now _ c.encode.result c.encode.ensures.did

@@ -1,8 +1,10 @@
 use Rattle.std.proofs.Common.{inr}
 use Rattle.log_explain.specs.Explained.{explain_voice}
 use Rattle.node_run.specs.Ran.{names_of}
+use Rattle.cyphal.specs.MayEnd.{of_log, of_plan}
 use Rattle.cyphal.specs.jobs.Run.{over}
 use Rattle.cyphal.proofs.Plans.{refused_at, good_at}
+use Rattle.cyphal.proofs.statuses.Among.{log_among, of_first, of_second}
 use Rattle.cyphal.proofs.statuses.Reach.{ends_as_log, no_usage, cause_of}
 use Rattle.cyphal.proofs.jobs.explain.explain_plan.Goals as goal
 
@@ -15,6 +17,14 @@ returns-clause-answer g c h =
     let plan = c.in-Ok.plan in
     good_at (over (g.L.Source.left c.args.input.now)) c.args.root.now c.args.path.now (g.T.Tree.files c.args.tree.now) c.status_of.result plan c.in-Ok.ensures.plan
     (ends_as_log (names_of plan) (explain_voice plan) _ _ c.explain_log.result _ _ c.status_of.result c.status_of.ensures h c.explain_log.ensures.listened) h
+
+pub returns-in-Err-clause-among : goal.returns-in-Err-clause-among
+returns-in-Err-clause-among g c = of_first (of_plan c.in-Err.status) (of_log c.in-Err.status) c.in-Err.ensures.among
+
+pub returns-clause-among : goal.returns-clause-among
+returns-clause-among g c =
+    let stat = c.status_of.result in
+    of_second (of_plan stat) (of_log stat) (log_among c.explain_log.result stat c.status_of.ensures)
 
 pub returns-clause-usage : goal.returns-clause-usage
 returns-clause-usage g c = no_usage c.explain_log.result c.status_of.result c.status_of.ensures

@@ -5,9 +5,11 @@ use Rattle.node_run.specs.HasRun.{HasRun}
 use Rattle.node_run.specs.ValueLines.{flow}
 use Rattle.node_run.specs.Ran.{reported}
 use Rattle.cyphal.specs.Job.{is_settled}
+use Rattle.cyphal.specs.MayEnd.{of_log, of_plan}
 use Rattle.cyphal.specs.jobs.Run.{over, run_job}
 use Rattle.cyphal.proofs.CarriedOut.{read_out}
 use Rattle.cyphal.proofs.Plans.{refused_at, good_at}
+use Rattle.cyphal.proofs.statuses.Among.{of_first, of_second, run_among}
 use Rattle.cyphal.proofs.statuses.Run.{plan_answer, run_not_refused}
 use Rattle.cyphal.proofs.jobs.run.run_plan.Goals as goal
 
@@ -19,6 +21,7 @@ returns-in-Err-clause-done g c =
     let err = c.in-Err.ensures in
     read_out (run_job root path) _ stat _ _ refl c.nothing.result c.nothing.ensures g.L.Source.left _ _ _ ⊥ refl
     (λ h. refused_at (over (g.L.Source.left c.args.input.now)) root path (g.T.Tree.files c.args.tree.now) stat (err.answer h))
+    (of_first (of_plan stat) (of_log stat) err.among)
     (record {
       read = λ e. inl (err.read e, refl);
       unread = λ e. absurd cc;
@@ -45,6 +48,7 @@ returns-clause-done g c =
     (subst (λ (n : ℕ). HasRun plan (g.T.Tree.files c.plan_at.new.tree) told run.result put (failed n)) c.in-Ok.ensures.kept done.ran) in
     record {
       answer = λ h. good_at (over (g.L.Source.left c.args.input.now)) root path files run.result plan c.in-Ok.ensures.plan (plan_answer plan _ _ run.result _ _ ran h) h;
+      among = of_second (of_plan run.result) (of_log run.result) (run_among plan _ _ run.result _ _ ran);
       cause = record {
         read = λ e. inr (done.read e);
         unread = λ e. absurd cc;
