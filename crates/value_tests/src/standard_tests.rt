@@ -1,19 +1,7 @@
-ghost use Rattle.dsdl_types.specs.Laws.{KeepsReadings};
-ghost use Rattle.dsdl_types.specs.Views.{sch};
-
 use dsdl_types::Shape;
-use dsdl_types::laws::shape_laws;
 use std_types::laws::through_value;
 use std_types::node::{Health, Heartbeat, Mode};
-use std_types::{StdName, StdType, std_type};
-
-/// The extent of a standard type in bytes. A payload of it and the same cut to that are read alike.
-fn extent_of(standard: &StdType) -> usize
-    ensures { KeepsReadings (sch standard.now.schema) }
-{
-    shape_laws(standard);
-    standard.extent_bytes()
-}
+use std_types::{StdName, std_type};
 
 #[test]
 fn extents(rt: HostRuntime) {
@@ -33,7 +21,7 @@ fn extents(rt: HostRuntime) {
         (StdName::ReadReply, 300),
     ] {
         let standard = std_type(rt.alloc(), name).expect(&rt, "memory");
-        assert!(rt; extent_of(&standard) == bytes, "at {bytes}");
+        assert!(rt; standard.extent_bytes() == bytes, "at {bytes}");
     }
 }
 

@@ -1,10 +1,6 @@
 //! Values that are written.
-ghost use Rattle.dsdl_types.specs.Laws.{KeepsReadings};
-ghost use Rattle.dsdl_types.specs.Views.{sch};
-
 use crate::samples::{CHOICE, NUMBERS, SHORT, SIMPLES, layouts};
 use cy_bits::{Boxed, List, NoMemory};
-use dsdl_types::laws::shape_laws;
 use dsdl_types::{Shape, Value};
 use layout::Layout;
 use serdes::laws::through_bytes;
@@ -100,21 +96,4 @@ fn read_again(rt: HostRuntime) {
     let value = two(rt.alloc(), 300, 300).expect(&rt, "memory");
     let found = again(rt.alloc(), layout, &value).expect(&rt, "memory");
     assert!(rt; matches!(found, Some(Value::Struct(_))));
-}
-
-/// The extent of a layout in bytes. A payload of its type and the same cut to that are read alike.
-fn extent_of(layout: &Layout) -> usize
-    ensures { KeepsReadings (sch layout.now.schema) }
-{
-    shape_laws(layout);
-    layout.extent_bytes()
-}
-
-#[test]
-fn extents_of_layouts(rt: HostRuntime) {
-    let layouts = layouts(rt.alloc()).expect(&rt, "memory");
-    for (place, bytes) in [(CHOICE, 6), (SHORT, 3), (NUMBERS, 2), (SIMPLES, 19)] {
-        let layout = layouts.get(place).expect(&rt, "a layout");
-        assert!(rt; extent_of(layout) == bytes, "at {bytes}");
-    }
 }
