@@ -48,7 +48,7 @@ pub fn explain_plan<T: Tree, L: Source, O: Sink>(
 
 #[cfg(test)]
 mod tests {
-    use crate::calls::{Call, RUN, USAGE, come_to};
+    use crate::calls::{Call, RUN, come_to};
     use std::test::Fail;
 
     const EXPLAINED: [Call; 4] = [
@@ -88,15 +88,5 @@ mod tests {
     #[test]
     fn each_frame_has_its_reason(rt: HostRuntime) -> Result<(), Fail> {
         come_to(&rt, rt.alloc(), &EXPLAINED)
-    }
-
-    const REFUSED: [Call; 1] = [Call {
-        words: &["explain", "plan"],
-        ..USAGE
-    }];
-
-    #[test]
-    fn other_words_are_refused(rt: HostRuntime) -> Result<(), Fail> {
-        come_to(&rt, rt.alloc(), &REFUSED)
     }
 }

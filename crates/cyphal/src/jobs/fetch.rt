@@ -40,7 +40,7 @@ pub fn fetch_file<L: Source, O: Sink>(
 
 #[cfg(test)]
 mod tests {
-    use crate::calls::{CALL, Call, USAGE, come_to};
+    use crate::calls::{CALL, Call, come_to};
     use std::test::Fail;
 
     /// A command that is given no file; each call of the tree would fail.
@@ -69,29 +69,5 @@ mod tests {
     #[test]
     fn a_file_is_fetched(rt: HostRuntime) -> Result<(), Fail> {
         come_to(&rt, rt.alloc(), &FETCHED)
-    }
-
-    const REFUSED: [Call; 4] = [
-        Call {
-            words: &["fetch", "42", "42", "a"],
-            ..USAGE
-        },
-        Call {
-            words: &["fetch", "1", "128", "a"],
-            ..USAGE
-        },
-        Call {
-            words: &["fetch", "1", "2", "-a"],
-            ..USAGE
-        },
-        Call {
-            words: &["fetch", "1", "2"],
-            ..USAGE
-        },
-    ];
-
-    #[test]
-    fn other_words_are_refused(rt: HostRuntime) -> Result<(), Fail> {
-        come_to(&rt, rt.alloc(), &REFUSED)
     }
 }

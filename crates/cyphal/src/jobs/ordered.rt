@@ -60,7 +60,7 @@ fn ordered<L: Source, O: Sink>(alloc: Global, window: u32, input: &mut L, out: &
 
 #[cfg(test)]
 mod tests {
-    use crate::calls::{CALL, Call, USAGE, come_to};
+    use crate::calls::{CALL, Call, come_to};
     use std::test::Fail;
 
     /// A command that is given no file; each call of the tree would fail.
@@ -109,25 +109,5 @@ mod tests {
     #[test]
     fn a_log_is_brought_into_order(rt: HostRuntime) -> Result<(), Fail> {
         come_to(&rt, rt.alloc(), &ORDERED)
-    }
-
-    const REFUSED: [Call; 3] = [
-        Call {
-            words: &["order", "60000001"],
-            ..USAGE
-        },
-        Call {
-            words: &["order", "01"],
-            ..USAGE
-        },
-        Call {
-            words: &["order"],
-            ..USAGE
-        },
-    ];
-
-    #[test]
-    fn other_windows_are_refused(rt: HostRuntime) -> Result<(), Fail> {
-        come_to(&rt, rt.alloc(), &REFUSED)
     }
 }

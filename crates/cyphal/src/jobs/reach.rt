@@ -72,7 +72,7 @@ fn heard<L: Source, O: Sink>(
 
 #[cfg(test)]
 mod tests {
-    use crate::calls::{CALL, Call, USAGE, come_to};
+    use crate::calls::{CALL, Call, come_to};
     use std::test::Fail;
 
     const HEARTBEAT: &[u8] = b"(0.000000) can0 107D552A#01000000000000E0\n";
@@ -121,33 +121,5 @@ mod tests {
     #[test]
     fn a_log_is_heard_without_a_plan(rt: HostRuntime) -> Result<(), Fail> {
         come_to(&rt, rt.alloc(), &HEARD)
-    }
-
-    const REFUSED: [Call; 5] = [
-        Call {
-            words: &["monitor", "128"],
-            ..USAGE
-        },
-        Call {
-            words: &["monitor", "01"],
-            ..USAGE
-        },
-        Call {
-            words: &["monitor", "+1"],
-            ..USAGE
-        },
-        Call {
-            words: &["allocate", "-1"],
-            ..USAGE
-        },
-        Call {
-            words: &["allocate", "1", "2"],
-            ..USAGE
-        },
-    ];
-
-    #[test]
-    fn other_words_are_refused(rt: HostRuntime) -> Result<(), Fail> {
-        come_to(&rt, rt.alloc(), &REFUSED)
     }
 }
