@@ -3,7 +3,7 @@
 # make run [PLAN=FILE] [LOG=FILE] [ROOT=FOLDER]: the same of `cyphal run ROOT PLAN`. Without PLAN and LOG it takes those of
 #   examples/first, without ROOT no types.
 # make build: proves the program and leaves it, optimised, as build/cyphal, and build/cyphal-draw beside it. From nothing that
-#   proves every crate below it: 49 minutes on four processors with 24 GB of memory.
+#   proves every crate below it: about an hour on four processors with 24 GB of memory.
 # make install [PREFIX=FOLDER] [DESTDIR=FOLDER]: copies build/cyphal, cyphal-draw, man page, completions, guide and examples.
 # make uninstall [PREFIX=FOLDER] [DESTDIR=FOLDER]: removes what make install copies.
 # make deb: makes a package of Debian of the same, build/cyphal_VERSION_ARCHITECTURE.deb.
