@@ -1,11 +1,13 @@
 -- A front of a file that was read so far.
-use Rattle.std.proofs.Common.{◌≡◌, ◌∙◌, ◌⊎◌, inl, inr, ℕ, ◌+◌, ◌-◌, ◌<◌, ◌≤◌, Bool, true, false, T, List, [], ◌++◌, Option, Some, None, refl, sym, ap, subst, take, drop, length, arith}
+use Rattle.std.proofs.Common.{◌≡◌, ◌∙◌, ◌⊎◌, inl, inr, ℕ, ◌+◌, ◌*◌, ◌/◌, ◌-◌, ◌<◌, ◌≤◌, Bool, true, false, T, List, [], ◌++◌, Option, Some, None, refl, sym, ap, subst, take, drop, length, arith}
 use Rattle.std.proofs.lemmas.Grind.{common_steps}
+use Rattle.std.proofs.Math.Nat.{lt-div-mul-add}
 use Rattle.std.proofs.Math.Seq.{take-add}
 use Rattle.std.specs.Prelude.{⊤, min, unwrap_or, option_map}
 use Rattle.cy_outside.specs.declared.tree.Got.{Got}
 use Rattle.cy_outside.specs.declared.tree.Got.TheVariants.{Bytes, Absent, Folder}
-use Rattle.cy_outside.specs.Files.{Files, bytes_at, got_of, Reads, ReadsFront}
+use Rattle.cy_outside.specs.Files.{Files, bytes_at, got_of, Reads, ReadsFront, front_length, reads_of}
+use Rattle.cy_outside.specs.Calls.{one_more}
 
 -- these are the first bytes of a file, where the files are told
 abbrev pub IsFront : Option Files → List ℕ → List ℕ → Type 0
@@ -77,3 +79,18 @@ pub reads_at : (told told' : Option Files) (path : List ℕ) (offset offset' : �
     → Reads told path offset buf got → Reads told' path offset' buf got'
 reads_at told told' path offset offset' buf got got' e f h r =
     subst (λ t. Reads t path offset' buf got') e (subst (λ k. Reads told path k buf got') f (subst (λ x. Reads told path offset buf x) h r))
+
+-- the front that was read has at most as many bytes as the file
+front_within : (told : Option Files) (path front : List ℕ) (most : ℕ) → length front ≤ most → IsFront told path front → length front ≤ front_length told path most
+front_within None path front most l f = l
+front_within (Some files) path front most l f =
+    let k : length front ≡ length (take (length front) (bytes_at files path)) = ap length f in
+    grind (arith, common_steps)
+
+-- one more read, where each read before it gave a whole piece
+pub one_read_more : (told : Option Files) (path front : List ℕ) (most old calls new : ℕ) → length front ≤ most → IsFront told path front
+    → 8192 * calls ≤ 8192 * old + length front → new ≡ one_more calls → new ≤ old + reads_of (front_length told path most)
+one_read_more told path front most old calls new l f c e =
+    let w : length front ≤ front_length told path most = front_within told path front most l f in
+    let d : front_length told path most < front_length told path most / 8192 * 8192 + 8192 = lt-div-mul-add (omega arith) in
+    omega (arith, w, d, e)

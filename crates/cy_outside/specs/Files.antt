@@ -1,5 +1,5 @@
 -- Files under paths: which paths are folders, and what a tree answers at a path.
-use Rattle.std.specs.Prelude.{◌≡◌, ◌≢◌, ◌==◌, ◌∷◌, ◌-◌, ℕ, Bool, true, false, cond, List, [], Option, Some, None, length, take, drop, min, is_some, option_map, unwrap_or, ⊤}
+use Rattle.std.specs.Prelude.{◌≡◌, ◌≢◌, ◌==◌, ◌∷◌, ◌-◌, ◌+◌, ◌/◌, ℕ, Bool, true, false, cond, List, [], Option, Some, None, length, take, drop, min, is_some, option_map, unwrap_or, ⊤}
 use Rattle.std.specs.List.{list_any, before_first, All, AllPairs, Contains}
 use Rattle.std.specs.Ordering.{nat_cmp}
 use Rattle.std.specs.Cmp.Lexicographic.{slice_cmp}
@@ -101,3 +101,12 @@ Sizes (Some files) path size = size ≡ size_at files path
 abbrev pub ReadsFront : Option Files → List ℕ → ℕ → Option (List ℕ) → Type 0
 ReadsFront None path most file = ⊤
 ReadsFront (Some files) path most file = file ≡ option_map (take most) (map.get files path)
+
+-- how many bytes a file's first bytes are: at most as many as it has, where the files are told
+abbrev pub front_length : Option Files → List ℕ → ℕ → ℕ
+front_length None path most = most
+front_length (Some files) path most = min most (length (bytes_at files path))
+
+-- how many reads this many bytes of a file take, in pieces of 8,192, with the one that ends them
+abbrev pub reads_of : ℕ → ℕ
+reads_of bytes = bytes / 8192 + 1

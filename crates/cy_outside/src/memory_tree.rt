@@ -107,6 +107,8 @@ impl<'a> Tree for MemTree<'a> {
 
     ghost faults = { λ t. t.calls.faults };
 
+    ghost calls = { λ t. t.calls.next };
+
     fn list(&mut self, alloc: Global, path: &str) -> Result<Listing, TreeError> {
         self.counted_list(alloc, path)
     }

@@ -1,6 +1,6 @@
-ghost use Rattle.std.specs.Prelude.{◌≡◌, ◌≤◌, length, IfOk, IfSome};
+ghost use Rattle.std.specs.Prelude.{◌≡◌, ◌≤◌, ◌+◌, length, IfOk, IfSome};
 ghost use Rattle.cy_outside.specs.Causes.{HasTreeCause};
-ghost use Rattle.cy_outside.specs.Files.{ReadsFront};
+ghost use Rattle.cy_outside.specs.Files.{ReadsFront, front_length, reads_of};
 
 use crate::{Got, PIECE, Tree, TreeError};
 use cy_bits::Bytes;
@@ -8,7 +8,8 @@ use std::alloc::Global;
 
 /// The first `most` bytes of a file, or all that it has; `None` where there is no file.
 ///
-/// `Failed` comes only where a read of the tree failed.
+/// `Failed` comes only where a read of the tree failed. The tree is called once for each whole piece
+/// of 8,192 bytes that it gives, and at most once more.
 pub fn read_file<T: Tree>(
     alloc: Global,
     tree: &mut T,
@@ -20,6 +21,8 @@ pub fn read_file<T: Tree>(
     ensures most { IfOk result (λ file. IfSome file (λ bytes. length bytes ≤ most)) }
     ensures cause { HasTreeCause (T.faults tree.old) (T.faults tree.new) result }
     ensures count { T.faults tree.old ≤ T.faults tree.new }
+    ensures calls { T.calls tree.new
+        ≤ T.calls tree.old + reads_of (front_length (T.files tree.old) path.now most) }
 {
     let mut piece = [0u8; PIECE];
     let mut bytes = Vec::new(alloc);

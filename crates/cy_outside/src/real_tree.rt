@@ -28,6 +28,8 @@ pub struct RealTree<'a, R: Files> {
     pub rt: &'a R,
     /// How many calls failed, up to 2^64 - 1.
     pub faults: u64,
+    /// How many calls there were, up to 2^64 - 1.
+    pub calls: u64,
     /// The file that was read last.
     opened: Option<Opened<R::File>>,
 }
@@ -37,10 +39,12 @@ impl<'a, R: Files> RealTree<'a, R> {
     pub fn new(rt: &'a R) -> RealTree<'a, R>
         ensures rt { result.rt.now ≡ rt.now }
         ensures faults { result.faults ≡ 0 }
+        ensures calls { result.calls ≡ 0 }
     {
         RealTree {
             rt,
             faults: 0,
+            calls: 0,
             opened: None,
         }
     }
@@ -50,9 +54,18 @@ impl<'a, R: Files> RealTree<'a, R> {
         ensures error { result ≡ TreeError.Failed }
         ensures faults { self.new.faults ≡ one_more self.old.faults }
         ensures grows { self.old.faults ≤ self.new.faults }
+        ensures calls { self.new.calls ≡ self.old.calls }
     {
         self.faults = self.faults.saturating_add(1);
         TreeError::Failed
+    }
+
+    /// Counts a call.
+    fn count(&mut self)
+        ensures calls { self.new.calls ≡ one_more self.old.calls }
+        ensures faults { self.new.faults ≡ self.old.faults }
+    {
+        self.calls = self.calls.saturating_add(1);
     }
 
     /// Whether a read goes on where the last one ended.
@@ -69,7 +82,10 @@ impl<'a, R: Files + Alloc + Clone + Drop> Tree for RealTree<'a, R> {
 
     ghost faults = { λ t. t.faults };
 
+    ghost calls = { λ t. t.calls };
+
     fn list(&mut self, alloc: Global, path: &str) -> Result<Listing, TreeError> {
+        self.count();
         match members(self.rt, alloc, path) {
             Ok(listing) => Ok(listing),
             Err(error) if is_absence(&error) => Ok(Listing::Absent),
@@ -79,6 +95,7 @@ impl<'a, R: Files + Alloc + Clone + Drop> Tree for RealTree<'a, R> {
     }
 
     fn read_at(&mut self, path: &str, offset: u64, buf: &mut [u8]) -> Result<Got, TreeError> {
+        self.count();
         if !self.goes_on(path, offset) {
             self.opened = None;
             match standing(self.rt, path) {
@@ -103,6 +120,7 @@ impl<'a, R: Files + Alloc + Clone + Drop> Tree for RealTree<'a, R> {
     }
 
     fn size(&mut self, path: &str) -> Result<Size, TreeError> {
+        self.count();
         match standing(self.rt, path) {
             Ok(size) => Ok(size),
             Err(_) => Err(self.fail()),

@@ -1,5 +1,6 @@
 ghost use Rattle.std.specs.Prelude.{◌≡◌, ◌≤◌, ℕ, Option, length, drop, IfOk, IfErr};
 ghost use Rattle.cy_outside.specs.Files.{Files, Lists, Reads, Sizes};
+ghost use Rattle.cy_outside.specs.Calls.{one_more};
 ghost use Rattle.cy_outside.specs.Causes.{HasTreeCause, IsWithin, IsLeft};
 
 use cy_bits::{List, Text};
@@ -60,7 +61,7 @@ pub enum Size {
 /// begins with it and `/`. That nothing stands at a path is an answer, and no fault.
 ///
 /// No call changes the files. `TreeError::Failed` comes only where the call raised the count of
-/// faults; every other answer leaves the count as it was.
+/// faults; every other answer leaves the count as it was. Each call raises the count of calls by one.
 pub trait Tree {
     /// The files, where it tells them.
     ghost files: { Self → Option Files };
@@ -68,12 +69,17 @@ pub trait Tree {
     /// How often it has failed. The count stays at 2^64 - 1 once it is there.
     ghost faults: { Self → ℕ };
 
+    /// How many calls it has had. The count stays at 2^64 - 1 once it is there, and a tree that doesn't
+    /// count stands there from the start.
+    ghost calls: { Self → ℕ };
+
     /// The direct members of a folder.
     fn list(&mut self, alloc: Global, path: &str) -> Result<Listing, TreeError>
         ensures files { files self.new ≡ files self.old }
         ensures lists { IfOk result (λ listing. Lists (files self.old) path.now listing) }
         ensures cause { HasTreeCause (faults self.old) (faults self.new) result }
-        ensures count { faults self.old ≤ faults self.new };
+        ensures count { faults self.old ≤ faults self.new }
+        ensures calls { calls self.new ≡ one_more (calls self.old) };
 
     /// Puts as many bytes of a file, from an offset on, at the buffer's front as the file has and the
     /// buffer takes. The rest of the buffer stays. Takes no memory: it fails only as `Failed`.
@@ -84,7 +90,8 @@ pub trait Tree {
         ensures behind { IfOk result (λ got. IsLeft got buf.old buf.new) }
         ensures memory { IfErr result (λ error. error ≡ TreeError.Failed) }
         ensures cause { HasTreeCause (faults self.old) (faults self.new) result }
-        ensures count { faults self.old ≤ faults self.new };
+        ensures count { faults self.old ≤ faults self.new }
+        ensures calls { calls self.new ≡ one_more (calls self.old) };
 
     /// What stands at a path. Takes no memory: it fails only as `Failed`.
     fn size(&mut self, path: &str) -> Result<Size, TreeError>
@@ -92,5 +99,6 @@ pub trait Tree {
         ensures sizes { IfOk result (λ size. Sizes (files self.old) path.now size) }
         ensures memory { IfErr result (λ error. error ≡ TreeError.Failed) }
         ensures cause { HasTreeCause (faults self.old) (faults self.new) result }
-        ensures count { faults self.old ≤ faults self.new };
+        ensures count { faults self.old ≤ faults self.new }
+        ensures calls { calls self.new ≡ one_more (calls self.old) };
 }

@@ -9,4 +9,5 @@ pub mod Heads
 pub mod MemberFacts
 pub mod Standing
 pub mod Told
+pub mod FilesRead
 pub mod Named

@@ -1,5 +1,6 @@
 -- What stands while folders are listed: which are still to be listed, and which files were found.
 use Rattle.std.proofs.Common.{◌≡◌, ◌∙◌, ◌⊎◌, inl, inr, ℕ, ◌+◌, ◌-◌, ◌<◌, ◌≤◌, Bool, true, false, cond, ◌||◌, ◌&&◌, not, List, [], ◌∷◌, ◌++◌, Some, None, refl, sym, ap, subst, map, length, arith}
+use Rattle.std.proofs.lemmas.Grind.{common_steps}
 use Rattle.std.proofs.lemmas.Bool.{lt-ltb, le-ltb}
 use Rattle.std.proofs.lemmas.List.Elements.{All-contains}
 use Rattle.std.proofs.lemmas.List.Kept.{IsStrictlySortedBy-filter}
@@ -320,3 +321,27 @@ all_found files root most room found s sorted =
     same_ascending found (dsdl_paths files root) sorted
     (IsStrictlySortedBy-filter by_bytes (λ path. is_below root path && is_dsdl path) (keys files) (files_ascend files))
     s.sound (λ p i. elim (s.complete p i) [ inl t ↦ t | inr c ↦ absurd c.pends ])
+
+-- ---- how many folders will still be listed
+
+pub ahead_start : (files : Files) (root : List ℕ) → ahead files (root ∷ []) ≡ folders files root
+ahead_start files root = filter_same (is_ahead (root ∷ [])) (is_at_or_below root) (all_folders files) (λ p i. or_false (is_at_or_below root p))
+
+pub ahead_next : (files : Files) (h : List ℕ) (pending new : List (List ℕ)) (members : List Entry) → In h (all_folders files)
+    → ((o : List ℕ) → In o pending → Before h o) → ListsMembers files h members → Adds (is_subfolder h) members pending new
+    → ahead files (h ∷ pending) ≡ h ∷ ahead files new
+ahead_next files h pending new members i least lists adds =
+    next files h pending (is_ahead new) i (splits_new files h pending new members least lists adds)
+
+pub one_more_of : (h : List ℕ) (rest : List (List ℕ)) → length (h ∷ rest) ≡ length rest + 1
+one_more_of h rest = grind (arith, common_steps)
+
+some_more : (h : List ℕ) (rest : List (List ℕ)) → 1 ≤ length (h ∷ rest)
+some_more h rest = omega (arith, one_more_of h rest)
+
+pub ahead_some : (files : Files) (h : List ℕ) (pending : List (List ℕ)) → In h (all_folders files) → ((o : List ℕ) → In o pending → Before h o)
+    → 1 ≤ length (ahead files (h ∷ pending))
+ahead_some files h pending i least =
+    let e : length (ahead files (h ∷ pending)) ≡ length (h ∷ filter (others h pending) (all_folders files)) =
+    ap length (next files h pending (others h pending) i (splits_others files h pending least)) in
+    subst (λ n. 1 ≤ n) (sym e) (some_more h (filter (others h pending) (all_folders files)))

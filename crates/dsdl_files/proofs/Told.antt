@@ -1,16 +1,17 @@
 -- The steps of listing folders, where the tree tells its files and where it doesn't.
-use Rattle.std.proofs.Common.{◌≡◌, ◌∙◌, inl, ℕ, ◌+◌, true, false, List, [], ◌∷◌, Option, Some, None, Result, Ok, Err, refl, sym, ap, subst, length}
+use Rattle.std.proofs.Common.{◌≡◌, ◌∙◌, inl, ℕ, ◌+◌, ◌≤◌, true, false, List, [], ◌∷◌, Option, Some, None, Result, Ok, Err, refl, sym, ap, subst, length, arith}
 use Rattle.std.specs.Prelude.{IfSome}
 use Rattle.cy_outside.specs.declared.tree.Entry.{Entry}
 use Rattle.cy_outside.specs.Files.{Files, is_folder, ListsMembers}
 use Rattle.dsdl_files.specs.declared.error.FolderError.{FolderError}
 use Rattle.dsdl_files.specs.declared.error.FolderError.TheVariants.{NotFolder, TooBig, Failed, NoMemory}
 use Rattle.dsdl_files.specs.Order.{IsAscending}
+use Rattle.dsdl_files.specs.Folders.{folders, listings_of}
 use Rattle.dsdl_files.specs.Steps.{Adds, ListsFolder, IsRefused, Finds, is_subfolder, is_dsdl_member}
 use Rattle.dsdl_files.proofs.Members.{In, not_both}
 use Rattle.dsdl_files.proofs.Ordered.{Before, head_before}
 use Rattle.dsdl_files.proofs.FolderFacts.{in_folder, is_folder_of}
-use Rattle.dsdl_files.proofs.Standing.{Stands, start, refuse, step, none_past, all_found}
+use Rattle.dsdl_files.proofs.Standing.{Stands, ahead, ahead_start, ahead_next, ahead_some, one_more_of, start, refuse, step, none_past, all_found}
 
 -- what stands, where the files are told
 abbrev pub ToldStands : Option Files → List ℕ → ℕ → ℕ → List (List ℕ) → List (List ℕ) → Type 0
@@ -72,6 +73,51 @@ pub told_found : (told : Option Files) (root : List ℕ) (most room : ℕ) (foun
     → IsAscending found → ToldFinds told root most (Ok found)
 told_found None root most room found f s sorted = tt
 told_found (Some files) root most room found f s sorted = (f, none_past files root most room found s, all_found files root most room found s sorted)
+
+-- ---- how often the tree was called
+
+-- with the listings that are still to come at most as often as it has folders, where the files are told
+abbrev pub ToldCalls : Option Files → List ℕ → List (List ℕ) → ℕ → ℕ → Type 0
+ToldCalls told root pending calls old = IfSome told (λ files. calls + length (ahead files pending) ≤ old + length (folders files root))
+
+pub calls_start : (told : Option Files) (root : List ℕ) (old : ℕ) → ToldCalls told root (root ∷ []) old old
+calls_start None root old = tt
+calls_start (Some files) root old =
+    let e : length (ahead files (root ∷ [])) ≡ length (folders files root) = ap length (ahead_start files root) in
+    omega (arith, e)
+
+pub calls_step : (told : Option Files) (root h : List ℕ) (most room : ℕ) (pending new found : List (List ℕ)) (members : List Entry) (calls next old : ℕ)
+    → ToldStands told root most room (h ∷ pending) found → ((o : List ℕ) → In o pending → Before h o) → ListsFolder told h (Some members)
+    → Adds (is_subfolder h) members pending new → ToldCalls told root (h ∷ pending) calls old → next ≤ calls + 1 → ToldCalls told root new next old
+calls_step None root h most room pending new found members calls next old s least lists adds c l = tt
+calls_step (Some files) root h most room pending new found members calls next old s least lists adds c l =
+    let e : length (ahead files (h ∷ pending)) ≡ length (ahead files new) + 1 =
+    ap length (ahead_next files h pending new members (s.all h (inl refl)) least lists.1 adds) ∙ one_more_of h (ahead files new) in
+    omega (arith, c, l, e)
+
+pub calls_absent : (told : Option Files) (root h : List ℕ) (most room : ℕ) (pending found : List (List ℕ)) (next old : ℕ)
+    → ToldStands told root most room (h ∷ pending) found → ListsFolder told h None → ToldCalls told root pending next old
+calls_absent None root h most room pending found next old s lists = tt
+calls_absent (Some files) root h most room pending found next old s lists = told_gone files root h most room pending found s lists
+
+-- a listing after which no other comes
+pub calls_last : (told : Option Files) (root h : List ℕ) (most room : ℕ) (pending found : List (List ℕ)) (calls next old : ℕ)
+    → ToldStands told root most room (h ∷ pending) found → ((o : List ℕ) → In o pending → Before h o)
+    → ToldCalls told root (h ∷ pending) calls old → next ≤ calls + 1 → IfSome told (λ files. next ≤ old + listings_of files root)
+calls_last None root h most room pending found calls next old s least c l = tt
+calls_last (Some files) root h most room pending found calls next old s least c l =
+    let e : 1 ≤ length (ahead files (h ∷ pending)) = ahead_some files h pending (s.all h (inl refl)) least in
+    omega (arith, c, l, e)
+
+pub calls_none : (told : Option Files) (root : List ℕ) (pending : List (List ℕ)) (calls old : ℕ) → ToldCalls told root pending calls old
+    → IfSome told (λ files. calls ≤ old + listings_of files root)
+calls_none None root pending calls old c = tt
+calls_none (Some files) root pending calls old c = omega (arith, c)
+
+-- the first listing, where no other comes
+pub calls_first : (told : Option Files) (root : List ℕ) (calls old : ℕ) → calls ≤ old + 1 → IfSome told (λ files. calls ≤ old + listings_of files root)
+calls_first None root calls old l = tt
+calls_first (Some files) root calls old l = omega (arith, l)
 
 -- the first of a list in order comes before the others
 pub least_first : (h : List ℕ) (pending all : List (List ℕ)) → all ≡ h ∷ pending → IsAscending all → (o : List ℕ) → In o pending → Before h o

@@ -1,10 +1,10 @@
 -- Which files of a folder are compiled, and when a folder is refused.
-use Rattle.std.specs.Prelude.{◌≡◌, ℕ, ◌==◌, ◌-◌, ◌^◌, Bool, cond, ◌||◌, ◌&&◌, List, [], ◌∷◌, ◌++◌, length, map, filter, filter_map, flat_map, Option, Some, None, is_some, option_map, unwrap_or, Result, Ok, Err, codes, nat_lt, nat_eq, ⊤}
-use Rattle.std.specs.List.{ends_with}
+use Rattle.std.specs.Prelude.{◌≡◌, ℕ, ◌==◌, ◌+◌, ◌-◌, ◌^◌, min, max, Bool, cond, ◌||◌, ◌&&◌, List, [], ◌∷◌, ◌++◌, length, map, filter, filter_map, flat_map, Option, Some, None, is_some, option_map, unwrap_or, Result, Ok, Err, codes, nat_lt, nat_eq, ⊤}
+use Rattle.std.specs.List.{ends_with, sum_by}
 use Rattle.std.specs.Str.{bytes_eq}
 use Rattle.std.specs.Set.{distinct_count}
 use Rattle.std.specs.FinMap as finite
-use Rattle.cy_outside.specs.Files.{Files, rest_in, is_folder, member_of, bytes_at}
+use Rattle.cy_outside.specs.Files.{Files, rest_in, is_folder, member_of, bytes_at, reads_of}
 use Rattle.dsdl_files.specs.declared.file.DsdlFile.{DsdlFile}
 use Rattle.dsdl_files.specs.declared.error.FolderError.{FolderError}
 use Rattle.dsdl_files.specs.declared.error.FolderError.TheVariants.{NotFolder, TooBig, Failed, NoMemory}
@@ -93,3 +93,19 @@ IsAnswer answer (Err NotFolder) = Err NotFolder ≡ answer
 IsAnswer answer (Err (TooBig path)) = Err (TooBig path) ≡ answer
 IsAnswer answer (Err Failed) = ⊤
 IsAnswer answer (Err NoMemory) = ⊤
+
+-- how many reads the files at these paths take, of so many bytes at most
+abbrev pub reads_within : ℕ → Files → List (List ℕ) → ℕ
+reads_within most files paths = sum_by (λ path. reads_of (min most (length (bytes_at files path)))) paths
+
+-- how many listings a folder takes: of itself, which may be none, and of all folders below it
+abbrev pub listings_of : Files → List ℕ → ℕ
+listings_of files root = max 1 (length (folders files root))
+
+-- how many calls of a tree with these files the files of a folder take at most
+abbrev pub calls_within : Limits → Files → List ℕ → ℕ
+calls_within limits files root = listings_of files root + reads_within (limits.bytes + 1) files (dsdl_paths files root)
+
+-- the same within the limits on any folder
+abbrev pub calls_of_folder : Files → List ℕ → ℕ
+calls_of_folder files root = calls_within (record { entries = 65536; files = 4096; bytes = 2 ^ 20 }) files root

@@ -1,7 +1,8 @@
-ghost use Rattle.std.specs.Prelude.{◌≡◌, ◌≤◌, length, map, IfOk, IfSome};
+ghost use Rattle.std.specs.Prelude.{◌≡◌, ◌≤◌, ◌+◌, length, map, IfOk, IfSome};
 ghost use Rattle.std.specs.List.{All};
+ghost use Rattle.cy_outside.specs.Files.{front_length, reads_of};
 ghost use Rattle.dsdl_files.specs.Causes.{HasFolderCause, RefusesNothing};
-ghost use Rattle.dsdl_files.specs.Folders.{name_below};
+ghost use Rattle.dsdl_files.specs.Folders.{name_below, reads_within};
 ghost use Rattle.dsdl_files.specs.Steps.{ReadsAt, ReadsAll};
 
 use crate::limits::Limits;
@@ -28,6 +29,8 @@ pub fn read_files<T: Tree>(
     ensures size_limit { IfOk result (All (λ file. length file.text ≤ limits.bytes)) }
     ensures cause { HasFolderCause (T.faults tree.old) (T.faults tree.new) result }
     ensures count { T.faults tree.old ≤ T.faults tree.new }
+    ensures calls { IfSome (T.files tree.old) (λ files. T.calls tree.new
+        ≤ T.calls tree.old + reads_within (limits.bytes + 1) files paths.now) }
 {
     let mut files = List::empty(alloc);
     for path in paths.as_slice() {
@@ -59,6 +62,8 @@ fn read<T: Tree>(
     ensures refused { RefusesNothing result }
     ensures cause { HasFolderCause (T.faults tree.old) (T.faults tree.new) result }
     ensures count { T.faults tree.old ≤ T.faults tree.new }
+    ensures calls { T.calls tree.new
+        ≤ T.calls tree.old + reads_of (front_length (T.files tree.old) path.now most) }
 {
     let name = Text::from_str(alloc, name_below(root, path))?;
     let text = match read_file(alloc, tree, path, most)? {

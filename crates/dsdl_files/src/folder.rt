@@ -1,9 +1,9 @@
-ghost use Rattle.std.specs.Prelude.{◌≡◌, ◌≤◌, ◌⊎◌, length, map, IfOk, IfSome};
+ghost use Rattle.std.specs.Prelude.{◌≡◌, ◌≤◌, ◌+◌, ◌⊎◌, length, map, IfOk, IfSome};
 ghost use Rattle.cy_outside.specs.Outside.{Rose};
 ghost use Rattle.std.specs.List.{All};
 ghost use Rattle.dsdl_files.specs.Causes.{HasFolderCause};
 ghost use Rattle.dsdl_files.specs.Order.{IsAscending};
-ghost use Rattle.dsdl_files.specs.Folders.{IsAnswer, files_of_folder, files_within};
+ghost use Rattle.dsdl_files.specs.Folders.{IsAnswer, calls_of_folder, calls_within, files_of_folder, files_within};
 
 use crate::files::read_files;
 use crate::found::find_files;
@@ -20,7 +20,8 @@ use std::alloc::Global;
 /// the folder whose listing brings the entries of all folders together past `MAX_ENTRIES`; else the
 /// first file in the order of paths that is past the count of `MAX_FILES` or has more than
 /// `MAX_FILE` bytes. `NotFolder` comes exactly where the root is no folder of the tree. `Failed`
-/// comes only where the tree failed in this call.
+/// comes only where the tree failed in this call. The tree is called once for the root and for each
+/// folder below it, and for each file as often as `read_file` says.
 ///
 /// A listed file that the tree then answers as absent or as a folder counts as an empty file, and a
 /// listed folder that is then absent or no folder as an empty one. A name that a listing repeats
@@ -41,6 +42,8 @@ pub fn read_folder<T: Tree>(
     ensures size_limit { IfOk result (All (λ file. length file.text ≤ MAX_FILE)) }
     ensures cause { HasFolderCause (T.faults tree.old) (T.faults tree.new) result }
     ensures count { T.faults tree.old ≤ T.faults tree.new }
+    ensures calls { IfSome (T.files tree.old)
+        (λ files. T.calls tree.new ≤ T.calls tree.old + calls_of_folder files root.now) }
 {
     read_within(alloc, tree, root, LIMITS)
 }
@@ -60,6 +63,8 @@ pub fn read_within<T: Tree>(
     ensures size_limit { IfOk result (All (λ file. length file.text ≤ limits.bytes)) }
     ensures cause { HasFolderCause (T.faults tree.old) (T.faults tree.new) result }
     ensures count { T.faults tree.old ≤ T.faults tree.new }
+    ensures calls { IfSome (T.files tree.old)
+        (λ files. T.calls tree.new ≤ T.calls tree.old + calls_within limits files root.now) }
 {
     let paths = find_files(alloc, tree, root, limits.entries)?;
     read_files(alloc, tree, root, &paths, limits)

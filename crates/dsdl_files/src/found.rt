@@ -2,7 +2,7 @@ ghost use Rattle.std.specs.Prelude.{◌≡◌, ◌≤◌, ◌+◌, true, length,
 ghost use Rattle.std.specs.List.{All};
 ghost use Rattle.dsdl_files.specs.Causes.{HasFolderCause};
 ghost use Rattle.dsdl_files.specs.Order.{IsAscending};
-ghost use Rattle.dsdl_files.specs.Folders.{is_below};
+ghost use Rattle.dsdl_files.specs.Folders.{is_below, listings_of};
 ghost use Rattle.dsdl_files.specs.Steps.{Adds, Finds, IsRefused, is_subfolder, is_dsdl_member};
 
 use crate::FolderError;
@@ -86,6 +86,8 @@ pub fn find_files<T: Tree>(
     ensures found { IfSome (T.files tree.old) (λ files. Finds files root.now entries result) }
     ensures cause { HasFolderCause (T.faults tree.old) (T.faults tree.new) result }
     ensures count { T.faults tree.old ≤ T.faults tree.new }
+    ensures calls { IfSome (T.files tree.old)
+        (λ files. T.calls tree.new ≤ T.calls tree.old + listings_of files root.now) }
 {
     let Some(members) = list_folder(alloc, tree, root)? else {
         return Err(FolderError::NotFolder);

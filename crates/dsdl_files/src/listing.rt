@@ -1,4 +1,4 @@
-ghost use Rattle.std.specs.Prelude.{◌≡◌, ◌≤◌, IfOk, IfSome};
+ghost use Rattle.std.specs.Prelude.{◌≡◌, ◌≤◌, ◌+◌, IfOk, IfSome};
 ghost use Rattle.dsdl_files.specs.Causes.{HasFolderCause, RefusesNothing};
 ghost use Rattle.dsdl_files.specs.Steps.{ListsFolder, NamesDiffer, first_of_each};
 
@@ -20,6 +20,7 @@ pub fn list_folder<T: Tree>(
     ensures refused { RefusesNothing result }
     ensures cause { HasFolderCause (T.faults tree.old) (T.faults tree.new) result }
     ensures count { T.faults tree.old ≤ T.faults tree.new }
+    ensures calls { T.calls tree.new ≤ T.calls tree.old + 1 }
 {
     match tree.list(alloc, path)? {
         Listing::Entries(entries) => Ok(Some(first_of_each(alloc, entries)?)),

@@ -104,11 +104,13 @@ fn a_tree_that_changes(rt: HostRuntime) -> Result<(), Fail> {
 struct Changing;
 
 impl Tree for Changing {
-    ghost use Rattle.std.specs.Prelude.{None};
+    ghost use Rattle.std.specs.Prelude.{None, ◌-◌, ◌^◌};
 
     ghost files = { λ _. None };
 
     ghost faults = { λ _. 0 };
+
+    ghost calls = { λ _. 2 ^ 64 - 1 };
 
     fn list(&mut self, alloc: Global, path: &str) -> Result<Listing, TreeError> {
         if path != "root" {

@@ -1,4 +1,4 @@
-ghost use Rattle.std.specs.Prelude.{◌≡◌, ◌≤◌, ◌==◌, [], IfOk, OnErr};
+ghost use Rattle.std.specs.Prelude.{◌≡◌, ◌≤◌, ◌+◌, ◌==◌, [], IfOk, OnErr};
 ghost use Rattle.std_types.specs.Files.{FitsInfoReply};
 ghost use Rattle.std_types.specs.Held.{HoldsBytes};
 ghost use Rattle.file_service.specs.Paths.{place_of};
@@ -19,7 +19,7 @@ use std_types::file::{FileError, InfoReply};
 /// A path is asked for as it stands below the root. One leading `/` is dropped; the empty path is
 /// the root, a folder. A path is invalid where it holds a byte outside 20 to 7E hex, or a name that
 /// is empty, `.` or `..`. Nothing is asked of the tree for an invalid path, nor by `read` and
-/// `info` for the root. No memory is kept between calls.
+/// `info` for the root, and else the tree is called once. No memory is kept between calls.
 #[derive(Clone, Copy)]
 pub struct Served<'a> {
     /// The path of the folder in the tree. There need not be such a folder.
@@ -51,6 +51,7 @@ impl Served<'_> {
             → (tree.new ≡ tree.old) × (buf.new ≡ buf.old) }
         ensures memory { OnErr result ((tree.new ≡ tree.old) × (buf.new ≡ buf.old)) }
         ensures count { T.faults tree.old ≤ T.faults tree.new }
+        ensures calls { T.calls tree.new ≤ T.calls tree.old + 1 }
     {
         let path = match place_of(alloc, self.root, path)? {
             Place::Invalid => return Ok(no_bytes(INVALID)),
@@ -86,6 +87,7 @@ impl Served<'_> {
             → tree.new ≡ tree.old }
         ensures memory { OnErr result (T.faults tree.new ≡ T.faults tree.old) }
         ensures count { T.faults tree.old ≤ T.faults tree.new }
+        ensures calls { T.calls tree.new ≤ T.calls tree.old + 1 }
     {
         match place_of(alloc, self.root, path)? {
             Place::Invalid => Ok(no_name(alloc, false)),
@@ -114,6 +116,7 @@ impl Served<'_> {
         ensures unasked { IsKnown (place_of self.now.root.now path.now) → tree.new ≡ tree.old }
         ensures memory { OnErr result (tree.new ≡ tree.old) }
         ensures count { T.faults tree.old ≤ T.faults tree.new }
+        ensures calls { T.calls tree.new ≤ T.calls tree.old + 1 }
     {
         let path = match place_of(alloc, self.root, path)? {
             Place::Invalid => return Ok(info(INVALID, 0, false, false)),
@@ -176,6 +179,7 @@ fn list_folder<T: Tree>(
         TellsFault done.failed (T.faults tree.old) (T.faults tree.new)) }
     ensures memory { OnErr result (T.faults tree.new ≡ T.faults tree.old) }
     ensures count { T.faults tree.old ≤ T.faults tree.new }
+    ensures calls { T.calls tree.new ≤ T.calls tree.old + 1 }
 {
     match tree.list(alloc, folder) {
         Ok(listing) => {

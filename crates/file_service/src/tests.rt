@@ -207,11 +207,13 @@ struct Changing {
 }
 
 impl Tree for Changing {
-    ghost use Rattle.std.specs.Prelude.{None};
+    ghost use Rattle.std.specs.Prelude.{None, ◌-◌, ◌^◌};
 
     ghost files = { λ _. None };
 
     ghost faults = { λ _. 0 };
+
+    ghost calls = { λ _. 2 ^ 64 - 1 };
 
     fn list(&mut self, alloc: Global, _path: &str) -> Result<Listing, TreeError> {
         let mut entries = List::empty(alloc);

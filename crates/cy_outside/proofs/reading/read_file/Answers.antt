@@ -37,6 +37,7 @@ pieces-preserved g c =
     record {
       files = search rules;
       faults = search rules;
+      calls = grind (arith, common_steps);
       most = grind (arith, common_steps);
       front = subst (λ (file : List ℕ). IsFront (g.T.Tree.files c.args.tree.now) c.args.path.now file) (sym grown)
           (front_more _ _ front buf n within c.pieces.invariant.front reads);

@@ -9,7 +9,7 @@ use Rattle.dsdl_files.proofs.Members.{In}
 use Rattle.dsdl_files.proofs.Below.{at}
 use Rattle.dsdl_files.proofs.Named.{all_below}
 use Rattle.dsdl_files.proofs.Standing.{folders_within, files_below}
-use Rattle.dsdl_files.proofs.Told.{ToldFinds, ToldStands, told_folder, told_start, told_step, told_refused, told_absent, told_found, least_first}
+use Rattle.dsdl_files.proofs.Told.{ToldFinds, ToldStands, told_folder, told_start, told_step, told_refused, told_absent, told_found, least_first, ToldCalls, calls_start, calls_step, calls_absent, calls_last}
 use Rattle.dsdl_files.proofs.found.find_files.Goals as goal
 use Rattle.dsdl_files.proofs.found.find_files.Goals.{in-Some-2+in_ok-take-2, in_default-2}
 
@@ -39,6 +39,8 @@ loop-folder-init g c =
     record {
       told = c.in_ok-members.ensures.files;
       faults = c.in_ok-members.ensures.cause;
+      calls = calls_step told root root most most [] _ [] c.in-Some.members _ _ _ (told_start told root most folder) (λ o i. absurd i) lists folders_added
+          (calls_start told root _) c.in_ok-members.ensures.calls;
       within = folders_within root root [] _ c.in-Some.members (at root root refl) (λ p i. absurd i) folders_added;
       below = files_below root root [] _ c.in-Some.members (at root root refl) (λ p i. absurd i) files_added;
       root = folder;
@@ -66,6 +68,34 @@ returns-in_err-take-2-clause-found g c =
     (told_refused told root h most found.room pending found.files members c.in_err-take-2.field-0.0 c.loop-folder.invariant.root stands
     (least_first h pending found.folders first c.pop_first.ensures.ascending) lists
     (subst (λ f. IsRefused root f found.room members c.in_err-take-2.field-0.0) c.deref-in-Some-2.ensures c.in_err-take-2.ensures.refused))
+
+pub returns-in_err-members-2-clause-calls : goal.returns-in_err-members-2-clause-calls
+returns-in_err-members-2-clause-calls g c =
+    let told = g.T.Tree.files c.args.tree.now in
+    let root = c.args.root.now in
+    let found = c.loop-folder.found in
+    let pending = c.pop_first.new.self in
+    let h = string_bytes c.in-Some-pop_first.folder in
+    let first : found.folders ≡ h ∷ pending = c.in-Some-pop_first.ensures.first in
+    calls_last told root h c.args.entries found.room pending found.files _ _ _
+    (subst (λ ps. ToldStands told root c.args.entries found.room ps found.files) first c.loop-folder.invariant.stands)
+    (least_first h pending found.folders first c.pop_first.ensures.ascending)
+    (subst (λ ps. ToldCalls told root ps (g.T.Tree.calls c.loop-folder.tree) (g.T.Tree.calls c.args.tree.now)) first c.loop-folder.invariant.calls)
+    c.in_err-members-2.ensures.calls
+
+pub returns-in_err-take-2-clause-calls : goal.returns-in_err-take-2-clause-calls
+returns-in_err-take-2-clause-calls g c =
+    let told = g.T.Tree.files c.args.tree.now in
+    let root = c.args.root.now in
+    let found = c.loop-folder.found in
+    let pending = c.pop_first.new.self in
+    let h = string_bytes c.in-Some-pop_first.folder in
+    let first : found.folders ≡ h ∷ pending = c.in-Some-pop_first.ensures.first in
+    calls_last told root h c.args.entries found.room pending found.files _ _ _
+    (subst (λ ps. ToldStands told root c.args.entries found.room ps found.files) first c.loop-folder.invariant.stands)
+    (least_first h pending found.folders first c.pop_first.ensures.ascending)
+    (subst (λ ps. ToldCalls told root ps (g.T.Tree.calls c.loop-folder.tree) (g.T.Tree.calls c.args.tree.now)) first c.loop-folder.invariant.calls)
+    c.in_ok-members-2.ensures.calls
 
 pub loop-folder-preserved : goal.loop-folder-preserved
 loop-folder-preserved g c =
@@ -114,9 +144,26 @@ loop-folder-preserved g c =
           subst (λ (f : Found). ToldStands told root most f.room f.folders f.files) (sym w.found-is)
           (told_absent told root h most found.room pending found.files before (subst (ListsFolder told h) w.in_default-2.is lists))
     ] in
+    let calls_before : ToldCalls told root (h ∷ pending) (g.T.Tree.calls c.loop-folder.tree) (g.T.Tree.calls c.args.tree.now) =
+    subst (λ ps. ToldCalls told root ps (g.T.Tree.calls c.loop-folder.tree) (g.T.Tree.calls c.args.tree.now)) first c.loop-folder.invariant.calls in
+    let calls_after : ToldCalls told root c.match-branch-5.found.folders (g.T.Tree.calls c.list_folder-in-Some-pop_first.new.tree) (g.T.Tree.calls c.args.tree.now) =
+    elim c.match-branch-5.branch as (λ _. ToldCalls told root c.match-branch-5.found.folders (g.T.Tree.calls c.list_folder-in-Some-pop_first.new.tree) (g.T.Tree.calls c.args.tree.now)) [
+      | in-Some-2+in_ok-take-2 w ↦
+          let members = w.in-Some-2.members in
+          let new = w.take-in-Some-2.new.self in
+          subst (λ (f : Found). ToldCalls told root f.folders (g.T.Tree.calls c.list_folder-in-Some-pop_first.new.tree) (g.T.Tree.calls c.args.tree.now)) (sym w.found-is)
+          (calls_step told root h most found.room pending new.folders found.files members _ _ _ before
+          (least_first h pending found.folders first c.pop_first.ensures.ascending) (subst (ListsFolder told h) w.in-Some-2.is lists)
+          (subst (λ f. Adds (is_subfolder f) members pending new.folders) w.deref-in-Some-2.ensures w.in_ok-take-2.ensures.folders)
+          calls_before c.in_ok-members-2.ensures.calls)
+      | in_default-2 w ↦
+          subst (λ (f : Found). ToldCalls told root f.folders (g.T.Tree.calls c.list_folder-in-Some-pop_first.new.tree) (g.T.Tree.calls c.args.tree.now)) (sym w.found-is)
+          (calls_absent told root h most found.room pending found.files _ _ before (subst (ListsFolder told h) w.in_default-2.is lists))
+    ] in
     record {
       told = c.in_ok-members-2.ensures.files ∙ c.loop-folder.invariant.told;
       faults = c.in_ok-members-2.ensures.cause ∙ c.loop-folder.invariant.faults;
+      calls = calls_after;
       within = after_within;
       below = after_below;
       root = c.loop-folder.invariant.root;
