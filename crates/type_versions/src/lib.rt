@@ -1,0 +1,13 @@
+//! The versions of the types of a namespace: each is compared with the one before it.
+#![tactic(auto)]
+
+mod by_name;
+pub mod laws;
+mod pairs;
+mod parts;
+mod versions;
+mod words;
+
+pub use parts::parts_newer;
+pub use versions::{Versions, versions_of};
+pub use words::compat_why_text;
