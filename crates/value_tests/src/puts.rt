@@ -9,10 +9,10 @@ use cy_bits::NoMemory;
 use dsdl_types::laws::{readings_stored, rules_suffice};
 use layout::Layout;
 use line_text::TextBuffer;
-use serdes::{ReadError, read_as};
 use std::alloc::Global;
 use value_put::{Bits, Stop, put_own};
 use value_text::print_value;
+use wire_values::{ReadError, read_as};
 
 /// Payloads with the place of their type.
 const PAYLOADS: [(usize, &[u8]); 14] = [

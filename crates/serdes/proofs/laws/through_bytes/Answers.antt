@@ -1,7 +1,7 @@
 use Rattle.std.proofs.Common.{Err, ap, rules}
 use Rattle.dsdl_types.specs.Rules.{IsSchema}
 use Rattle.dsdl_types.specs.Views.{sch, val}
-use Rattle.serdes.proofs.RoundTrips.{never_refused, reads_back}
+use Rattle.wire_values.proofs.RoundTrips.{never_refused, reads_back}
 use Rattle.serdes.proofs.laws.through_bytes.Goals as goal
 
 pub returns-in-Ok : goal.returns-in-Ok

@@ -1,8 +1,0 @@
-use Rattle.std.proofs.Common.{◌∙◌, refl, sym, ap}
-use Rattle.dsdl_types.specs.Encoding.{lead}
-use Rattle.serdes.proofs.Writings.{puts_nothing}
-use Rattle.serdes.proofs.put.put_lead.Goals as goal
-
-pub returns-else-is_aligned : goal.returns-else-is_aligned
-returns-else-is_aligned c =
-    puts_nothing c.args.out.now c.args.to.now.place c.args.to.now.place _ (ap (λ d. lead d c.args.to.now.place) (sym c.is_aligned.ensures ∙ c.if-is_aligned.false)) refl

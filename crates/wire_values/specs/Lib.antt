@@ -1,0 +1,10 @@
+pub mod Forms
+pub mod Rules
+pub mod Misfits
+pub mod Reads
+pub mod Payloads
+pub mod Results
+pub mod Puts
+pub mod Found
+pub mod Numbers
+pub mod Laws
