@@ -5,7 +5,7 @@ use mathlib.Core.List.{reverse_aux}
 use Rattle.std.proofs.lemmas.Bool.Decides.{nat_tests}
 use Rattle.cy_outside.specs.Written.{behind, Begins}
 use Rattle.memchr.specs.Find.{IsFirstByte, is_byte}
-use Rattle.line_loop.specs.Gathered.{Gathered}
+use Rattle.gathered_text.specs.Gathered.{Gathered}
 use Rattle.line_loop.specs.Heard.{Met, StayHeard, IsHeard, IsUnheard}
 use Rattle.line_loop.specs.Lines.{Lines, lines_of, with_last, last_line}
 use Rattle.line_loop.specs.Reply.{Voice, Answers, AreAnswered}

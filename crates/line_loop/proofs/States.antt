@@ -7,7 +7,7 @@ use Rattle.std.proofs.lemmas.Grind.{common_steps}
 use Rattle.std.proofs.Math.Seq.{take-append-add}
 use Rattle.cy_outside.specs.Written.{behind, Begins}
 use Rattle.memchr.specs.Find.{IsFirstByte, is_byte}
-use Rattle.line_loop.specs.Gathered.{Gathered}
+use Rattle.gathered_text.specs.Gathered.{Gathered}
 use Rattle.line_loop.specs.Gone.{AreFirst, Begun, Gone, HasGone}
 use Rattle.line_loop.specs.Input.{IsTaken, Took, IsEnd}
 use Rattle.line_loop.specs.Lines.{Lines, lines_of, last_line, with_last}

@@ -1,7 +1,7 @@
 -- What was written after more of a text is.
 use Rattle.std.proofs.Common.{◌≡◌, ◌∙◌, ℕ, List, [], ◌++◌, Option, Some, None, refl, sym, ap, subst, append_assoc, append-nil}
 use Rattle.cy_outside.specs.Written.{behind, Begins}
-use Rattle.line_loop.specs.Gathered.{Gathered}
+use Rattle.gathered_text.specs.Gathered.{Gathered}
 
 pub behind_none : (before : Option (List ℕ)) → behind before [] ≡ before
 behind_none None = refl

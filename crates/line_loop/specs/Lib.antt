@@ -2,7 +2,6 @@ pub mod Input
 pub mod Lines
 pub mod Reply
 pub mod Heard
-pub mod Gathered
 pub mod Held
 pub mod Reader
 pub mod Steps

@@ -2,7 +2,7 @@
 use Rattle.std.specs.Prelude.{◌≡◌, ◌⊎◌, ◌≤◌, ◌++◌, ℕ, List, [], ◌∷◌, Option, Err, length}
 use mathlib.Core.List.{reverse_aux}
 use Rattle.cy_outside.specs.Written.{behind, Begins}
-use Rattle.line_loop.specs.Gathered.{Gathered}
+use Rattle.gathered_text.specs.Gathered.{Gathered}
 use Rattle.line_loop.specs.Heard.{Met}
 use Rattle.line_loop.specs.Lines.{Lines, lines_of, last_line, with_last}
 use Rattle.line_loop.specs.Reply.{Voice, Answers, AreAnswered}

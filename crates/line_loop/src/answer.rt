@@ -5,9 +5,9 @@ ghost use Rattle.line_loop.specs.Heard.{HasHeard};
 ghost use Rattle.line_loop.specs.Reply.{Answers, voices};
 ghost use Rattle.line_loop.specs.Steps.{IsClosed, IsRefusal, IsStop, IsUnclosed};
 
-use crate::flush::flush;
 use crate::{LineBounds, LineListener, LineStop, LinesEnded};
 use cy_outside::Sink;
+use gathered_text::flush;
 use line_text::TextBuffer;
 
 /// Gathers the answer to a line. One of more bytes than the bound is refused.

@@ -5,7 +5,6 @@
 mod answer;
 pub mod bounds;
 pub mod ended;
-mod flush;
 mod held;
 pub mod listener;
 mod over_lines;

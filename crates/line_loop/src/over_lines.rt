@@ -9,10 +9,10 @@ ghost use Rattle.line_loop.specs.Steps.{Comes, EndsBy, Goes, IsOverlong, IsWhole
 ghost use Rattle.line_loop.specs.Streamed.{IsStreamed};
 
 use crate::answer::{answer, close, ended_by, refuse};
-use crate::flush::{flush, flush_much};
 use crate::reader::{Came, LineReader};
 use crate::{LineBounds, LineListener, LinesEnded};
 use cy_outside::{Sink, Source};
+use gathered_text::{flush, flush_much};
 use line_text::TextBuffer;
 use std::alloc::Global;
 

@@ -11,7 +11,7 @@ use Rattle.frame_log.specs.Reader.{kept_bytes_of, saw_end, log_behind}
 use Rattle.frame_log.specs.declared.error.LogError.{LogError}
 use Rattle.frame_log.specs.declared.error.LogError.TheVariants as error
 use Rattle.frame_log.specs.declared.reader.LogReader.{LogReader}
-use Rattle.log_loop.specs.Gathered.{Gathered}
+use Rattle.gathered_text.specs.Gathered.{Gathered}
 use Rattle.log_loop.specs.Gone.{FirstOf, Stages, Gone, IsFinish, stopped}
 use Rattle.log_loop.specs.Listened.{HasListened}
 use Rattle.log_loop.specs.Met.{Comes as MayComeNext}

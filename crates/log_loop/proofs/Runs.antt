@@ -11,7 +11,7 @@ use Rattle.frame_log.specs.Reader.{buses_of, bytes_left, kept_bytes_of, place_of
 use Rattle.frame_log.specs.declared.reader.LogReader.{LogReader}
 use Rattle.frame_log.specs.declared.error.LogError.{LogError}
 use Rattle.frame_log.specs.declared.error.LogError.TheVariants as error
-use Rattle.log_loop.specs.Gathered.{Gathered}
+use Rattle.gathered_text.specs.Gathered.{Gathered}
 use Rattle.log_loop.specs.Next.{GoesOn, Writes}
 use Rattle.log_loop.specs.Taken.{whole_records, IsOfTaken}
 use Rattle.log_loop.specs.declared.next.Stop.{Stop}

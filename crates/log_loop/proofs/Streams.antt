@@ -13,7 +13,7 @@ use Rattle.frame_log.specs.declared.error.LogError.{LogError}
 use Rattle.frame_log.specs.declared.reader.LogReader.{LogReader}
 use Rattle.frame_log.proofs.LogLemmas.{Took-none}
 use Rattle.frame_log.proofs.UsedLemmas.{lines_of-whole, lines_of-one, cut-parts}
-use Rattle.log_loop.specs.Gathered.{Gathered}
+use Rattle.gathered_text.specs.Gathered.{Gathered}
 use Rattle.log_loop.specs.Next.{Goes, Comes, ComesBehind, Writes}
 use Rattle.log_loop.specs.Taken.{whole_records}
 use Rattle.log_loop.specs.declared.next.Stop.{Stop}

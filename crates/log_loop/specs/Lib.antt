@@ -1,4 +1,3 @@
-pub mod Gathered
 pub mod Next
 pub mod Voice
 pub mod Met

@@ -9,7 +9,7 @@ use Rattle.frame_log.specs.Used.{Uses, IsBefore}
 use Rattle.frame_log.specs.declared.error.LogError.{LogError}
 use Rattle.frame_log.specs.declared.error.LogError.TheVariants as error
 use Rattle.frame_log.specs.declared.reader.LogReader.{LogReader}
-use Rattle.log_loop.specs.Gathered.{Gathered}
+use Rattle.gathered_text.specs.Gathered.{Gathered}
 use Rattle.log_loop.specs.declared.next.Stop.{Stop}
 use Rattle.log_loop.specs.declared.next.Stop.TheVariants as stop
 

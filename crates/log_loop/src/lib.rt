@@ -3,7 +3,6 @@
 #![tactic(auto)]
 
 pub mod ended;
-mod flush;
 pub mod listener;
 pub mod next;
 mod over_log;

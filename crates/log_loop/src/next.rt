@@ -7,9 +7,9 @@ ghost use Rattle.frame_log.specs.declared.error.LogError.TheVariants as error;
 ghost use Rattle.line_text.specs.Buffer.{text_of};
 ghost use Rattle.log_loop.specs.Next.{handed, GoesOn, ComesBehind, ReadsOn, Writes, HasStopCause};
 
-use crate::flush::{flush, flush_much};
 use cy_outside::{Sink, Source};
 use frame_log::{LogError, LogReader};
+use gathered_text::{flush, flush_much};
 use line_text::TextBuffer;
 use tail_frame::Record;
 

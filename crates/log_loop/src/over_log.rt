@@ -8,12 +8,12 @@ ghost use Rattle.log_loop.specs.Gone.{stages, stopped, refused, IsFinish};
 ghost use Rattle.log_loop.specs.Listened.{HasListened};
 
 use crate::ended::Ended;
-use crate::flush::flush;
 use crate::listener::Listener;
 use crate::next::{Stop, next};
 use cy_bits::{BusName, ShortList};
 use cy_outside::{Sink, Source};
 use frame_log::{LogError, LogReader, LogWhy, ordered};
+use gathered_text::flush;
 use line_text::TextBuffer;
 use std::alloc::Global;
 use tail_frame::{FrameData, Record};

@@ -2,7 +2,7 @@ use Rattle.std.proofs.Common.{◌≤◌, ◌∷◌, ℕ, List, [], map, refl, sy
 use Rattle.tail_frame.specs.declared.logged.Record.{Record}
 use Rattle.frame_log.specs.Reader.{buses_of}
 use Rattle.line_text.specs.Buffer.{text_of}
-use Rattle.log_loop.specs.Gathered.{Gathered}
+use Rattle.gathered_text.specs.Gathered.{Gathered}
 use Rattle.log_loop.specs.Gone.{stages}
 use Rattle.log_loop.specs.Listened.{HasListened}
 use Rattle.log_loop.specs.declared.ended.Ended.{Ended}

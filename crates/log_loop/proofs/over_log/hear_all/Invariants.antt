@@ -1,7 +1,7 @@
 use Rattle.std.proofs.Common.{◌≡◌, ◌≤◌, ◌+◌, ◌^◌, List, None, map}
 use Rattle.frame_log.specs.Reader.{settled_answer, bytes_left, buses_of}
 use Rattle.line_text.specs.Buffer.{text_of}
-use Rattle.log_loop.specs.Gathered.{Gathered}
+use Rattle.gathered_text.specs.Gathered.{Gathered}
 use Rattle.log_loop.specs.Voice.{MayCome, said}
 use Rattle.log_loop.proofs.Logs.{latest_of}
 use Rattle.log_loop.proofs.Came.{Reads}

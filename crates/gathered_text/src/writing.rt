@@ -2,21 +2,21 @@ ghost use Rattle.std.specs.Prelude.{◌≡◌, ◌≤◌, [], length, OnOk, OnEr
 ghost use Rattle.cy_outside.specs.Outside.{Rose};
 ghost use Rattle.cy_outside.specs.Written.{behind, Begins};
 ghost use Rattle.line_text.specs.Buffer.{text_of};
-ghost use Rattle.line_loop.specs.Gathered.{Gathered};
+ghost use Rattle.gathered_text.specs.Gathered.{Gathered};
 
 use cy_outside::{Failed, Sink, put_all};
 use line_text::TextBuffer;
 
-/// The most text, in bytes, that stays gathered while lines are held.
+/// The most text, in bytes, that stays gathered while more comes.
 const MUCH: usize = 1 << 16;
 
 /// Writes what is gathered at once, and gathers anew.
 pub fn flush<O: Sink>(out: &mut O, gathered: &mut TextBuffer) -> Result<(), Failed>
-    ensures written { OnOk result (O.written out.new
-        ≡ behind (O.written out.old) (text_of gathered.old)) }
+    ensures written { OnOk result
+        (O.written out.new ≡ behind (O.written out.old) (text_of gathered.old)) }
     ensures none { OnOk result (text_of gathered.new ≡ []) }
-    ensures begins { OnErr result (Begins (text_of gathered.old) (O.written out.old)
-        (O.written out.new)) }
+    ensures begins { OnErr result
+        (Begins (text_of gathered.old) (O.written out.old) (O.written out.new)) }
     ensures fault { OnErr result (Rose (O.faults out.old) (O.faults out.new)) }
     ensures kept { OnOk result (O.faults out.new ≡ O.faults out.old) }
 {
@@ -32,8 +32,8 @@ pub fn flush_much<O: Sink>(out: &mut O, gathered: &mut TextBuffer) -> Result<(),
         (Gathered (text_of gathered.old) (text_of gathered.new) (O.written out.old)
         (O.written out.new)) }
     ensures few { OnOk result (length (text_of gathered.new) ≤ 65536) }
-    ensures begins { OnErr result (Begins (text_of gathered.old) (O.written out.old)
-        (O.written out.new)) }
+    ensures begins { OnErr result
+        (Begins (text_of gathered.old) (O.written out.old) (O.written out.new)) }
     ensures fault { OnErr result (Rose (O.faults out.old) (O.faults out.new)) }
     ensures kept { OnOk result (O.faults out.new ≡ O.faults out.old) }
 {
