@@ -11,12 +11,12 @@ use Rattle.value_json.specs.Json.{json_of}
 use Rattle.value_json.specs.Pieces.{Adds, Exact, exact}
 use Rattle.value_json.specs.Words.{name_text, quoted}
 use Rattle.value_json.proofs.Adding.{adds_exact, adds_then, on_ok}
-use Rattle.node_core.specs.Readings.{reading_of}
-use Rattle.node_core.specs.Told.{owned, reading_in}
-use Rattle.node_core.specs.declared.line.Reading.{Reading}
-use Rattle.node_core.specs.declared.line.Reading.TheVariants as R
-use Rattle.node_core.specs.declared.line_ref.LineRef.TheVariants as lent
-use Rattle.node_core.specs.declared.line_ref.RxRef.{RxRef}
+use Rattle.report_lines.specs.Readings.{reading_of}
+use Rattle.report_lines.specs.Lent.{owned, reading_in}
+use Rattle.report_lines.specs.declared.line.Reading.{Reading}
+use Rattle.report_lines.specs.declared.line.Reading.TheVariants as R
+use Rattle.report_lines.specs.declared.line_ref.LineRef.TheVariants as lent
+use Rattle.report_lines.specs.declared.line_ref.RxRef.{RxRef}
 use Rattle.json_lines.specs.Text.{error_text, line_end, line_json, more, reading_json}
 use Rattle.json_lines.specs.Writer.{front_of, port_type, refused_text, type_in, valued_json}
 

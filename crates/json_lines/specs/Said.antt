@@ -3,8 +3,8 @@ use Rattle.dsdl_types.specs.Fits.{Fits}
 use Rattle.dsdl_types.specs.Schemas.{Sch}
 use Rattle.dsdl_types.specs.Views.{val}
 use Rattle.value_text.specs.Texts.{value_text}
-use Rattle.node_core.specs.declared.line.Reading.{Reading}
-use Rattle.node_core.specs.declared.line.Reading.TheVariants as R
+use Rattle.report_lines.specs.declared.line.Reading.{Reading}
+use Rattle.report_lines.specs.declared.line.Reading.TheVariants as R
 use Rattle.json_lines.specs.declared.said.Said.{Said}
 use Rattle.json_lines.specs.declared.said.Said.TheVariants.{Value, Bad}
 

@@ -12,13 +12,13 @@ use Rattle.value_text.specs.Unreadable.{read_why_number}
 use Rattle.value_json.specs.Json.{json_of}
 use Rattle.value_json.specs.Pieces.{Exact, Piece, exact}
 use Rattle.value_json.specs.Words.{name_text, quoted}
-use Rattle.node_core.specs.Text.{bus_text, kind_text}
-use Rattle.node_core.specs.declared.line.Line.{Line}
-use Rattle.node_core.specs.declared.line.Line.TheVariants.{Rx, NoSession, Tx, Full}
-use Rattle.node_core.specs.declared.line.Rx.{Rx as Received}
-use Rattle.node_core.specs.declared.line.Reading.{Reading}
-use Rattle.node_core.specs.declared.line.Reading.TheVariants.{Raw, Good, Bad}
-use Rattle.node_core.specs.declared.numbers.Numbers.{Numbers}
+use Rattle.text_lines.specs.Text.{bus_text, kind_text}
+use Rattle.report_lines.specs.declared.line.Line.{Line}
+use Rattle.report_lines.specs.declared.line.Line.TheVariants.{Rx, NoSession, Tx, Full}
+use Rattle.report_lines.specs.declared.line.Rx.{Rx as Received}
+use Rattle.report_lines.specs.declared.line.Reading.{Reading}
+use Rattle.report_lines.specs.declared.line.Reading.TheVariants.{Raw, Good, Bad}
+use Rattle.report_lines.specs.declared.numbers.Numbers.{Numbers}
 
 -- the first member of a line: what it tells
 abbrev pub begin : List ℕ → List ℕ

@@ -9,10 +9,10 @@ use Rattle.dsdl_types.specs.declared.read_why.ReadWhy.{ReadWhy}
 use Rattle.value_json.specs.Json.{json_of}
 use Rattle.value_json.specs.Pieces.{Exact, Piece, Puts, exact}
 use Rattle.value_json.specs.Words.{name_text}
-use Rattle.node_core.specs.Told.{owned}
-use Rattle.node_core.specs.declared.line_ref.LineRef.{LineRef}
-use Rattle.node_core.specs.declared.line_ref.LineRef.TheVariants as lent
-use Rattle.node_core.specs.declared.line_ref.RxRef.{RxRef}
+use Rattle.report_lines.specs.Lent.{owned}
+use Rattle.report_lines.specs.declared.line_ref.LineRef.{LineRef}
+use Rattle.report_lines.specs.declared.line_ref.LineRef.TheVariants as lent
+use Rattle.report_lines.specs.declared.line_ref.RxRef.{RxRef}
 use Rattle.json_lines.specs.Text.{begin, error_text, key_members, line_end, line_json, more, payload_member, place_members, transfer_members}
 use Rattle.json_lines.specs.declared.writer.JsonWriter.{JsonWriter}
 

@@ -1,7 +1,6 @@
 //! The report of a run as JSON lines (RFC 8259), for other programs.
 #![tactic(auto)]
 
-mod buses;
 mod members;
 pub mod said;
 pub mod writer;

@@ -1,8 +1,8 @@
 //! Members of lines that have room in a text.
 ghost use Rattle.std.specs.Prelude.{◌≡◌, ◌≤◌, ◌+◌, ◌*◌, ◌++◌, decimal, length};
 ghost use Rattle.line_text.specs.Buffer.{room_of};
-ghost use Rattle.node_core.specs.Puts.{Puts};
-ghost use Rattle.node_core.specs.Text.{bus_text, kind_text};
+ghost use Rattle.text_lines.specs.Puts.{Puts};
+ghost use Rattle.text_lines.specs.Text.{bus_text, kind_text};
 ghost use Rattle.value_json.specs.Words.{quoted};
 ghost use Rattle.json_lines.specs.Text.{error_text, key_members, node_members, payload_member, place_members, received_members, source_json, transfer_members, why_name};
 
@@ -10,8 +10,8 @@ use can_id::{Key, Kind};
 use cy_bits::ShortList;
 use dsdl_types::ReadWhy;
 use line_text::TextBuffer;
-use node_core::{Numbers, RxRef};
 use node_plan::BusPlan;
+use report_lines::{Numbers, RxRef};
 use value_text::read_why_number;
 
 /// Puts a label and a number.

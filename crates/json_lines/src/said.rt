@@ -1,15 +1,15 @@
 //! What a payload says, before its text.
 ghost use Rattle.std.specs.Prelude.{◌≡◌, IfOk, Some};
 ghost use Rattle.dsdl_types.specs.Views.{sch};
-ghost use Rattle.node_core.specs.Readings.{reading_of};
+ghost use Rattle.report_lines.specs.Readings.{reading_of};
 ghost use Rattle.json_lines.specs.Said.{FitsSaid, reading_as};
 
 use cy_bits::{NoMemory, Text};
 use dsdl_types::laws::{readings_stored, rules_suffice, same_values};
 use dsdl_types::{ReadWhy, Shape, Value};
-use node_core::CompiledShape;
-use serdes::{ReadError, read_as};
+use report_lines::CompiledShape;
 use std::alloc::Global;
+use wire_values::{ReadError, read_as};
 
 /// What a payload says on a port with a type.
 #[derive(Drop)]

@@ -5,10 +5,9 @@ ghost use Rattle.dsdl_types.specs.Views.{sch, val};
 ghost use Rattle.line_text.specs.Buffer.{room_of, text_of};
 ghost use Rattle.value_json.specs.Pieces.{Begins, Puts, exact};
 ghost use Rattle.value_json.specs.Json.{json_of};
-ghost use Rattle.node_core.specs.Puts.{Puts as PutsBytes};
+ghost use Rattle.text_lines.specs.Puts.{Puts as PutsBytes};
 ghost use Rattle.json_lines.specs.Text.{end_json, line_end};
 
-use crate::buses::copy_of;
 use crate::members::{
     put_error, put_key, put_label, put_node, put_payload, put_place, put_received, put_transfer,
 };
@@ -16,9 +15,10 @@ use crate::said::{Said, read_payload};
 use cy_bits::{NoMemory, ShortList};
 use dsdl_types::{ReadWhy, Schema, Value};
 use line_text::TextBuffer;
-use node_core::{CompiledShape, FullLine, LineRef, Numbers, Refused, RxRef, TxRef};
 use node_plan::BusPlan;
+use report_lines::{CompiledShape, FullLine, LineRef, Numbers, Refused, RxRef, TxRef};
 use std::alloc::Global;
+use text_lines::buses::copy_of;
 use value_json::put_value;
 
 /// The most bytes of a line besides those of its payload and of what that says.

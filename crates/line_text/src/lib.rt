@@ -8,6 +8,7 @@ mod ident_block;
 mod number_word;
 pub mod text_buffer;
 mod two_digits;
+mod tx_line;
 
 pub use hex_block::hex_of_eight;
 pub use text_buffer::TextBuffer;

@@ -12,9 +12,9 @@ use Rattle.node_core.specs.Stands.{Gives, Stands}
 use Rattle.node_core.specs.Steps.{Step, Heard, Kept, got, node_lines, records, request_at, sends}
 use Rattle.node_core.specs.declared.came.Came.{Came}
 use Rattle.node_core.specs.declared.file_reply.FileReply.{FileReply}
-use Rattle.node_core.specs.declared.line.FullLine.{FullLine}
-use Rattle.node_core.specs.declared.line.Line.{Line}
-use Rattle.node_core.specs.declared.line.Line.TheVariants.{Full}
+use Rattle.report_lines.specs.declared.line.FullLine.{FullLine}
+use Rattle.report_lines.specs.declared.line.Line.{Line}
+use Rattle.report_lines.specs.declared.line.Line.TheVariants.{Full}
 use Rattle.node_core.specs.declared.node.Node.{Node}
 use Rattle.node_core.specs.declared.request.Request.{Request}
 

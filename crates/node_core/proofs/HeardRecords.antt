@@ -24,7 +24,7 @@ use Rattle.node_core.specs.Stands.{StandsAt, Stands}
 use Rattle.node_core.specs.Steps.{on_port, of_frame, got, payload_in, request_on, bad_of_frame, bad_on_port, is_bad_at}
 use Rattle.node_core.specs.Told.{answer_is_bad}
 use Rattle.node_core.specs.declared.came.Came.{Came}
-use Rattle.node_core.specs.declared.line.Line.{Line}
+use Rattle.report_lines.specs.declared.line.Line.{Line}
 use Rattle.node_core.specs.declared.node.Node.{Node}
 use Rattle.node_core.specs.declared.question.Question.{Question}
 use Rattle.node_core.specs.declared.request.Request.{Request}

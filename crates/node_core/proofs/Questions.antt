@@ -14,7 +14,7 @@ use Rattle.dsdl_types.specs.Stored.{IsStored}
 use Rattle.dsdl_types.specs.Values.{Val}
 use Rattle.node_plan.specs.declared.plan.Plan.{Plan}
 use Rattle.rx_table.specs.Heard.{frame_for}
-use Rattle.serdes.specs.Payloads.{payload_value, value_in}
+use Rattle.wire_values.specs.Payloads.{payload_value, value_in}
 use Rattle.std_types.specs.FileLaws.{file_list_request_forth, info_request_forth, read_request_forth}
 use Rattle.std_types.specs.RegisterLaws.{access_request_forth, list_request_forth}
 use Rattle.std_types.specs.Schemas.{access_request, file_list_request, info_request, list_request, read_request}

@@ -8,9 +8,9 @@ use Rattle.node_plan.specs.declared.plan.BusPlan.{BusPlan}
 use Rattle.node_core.specs.Steps.{empty_queue}
 use Rattle.node_core.specs.Queues.{Sends, Queue, push, full_line, fulls_from, waiting}
 use Rattle.node_core.specs.declared.bus_queue.BusQueue.{BusQueue}
-use Rattle.node_core.specs.declared.line.FullLine.{FullLine}
-use Rattle.node_core.specs.declared.line.Line.{Line}
-use Rattle.node_core.specs.declared.line.Line.TheVariants.{Full}
+use Rattle.report_lines.specs.declared.line.FullLine.{FullLine}
+use Rattle.report_lines.specs.declared.line.Line.{Line}
+use Rattle.report_lines.specs.declared.line.Line.TheVariants.{Full}
 
 waiting-append : (xs ys : List Queue) → waiting (xs ++ ys) ≡ waiting xs + waiting ys
 waiting-append [] ys = omega arith

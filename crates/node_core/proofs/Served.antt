@@ -25,7 +25,7 @@ use Rattle.rx_table.specs.Heard.{frame_for, frames}
 use Rattle.rx_table.specs.Keys.{KeyedFrame}
 use Rattle.rx_table.specs.Ports.{Port, port_at}
 use Rattle.rx_table.specs.Table.{port_on}
-use Rattle.serdes.specs.Payloads.{payload_value}
+use Rattle.wire_values.specs.Payloads.{payload_value}
 use Rattle.std_types.specs.Schemas.{access_request, list_request}
 use Rattle.std_types.specs.declared.file.InfoReply.{InfoReply}
 use Rattle.std_types.specs.declared.file.ReadReply.{ReadReply}

@@ -22,7 +22,7 @@ use Rattle.node_core.specs.Queues.{Queue, fulls, leaving, push_all, waiting}
 use Rattle.node_core.specs.Sending.{registers_behind, reply_on, request_of, request_with}
 use Rattle.node_core.specs.Steps.{Step, Heard, Kept, got, kept, left, lines_at, lines_behind, met_records, of_frame, on_port, payload_in, pushed, records, request_at, steps, ticks_before}
 use Rattle.node_core.specs.declared.file_reply.FileReply.{FileReply}
-use Rattle.node_core.specs.declared.line.Line.{Line}
+use Rattle.report_lines.specs.declared.line.Line.{Line}
 use Rattle.node_core.specs.declared.request.Request.{Request}
 use Rattle.node_core.proofs.Queues.{nothing_waits}
 use Rattle.node_core.proofs.Waits.{all_stay, none_leaves, records_of_steps}

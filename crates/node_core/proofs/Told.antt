@@ -15,9 +15,9 @@ use Rattle.rx_table.specs.Received.{Delivery}
 use Rattle.rx_table.specs.Stands.{OutcomeIs}
 use Rattle.rx_table.specs.Steps.{delivery_at, is_bad}
 use Rattle.rx_table.specs.Table.{keyed, with_source, port_on, Told, ToldAt}
-use Rattle.node_core.specs.declared.line.Line.{Line}
-use Rattle.node_core.specs.declared.line.Line.TheVariants.{Rx}
-use Rattle.node_core.specs.Readings.{reading_of}
+use Rattle.report_lines.specs.declared.line.Line.{Line}
+use Rattle.report_lines.specs.declared.line.Line.TheVariants.{Rx}
+use Rattle.report_lines.specs.Readings.{reading_of}
 use Rattle.node_core.specs.Types.{type_on}
 use Rattle.node_plan.specs.declared.plan.Plan.{Plan}
 use Rattle.node_core.specs.Steps.{of_delivery, refused_line, of_session, of_source, on_port, bad_of_source, bad_on_port}

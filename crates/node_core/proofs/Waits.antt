@@ -7,7 +7,7 @@ use Rattle.node_plan.specs.declared.plan.Plan.{Plan}
 use Rattle.node_core.specs.Laws.{LinesJoin, NothingEmptied, NothingLeaves, RecordsOfSteps}
 use Rattle.node_core.specs.Queues.{Queue, bus_lines, drained, leave, leaving_from, rounds, stay, tx_line, waiting}
 use Rattle.node_core.specs.Steps.{Met, Step, Heard, Tick, all_lines, is_tx, emptying, kept, lines, lines_at, lines_behind, met_records, moment_of, numbers, records, steps, ticks_before, ticks_from, ticks_done, ticks_until, first_of, ticks_upto}
-use Rattle.node_core.specs.declared.line.Line.{Line}
+use Rattle.report_lines.specs.declared.line.Line.{Line}
 
 records-append : (newer older : List Step) → records (newer ++ older) ≡ records newer ++ records older
 records-append [] older = refl

@@ -12,7 +12,7 @@ use Rattle.rx_table.specs.Table.{states}
 use Rattle.rx_table.specs.declared.fed.Met.{Met}
 use Rattle.node_core.specs.declared.came.Came.{Came}
 use Rattle.node_core.specs.declared.came.Heard.{Heard}
-use Rattle.node_core.specs.declared.line.Line.{Line}
+use Rattle.report_lines.specs.declared.line.Line.{Line}
 use Rattle.node_core.specs.declared.node.Node.{Node}
 use Rattle.node_core.specs.declared.request.Request.{Request}
 use Rattle.node_core.specs.Sending.{request_with}

@@ -10,7 +10,7 @@ use Rattle.node_core.specs.Stands.{Stands}
 use Rattle.node_core.specs.Files.{IsServed, is_failed}
 use Rattle.node_core.specs.Steps.{IsServedAt, Step, Heard, Kept, empty_queue, node_lines, pushed, records}
 use Rattle.node_core.specs.declared.file_reply.FileReply.{FileReply}
-use Rattle.node_core.specs.declared.line.Line.{Line}
+use Rattle.report_lines.specs.declared.line.Line.{Line}
 use Rattle.node_core.specs.declared.node.Node.{Node}
 use Rattle.node_core.specs.declared.question.Question.{Question}
 use Rattle.node_core.specs.declared.request.Request.{Request}

@@ -1,7 +1,7 @@
 -- What a request to a node asks.
 use Rattle.std.specs.Prelude.{ℕ, ◌==◌, if◌then◌else◌, List, Option, Some, None, option_map}
 use Rattle.dsdl_types.specs.Values.{Val}
-use Rattle.serdes.specs.Payloads.{payload_value}
+use Rattle.wire_values.specs.Payloads.{payload_value}
 use Rattle.std_types.specs.Files.{FitsFileListRequest, FitsInfoRequest, FitsReadRequest, file_list_request_of, info_request_of, read_request_of}
 use Rattle.std_types.specs.Registers.{FitsAccessRequest, FitsListRequest, access_request_of, list_request_of}
 use Rattle.std_types.specs.Schemas.{access_request, file_list_request, info_request, list_request, read_request}

@@ -2,8 +2,8 @@
 use Rattle.std.specs.Prelude.{ℕ, zero, suc, Bool, ◌==◌, ◌||◌, if◌then◌else◌, ◌+◌, nat_le, List, [], ◌∷◌, ◌++◌, length, map, Option, Some, None}
 use Rattle.tx_queue.specs.Waiting.{free, least, needed, out_frames}
 use Rattle.tx_queue.specs.declared.frame.OutFrame.{OutFrame}
-use Rattle.node_core.specs.declared.line.Line.{Line}
-use Rattle.node_core.specs.declared.line.Line.TheVariants.{Tx, Full}
+use Rattle.report_lines.specs.declared.line.Line.{Line}
+use Rattle.report_lines.specs.declared.line.Line.TheVariants.{Tx, Full}
 
 -- whether frames can have this size, classic CAN's or CAN FD's
 abbrev pub is_frame_size : ℕ → Bool

@@ -14,9 +14,9 @@ use Rattle.node_core.specs.Heard.{IsElsewhere}
 use Rattle.node_core.specs.Shapes.{port_schema}
 use Rattle.node_core.specs.Steps.{request_on}
 use Rattle.node_core.specs.Told.{answer_is_bad}
-use Rattle.node_core.specs.declared.line.Line.{Line}
-use Rattle.node_core.specs.declared.line_ref.LineRef.{LineRef}
-use Rattle.node_core.specs.declared.line_ref.LineRef.TheVariants.{Rx, NoSession, Tx, Full}
+use Rattle.report_lines.specs.declared.line.Line.{Line}
+use Rattle.report_lines.specs.declared.line_ref.LineRef.{LineRef}
+use Rattle.report_lines.specs.declared.line_ref.LineRef.TheVariants.{Rx, NoSession, Tx, Full}
 use Rattle.node_core.specs.declared.node.Node.{Node}
 use Rattle.node_core.specs.declared.quick.Lead.{Lead}
 use Rattle.node_core.specs.declared.quick.Lead.TheVariants.{Service, Nowhere, AtPort}

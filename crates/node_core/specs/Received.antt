@@ -14,10 +14,10 @@ use Rattle.rx_table.specs.Table.{keyed, port_on}
 use Rattle.node_plan.specs.declared.plan.Plan.{Plan}
 use Rattle.rx_table.specs.Heard.{frame_for, frames}
 use Rattle.node_core.specs.Heard.{ports_of}
-use Rattle.node_core.specs.Readings.{reading_of}
+use Rattle.report_lines.specs.Readings.{reading_of}
 use Rattle.node_core.specs.Types.{type_on}
-use Rattle.node_core.specs.declared.line.Line.{Line}
-use Rattle.node_core.specs.declared.line.Line.TheVariants.{Rx, NoSession}
+use Rattle.report_lines.specs.declared.line.Line.{Line}
+use Rattle.report_lines.specs.declared.line.Line.TheVariants.{Rx, NoSession}
 
 -- the line of a delivery on a port of a plan with this extent
 abbrev pub rx_line : Plan → ℕ → Key → Delivery → Line

@@ -13,7 +13,7 @@ use Rattle.node_core.specs.Heard.{ports_of}
 use Rattle.node_core.specs.Shapes.{shape_extent}
 use Rattle.node_core.specs.Steps.{got, is_bad_at, on_port, bad_on_port, held_at}
 use Rattle.node_core.specs.Types.{HasTypes}
-use Rattle.node_core.specs.declared.line.Line.{Line}
+use Rattle.report_lines.specs.declared.line.Line.{Line}
 
 -- its sessions are those of its plan's ports after these frames, the newest first, and its ports have the plan's types
 pub record StandsAt (node : Node) (log : List KeyedFrame) : Type 0 where

@@ -15,9 +15,9 @@ pub use Rattle.node_core.specs.Received.{rx_line, of_delivery, anonymous_line, r
 use Rattle.node_core.specs.Sending.{beat, registers_behind, reply_on, request_of}
 use Rattle.node_core.specs.declared.file_reply.FileReply.{FileReply}
 use Rattle.node_core.specs.declared.file_reply.FileReply.TheVariants.{NoFile}
-use Rattle.node_core.specs.declared.line.Line.{Line}
-use Rattle.node_core.specs.declared.line.Line.TheVariants.{Rx, NoSession, Tx, Full}
-use Rattle.node_core.specs.declared.numbers.Numbers.{Numbers}
+use Rattle.report_lines.specs.declared.line.Line.{Line}
+use Rattle.report_lines.specs.declared.line.Line.TheVariants.{Rx, NoSession, Tx, Full}
+use Rattle.report_lines.specs.declared.numbers.Numbers.{Numbers}
 use Rattle.node_core.specs.declared.request.Request.{Request}
 use Rattle.std_types.specs.declared.registers.Register.{Register}
 

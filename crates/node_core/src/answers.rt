@@ -17,12 +17,12 @@ use crate::question::Question;
 use cy_bits::{Bytes, NoMemory};
 use dsdl_types::laws::readings_stored;
 use file_service::ListDone;
-use serdes::laws::{extent_has_room, fits_or_misfit};
-use serdes::{WriteError, write_as};
 use std::alloc::Global;
 use std_types::file::FileListReply;
 use std_types::register::{AccessRequest, ListReply, ListRequest};
 use std_types::{Standard, StdName, std_type};
+use wire_values::laws::{extent_has_room, fits_or_misfit};
+use wire_values::{WriteError, write_as};
 
 /// The most bytes of a reply's payload.
 pub(crate) const MAX_REPLY: usize = 512;

@@ -1,10 +1,10 @@
 ghost use Rattle.std.specs.Prelude.{◌≡◌, ◌≤◌, true};
 ghost use Rattle.node_core.specs.Queues.{is_frame_size};
 
-use crate::line::FullLine;
 use crate::transfer::Transfer;
 use cy_bits::NoMemory;
 use node_plan::BusPlan;
+use report_lines::FullLine;
 use std::alloc::Global;
 use tx_queue::TxQueue;
 
@@ -29,7 +29,7 @@ impl BusQueue {
     ghost use Rattle.node_core.specs.Steps.{empty_queue};
     ghost use Rattle.node_core.specs.Transfers.{sends_of};
     ghost use Rattle.node_plan.specs.IsPlan.{IsMtu};
-    ghost use Rattle.node_core.specs.declared.line.Line.TheVariants.{Full};
+    ghost use Rattle.report_lines.specs.declared.line.Line.TheVariants.{Full};
 
     /// Nothing waits on a bus, where so many frames may. Takes the memory for these.
     pub(crate) fn new(alloc: Global, bus: &BusPlan, places: u32) -> Result<BusQueue, NoMemory>

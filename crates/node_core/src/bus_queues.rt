@@ -6,13 +6,13 @@ ghost use Rattle.node_core.specs.Buses.{queue_of};
 ghost use Rattle.node_core.specs.Queues.{fulls_from, push, waiting};
 ghost use Rattle.node_core.specs.Steps.{empty_queue};
 ghost use Rattle.node_core.specs.Transfers.{sends_of};
-ghost use Rattle.node_core.specs.declared.line.Line.TheVariants.{Full};
+ghost use Rattle.report_lines.specs.declared.line.Line.TheVariants.{Full};
 
 use crate::bus_queue::BusQueue;
-use crate::line::FullLine;
 use crate::transfer::Transfer;
 use cy_bits::{NoMemory, ShortList};
 use node_plan::Plan;
+use report_lines::FullLine;
 use std::alloc::Global;
 use tx_queue::OutFrame;
 

@@ -7,14 +7,13 @@ ghost use Rattle.rx_session.specs.Session.{Delivered};
 ghost use Rattle.rx_table.specs.Table.{fed_answer};
 ghost use Rattle.node_core.specs.Quick.{IsUntyped};
 ghost use Rattle.node_core.specs.Steps.{refused_line};
-ghost use Rattle.node_core.specs.Told.{owned, outcome_lines, answer_lines, answer_is_bad, told_lines};
+ghost use Rattle.node_core.specs.Told.{outcome_lines, answer_lines, answer_is_bad};
+ghost use Rattle.report_lines.specs.Lent.{owned, told_lines};
 ghost use Rattle.node_core.specs.Types.{type_at};
 
-use crate::compiled_shape::CompiledShape;
-use crate::line::Refused;
-use crate::line_ref::{LineRef, RxRef};
 use crate::port_shape::PortShape;
 use can_id::Key;
+use report_lines::{CompiledShape, LineRef, Refused, RxRef};
 use rx_session::{Delivery, Outcome};
 use rx_table::{Fed, Table};
 use tail_frame::Frame;

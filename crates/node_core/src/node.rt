@@ -1,4 +1,4 @@
-ghost use Rattle.std.specs.Prelude.{◌≡◌, ◌<◌, ◌≤◌};
+ghost use Rattle.std.specs.Prelude.{◌≡◌, ◌+◌, ◌<◌, ◌≤◌};
 ghost use Rattle.node_status.specs.Status.{info_payload};
 ghost use Rattle.register_service.specs.Within.{limits_of};
 ghost use Rattle.node_core.specs.InTime.{IsInTime, IsInTime-prop};
@@ -7,8 +7,6 @@ use crate::bus_queues::BusQueues;
 use crate::came::{Came, Heard};
 use crate::fed::{is_bad, line_on};
 use crate::heard::subject_in;
-use crate::line::Line;
-use crate::line_ref::LineRef;
 use crate::port_shape::PortShape;
 use crate::ports::table_of;
 use crate::pushes::push_told;
@@ -19,6 +17,7 @@ use cy_outside::Tree;
 use node_plan::Plan;
 use node_status::info_payload;
 use register_service::Limited;
+use report_lines::{Line, LineRef};
 use rx_table::{Met, Table, frame_for};
 use std::alloc::Global;
 use tail_frame::{Frame, Record};
@@ -67,6 +66,7 @@ impl Node {
     ghost use Rattle.node_plan.specs.IsPlan.{IsPlan};
     ghost use Rattle.std.specs.Bool.{OnTrue};
     ghost use Rattle.rx_table.specs.Views.{subscriptions};
+    ghost use Rattle.report_lines.specs.declared.line.Line.{Line as LineOf};
     ghost use Rattle.node_core.specs.Heard.{IsElsewhere};
     ghost use Rattle.node_core.specs.Shapes.{port_schema};
     ghost use Rattle.node_core.specs.Came.{answer_in, heard_is_bad, came_lines, came_request};
@@ -74,12 +74,12 @@ impl Node {
     ghost use Rattle.node_core.specs.Keeps.{DidStep, HasQueues, keeps};
     ghost use Rattle.node_core.specs.Sending.{IsRequestTo};
     ghost use Rattle.node_core.specs.Steps.{kept};
-    ghost use Rattle.node_core.specs.declared.line.Line.{Line as LineOf};
     ghost use Rattle.node_core.specs.Stands.{Stands, Takes, StandsAsBefore, Gives, TellsBadCrc};
     ghost use Rattle.node_core.specs.Stands.{TakesFrame, TakesOrNot, KeepsSessions, FrameGives};
     ghost use Rattle.node_core.specs.Stands.{FrameTellsBadCrc};
     ghost use Rattle.node_core.specs.Stands.{Holds, IsWithinBound};
-    ghost use Rattle.node_core.specs.Told.{answer_is_bad, told_lines};
+    ghost use Rattle.node_core.specs.Told.{answer_is_bad};
+    ghost use Rattle.report_lines.specs.Lent.{told_lines};
 
     /// A node that runs by a plan of `read_plan`. It has heard nothing.
     pub fn open(alloc: Global, plan: Plan) -> Result<Node, NoMemory>
@@ -111,6 +111,9 @@ impl Node {
     /// for what is asked of registers and files; where it is wanting, the lines and the frames that
     /// wait are left as they were, and the node, which may have taken the record, keeps its ports
     /// and its bound.
+    ///
+    /// The short form of `step`, `told`, `request`, `serve` and `reply`, for a caller that keeps
+    /// the lines; a run calls these.
     pub fn frame<T: Tree>(
         &mut self,
         rec: &Record,
@@ -133,6 +136,7 @@ impl Node {
         ensures cause { IfOk result (λ step.
             TellsFault step.failed (T.faults tree.old) (T.faults tree.new)) }
         ensures count { T.faults tree.old ≤ T.faults tree.new }
+        ensures calls { T.calls tree.new ≤ T.calls tree.old + 1 }
     {
         let came = self.step(rec)?;
         let told = self.told(rec, came);

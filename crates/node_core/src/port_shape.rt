@@ -2,9 +2,9 @@ ghost use Rattle.std.specs.Prelude.{◌≡◌, option_map};
 ghost use Rattle.dsdl_types.specs.Views.{sch};
 ghost use Rattle.node_core.specs.Shapes.{port_schema, port_type};
 
-use crate::compiled_shape::CompiledShape;
 use crate::raw_shape::RawShape;
 use dsdl_types::{Schema, Shape};
+use report_lines::CompiledShape;
 
 /// What the payloads of a port are.
 #[derive(Drop)]

@@ -10,13 +10,13 @@ ghost use Rattle.node_core.specs.Types.{schema_by};
 ghost use Rattle.rx_table.specs.Ports.{port_at};
 ghost use Rattle.rx_table.specs.Views.{subscriptions};
 
-use crate::compiled_shape::CompiledShape;
 use crate::port_shape::PortShape;
 use crate::raw_shape::RawShape;
 use can_id::Kind;
 use cy_bits::{NoMemory, TryCopy};
 use node_plan::laws::ports_are_fit;
 use node_plan::{Plan, Service, SubShape};
+use report_lines::CompiledShape;
 use rx_table::{SubscribeError, Table};
 use std::alloc::Global;
 use std_types::std_type;

@@ -1,11 +1,10 @@
 //! Lines that are put behind others.
 ghost use Rattle.std.specs.Prelude.{◌≡◌, ◌≤◌, ◌+◌, ◌++◌, IfOk, OnOk, OnErr, map, vec_capacity, vec_len};
-ghost use Rattle.node_core.specs.Told.{told_lines};
-ghost use Rattle.node_core.specs.declared.line.Line.TheVariants.{Full};
+ghost use Rattle.report_lines.specs.Lent.{told_lines};
+ghost use Rattle.report_lines.specs.declared.line.Line.TheVariants.{Full};
 
-use crate::line::{FullLine, Line};
-use crate::line_ref::LineRef;
 use cy_bits::{List, NoMemory, ShortList};
+use report_lines::{FullLine, Line, LineRef};
 use std::alloc::Global;
 use std::mem::replace;
 

@@ -2,15 +2,15 @@
 ghost use Rattle.std.specs.Prelude.{◌≡◌, IfOk, option_map};
 ghost use Rattle.std.specs.Option.{ForSome};
 ghost use Rattle.node_core.specs.Questions.{FitsQuestion, question_in};
-ghost use Rattle.serdes.specs.Payloads.{payload_value};
+ghost use Rattle.wire_values.specs.Payloads.{payload_value};
 ghost use Rattle.std_types.specs.Types.{schema_of};
 
 use cy_bits::NoMemory;
-use serdes::payload_value;
 use std::alloc::Global;
 use std_types::file::{FileListRequest, InfoRequest, ReadRequest};
 use std_types::register::{AccessRequest, ListRequest};
 use std_types::{Standard, StdName, std_type};
+use wire_values::payload_value;
 
 /// The service-ID of requests for information on a node.
 const GET_INFO: u16 = 430;

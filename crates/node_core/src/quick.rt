@@ -12,13 +12,14 @@ ghost use Rattle.node_core.specs.Quick.{AsksNothing, IsLead, IsPlaced, IsUntyped
 ghost use Rattle.node_core.specs.Quick.{quick_is_bad, quick_lines, quick_met};
 ghost use Rattle.node_core.specs.Stands.{FrameGives, FrameTellsBadCrc, Gives, KeepsSessions};
 ghost use Rattle.node_core.specs.Stands.{StandsAsBefore, Takes, TakesFrame, TellsBadCrc};
-ghost use Rattle.node_core.specs.Told.{answer_is_bad, told_lines};
+ghost use Rattle.node_core.specs.Told.{answer_is_bad};
+ghost use Rattle.report_lines.specs.Lent.{told_lines};
 ghost use Rattle.node_core.specs.Types.{type_at};
 
 use crate::fed::{line_on, untyped_line};
 use crate::heard::subject_in;
-use crate::line_ref::LineRef;
 use crate::node::Node;
+use report_lines::LineRef;
 use rx_session::Step;
 use rx_table::{Met, PortMet, frame_for};
 use tail_frame::{Frame, Record};

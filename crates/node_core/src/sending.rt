@@ -1,5 +1,5 @@
 //! What a node sends.
-ghost use Rattle.std.specs.Prelude.{◌≡◌, ◌<◌, ◌≤◌, IfOk, OnErr, OnOk, Some, length, map};
+ghost use Rattle.std.specs.Prelude.{◌≡◌, ◌+◌, ◌<◌, ◌≤◌, IfOk, OnErr, OnOk, Some, length, map};
 ghost use Rattle.std.specs.Option.{ForSome};
 ghost use Rattle.file_service.specs.Causes.{TellsFault};
 ghost use Rattle.node_core.specs.Files.{FitsFileReply};
@@ -8,11 +8,10 @@ ghost use Rattle.node_core.specs.Pops.{Pops, queue_at};
 ghost use Rattle.node_core.specs.Queues.{fulls, waiting};
 ghost use Rattle.node_core.specs.Sending.{IsRequestTo, beat};
 ghost use Rattle.node_core.specs.Stands.{StandsAsBefore};
-ghost use Rattle.node_core.specs.declared.line.Line.TheVariants.{Full};
+ghost use Rattle.report_lines.specs.declared.line.Line.TheVariants.{Full};
 
 use crate::answers::MAX_REPLY;
 use crate::file_reply::FileReply;
-use crate::line::{FullLine, Line};
 use crate::node::Node;
 use crate::pushes::{put_fulls, take_with_room};
 use crate::request::Request;
@@ -20,6 +19,7 @@ use crate::transfer::{HEARTBEAT, Transfer, beat_ident};
 use cy_bits::{List, NoMemory, ShortList};
 use cy_outside::Tree;
 use node_status::heartbeat_payload;
+use report_lines::{FullLine, Line};
 use tx_queue::OutFrame;
 
 impl Node {
@@ -85,6 +85,7 @@ impl Node {
         ensures cause { IfOk result (λ failed.
             TellsFault failed (T.faults tree.old) (T.faults tree.new)) }
         ensures count { T.faults tree.old ≤ T.faults tree.new }
+        ensures calls { T.calls tree.new ≤ T.calls tree.old + 1 }
     {
         let Some(request) = request else {
             return Ok(false);

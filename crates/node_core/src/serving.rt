@@ -1,5 +1,5 @@
 //! What a node asks its tree for a request.
-ghost use Rattle.std.specs.Prelude.{◌≡◌, ◌≤◌, ◌<◌, IfOk, OnErr, Some};
+ghost use Rattle.std.specs.Prelude.{◌≡◌, ◌+◌, ◌≤◌, ◌<◌, IfOk, OnErr, Some};
 ghost use Rattle.file_service.specs.Causes.{IsKnown, TellsFault};
 ghost use Rattle.file_service.specs.Paths.{place_of};
 ghost use Rattle.file_service.specs.Replies.{read_of};
@@ -34,6 +34,7 @@ impl Node {
             → tree.new ≡ tree.old }
         ensures memory { OnErr result (T.faults tree.new ≡ T.faults tree.old) }
         ensures count { T.faults tree.old ≤ T.faults tree.new }
+        ensures calls { T.calls tree.new ≤ T.calls tree.old + 1 }
     {
         let served = Served { root: self.root() };
         match &request.question {
@@ -80,6 +81,7 @@ fn bytes_of<T: Tree>(
         → tree.new ≡ tree.old }
     ensures memory { OnErr result (T.faults tree.new ≡ T.faults tree.old) }
     ensures count { T.faults tree.old ≤ T.faults tree.new }
+    ensures calls { T.calls tree.new ≤ T.calls tree.old + 1 }
 {
     let mut buf = [0; 256];
     let done = served.read(alloc, tree, asked.path.as_slice(), asked.offset, &mut buf)?;

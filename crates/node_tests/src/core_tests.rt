@@ -8,10 +8,9 @@ use dsdl_types::laws::shape_laws;
 use dsdl_types::{Schema, Shape};
 use frag::Frames;
 use line_text::TextBuffer;
-use node_core::{
-    FullLine, LineRef, LineWriter, Node, Numbers, PortShape, RawShape, Refused, RxRef, TxRef,
-};
+use node_core::{FullLine, LineRef, Node, Numbers, PortShape, RawShape, Refused, RxRef, TxRef};
 use node_plan::{BusPlan, read_plan};
+use text_lines::LineWriter;
 
 /// The buses `can0` and `can1`.
 fn two_buses() -> ShortList<BusPlan, 3> {

@@ -4,10 +4,11 @@ use crate::sending_tests::{leave, plan_in};
 use cy_bits::{List, NoMemory};
 use cy_outside::{File, MemTree};
 use line_text::TextBuffer;
-use node_core::{LineWriter, Node};
+use node_core::Node;
 use std::alloc::Global;
 use std::process::Abort;
 use std::str::from_utf8;
+use text_lines::LineWriter;
 
 /// A plan of node 42 that serves a folder.
 const SERVES: &str = "plan 1\nnode 42\nbus can0\nsilent\nserve srv\n";

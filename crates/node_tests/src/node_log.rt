@@ -5,12 +5,13 @@ use cy_bits::{List, NoMemory};
 use cy_outside::MemTree;
 use dsdl_types::Namespace;
 use line_text::TextBuffer;
-use node_core::{KeptLines, LineSink, LineWriter, NoLines, Node};
+use node_core::{KeptLines, LineSink, NoLines, Node};
 use node_plan::read_plan;
 use std::alloc::Global;
 use std::process::Abort;
 use std::str::from_utf8;
 use tail_frame::{FrameData, Record};
+use text_lines::LineWriter;
 
 /// A frame of a log: its moment, its bus, its identifier and its data.
 pub type Logged<'a> = (u64, u8, u32, &'a [u8]);

@@ -5,12 +5,13 @@ ghost use Rattle.node_plan.specs.IsPlan.{IsPlan};
 use crate::node_log::{no_files, no_types, record};
 use cy_bits::{List, NoMemory, ShortList};
 use line_text::TextBuffer;
-use node_core::{FileReply, FullLine, LineRef, LineWriter, Node, TxRef};
+use node_core::{FileReply, FullLine, LineRef, Node, TxRef};
 use node_plan::{Plan, read_plan};
 use std::alloc::Global;
 use std::process::Abort;
 use std::str::from_utf8;
 use tail_frame::Record;
+use text_lines::LineWriter;
 
 /// A plan of node 42 with a register of numbers from 0 to 100.
 const REGISTERS: &str =

@@ -16,14 +16,14 @@ use Rattle.line_text.specs.Text.{digit, six_digits, moment_text, ident_text}
 use Rattle.node_plan.specs.declared.plan.BusPlan.{BusPlan}
 use Rattle.node_plan.specs.declared.plan.Plan.{Plan}
 use Rattle.node_plan.specs.Names.{is_name_byte}
-use Rattle.node_core.specs.declared.line.Line.{Line}
-use Rattle.node_core.specs.declared.line.FullLine.{FullLine}
-use Rattle.node_core.specs.declared.line.Line.TheVariants.{Rx, NoSession, Tx, Full}
-use Rattle.node_core.specs.declared.line.Refused.{Refused}
-use Rattle.node_core.specs.declared.line.Rx.{Rx as Received}
-use Rattle.node_core.specs.declared.line.Tx.{Tx as SentFrame}
-use Rattle.node_core.specs.Readings.{reading_of}
-use Rattle.node_core.specs.Text.{name_of, bus_text, kind_text, source_text, payload_text, reading_text, front_words, words_of, line_text, text}
+use Rattle.report_lines.specs.declared.line.Line.{Line}
+use Rattle.report_lines.specs.declared.line.FullLine.{FullLine}
+use Rattle.report_lines.specs.declared.line.Line.TheVariants.{Rx, NoSession, Tx, Full}
+use Rattle.report_lines.specs.declared.line.Refused.{Refused}
+use Rattle.report_lines.specs.declared.line.Rx.{Rx as Received}
+use Rattle.report_lines.specs.declared.line.Tx.{Tx as SentFrame}
+use Rattle.report_lines.specs.Readings.{reading_of}
+use Rattle.text_lines.specs.Text.{name_of, bus_text, kind_text, source_text, payload_text, reading_text, front_words, words_of, line_text, text}
 use Rattle.node_core.specs.Types.{type_on}
 use Rattle.session_lines.specs.OneReport.{AreNamed, IsKey, IsReceived, IsRefused, IsSentFrame, IsFullBus, IsLineOn, AreLinesOn, TextTellsLines}
 use Rattle.session_lines.proofs.Cuts.{unlike, Free, cut, free_append, IsEnd, AreWords, one_line, one_front, decimal_word, decimal_pointless, decimal_no_hyphen}

@@ -21,7 +21,7 @@ use Rattle.rx_table.specs.Ports.{Port, port_at, is_admitted}
 use Rattle.rx_table.specs.Received.{Delivery, received}
 use Rattle.rx_table.specs.Steps.{add, delivery_at}
 use Rattle.node_plan.specs.declared.plan.Plan.{Plan}
-use Rattle.node_core.specs.declared.line.Line.{Line}
+use Rattle.report_lines.specs.declared.line.Line.{Line}
 use Rattle.rx_table.specs.Table.{keyed, log_with, port_on}
 use Rattle.rx_table.specs.Heard.{frame_for, with_frame, frames}
 use Rattle.node_core.specs.Heard.{ports_of}

@@ -17,7 +17,7 @@ use Rattle.node_plan.specs.declared.plan.Plan.{Plan}
 use Rattle.node_core.specs.Heard.{ports_of}
 use Rattle.node_core.specs.Received.{rx_line, of_delivery, anonymous_line, refused_line, of_session, of_source, on_port, of_frame}
 use Rattle.node_core.specs.Steps.{Step, Heard, Tick, records, kept, received_at, node_lines, lines, lines_at, emptying}
-use Rattle.node_core.specs.declared.line.Line.{Line}
+use Rattle.report_lines.specs.declared.line.Line.{Line}
 use Rattle.session_lines.specs.Readings.{HasReading, LinesHaveReadings}
 use Rattle.session_lines.proofs.Sending.{sending_reads, full_lines, tx_lines, emptying_sends}
 

@@ -7,8 +7,8 @@ use Rattle.rx_table.specs.Keys.{SessionKey}
 use Rattle.node_plan.specs.declared.plan.Plan.{Plan}
 use Rattle.node_core.specs.Queues.{Sends, Queue, takes, needs, room, full_line, fulls, fulls_from, leave, tx_line, bus_lines, leaving, leaving_from, drained, rounds, waiting}
 use Rattle.node_core.specs.Steps.{Step, moment_of, kept, pushed, sends, received_at, node_lines, lines, lines_at, emptying}
-use Rattle.node_core.specs.declared.line.Line.{Line}
-use Rattle.node_core.specs.declared.line.Line.TheVariants.{Rx, NoSession, Tx, Full}
+use Rattle.report_lines.specs.declared.line.Line.{Line}
+use Rattle.report_lines.specs.declared.line.Line.TheVariants.{Rx, NoSession, Tx, Full}
 use Rattle.session_lines.specs.Readings.{HasReading}
 use Rattle.session_lines.specs.Reported.{of_line, rxs, EmptyingIsQuiet, StepsReportAll}
 

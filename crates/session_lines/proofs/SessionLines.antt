@@ -5,9 +5,9 @@ use Rattle.std.proofs.lemmas.Bool.{cond-true, cond-false, cond_both, cases_Bool}
 use Rattle.std.proofs.lemmas.List.Elements.{All-nil, All-cons, All-contains, Contains-append_right, Contains-append_left, Contains-push}
 use Rattle.rx_table.specs.Keys.{SessionKey}
 use Rattle.once.specs.Report.{Rx as RxOf, EachRx, AnyRx}
-use Rattle.node_core.specs.declared.line.Line.{Line}
-use Rattle.node_core.specs.declared.line.Line.TheVariants.{Rx, NoSession, Tx, Full}
-use Rattle.node_core.specs.declared.line.Rx.{Rx as Received}
+use Rattle.report_lines.specs.declared.line.Line.{Line}
+use Rattle.report_lines.specs.declared.line.Line.TheVariants.{Rx, NoSession, Tx, Full}
+use Rattle.report_lines.specs.declared.line.Rx.{Rx as Received}
 use Rattle.session_lines.specs.Reported.{is_key, without_key, rxs}
 use Rattle.session_lines.specs.Values.{IsLineOf}
 

@@ -19,12 +19,12 @@ use Rattle.once.specs.Report.{AnyRx, EachRx, IsSentRx, OnceInReport, DueInReport
 use Rattle.node_plan.specs.IsPlan.{IsShape}
 use Rattle.node_plan.specs.Ports.{ports}
 use Rattle.node_plan.specs.declared.plan.Plan.{Plan}
-use Rattle.node_core.specs.Readings.{reading_of}
+use Rattle.report_lines.specs.Readings.{reading_of}
 use Rattle.node_core.specs.Steps.{lines, all_lines, emptying, records}
 use Rattle.node_core.specs.Types.{type_on}
-use Rattle.node_core.specs.declared.line.Line.{Line}
-use Rattle.node_core.specs.declared.line.Line.TheVariants.{Rx}
-use Rattle.node_core.specs.declared.line.Rx.{Rx as Received}
+use Rattle.report_lines.specs.declared.line.Line.{Line}
+use Rattle.report_lines.specs.declared.line.Line.TheVariants.{Rx}
+use Rattle.report_lines.specs.declared.line.Rx.{Rx as Received}
 use Rattle.session_lines.specs.Readings.{HasReading, LinesHaveReadings}
 use Rattle.session_lines.specs.Reported.{Reported, StepsReportAll, is_key, is_source, of_key, rxs, without_key}
 use Rattle.session_lines.specs.Values.{SaysValue, type_of, ValuesInReport, DueValuesInReport}

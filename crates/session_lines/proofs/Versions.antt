@@ -12,7 +12,7 @@ use Rattle.dsdl_types.specs.Sound.{IsSound}
 use Rattle.dsdl_types.specs.Values.{Val}
 use Rattle.dsdl_types.proofs.Evolving.{cut_zeros}
 use Rattle.rx_session.specs.Extents.{bytes_of}
-use Rattle.node_core.specs.Readings.{of_read, reading_of}
+use Rattle.report_lines.specs.Readings.{of_read, reading_of}
 use Rattle.session_lines.specs.Values.{AreVersions, same, newer, older, as_received, SaysValue}
 
 same_extent : (new old : Sch) → Newer new old → extent_of new ≡ extent_of old

@@ -6,13 +6,13 @@ use Rattle.can_id.specs.declared.key.Key.{Key}
 use Rattle.node_plan.specs.declared.plan.BusPlan.{BusPlan}
 use Rattle.node_plan.specs.declared.plan.Plan.{Plan}
 use Rattle.node_plan.specs.Names.{is_bus_name}
-use Rattle.node_core.specs.declared.line.Line.{Line}
-use Rattle.node_core.specs.declared.line.Line.TheVariants.{Rx, NoSession, Tx, Full}
-use Rattle.node_core.specs.declared.line.Rx.{Rx as Received}
-use Rattle.node_core.specs.declared.line.Refused.{Refused}
-use Rattle.node_core.specs.declared.line.Tx.{Tx as SentFrame}
-use Rattle.node_core.specs.declared.line.FullLine.{FullLine}
-use Rattle.node_core.specs.Text.{text}
+use Rattle.report_lines.specs.declared.line.Line.{Line}
+use Rattle.report_lines.specs.declared.line.Line.TheVariants.{Rx, NoSession, Tx, Full}
+use Rattle.report_lines.specs.declared.line.Rx.{Rx as Received}
+use Rattle.report_lines.specs.declared.line.Refused.{Refused}
+use Rattle.report_lines.specs.declared.line.Tx.{Tx as SentFrame}
+use Rattle.report_lines.specs.declared.line.FullLine.{FullLine}
+use Rattle.text_lines.specs.Text.{text}
 use Rattle.session_lines.specs.Readings.{HasReading}
 
 -- buses with names of letters, digits and `_`, of which no two are the same

@@ -1,9 +1,9 @@
 -- What the lines of a report say of payloads.
 use Rattle.std.specs.Prelude.{◌≡◌, List, All, ⊤}
 use Rattle.node_plan.specs.declared.plan.Plan.{Plan}
-use Rattle.node_core.specs.declared.line.Line.{Line}
-use Rattle.node_core.specs.declared.line.Line.TheVariants.{Rx, NoSession, Tx, Full}
-use Rattle.node_core.specs.Readings.{reading_of}
+use Rattle.report_lines.specs.declared.line.Line.{Line}
+use Rattle.report_lines.specs.declared.line.Line.TheVariants.{Rx, NoSession, Tx, Full}
+use Rattle.report_lines.specs.Readings.{reading_of}
 use Rattle.node_core.specs.Steps.{Step, all_lines}
 use Rattle.node_core.specs.Types.{type_on}
 

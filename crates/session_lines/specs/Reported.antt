@@ -8,9 +8,9 @@ use Rattle.rx_table.specs.Keys.{SessionKey, KeyedFrame, same_kind, history}
 use Rattle.rx_table.specs.Ports.{Port, port_at}
 use Rattle.once.specs.Report.{Rx as RxOf, reported}
 use Rattle.node_plan.specs.declared.plan.Plan.{Plan}
-use Rattle.node_core.specs.declared.line.Line.{Line}
-use Rattle.node_core.specs.declared.line.Line.TheVariants.{Rx, NoSession, Tx, Full}
-use Rattle.node_core.specs.declared.line.Rx.{Rx as RxLine}
+use Rattle.report_lines.specs.declared.line.Line.{Line}
+use Rattle.report_lines.specs.declared.line.Line.TheVariants.{Rx, NoSession, Tx, Full}
+use Rattle.report_lines.specs.declared.line.Rx.{Rx as RxLine}
 use Rattle.rx_table.specs.Heard.{frames}
 use Rattle.node_core.specs.Heard.{ports_of}
 use Rattle.node_core.specs.Steps.{Step, records, lines, emptying, all_lines}

@@ -24,11 +24,11 @@ use Rattle.node_plan.specs.IsPlan.{TypesKeepRules}
 use Rattle.node_plan.specs.declared.plan.Plan.{Plan}
 use Rattle.node_core.specs.Steps.{Step, lines, all_lines, records}
 use Rattle.node_core.specs.Types.{type_on}
-use Rattle.node_core.specs.declared.line.Line.{Line}
-use Rattle.node_core.specs.declared.line.Line.TheVariants.{Rx}
-use Rattle.node_core.specs.declared.line.Reading.{Reading}
-use Rattle.node_core.specs.declared.line.Reading.TheVariants.{Good}
-use Rattle.node_core.specs.declared.line.Rx.{Rx as Received}
+use Rattle.report_lines.specs.declared.line.Line.{Line}
+use Rattle.report_lines.specs.declared.line.Line.TheVariants.{Rx}
+use Rattle.report_lines.specs.declared.line.Reading.{Reading}
+use Rattle.report_lines.specs.declared.line.Reading.TheVariants.{Good}
+use Rattle.report_lines.specs.declared.line.Rx.{Rx as Received}
 use Rattle.session_lines.specs.Reported.{is_key, of_key, IsSession}
 
 -- how a sender's type stands to a port's: it is the same, or a newer or an older version of it

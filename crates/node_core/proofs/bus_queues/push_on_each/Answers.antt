@@ -4,7 +4,7 @@ use Rattle.node_core.specs.Buses.{queue_of}
 use Rattle.node_core.specs.Queues.{full_line, push}
 use Rattle.node_core.specs.Transfers.{sends_of}
 use Rattle.node_core.specs.declared.bus_queue.BusQueue.{BusQueue}
-use Rattle.node_core.specs.declared.line.Line.TheVariants.{Full}
+use Rattle.report_lines.specs.declared.line.Line.TheVariants.{Full}
 use Rattle.node_core.proofs.Queues.{at_most_one, pushed_more, told_more}
 use Rattle.node_core.proofs.bus_queues.push_on_each.Goals as goal
 

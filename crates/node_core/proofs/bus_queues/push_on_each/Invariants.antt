@@ -2,7 +2,7 @@ use Rattle.std.proofs.Common.{◌≡◌, ◌≤◌, ◌++◌, length, map, take,
 use Rattle.node_core.specs.Buses.{queue_of}
 use Rattle.node_core.specs.Queues.{fulls_from, push}
 use Rattle.node_core.specs.Transfers.{sends_of}
-use Rattle.node_core.specs.declared.line.Line.TheVariants.{Full}
+use Rattle.report_lines.specs.declared.line.Line.TheVariants.{Full}
 use Rattle.node_core.proofs.bus_queues.push_on_each.Given as goal
 
 abbrev pub invariant-loop-bus : goal.invariant-loop-bus

@@ -1,5 +1,5 @@
 use Rattle.std.proofs.Common.{◌≡◌, ◌≤◌, ◌+◌, ◌++◌, map, take, vec_len, vec_capacity}
-use Rattle.node_core.specs.declared.line.Line.TheVariants.{Full}
+use Rattle.report_lines.specs.declared.line.Line.TheVariants.{Full}
 use Rattle.node_core.proofs.pushes.put_fulls.Given as goal
 
 abbrev pub invariant-loop-full : goal.invariant-loop-full

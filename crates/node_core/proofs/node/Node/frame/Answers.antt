@@ -2,7 +2,7 @@ use Rattle.std.proofs.Common.{◌≡◌, ◌∙◌, ◌∷◌, inl, inr, length,
 use Rattle.std.proofs.Math.Seq.{take-length}
 use Rattle.node_core.specs.Stands.{TakesOrNot}
 use Rattle.node_core.specs.Steps.{Kept}
-use Rattle.node_core.specs.Told.{told_lines}
+use Rattle.report_lines.specs.Lent.{told_lines}
 use Rattle.node_core.proofs.Frames.{cut_again, did_step, in_front}
 use Rattle.node_core.proofs.Places.{kept_stay}
 use Rattle.node_core.proofs.Steps.{on_err}

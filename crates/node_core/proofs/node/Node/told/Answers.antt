@@ -2,7 +2,8 @@ use Rattle.std.proofs.Common.{◌∙◌, ap, sym}
 use Rattle.can_id.specs.Identifiers.{key_of}
 use Rattle.tail_frame.specs.Frames.{FrameOf, seen}
 use Rattle.node_core.specs.Came.{heard_lines, came_lines, met_lines}
-use Rattle.node_core.specs.Told.{answer_lines, told_lines}
+use Rattle.node_core.specs.Told.{answer_lines}
+use Rattle.report_lines.specs.Lent.{told_lines}
 use Rattle.node_core.specs.Types.{type_at}
 use Rattle.node_core.proofs.node.Node.told.Goals as goal
 

@@ -1,5 +1,0 @@
-use Rattle.std.proofs.Common.{◌≡◌, take}
-use Rattle.json_lines.proofs.buses.copy_of.Given as goal
-
-abbrev pub invariant-loop-bus : goal.invariant-loop-bus
-invariant-loop-bus l = l.copied ≡ take l.bus-index l.bus-items

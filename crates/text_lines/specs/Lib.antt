@@ -1,0 +1,5 @@
+pub mod Puts
+pub mod Seconds
+pub mod Text
+pub mod Words
+pub mod Writer

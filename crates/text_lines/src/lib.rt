@@ -1,0 +1,12 @@
+//! The report of a run as text: the text of each line.
+#![tactic(auto)]
+
+mod bus_words;
+pub mod buses;
+pub mod line_writer;
+mod second;
+mod typed_text;
+pub mod word;
+mod words;
+
+pub use line_writer::LineWriter;

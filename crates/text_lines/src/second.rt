@@ -1,0 +1,76 @@
+//! The front of `rx` lines, which is the same for all in one second.
+ghost use Rattle.std.specs.Prelude.{◌≡◌, ◌%◌};
+ghost use Rattle.text_lines.specs.Seconds.{second_text};
+ghost use Rattle.text_lines.specs.Words.{word_text};
+
+use crate::word::Word;
+use line_text::TextBuffer;
+
+/// Microseconds in a second.
+const SECOND: u64 = 1_000_000;
+
+/// A second, and the front of the lines in it.
+#[derive(Drop)]
+pub struct Second {
+    /// When it began, in microseconds.
+    start: u64,
+    /// `rx`, a space, its number and a point.
+    front: Word,
+    ghost whole: { start % 1000000 ≡ 0 },
+    ghost front_is: { word_text front ≡ second_text start },
+}
+
+impl Second {
+    ghost use Rattle.std.specs.Prelude.{◌≤◌, ◌<◌, ◌+◌, ◌-◌, ◌++◌, codes};
+    ghost use Rattle.line_text.specs.Buffer.{room_of};
+    ghost use Rattle.line_text.specs.Text.{moment_text};
+    ghost use Rattle.text_lines.specs.Puts.{Puts};
+
+    /// The second in which a moment is.
+    pub fn of(moment: u64) -> Second
+        ensures from { result.start ≤ moment }
+        ensures upto { moment < result.start + 1000000 }
+    {
+        let mut front = Word::new();
+        front.push(b"rx ");
+        front.push_number(moment / SECOND);
+        front.push(b".");
+        Second {
+            start: moment - moment % SECOND,
+            front,
+        }
+    }
+
+    /// Puts `rx`, a space and a moment behind a text. It becomes the second of that moment.
+    #[inline(always)]
+    pub fn put(&mut self, text: &mut TextBuffer, moment: u64)
+        requires { 64 ≤ room_of text.old }
+        ensures text { Puts (codes "rx " ++ moment_text moment) text.old text.new }
+        ensures room { room_of text.old ≤ room_of text.new + 38 }
+    {
+        self.come_to(moment);
+        self.front.put(text);
+        text.put_six_digits((moment - self.start) as u32);
+    }
+
+    /// Becomes the second of a moment, where it isn't yet.
+    #[inline(always)]
+    fn come_to(&mut self, moment: u64)
+        ensures from { self.new.start ≤ moment }
+        ensures upto { moment < self.new.start + 1000000 }
+    {
+        if moment < self.start || moment - self.start >= SECOND {
+            self.move_to(moment);
+        }
+    }
+
+    /// Becomes the second of a moment.
+    #[cold]
+    #[inline(never)]
+    fn move_to(&mut self, moment: u64)
+        ensures from { self.new.start ≤ moment }
+        ensures upto { moment < self.new.start + 1000000 }
+    {
+        *self = Second::of(moment);
+    }
+}
