@@ -13,7 +13,7 @@ use Rattle.const_expr.specs.declared.constant.Const.TheVariants as c
 use Rattle.const_expr.specs.declared.constant.Const.TheOpen as o
 use Rattle.const_expr.specs.Constants.{Layer, kind, whole, natural, naturals, const_order, layer_order, has, is_within}
 use Rattle.const_expr.proofs.Layers.{number_layer}
-use Rattle.const_expr.proofs.OrderLemmas.{const_order_total}
+use Rattle.const_expr.specs.Order.{const_order_total}
 
 pub number_order : (x y : Fraction) → const_order (c.Number x) (c.Number y) ≡ order_of x y
 unfolding const_order

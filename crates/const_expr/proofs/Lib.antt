@@ -1,7 +1,8 @@
 pub mod Layers
 pub mod Keeps
-pub mod OrderLemmas
 pub mod SetLemmas
+pub mod SetChanges
+pub mod WithinLemmas
 pub mod Wholes
 pub mod CompareLemmas
 pub mod ResidueLemmas

@@ -8,7 +8,7 @@ use Rattle.std.proofs.lemmas.List.Kept.{AllPairs-cons, AllPairs-filter}
 use Rattle.std.proofs.lemmas.List.Elements.{All-cons, All-nil, All-tail}
 use Rattle.const_expr.specs.declared.constant.Const.{Const}
 use Rattle.const_expr.specs.Constants.{const_order, placed, with_one, with_all, IsAscending, has, IsPlace}
-use Rattle.const_expr.proofs.OrderLemmas.{const_order_total}
+use Rattle.const_expr.specs.Order.{const_order_total}
 
 -- a constant stands behind each member before place i
 abbrev pub IsBehind : List Const → Const → ℕ → Type 0
@@ -18,7 +18,7 @@ IsBehind xs x i = (k : ℕ) (d : Const) → k < i → const_order x (get_or xs k
 abbrev pub IsBefore : List Const → Const → ℕ → Type 0
 IsBefore xs x i = (k : ℕ) (d : Const) → i ≤ k → k < length xs → const_order x (get_or xs k d) ≡ Less
 
-reverse_at : (x y : Const) (r : Ordering) → const_order x y ≡ r → const_order y x ≡ ordering_reverse r
+pub reverse_at : (x y : Const) (r : Ordering) → const_order x y ≡ r → const_order y x ≡ ordering_reverse r
 reverse_at x y r e = const_order_total.antisymm y x ∙ ap ordering_reverse e
 
 no_member : (r : Ordering) (b : Bool) → r ≢ Equal → b ≡ false → (is_eq r || b) ≡ false
@@ -128,10 +128,10 @@ all_one P x (y ∷ ys) p ps = by_order (const_order x y) (all_one P x ys p (All-
     by_order Equal rest = ps
     by_order Greater rest = All-cons P y (with_one x ys) (ps 0 y (omega arith)) rest
 
-tail_ascends : (x : Const) (xs : List Const) → IsAscending (x ∷ xs) → IsAscending xs
+pub tail_ascends : (x : Const) (xs : List Const) → IsAscending (x ∷ xs) → IsAscending xs
 tail_ascends x xs asc i j d lt h = asc (suc i) (suc j) d (omega arith) (omega arith)
 
-head_below : (x : Const) (xs : List Const) → IsAscending (x ∷ xs) → All (λ y. const_order x y ≡ Less) xs
+pub head_below : (x : Const) (xs : List Const) → IsAscending (x ∷ xs) → All (λ y. const_order x y ≡ Less) xs
 head_below x xs asc = λ k d lt. asc 0 (suc k) d (omega arith) (omega arith)
 
 -- a set with one constant more ascends

@@ -1,6 +1,8 @@
 pub mod Refusals
 pub mod Constants
+pub mod Order
 pub mod Operators
+pub mod Operands
 pub mod Literal
 pub mod Compare
 pub mod Binary

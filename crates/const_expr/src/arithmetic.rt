@@ -1,4 +1,4 @@
-//! `+`, `-`, `*`, `/` and `%`.
+//! `+`, `-`, `*`, `/` and `%` (Cyphal Specification, section 3.3).
 ghost use Rattle.std.specs.Prelude.{◌≡◌, IfOk, OnOk};
 ghost use Rattle.const_expr.specs.declared.constant.Const.{out-Const};
 ghost use Rattle.const_expr.specs.Binary.{calculated, joined, on_each, on_members, on_number, on_numbers};

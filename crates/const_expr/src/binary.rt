@@ -1,10 +1,11 @@
-//! Operators between their operands.
+//! Operators between their operands (Cyphal Specification, section 3.3).
 ghost use Rattle.std.specs.Prelude.{◌≡◌, IfOk};
 ghost use Rattle.const_expr.specs.declared.constant.Const.{out-Const};
 ghost use Rattle.const_expr.specs.declared.operator.Arithmetic.TheVariants.{Rem};
 ghost use Rattle.const_expr.specs.declared.operator.Operator.TheVariants as operator;
-ghost use Rattle.const_expr.specs.Binary.{applied, binary, by_kinds, on_listed, on_power, on_truths, truth_of};
+ghost use Rattle.const_expr.specs.Binary.{applied, binary, by_kinds, listed, on_listed, on_power, on_truths, truth_of};
 ghost use Rattle.const_expr.specs.Constants.{IsConst};
+ghost use Rattle.const_expr.specs.Operands.{IsOperand, constant_of, worth};
 ghost use Rattle.const_expr.specs.Refusals.{Gives};
 
 use crate::arithmetic::arithmetic;
@@ -12,6 +13,7 @@ use crate::bits::bits;
 use crate::compare::compare;
 use crate::constant::Const;
 use crate::listed::listed;
+use crate::operand::{Operand, as_operand};
 use crate::operator::{Arithmetic, Logic, Operator};
 use crate::residues::{residues, small_divisor};
 use crate::whole::whole_of;
@@ -66,63 +68,85 @@ fn power(left: &Const, right: &Const) -> Result<Const, Why>
 }
 
 /// What an operator makes of two constants whose lengths are listed.
-fn by_kinds(alloc: Global, op: Operator, left: Const, right: Const) -> Result<Const, Why>
-    requires left { IsConst left }
+fn by_kinds(alloc: Global, op: Operator, left: Operand, right: Const) -> Result<Operand, Why>
+    requires left { IsOperand left }
     requires right { IsConst right }
-    ensures value { Gives result (by_kinds op (out-Const left) (out-Const right)) }
-    ensures kept { IfOk result IsConst }
+    ensures value { Gives (worth result) (by_kinds op (out-Const (constant_of left)) (out-Const right)) }
+    ensures kept { IfOk result IsOperand }
 {
     match op {
-        Operator::Logic(sign) => logic(sign, &left, &right),
-        Operator::Compare(relation) => compare(relation, &left, &right),
+        Operator::Logic(sign) => as_operand(logic(sign, &left.into_const(alloc)?, &right)),
+        Operator::Compare(relation) => {
+            as_operand(compare(relation, &left.into_const(alloc)?, &right))
+        }
         Operator::Bits(sign) => bits(alloc, sign, left, right),
-        Operator::Arithmetic(sign) => arithmetic(alloc, sign, left, &right),
-        Operator::Power => power(&left, &right),
+        Operator::Arithmetic(sign) => {
+            as_operand(arithmetic(alloc, sign, left.into_const(alloc)?, &right))
+        }
+        Operator::Power => as_operand(power(&left.into_const(alloc)?, &right)),
+    }
+}
+
+/// An operand with its lengths listed; Large where they are too many.
+fn listed_operand(alloc: Global, left: Operand) -> Result<Operand, Why>
+    requires { IsOperand left }
+    ensures value { Gives (worth result) (listed (constant_of left)) }
+    ensures kept { IfOk result IsOperand }
+{
+    match left {
+        Operand::Constant(constant) => as_operand(listed(alloc, constant)),
+        Operand::Members(set) => Ok(Operand::Members(set)),
     }
 }
 
 /// What an operator makes of two constants, whose lengths are listed first.
-fn on_listed(alloc: Global, op: Operator, left: Const, right: Const) -> Result<Const, Why>
-    requires left { IsConst left }
+fn on_listed(alloc: Global, op: Operator, left: Operand, right: Const) -> Result<Operand, Why>
+    requires left { IsOperand left }
     requires right { IsConst right }
-    ensures value { Gives result (on_listed op left right) }
-    ensures kept { IfOk result IsConst }
+    ensures value { Gives (worth result) (on_listed op (constant_of left) right) }
+    ensures kept { IfOk result IsOperand }
 {
-    let left = listed(alloc, left)?;
+    let left = listed_operand(alloc, left)?;
     let right = listed(alloc, right)?;
     by_kinds(alloc, op, left, right)
 }
 
 /// `%`: remainders of lengths by small divisors at any size, else those of what is listed.
 #[tactic(auto, using(crate::proofs::Layers::layers, crate::proofs::ResidueLemmas::residues_keep))]
-fn remainder(alloc: Global, left: Const, right: Const) -> Result<Const, Why>
+fn remainder(alloc: Global, left: Const, right: Const) -> Result<Operand, Why>
     requires left { IsConst left }
     requires right { IsConst right }
-    ensures value { Gives result (applied (operator.Arithmetic Rem) left right) }
-    ensures kept { IfOk result IsConst }
+    ensures value { Gives (worth result) (applied (operator.Arithmetic Rem) left right) }
+    ensures kept { IfOk result IsOperand }
 {
     if let Some(divisor) = small_divisor(&right) {
         if let Const::Lengths(lengths) = &left {
-            return Ok(Const::Set(residues(alloc, lengths, divisor)?));
+            let residues = residues(alloc, lengths, divisor)?;
+            return Ok(Operand::Constant(Const::Set(residues)));
         }
     }
-    on_listed(alloc, Operator::Arithmetic(Arithmetic::Rem), left, right)
+    let op = Operator::Arithmetic(Arithmetic::Rem);
+    on_listed(alloc, op, Operand::Constant(left), right)
 }
 
 /// What an operator makes of two constants. The left one is taken as it is and grown where the result holds it.
 #[tactic(auto, unfolding(crate::specs::Binary::binary))]
-pub fn binary(alloc: Global, op: &str, left: Const, right: Const) -> Result<Const, Why>
-    requires left { IsConst left }
+pub fn binary(alloc: Global, op: &str, left: Operand, right: Const) -> Result<Operand, Why>
+    requires left { IsOperand left }
     requires right { IsConst right }
-    ensures value { Gives result (binary op.now left right) }
-    ensures kept { IfOk result IsConst }
+    ensures value { Gives (worth result) (binary op.now (constant_of left) right) }
+    ensures kept { IfOk result IsOperand }
 {
     let Some(op) = Operator::from_text(op) else {
         return Err(Why::Kind);
     };
     match op {
-        Operator::Compare(relation) => compare(relation, &left, &right),
-        Operator::Arithmetic(Arithmetic::Rem) => remainder(alloc, left, right),
+        Operator::Compare(relation) => {
+            as_operand(compare(relation, &left.into_const(alloc)?, &right))
+        }
+        Operator::Arithmetic(Arithmetic::Rem) => {
+            remainder(alloc, left.into_const(alloc)?, right)
+        }
         Operator::Arithmetic(sign) => on_listed(alloc, Operator::Arithmetic(sign), left, right),
         Operator::Logic(_) | Operator::Bits(_) | Operator::Power => {
             on_listed(alloc, op, left, right)

@@ -1,4 +1,4 @@
-//! Comparing constants.
+//! Comparing constants (Cyphal Specification, section 3.3).
 ghost use Rattle.std.specs.Prelude.{◌≡◌, ℕ, ◌==◌, ◌≤◌, ◌^◌, ◌≢◌, pos, MatchOption, IfOk, Some};
 ghost use Rattle.std.specs.Ordering.{is_eq};
 ghost use Rattle.std.specs.declared.cmp.Ordering.TheVariants.{Equal};
@@ -11,7 +11,7 @@ ghost use Rattle.const_expr.specs.Constants.{IsAscending, IsConst, has, is_withi
 use crate::constant::Const;
 use crate::gathered::has;
 use crate::operator::Relation;
-use crate::order::kind;
+use crate::order::{kind, order};
 use crate::whole::natural;
 use crate::why::Why;
 use bit_length::LengthSet;
@@ -71,12 +71,28 @@ pub fn kind_in(set: &[Const]) -> u8
     }
 }
 
-/// Whether each member of one set is a member of the other.
+/// Whether each member of one set is a member of the other: a walk along both.
 fn set_in_set(xs: &[Const], ys: &[Const]) -> bool
-    requires { IsAscending ys.now }
+    requires left { IsAscending xs.now }
+    requires right { IsAscending ys.now }
     ensures { result ≡ is_within xs.now ys.now }
 {
-    xs.iter().all(|x| has(ys, x))
+    let mut place = 0;
+    let mut other = 0;
+    while place < xs.len() {
+        if other == ys.len() {
+            return false;
+        }
+        match order(&xs[place], &ys[other]) {
+            Ordering::Less => return false,
+            Ordering::Equal => {
+                place += 1;
+                other += 1;
+            }
+            Ordering::Greater => other += 1,
+        }
+    }
+    true
 }
 
 /// The length that a number is.

@@ -6,11 +6,11 @@ use cy_ratio::Ratio;
 use dsdl_names::TypeId;
 use std::alloc::Global;
 
-/// The constant that an expression is worth.
+/// The constant that an expression is worth (Cyphal Specification, section 3.3).
 #[derive(Drop)]
 #[cycle(constant)]
 pub enum Const {
-    /// A number, which is a fraction in lowest terms.
+    /// A number, which is a fraction in lowest terms (Cyphal Specification, section 3.3.1).
     Number(Ratio),
     /// A truth value.
     Truth(bool),

@@ -1,4 +1,4 @@
-//! Constants by their names.
+//! Constants by their names (Cyphal Specification, section 3.5).
 ghost use Rattle.std.specs.Prelude.{◌≡◌, ◌++◌, ◌∷◌, [], Ok, Err, IfSome, MatchOption, OnOk, OnErr};
 ghost use Rattle.const_expr.specs.Constants.{IsConst};
 ghost use Rattle.const_expr.specs.Member.{AreConstants, named_in};

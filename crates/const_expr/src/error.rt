@@ -1,8 +1,8 @@
 use cy_bits::Text;
 use dsdl_parse::Span;
 
-/// Why an expression is worth no constant. Each cause but want of memory has the place of the innermost
-/// expression whose own rule refuses it.
+/// Why an expression is worth no constant (Cyphal Specification, section 3.3). Each cause but want
+/// of memory has the place of the innermost expression whose own rule refuses it.
 #[derive(Drop)]
 pub enum ExprError {
     /// An operand is of a kind that the operator doesn't take.
@@ -10,7 +10,7 @@ pub enum ExprError {
         /// The place.
         span: Span,
     },
-    /// A number leaves the range that is computed with.
+    /// A number leaves the range that is computed with: fractions of two numbers of i128.
     Range {
         /// The place.
         span: Span,

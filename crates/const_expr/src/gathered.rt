@@ -1,12 +1,15 @@
 //! Sets of constants: ascending, each member once.
 ghost use Rattle.std.specs.Prelude.{◌≡◌, ◌<◌, ◌≤◌, length, IfOk, OnOk};
-ghost use Rattle.const_expr.specs.Constants.{IsAscending, IsPlace, has, with_one, with_all, gathered};
+ghost use Rattle.const_expr.specs.Binary.{without};
+ghost use Rattle.const_expr.specs.Constants.{IsAscending, IsPlace, has, with_all, gathered};
 
 use crate::constant::Const;
 use crate::order::order;
+use crate::ranked::Ranked;
 use cy_bits::{List, NoMemory};
 use std::alloc::Global;
 use std::cmp::Ordering;
+use std::collections::BTreeSet;
 
 /// The place at which a constant goes into a set, or nothing where it is a member.
 #[tactic(auto, using(crate::proofs::SetLemmas::before_less, crate::proofs::SetLemmas::behind_greater))]
@@ -35,37 +38,64 @@ pub fn has(set: &[Const], constant: &Const) -> bool
     place_in(set, constant).is_none()
 }
 
-/// Adds a constant to a set, unless it is a member.
-#[tactic(auto, using(crate::proofs::SetLemmas::one_ascends))]
-fn add(set: &mut Vec<Const>, constant: Const) -> Result<(), NoMemory>
-    requires { IsAscending set.old.items }
-    ensures added { OnOk result (set.new.items ≡ with_one constant set.old.items) }
+/// Adds constants to a set, those that are no members.
+#[tactic(auto, using(crate::proofs::SetChanges::inserted))]
+pub fn add_all(set: &mut BTreeSet<Ranked>, constants: List<Const>) -> Result<(), NoMemory>
+    ensures added { OnOk result (set.new.keys ≡ with_all set.old.keys constants) }
 {
-    if let Some(place) = place_in(set, &constant) {
-        set.insert(place, constant)?;
+    for constant in constants.into_vec() {
+        set.insert(Ranked { constant })?;
     }
     Ok(())
 }
 
-/// Adds constants to a set, those that are no members.
-#[tactic(auto, using(crate::proofs::SetLemmas::one_ascends))]
-pub fn add_all(set: &mut Vec<Const>, constants: List<Const>) -> Result<(), NoMemory>
-    requires { IsAscending set.old.items }
-    ensures added { OnOk result (set.new.items ≡ with_all set.old.items constants) }
+/// Takes constants out of a set, and gives those that are no members.
+pub fn take_out(
+    alloc: Global,
+    set: &mut BTreeSet<Ranked>,
+    constants: List<Const>,
+) -> Result<List<Const>, NoMemory>
+    requires set { IsAscending set.old.keys }
+    requires constants { IsAscending constants }
+    ensures left { OnOk result (set.new.keys ≡ without set.old.keys constants) }
+    ensures others { IfOk result (λ others. others ≡ without constants set.old.keys) }
 {
+    let mut others = List::empty(alloc);
     for constant in constants.into_vec() {
-        add(set, constant)?;
+        let member = Ranked { constant };
+        if !set.remove(&member) {
+            others.push(member.constant)?;
+        }
     }
-    Ok(())
+    Ok(others)
+}
+
+/// The members of a set in a row.
+#[tactic(auto, using(crate::proofs::SetChanges::keys_ascend))]
+pub fn in_a_row(alloc: Global, set: BTreeSet<Ranked>) -> Result<List<Const>, NoMemory>
+    ensures members { IfOk result (λ members. members ≡ set.keys) }
+    ensures ascending { IfOk result IsAscending }
+{
+    let mut members = List::empty(alloc);
+    for member in set {
+        members.push(member.constant)?;
+    }
+    Ok(members)
+}
+
+/// The set of some constants, member by member.
+pub fn ordered(alloc: Global, constants: List<Const>) -> Result<BTreeSet<Ranked>, NoMemory>
+    ensures { IfOk result (λ set. set.keys ≡ gathered constants) }
+{
+    let mut set = BTreeSet::new(alloc);
+    add_all(&mut set, constants)?;
+    Ok(set)
 }
 
 /// The set of some constants.
-#[tactic(auto, using(crate::proofs::SetLemmas::all_ascend, crate::proofs::SetLemmas::none_ascends))]
 pub fn gathered(alloc: Global, constants: List<Const>) -> Result<List<Const>, NoMemory>
     ensures set { IfOk result (λ set. set ≡ gathered constants) }
     ensures ascending { IfOk result (λ set. IsAscending set) }
 {
-    let mut set = Vec::new(alloc);
-    add_all(&mut set, constants)?;
-    Ok(List::new(set))
+    in_a_row(alloc, ordered(alloc, constants)?)
 }

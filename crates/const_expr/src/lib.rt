@@ -1,4 +1,5 @@
-//! The constants that expressions of DSDL definitions are worth.
+//! The constants that expressions of DSDL definitions are worth (Cyphal Specification,
+//! section 3.3).
 #![tactic(auto)]
 
 mod arithmetic;
@@ -12,9 +13,11 @@ mod gathered;
 mod listed;
 mod literal;
 mod member;
+mod operand;
 mod operator;
 mod order;
 mod places;
+mod ranked;
 mod referred;
 mod residues;
 mod scope;

@@ -225,9 +225,9 @@ fn base_of(text: &[u8]) -> u32
     }
 }
 
-/// The value of a number as it is written: digits of the base 2, 8 or 16 behind `0b`, `0o` or `0x`, else decimal
-/// digits with a point and an exponent. Range where a number on the way leaves i128, or the exponent with the
-/// point in it leaves -38 to 38.
+/// The value of a number as it is written (Cyphal Specification, section 3.2): digits of the base
+/// 2, 8 or 16 behind `0b`, `0o` or `0x`, else decimal digits with a point and an exponent. Range
+/// where a number on the way leaves i128, or the exponent with the point in it leaves -38 to 38.
 #[tactic(auto, unfolding(crate::specs::Literal::literal))]
 pub fn literal(text: &str) -> Result<Const, Why>
     ensures value { result ≡ literal text.now }

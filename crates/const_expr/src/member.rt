@@ -1,4 +1,4 @@
-//! What names mean, alone and behind a point.
+//! What names mean, alone and behind a point (Cyphal Specification, section 3.5).
 ghost use Rattle.std.specs.Prelude.{◌≡◌, IfOk, Err};
 ghost use Rattle.const_expr.specs.Refusals.{Gives};
 ghost use Rattle.const_expr.specs.declared.constant.Const.{out-Const};

@@ -1,4 +1,4 @@
-//! The operators, by their texts.
+//! The operators, by their texts (Cyphal Specification, section 3.3).
 ghost use Rattle.std.specs.Prelude.{◌≡◌};
 ghost use Rattle.const_expr.specs.Operators.{operator_of, prefix_of};
 

@@ -1,4 +1,4 @@
-//! The types that references mean.
+//! The types that references mean (Cyphal Specification, section 3.4.5).
 ghost use Rattle.std.specs.Prelude.{◌≡◌, ◌++◌, ◌∷◌, ℕ, List, IfOk};
 ghost use Rattle.dsdl_names.specs.Parts.{dotted, cut_last};
 ghost use Rattle.const_expr.specs.Refusals.{Gives};

@@ -5,12 +5,13 @@ use cy_bits::{List, Text};
 use dsdl_names::{FullName, TypeId};
 use dsdl_types::Namespace;
 
-/// What the names in an expression mean.
+/// What the names in an expression mean (Cyphal Specification, section 3.5).
 #[derive(Drop)]
 pub struct Scope {
     /// The constants that stand earlier in the section, in order.
     pub constants: Constants,
-    /// The lengths that the section so far can have, which `_offset_` means; nothing where it means nothing.
+    /// The lengths in bits that the section so far can have, which `_offset_` means; nothing where
+    /// it means nothing.
     pub offset: Option<LengthSet>,
     /// The types that references mean.
     pub namespace: Namespace,
@@ -20,7 +21,7 @@ pub struct Scope {
     pub members: List<TypeConsts>,
 }
 
-/// A constant with its name.
+/// A constant with its name (Cyphal Specification, section 3.5).
 #[derive(Drop)]
 pub struct NamedConst {
     /// Its name.
@@ -29,7 +30,7 @@ pub struct NamedConst {
     pub value: Const,
 }
 
-/// The constants of a message.
+/// The constants of a message (Cyphal Specification, section 3.5).
 #[derive(Drop)]
 pub struct TypeConsts {
     /// The type.

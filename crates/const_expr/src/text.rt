@@ -156,9 +156,9 @@ fn text_of(alloc: Global, constant: &Const) -> Result<Text, Why>
     }
 }
 
-/// The text of a constant, as `@print` writes it: a number as `n` or `n/d`, a string between `"`, a set as
-/// `{a, b}`, a type as `a.b.Name.1.0`. Large, with the place of the expression, where it is a set of more than
-/// 4,096 lengths.
+/// The text of a constant, as `@print` writes it (Cyphal Specification, section 3.6): a number as
+/// `n` or `n/d`, a string between `"`, a set as `{a, b}`, a type as `a.b.Name.1.0`. Large, with the
+/// place of the expression, where it is a set of more than 4,096 lengths.
 pub fn print_text(alloc: Global, constant: &Const, span: Span) -> Result<Text, ExprError>
     ensures { result ≢ Err ExprError.NoMemory → result ≡ at span (text_of constant.now) }
 {

@@ -1,4 +1,4 @@
-//! What names behind a type mean.
+//! What names behind a type mean (Cyphal Specification, section 3.5).
 ghost use Rattle.std.specs.Prelude.{◌≡◌, ◌^◌, nat_lt, IfOk, Some};
 ghost use Rattle.dsdl_types.specs.Schemas.{is_delimited, extent_of};
 ghost use Rattle.dsdl_types.specs.Greatest.{longest, as_part};

@@ -1,4 +1,4 @@
-//! Operators in front of their operand.
+//! Operators in front of their operand (Cyphal Specification, section 3.3).
 ghost use Rattle.std.specs.Prelude.{◌≡◌, IfOk};
 ghost use Rattle.const_expr.specs.declared.constant.Const.{out-Const};
 ghost use Rattle.const_expr.specs.Refusals.{Gives};

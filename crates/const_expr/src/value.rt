@@ -2,6 +2,7 @@
 ghost use Rattle.std.specs.Prelude.{◌≡◌, ◌≢◌, IfOk, MatchOption, Err, map, true, false};
 ghost use Rattle.const_expr.specs.Constants.{IsConst};
 ghost use Rattle.const_expr.specs.Member.{IsScope};
+ghost use Rattle.const_expr.specs.Operands.{IsOperand, constant_of, worth};
 ghost use Rattle.const_expr.specs.Places.{ArePlaces};
 ghost use Rattle.const_expr.specs.Refusals.{at};
 ghost use Rattle.const_expr.specs.Value.{value_of, all_values};
@@ -12,6 +13,7 @@ use crate::constant::Const;
 use crate::error::ExprError;
 use crate::literal::literal;
 use crate::member::{member, named};
+use crate::operand::{Operand, as_operand};
 use crate::places::TypePlaces;
 use crate::referred::referred;
 use crate::scope::Scope;
@@ -34,7 +36,7 @@ impl From<NoMemory> for ExprError {
 }
 
 /// A refusal at the place of the expression whose own rule refuses.
-fn placed(answer: Result<Const, Why>, span: Span) -> Result<Const, ExprError>
+fn placed<T>(answer: Result<T, Why>, span: Span) -> Result<T, ExprError>
     ensures { result ≡ at span answer }
 {
     match answer {
@@ -55,9 +57,10 @@ fn left_of(expr: &Expr) -> Option<&Expr>
     }
 }
 
-/// The constant that an expression is worth, or the first refusal in it: operands are valued left before
-/// right, and both always. Left operands, of which a line may have as many as it has bytes, take a loop. Each mention
-/// of a type costs one look into `places`, however many types the scope has.
+/// The constant that an expression is worth (Cyphal Specification, section 3.3), or the first
+/// refusal in it: operands are valued left before right, and both always. Left operands, of which a
+/// line may have as many as it has bytes, take a loop. Each mention of a type costs one look into
+/// `places`, however many types the scope has.
 #[cycle(eval)]
 pub fn eval(
     alloc: Global,
@@ -76,11 +79,11 @@ pub fn eval(
         waiting.push(inner).map_err(NoMemory::from)?;
         inner = left;
     }
-    let mut value = without_left(alloc, inner, scope, places)?;
+    let mut value = Operand::Constant(without_left(alloc, inner, scope, places)?);
     while let Some(outer) = waiting.pop() {
         value = with_left(alloc, outer, value, scope, places)?;
     }
-    Ok(value)
+    Ok(value.into_const(alloc)?)
 }
 
 /// The constant that an expression without a left part is worth.
@@ -124,16 +127,17 @@ fn without_left(
 fn with_left(
     alloc: Global,
     expr: &Expr,
-    left: Const,
+    left: Operand,
     scope: &Scope,
     places: &TypePlaces,
-) -> Result<Const, ExprError>
+) -> Result<Operand, ExprError>
     requires scope { IsScope scope.now }
     requires places { ArePlaces scope.now places.now }
-    requires left { IsConst left }
+    requires left { IsOperand left }
     requires outer { has_left expr.now ≡ true }
-    ensures value { result ≢ Err ExprError.NoMemory → result ≡ onto scope.now expr.now left }
-    ensures kept { IfOk result IsConst }
+    ensures value { worth result ≢ Err ExprError.NoMemory →
+        worth result ≡ onto scope.now expr.now (constant_of left) }
+    ensures kept { IfOk result IsOperand }
 {
     let answer = match &expr.node {
         ExprNode::Binary(op, _, right) => {
@@ -144,7 +148,10 @@ fn with_left(
                 eval(alloc, right.get(), scope, places)?,
             )
         }
-        ExprNode::Member(_, name) => member(alloc, scope, places, left, name.as_str()),
+        ExprNode::Member(_, name) => {
+            let left = left.into_const(alloc)?;
+            as_operand(member(alloc, scope, places, left, name.as_str()))
+        }
         _ => unreachable!(),
     };
     placed(answer, expr.span)

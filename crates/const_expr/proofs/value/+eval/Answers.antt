@@ -2,6 +2,7 @@ use Rattle.std.proofs.Common.{◌≡◌, ◌++◌, [], ◌∷◌, Ok, Err, ap, s
 use Rattle.std.proofs.lemmas.Result.{err_from_is_err_and}
 use Rattle.dsdl_parse.specs.declared.expr.Expr.{out-Expr, size-Expr}
 use Rattle.const_expr.specs.Constants.{IsConst}
+use Rattle.const_expr.specs.Operands.{constant_of}
 use Rattle.const_expr.specs.Refusals.{at}
 use Rattle.const_expr.specs.Literal.{literal}
 use Rattle.const_expr.specs.Member.{named}
@@ -30,43 +31,45 @@ eval-loop-left-preserved t c =
       no_deeper = spine.left_no_deeper c.args.expr.now c.loop-left.inner.now c.in-Some.left.now c.loop-left.invariant.no_deeper left;
     }
 
-pub eval-returns-in_err-value-clause-value : goal.eval-returns-in_err-value-clause-value
-eval-returns-in_err-value-clause-value t c =
-    let p = err_from_is_err_and c.from_residual-in_err-value.result c.from_residual-in_err-value.ensures.1 in
-    let why = c.in_err-value.field-0.0 in
-    walk.passed (value_of c.args.scope.now c.args.expr.now) c.from_residual-in_err-value.result p.0 why p.1 p.2
+pub eval-returns-in_err-without_left-clause-value : goal.eval-returns-in_err-without_left-clause-value
+eval-returns-in_err-without_left-clause-value t c =
+    let p = err_from_is_err_and c.from_residual-in_err-without_left.result c.from_residual-in_err-without_left.ensures.1 in
+    let why = c.in_err-without_left.field-0.0 in
+    walk.passed (value_of c.args.scope.now c.args.expr.now) c.from_residual-in_err-without_left.result p.0 why p.1 p.2
     (λ ne.
-    let inner : Err why ≡ value_of c.args.scope.now c.loop-left.inner.now = walk.refused _ why c.in_err-value.ensures.value ne in
+    let inner : Err why ≡ value_of c.args.scope.now c.loop-left.inner.now = walk.refused _ why c.in_err-without_left.ensures.value ne in
     spine.waits_refused _ _ c.loop-left.waiting.items why (subst (Waits c.args.scope.now c.args.expr.now c.loop-left.waiting.items) (sym inner) c.loop-left.invariant.waits))
 
 pub eval-with_left-requires : goal.eval-with_left-requires
 eval-with_left-requires t c =
-    let w = subst (λ z. Waits c.args.scope.now c.args.expr.now z (Ok c.loop-outer.value)) c.in-Some-pop.ensures.items c.loop-outer.invariant.waits in
+    let w = subst (λ z. Waits c.args.scope.now c.args.expr.now z (Ok (constant_of c.loop-outer.value))) c.in-Some-pop.ensures.items c.loop-outer.invariant.waits in
     let small : size-Expr c.in-Some-pop.outer.now ≤ size-Expr c.args.expr.now = spine.outer_no_deeper _ _ _ c.in-Some-pop.outer _ w in
     (search (rules, small), (c.requires.scope, (c.requires.places, (c.loop-outer.invariant.kept, spine.outer_has_left _ _ _ c.in-Some-pop.outer _ w))))
 
-pub eval-returns-in_err-value-2-clause-value : goal.eval-returns-in_err-value-2-clause-value
-eval-returns-in_err-value-2-clause-value t c =
-    let w = subst (λ z. Waits c.args.scope.now c.args.expr.now z (Ok c.loop-outer.value)) c.in-Some-pop.ensures.items c.loop-outer.invariant.waits in
-    let p = err_from_is_err_and c.from_residual-in_err-value-2.result c.from_residual-in_err-value-2.ensures.1 in
-    let why = c.in_err-value-2.field-0.0 in
-    walk.passed (value_of c.args.scope.now c.args.expr.now) c.from_residual-in_err-value-2.result p.0 why p.1 p.2
+pub eval-returns-in_err-value-clause-value : goal.eval-returns-in_err-value-clause-value
+eval-returns-in_err-value-clause-value t c =
+    let w = subst (λ z. Waits c.args.scope.now c.args.expr.now z (Ok (constant_of c.loop-outer.value))) c.in-Some-pop.ensures.items c.loop-outer.invariant.waits in
+    let p = err_from_is_err_and c.from_residual-in_err-value.result c.from_residual-in_err-value.ensures.1 in
+    let why = c.in_err-value.field-0.0 in
+    walk.passed (value_of c.args.scope.now c.args.expr.now) c.from_residual-in_err-value.result p.0 why p.1 p.2
     (λ ne.
-    let outer : Err why ≡ onto c.args.scope.now c.in-Some-pop.outer.now c.loop-outer.value = walk.refused _ why c.in_err-value-2.ensures.value ne in
+    let outer : Err why ≡ onto c.args.scope.now c.in-Some-pop.outer.now (constant_of c.loop-outer.value) = walk.refused _ why c.in_err-value.ensures.value ne in
     spine.waits_refused _ _ c.pop.new.self.items why
-    (subst (Waits c.args.scope.now c.args.expr.now c.pop.new.self.items) (sym outer) (spine.waits_pop _ _ c.pop.new.self.items c.in-Some-pop.outer (Ok c.loop-outer.value) w)))
+    (subst (Waits c.args.scope.now c.args.expr.now c.pop.new.self.items) (sym outer) (spine.waits_pop _ _ c.pop.new.self.items c.in-Some-pop.outer (Ok (constant_of c.loop-outer.value)) w)))
 
 pub eval-loop-outer-preserved : goal.eval-loop-outer-preserved
 eval-loop-outer-preserved t c =
-    let w = subst (λ z. Waits c.args.scope.now c.args.expr.now z (Ok c.loop-outer.value)) c.in-Some-pop.ensures.items c.loop-outer.invariant.waits in
-    let outer : Ok c.in_ok-value-2.value ≡ onto c.args.scope.now c.in-Some-pop.outer.now c.loop-outer.value = walk.not_refused _ _ c.in_ok-value-2.ensures.value in
+    let w = subst (λ z. Waits c.args.scope.now c.args.expr.now z (Ok (constant_of c.loop-outer.value))) c.in-Some-pop.ensures.items c.loop-outer.invariant.waits in
+    let outer : Ok (constant_of c.in_ok-value.value) ≡ onto c.args.scope.now c.in-Some-pop.outer.now (constant_of c.loop-outer.value) = walk.not_refused _ _ c.in_ok-value.ensures.value in
     record {
-      waits = subst (Waits c.args.scope.now c.args.expr.now c.pop.new.self.items) (sym outer) (spine.waits_pop _ _ c.pop.new.self.items c.in-Some-pop.outer (Ok c.loop-outer.value) w);
-      kept = c.in_ok-value-2.ensures.kept;
+      waits = subst (Waits c.args.scope.now c.args.expr.now c.pop.new.self.items) (sym outer) (spine.waits_pop _ _ c.pop.new.self.items c.in-Some-pop.outer (Ok (constant_of c.loop-outer.value)) w);
+      kept = c.in_ok-value.ensures.kept;
     }
 
 pub eval-returns-clause-value : goal.eval-returns-clause-value
-eval-returns-clause-value t c n = let e : c.loop-outer.waiting.items ≡ [] = search rules in spine.waits_end _ _ _ _ e c.loop-outer.invariant.waits
+eval-returns-clause-value t c n =
+    let e : c.loop-outer.waiting.items ≡ [] = search rules in
+    ap (λ (z : Const). Ok z) c.in_ok-into_const.ensures.value ∙ spine.waits_end _ _ _ _ e c.loop-outer.invariant.waits
 
 pub without_left-returns-in-Str-clause-value : goal.without_left-returns-in-Str-clause-value
 without_left-returns-in-Str-clause-value t c n =

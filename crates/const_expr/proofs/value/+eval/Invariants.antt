@@ -1,6 +1,6 @@
 use Rattle.std.proofs.Common.{◌≤◌, length, Ok}
 use Rattle.dsdl_parse.specs.declared.expr.Expr.{size-Expr}
-use Rattle.const_expr.specs.Constants.{IsConst}
+use Rattle.const_expr.specs.Operands.{IsOperand, constant_of}
 use Rattle.const_expr.specs.Value.{value_of}
 use Rattle.const_expr.proofs.EvalSpine.{Waits, ValuesSoFar}
 use Rattle.const_expr.proofs.value.+eval.Given as goal
@@ -15,8 +15,8 @@ invariant-eval-loop-left l = record {
 -- this value gives that of the whole expression
 abbrev pub invariant-eval-loop-outer : goal.invariant-eval-loop-outer
 invariant-eval-loop-outer l = record {
-  waits : Waits l.scope l.expr l.waiting.items (Ok l.value);
-  kept : IsConst l.value;
+  waits : Waits l.scope l.expr l.waiting.items (Ok (constant_of l.value));
+  kept : IsOperand l.value;
 }
 
 abbrev pub decreases-eval-loop-outer : goal.decreases-eval-loop-outer
