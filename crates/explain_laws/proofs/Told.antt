@@ -22,8 +22,8 @@ use Rattle.node_core.specs.Heard.{ports_of}
 use Rattle.node_core.specs.Received.{got, of_delivery, of_frame, of_session as run_session, of_source, on_port, refused_line}
 use Rattle.node_core.specs.Steps.{Heard, Step, lines as run_lines, lines_at, records}
 use Rattle.node_core.specs.declared.file_reply.FileReply.TheVariants.{NoFile}
-use Rattle.node_core.specs.declared.line.Line.{Line}
-use Rattle.node_core.specs.declared.line.Line.TheVariants.{Rx, NoSession as Refusal, Tx, Full}
+use Rattle.report_lines.specs.declared.line.Line.{Line}
+use Rattle.report_lines.specs.declared.line.Line.TheVariants.{Rx, NoSession as Refusal, Tx, Full}
 use Rattle.session_lines.specs.Reported.{IsSession, Reported, is_key, is_source, of_key, rxs, without_key}
 use Rattle.session_lines.proofs.Projection.{same_kind-true}
 use Rattle.session_lines.proofs.Sending.{rxs_append, rxs_at}

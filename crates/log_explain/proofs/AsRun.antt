@@ -20,7 +20,7 @@ use Rattle.rx_table.specs.Table.{port_on, with_source}
 use Rattle.node_plan.specs.declared.plan.Plan.{Plan}
 use Rattle.node_core.specs.Heard.{ports_of}
 use Rattle.node_core.specs.Received.{bad_of_frame, bad_of_source, bad_on_port, of_delivery, of_frame as run_frame, of_session, of_source as run_source, on_port as run_port, refused_line}
-use Rattle.node_core.specs.declared.line.Line.{Line}
+use Rattle.report_lines.specs.declared.line.Line.{Line}
 use Rattle.rx_reason.specs.Laws.{delivered_at, is_badcrc, lines_of}
 use Rattle.rx_reason.specs.Reasons.{aside, begun_reason, ended, of_heard, of_key, of_port, of_run, of_source, on_port, or_frame, or_on_port, running, from, stray, unheard, last_line}
 use Rattle.rx_reason.specs.declared.reason.Change.{Change}

@@ -2,7 +2,8 @@
 use Rattle.std.proofs.Common.{◌≡◌, ◌∙◌, ℕ, zero, suc, ◌+◌, List, [], ◌∷◌, ◌++◌, decimal, length, map, slice_get, Some, option_map, sym, ap, arith}
 use Rattle.std.proofs.lemmas.List.{map-append}
 use Rattle.std.proofs.lemmas.Option.{slice_get-map}
-use Rattle.log_explain.specs.Words.{block_text, numbers}
+use Rattle.log_explain.specs.Words.{numbers}
+use Rattle.text_lines.specs.Words.{block_text}
 
 abbrev pub number : ℕ → List ℕ
 number n = decimal n ++ 32 ∷ []

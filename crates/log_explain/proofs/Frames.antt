@@ -11,9 +11,10 @@ use Rattle.rx_table.specs.Heard.{frame_for, if_for, is_for}
 use Rattle.rx_table.specs.Ports.{Port, port_at}
 use Rattle.rx_table.specs.Table.{port_on}
 use Rattle.rx_table.specs.Views.{place_in, subscriptions}
-use Rattle.rx_table.proofs.FoundPorts.{IsAt, not_found, position-ports}
+use Rattle.rx_table.proofs.FoundPorts.{IsAt, position-ports}
 use Rattle.rx_table.proofs.Positions.{position-further}
 use Rattle.node_core.specs.Heard.{IsElsewhere}
+use Rattle.node_core.specs.Quick.{LeadsTo}
 use Rattle.node_core.specs.Shapes.{port_schema, shape_extent}
 use Rattle.node_core.specs.declared.node.Node.{Node}
 
@@ -42,6 +43,10 @@ for_some rec f e is = go f.ident refl is
           is = for_node destination rec f e (ap (is_for destination) k
               ∙ and_from (not (eqb source destination)) (eqb destination destination) (other source destination h.4) (eq-eqb destination destination refl));
         }
+
+-- a frame whose record leads to a port is on that
+pub led : (node : Node) (rec : Record) (f : FrameOf) (place : ℕ) → frame_of rec ≡ Some f → IsIdent f.ident → LeadsTo node rec place → place_in (key_of f.ident).kind (key_of f.ident).port node.table ≡ Some place
+led node rec f place e is leads = let one = for_some rec f e is in (leads one.node f one.is).at
 
 -- a record is one frame
 pub same_frame : (node : ℕ) (rec : Record) (f g : FrameOf) → frame_of rec ≡ Some f → frame_for node rec ≡ Some g → f ≡ g
@@ -75,8 +80,3 @@ place_none node rec f e is out =
     let q = key_of f.ident in
     let ports = subscriptions port_schema node.table in
     position-ports shape_extent q.kind q.port node.table.ports.items ∙ at_none q.kind q.port ports (nowhere_on ports rec f e is out)
-
-pub unplaced : (node : Node) (rec : Record) (f : FrameOf) → frame_of rec ≡ Some f → place_in (key_of f.ident).kind (key_of f.ident).port node.table ≡ None → IsElsewhere (subscriptions port_schema node.table) rec
-unplaced node rec f e at =
-    let q = key_of f.ident in
-    elsewhere (subscriptions port_schema node.table) rec f e (not_found shape_extent q.kind q.port node.table.ports.items at)

@@ -6,8 +6,8 @@ use Rattle.tail_frame.specs.declared.logged.Record.{Record}
 use Rattle.node_plan.specs.declared.plan.Plan.{Plan}
 use Rattle.node_core.specs.Queues.{Queue, Sends, bus_lines, drained, full_line, fulls, fulls_from, leave, leaving, leaving_from, rounds, takes, tx_line, waiting}
 use Rattle.node_core.specs.Steps.{Heard, Met, Step, Tick, badcrcs, emptying, first_of, got, is_bad_at, kept, lines as run_lines, lines_at, met_records, moment_of, node_lines, one_if, pushed, received_at, records, sends, steps, ticks_before, ticks_done, ticks_from, ticks_until, ticks_upto}
-use Rattle.node_core.specs.declared.line.Line.{Line}
-use Rattle.node_core.specs.declared.line.Line.TheVariants.{Rx, NoSession as Refusal, Tx, Full}
+use Rattle.report_lines.specs.declared.line.Line.{Line}
+use Rattle.report_lines.specs.declared.line.Line.TheVariants.{Rx, NoSession as Refusal, Tx, Full}
 use Rattle.node_core.proofs.Waits.{records_behind, records_of_steps}
 use Rattle.log_explain.specs.Explained.{listens_by}
 use Rattle.rx_reason.specs.Laws.{is_badcrc}

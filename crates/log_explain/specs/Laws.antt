@@ -3,8 +3,8 @@ use Rattle.std.specs.Prelude.{◌≡◌, ℕ, List, [], ◌∷◌, ◌++◌, Opt
 use Rattle.tail_frame.specs.declared.logged.Record.{Record}
 use Rattle.node_plan.specs.declared.plan.Plan.{Plan}
 use Rattle.node_core.specs.Steps.{Met, all_lines, badcrcs, got, is_bad_at, met_records, steps}
-use Rattle.node_core.specs.declared.line.Line.{Line}
-use Rattle.node_core.specs.declared.line.Line.TheVariants.{Rx, NoSession as Refusal, Tx, Full}
+use Rattle.report_lines.specs.declared.line.Line.{Line}
+use Rattle.report_lines.specs.declared.line.Line.TheVariants.{Rx, NoSession as Refusal, Tx, Full}
 use Rattle.rx_reason.specs.Laws.{delivered_at, is_badcrc}
 use Rattle.rx_reason.specs.declared.reason.Reason.{Reason}
 use Rattle.rx_reason.specs.declared.reason.Reason.TheVariants.{NoSession}

@@ -1,9 +1,5 @@
 -- Words that lines have in common.
-use Rattle.std.specs.Prelude.{ℕ, zero, suc, slice_index, min, ◌/◌, nat_lt, if◌then◌else◌, List, ◌∷◌, ◌++◌, [], codes, decimal, take}
-use Rattle.log_explain.specs.declared.word.Word.{Word}
-
-abbrev pub word_text : Word → List ℕ
-word_text word = take word.len word.bytes
+use Rattle.std.specs.Prelude.{ℕ, zero, suc, ◌/◌, nat_lt, if◌then◌else◌, List, ◌∷◌, ◌++◌, [], codes, decimal}
 
 -- the front of a moment in the second that begins at this one
 abbrev pub second_text : ℕ → List ℕ
@@ -19,10 +15,6 @@ tens start = if nat_lt start 10 then [] else decimal (start / 10)
 
 abbrev pub tens_text : ℕ → List ℕ
 tens_text start = codes "frame " ++ tens start
-
--- what counts of a block of eight bytes, the last of which is its length
-abbrev pub block_text : List ℕ → List ℕ
-block_text block = take (min (slice_index block 7) 8) block
 
 -- so many numbers in a row, each with a space behind
 abbrev pub numbers : ℕ → ℕ → List (List ℕ)

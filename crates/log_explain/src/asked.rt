@@ -1,9 +1,10 @@
 //! What is asked for the line on a record, before that is heard.
-ghost use Rattle.std.specs.Prelude.{◌≡◌, ◌≤◌, ◌^◌, Some, option_map};
+ghost use Rattle.std.specs.Prelude.{◌≡◌, ◌≤◌, ◌^◌, IfSome, None, Some, option_map};
 ghost use Rattle.can_id.specs.Identifiers.{IsIdent, key_of};
 ghost use Rattle.node_core.specs.Quick.{IsLead};
 ghost use Rattle.tail_frame.specs.Frames.{frame_of, seen};
 ghost use Rattle.rx_table.specs.Views.{place_in};
+ghost use Rattle.rx_reason.specs.Reasons.{aside};
 ghost use Rattle.log_explain.specs.Places.{slot_at};
 ghost use Rattle.log_explain.specs.Slots.{IsCounted, IsLastAt, line_with, passing};
 
@@ -32,6 +33,18 @@ pub(crate) fn place_by(node: &Node, lead: Lead, rec: &Record, frame: &Frame) -> 
     }
 }
 
+/// The sender of a message, where that is another node than this one.
+#[inline(always)]
+pub(crate) fn sender_of(ident: Ident, own: u8) -> Option<u8>
+    ensures source { IfSome result (λ source. (key_of ident).source ≡ Some source) }
+    ensures aside { IfSome result (λ _. aside own ident ≡ None) }
+{
+    match ident {
+        Ident::Message { source, .. } => { if source == own { None } else { Some(source) } }
+        _ => None,
+    }
+}
+
 /// The slot of a source on the port at a place.
 #[inline(always)]
 pub(crate) fn slot_on(place: usize, source: Option<u8>) -> Option<usize>
@@ -40,6 +53,20 @@ pub(crate) fn slot_on(place: usize, source: Option<u8>) -> Option<usize>
     match source {
         Some(source) => Some(slot_of(place, source)),
         None => None,
+    }
+}
+
+/// Keeps where the session of a source is among those of the port at a place, if it has one.
+pub(crate) fn keep_hint(node: &Node, place: usize, source: Option<u8>, tallies: &mut Tallies)
+    ensures { tallies.new.by_slot ≡ tallies.old.by_slot }
+{
+    let Some(source) = source else {
+        return;
+    };
+    if let Some(port) = node.table.ports.get(place) {
+        if let Some(index) = port.sessions.get_index_of(&source) {
+            tallies.keep_hint(slot_of(place, source), index);
+        }
     }
 }
 
@@ -55,7 +82,7 @@ pub(crate) fn last_line(tallies: &Tallies, slot: Option<usize>) -> u64
 }
 
 /// One line more at a slot, if it is of one.
-#[inline(always)]
+#[inline(never)]
 pub(crate) fn count(tallies: &mut Tallies, slot: Option<usize>, line: &FrameLine)
     ensures { IsCounted tallies.old.by_slot.items tallies.new.by_slot.items line.now slot }
 {

@@ -1,10 +1,11 @@
 //! The names of buses in lines.
 ghost use Rattle.std.specs.Prelude.{◌≡◌, map};
-ghost use Rattle.log_explain.specs.Words.{bus_word, word_text};
+ghost use Rattle.log_explain.specs.Words.{bus_word};
+ghost use Rattle.text_lines.specs.Words.{word_text};
 
-use crate::word::Word;
 use cy_bits::{BusName, ShortList};
 use line_text::TextBuffer;
+use text_lines::word::Word;
 
 /// The names of buses, and the word of each in a line.
 #[derive(Drop)]
@@ -19,7 +20,7 @@ pub struct BusWords {
 impl BusWords {
     ghost use Rattle.std.specs.Prelude.{◌≤◌, ◌+◌};
     ghost use Rattle.line_text.specs.Buffer.{room_of};
-    ghost use Rattle.node_core.specs.Puts.{Puts};
+    ghost use Rattle.text_lines.specs.Puts.{Puts};
     ghost use Rattle.log_explain.specs.Text.{name_of};
 
     /// The words of buses with these names.

@@ -7,25 +7,25 @@ ghost use Rattle.tail_frame.specs.declared.logged.Record.{Record};
 ghost use Rattle.rx_table.specs.Views.{place_in, subscriptions};
 ghost use Rattle.line_text.specs.Buffer.{room_of};
 ghost use Rattle.node_core.specs.Heard.{IsElsewhere};
-ghost use Rattle.node_core.specs.Quick.{IsLead};
+ghost use Rattle.node_core.specs.Quick.{IsLead, LeadsTo};
 ghost use Rattle.node_core.specs.Shapes.{port_schema};
 ghost use Rattle.node_core.specs.Stands.{Takes};
 ghost use Rattle.log_explain.specs.Counts.{counts};
 ghost use Rattle.log_explain.specs.Explained.{explain_voice};
 ghost use Rattle.log_explain.specs.Explains.{Explains, Hears};
 
-use crate::asked::{count, last_line, line_with, passing, place_by, slot_on};
+use crate::asked::{count, keep_hint, last_line, line_with, passing, place_by, sender_of, slot_on};
 use crate::line::FrameLine;
 use crate::line_writer::{LINE, LineWriter};
 use crate::session_line::put_end;
 use crate::session_lines::{count_sessions, put_sessions};
-use crate::tallies::Tallies;
-use can_id::{Ident, Kind};
+use crate::tallies::{Tallies, slot_of};
+use can_id::Ident;
 use cy_bits::{BusName, NoMemory, ShortList};
 use line_text::TextBuffer;
 use log_loop::Listener;
 use node_core::{Lead, Node};
-use rx_reason::{Reason, discard_of, reason_of_frame};
+use rx_reason::{Reason, discard_of, reason_at, reason_of_frame};
 use std::alloc::Global;
 use tail_frame::{Frame, Record, frame_of};
 
@@ -124,8 +124,43 @@ impl Explaining {
         self.records += 1;
     }
 
-    /// Hears a record that leads there.
+    /// Hears a record that leads to the port at a place.
     #[inline(always)]
+    fn hear_message(
+        &mut self,
+        place: usize,
+        rec: &Record,
+        gathered: &mut TextBuffer,
+    ) -> Result<(), NoMemory>
+        requires latest { self.old.node.latest ≤ rec.now.moment }
+        requires few { self.old.records < 2 ^ 28 }
+        requires room { 384 ≤ room_of gathered.old }
+        requires leads { LeadsTo self.old.node rec.now place }
+        ensures heard { OnOk result (Hears rec.now self.old self.new gathered.old gathered.new) }
+        ensures latest { self.new.node.latest ≤ rec.now.moment }
+        ensures count { self.new.records ≤ self.old.records + 1 }
+    {
+        if let Some(frame) = frame_of(rec) {
+            if let Some(source) = sender_of(frame.ident, self.node.plan.node) {
+                let slot = slot_of(place, source);
+                let last = self.tallies.last_line(slot);
+                let index = self.tallies.hint(slot);
+                if let Some(reason) = reason_at(&self.node.table, place, index, &frame, last) {
+                    take_message(&mut self.node, rec, place)?;
+                    let line = line_with(&frame, reason);
+                    self.tallies.add(slot, &line);
+                    self.writer.put(gathered, &line);
+                    self.records += 1;
+                    return Ok(());
+                }
+            }
+        }
+        self.hear_by(Lead::AtPort(place), rec, gathered)
+    }
+
+    /// Hears a record that leads there.
+    #[cold]
+    #[inline(never)]
     fn hear_by(
         &mut self,
         lead: Lead,
@@ -144,7 +179,7 @@ impl Explaining {
             Some(frame) => match place_by(&self.node, lead, rec, &frame) {
                 Some(place) => self.hear_at(place, rec, &frame, gathered),
                 None => {
-                    self.hear_aside(rec, gathered);
+                    self.pass_by(rec, &frame, gathered);
                     Ok(())
                 }
             },
@@ -204,7 +239,8 @@ impl Explaining {
         let slot = slot_on(place, key.source);
         let last = last_line(&self.tallies, slot);
         let reason = reason_of_frame(&self.node.table, self.node.plan.node, frame, last);
-        take(&mut self.node, rec, frame, place)?;
+        take(&mut self.node, rec)?;
+        keep_hint(&self.node, place, key.source, &mut self.tallies);
         let line = line_with(frame, reason);
         count(&mut self.tallies, slot, &line);
         self.writer.put(gathered, &line);
@@ -213,29 +249,24 @@ impl Explaining {
     }
 }
 
-/// Lets a node take a record that is a frame on the port at a place.
+/// Lets a node take a record that leads to the port at a place.
 #[inline(always)]
-fn take(node: &mut Node, rec: &Record, frame: &Frame, place: usize) -> Result<(), NoMemory>
+fn take_message(node: &mut Node, rec: &Record, place: usize) -> Result<(), NoMemory>
     requires latest { node.old.latest ≤ rec.now.moment }
-    requires frame { frame_of rec.now ≡ Some (seen frame.now) }
-    requires place { let key = key_of frame.now.ident in
-        place_in key.kind key.port node.old.table ≡ Some place }
+    requires leads { LeadsTo node.old rec.now place }
     ensures plan { node.new.plan ≡ node.old.plan }
     ensures latest { node.new.latest ≤ rec.now.moment }
     ensures takes { OnOk result (Takes rec.now node.old node.new) }
 {
-    match frame.ident.key().kind {
-        Kind::Message => match node.quick(rec, place) {
-            Some(_) => Ok(()),
-            None => take_any(node, rec),
-        },
-        _ => take_any(node, rec),
+    match node.quick(rec, place) {
+        Some(_) => Ok(()),
+        None => take(node, rec),
     }
 }
 
 /// Lets a node take a record.
 #[inline(never)]
-fn take_any(node: &mut Node, rec: &Record) -> Result<(), NoMemory>
+fn take(node: &mut Node, rec: &Record) -> Result<(), NoMemory>
     requires latest { node.old.latest ≤ rec.now.moment }
     ensures plan { node.new.plan ≡ node.old.plan }
     ensures latest { node.new.latest ≤ rec.now.moment }
@@ -270,10 +301,8 @@ impl Listener for Explaining {
                 self.hear_nowhere(rec, gathered);
                 Ok(())
             }
-            lead => {
-                self.hear_by(lead, rec, gathered)?;
-                Ok(())
-            }
+            Lead::AtPort(place) => self.hear_message(place, rec, gathered),
+            Lead::Service => self.hear_by(Lead::Service, rec, gathered),
         }
     }
 

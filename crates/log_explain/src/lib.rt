@@ -16,7 +16,6 @@ mod tallies;
 pub mod tally;
 mod ten_lines;
 mod whole_log;
-mod word;
 
 pub use line::{FrameLine, Transfer};
 pub use log_loop::Ended;

@@ -1,11 +1,12 @@
 //! The numbers of ports in lines.
 ghost use Rattle.std.specs.Prelude.{◌≡◌, ◌<◌, ◌++◌, ◌∷◌, [], decimal, length, map};
-ghost use Rattle.log_explain.specs.Words.{block_text, numbers};
+ghost use Rattle.log_explain.specs.Words.{numbers};
+ghost use Rattle.text_lines.specs.Words.{block_text};
 
-use crate::word::Word;
 use cy_bits::NoMemory;
 use line_text::TextBuffer;
 use std::alloc::Global;
+use text_lines::word::Word;
 
 /// How many subjects there are.
 const SUBJECTS: u16 = 8192;
@@ -21,7 +22,7 @@ pub struct PortWords {
 impl PortWords {
     ghost use Rattle.std.specs.Prelude.{◌≤◌, ◌+◌};
     ghost use Rattle.line_text.specs.Buffer.{room_of};
-    ghost use Rattle.node_core.specs.Puts.{Puts};
+    ghost use Rattle.text_lines.specs.Puts.{Puts};
 
     /// Takes memory for the numbers.
     pub fn new(alloc: Global) -> Result<PortWords, NoMemory> {

@@ -1,9 +1,10 @@
 //! The seconds of moments, which many lines in a row have in common.
 ghost use Rattle.std.specs.Prelude.{◌≡◌, ◌%◌};
-ghost use Rattle.log_explain.specs.Words.{second_text, word_text};
+ghost use Rattle.log_explain.specs.Words.{second_text};
+ghost use Rattle.text_lines.specs.Words.{word_text};
 
-use crate::word::Word;
 use line_text::TextBuffer;
+use text_lines::word::Word;
 
 /// Microseconds in a second.
 const SECOND: u64 = 1_000_000;
@@ -23,7 +24,7 @@ impl Second {
     ghost use Rattle.std.specs.Prelude.{◌≤◌, ◌<◌, ◌+◌};
     ghost use Rattle.line_text.specs.Buffer.{room_of};
     ghost use Rattle.line_text.specs.Text.{moment_text};
-    ghost use Rattle.node_core.specs.Puts.{Puts};
+    ghost use Rattle.text_lines.specs.Puts.{Puts};
 
     /// The second in which a moment is.
     pub fn of(moment: u64) -> Second

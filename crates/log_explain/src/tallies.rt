@@ -16,6 +16,8 @@ use std::alloc::Global;
 pub struct Tallies {
     /// By the slots.
     pub by_slot: Vec<Tally>,
+    /// By the slots, where the session may be among those of its port.
+    hints: Vec<u8>,
 }
 
 /// How many sources a port may have.
@@ -27,12 +29,16 @@ impl Tallies {
         ensures { ports ≤ 2 ^ 16 → IfOk result (λ t.
             t.by_slot.items ≡ replicate (ports * 128) (counts [])) }
     {
+        let slots = ports.saturating_mul(SOURCES);
         let mut by_slot = Vec::new(alloc);
-        by_slot.resize(ports.saturating_mul(SOURCES), Tally::new())?;
-        Ok(Tallies { by_slot })
+        by_slot.resize(slots, Tally::new())?;
+        let mut hints = Vec::new(alloc);
+        hints.resize(slots, 0)?;
+        Ok(Tallies { by_slot, hints })
     }
 
     /// The line of the last frame of the last delivery; 0 where there is none.
+    #[inline(always)]
     pub fn last_line(&self, slot: usize) -> u64
         ensures { (t : TallyOf) → slice_get self.now.by_slot.items slot ≡ Some t
             → result ≡ line_of t.last }
@@ -53,7 +59,26 @@ impl Tallies {
         }
     }
 
+    /// Where the session of a slot may be among those of its port.
+    #[inline(always)]
+    pub fn hint(&self, slot: usize) -> usize {
+        match self.hints.get(slot) {
+            Some(hint) => *hint as usize,
+            None => 0,
+        }
+    }
+
+    /// Keeps where the session of a slot is among those of its port.
+    pub fn keep_hint(&mut self, slot: usize, index: usize)
+        ensures { self.new.by_slot ≡ self.old.by_slot }
+    {
+        if slot < self.hints.len() {
+            self.hints[slot] = index.min(255) as u8;
+        }
+    }
+
     /// One line more at a slot.
+    #[inline(always)]
     pub fn add(&mut self, slot: usize, line: &FrameLine)
         ensures { (past : List FrameLineOf) → length past < 2 ^ 28
             → slice_get self.old.by_slot.items slot ≡ Some (counts past)
@@ -68,10 +93,9 @@ impl Tallies {
 }
 
 /// The slot of a source on the port at a place.
+#[inline(always)]
 pub fn slot_of(place: usize, source: u8) -> usize
     ensures { place ≤ 2 ^ 16 → result ≡ slot_at place source }
 {
-    place
-        .saturating_mul(SOURCES)
-        .saturating_add(source as usize)
+    place.wrapping_mul(SOURCES).wrapping_add(source as usize)
 }

@@ -82,6 +82,7 @@ impl Tally {
     }
 
     /// The same of any line.
+    #[inline(always)]
     fn add_any(&mut self, line: &FrameLine)
         ensures { (past : List FrameLineOf) → length past < 2 ^ 28 → self.old ≡ counts past
             → self.new ≡ counts (line.now ∷ past) }

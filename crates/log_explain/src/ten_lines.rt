@@ -1,9 +1,10 @@
 //! The numbers of lines, which ten in a row have in common but for the last digit.
 ghost use Rattle.std.specs.Prelude.{◌≡◌, ◌%◌};
-ghost use Rattle.log_explain.specs.Words.{tens_text, word_text};
+ghost use Rattle.log_explain.specs.Words.{tens_text};
+ghost use Rattle.text_lines.specs.Words.{word_text};
 
-use crate::word::Word;
 use line_text::TextBuffer;
+use text_lines::word::Word;
 
 /// Ten lines of a log in a row, and what stands before the last digit of their numbers.
 #[derive(Drop)]
@@ -19,7 +20,7 @@ pub struct TenLines {
 impl TenLines {
     ghost use Rattle.std.specs.Prelude.{◌≤◌, ◌<◌, ◌+◌, ◌++◌, ◌∷◌, [], codes, decimal};
     ghost use Rattle.line_text.specs.Buffer.{room_of};
-    ghost use Rattle.node_core.specs.Puts.{Puts};
+    ghost use Rattle.text_lines.specs.Puts.{Puts};
 
     /// The ten lines of which a line is one.
     pub fn of(line: u64) -> TenLines

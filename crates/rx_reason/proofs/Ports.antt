@@ -1,6 +1,6 @@
 -- What a port's sessions say of a frame is what its log says.
 use Rattle.std.proofs.Common.{◌≡◌, ◌∙◌, ℕ, ◌+◌, ◌^◌, ◌<◌, Bool, true, false, cond, not, ◌&&◌, eqb, nat_lt, List, [], ◌∷◌, ◌++◌, length, zero, suc, Option, Some, None, refl, sym, ap, subst, inl, inr, position, nat_eq, slice_get}
-use Rattle.std.proofs.lemmas.Bool.{cases_Bool, eqb-true, eq-eqb, and_from, and_left, and_right, or_right, cond-true, cond-false, ltb-true, not_from_true, not_from_false}
+use Rattle.std.proofs.lemmas.Bool.{cases_Bool, eqb-true, eq-eqb, and_from, and_left, and_right, or_left, or_right, cond-true, cond-false, ltb-true, not_from_true, not_from_false}
 use Rattle.tail_frame.specs.Chains.{KeyRecord}
 use Rattle.transfer_crc.specs.Crc.{crc_more, crc_of}
 use Rattle.transfer_crc.proofs.Rows.{crc_more-append}
@@ -45,6 +45,12 @@ key_nth {S} source (x ∷ es) i e h g = go (λ j k l. key_nth source es j e k l)
     go more false t =
         let k = position-lowered (position (nat_eq source) (sources_of (entries_of es))) i (sym (position-further (nat_eq source) x.0 (sources_of (entries_of es)) t) ∙ h) in
         more k.0 k.1 (subst (λ (n : ℕ). slice_get (x ∷ es) n ≡ Some e) k.2 g)
+
+-- the source at a place has a session
+pub has_nth : {S : Type 0} (es : List (ℕ × Session S)) (i : ℕ) (e : ℕ × Session S) → slice_get es i ≡ Some e → has e.0 (sources_of (entries_of es)) ≡ true
+has_nth [] i e h = absurd cc
+has_nth {S} (x ∷ es) zero e h = or_left (eqb x.0 e.0) (has e.0 (sources_of (entries_of es))) (eq-eqb x.0 e.0 (ap (λ (d : ℕ × Session S). d.0) (some_is x e h)))
+has_nth (x ∷ es) (suc i) e h = or_right (eqb x.0 e.0) (has e.0 (sources_of (entries_of es))) (has_nth es i e h)
 
 -- what a session says that has heard nothing
 told_fresh : (timeout extent : ℕ) (r : KeyRecord) → r.start ≡ true → told timeout 0 (open_session extent) r ≡ begun_reason r no_change

@@ -10,4 +10,4 @@ mod table;
 
 pub use discard::{Discard, discard_of};
 pub use reason::{Change, Reason, Silence};
-pub use table::{place_of, reason_of_frame};
+pub use table::{place_of, reason_at, reason_of_frame};

@@ -13,6 +13,7 @@ use tail_frame::Frame;
 
 /// Why a frame of a session's key comes to what it does, where the session's last delivery ends
 /// on a line. It changes nothing.
+#[inline(always)]
 pub(crate) fn reason_in<S: Shape>(
     session: &Session<S>,
     frame: &Frame,

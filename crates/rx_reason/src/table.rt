@@ -1,12 +1,13 @@
 //! The question.
-ghost use Rattle.std.specs.Prelude.{◌≡◌, ◌&&◌, ◌==◌};
+ghost use Rattle.std.specs.Prelude.{◌≡◌, ◌&&◌, ◌==◌, ℕ, IfSome, None, Some};
+ghost use Rattle.can_id.specs.Identifiers.{key_of};
 ghost use Rattle.tail_frame.specs.Frames.{seen};
 ghost use Rattle.rx_table.specs.Keys.{same_kind};
 ghost use Rattle.rx_table.specs.Views.{place_in, states_of};
 ghost use Rattle.rx_reason.specs.Asked.{TellsFrame};
 ghost use Rattle.rx_reason.specs.Reasons.{aside};
 
-use crate::port::reason_on;
+use crate::port::{reason_by, reason_on};
 use crate::reason::{Change, Reason};
 use can_id::{Ident, Kind};
 use dsdl_types::Shape;
@@ -34,6 +35,26 @@ pub fn reason_of_frame<S: Shape>(table: &Table<S>, own: u8, frame: &Frame, last:
             change: Change::NONE,
         },
     }
+}
+
+/// The same of a frame that is for the node, on the port at this place, where the session of its
+/// source is at `index` among the port's. `None` says nothing.
+#[inline(always)]
+pub fn reason_at<S: Shape>(
+    table: &Table<S>,
+    place: usize,
+    index: usize,
+    frame: &Frame,
+    last: u64,
+) -> Option<Reason>
+    requires { let key = key_of frame.now.ident in
+        place_in key.kind key.port table.now ≡ Some place }
+    ensures { (own : ℕ) → aside own frame.now.ident ≡ None → IfSome result
+        (TellsFrame own table.now.timeout (states_of S.shape table.now) (seen frame.now) last) }
+{
+    let source = frame.ident.key().source?;
+    let port = &table.ports[place];
+    reason_by(port, index, source, frame, table.timeout, last)
 }
 
 /// The reason for which a frame isn't for a node, if there is one.

@@ -1,5 +1,6 @@
 use Rattle.std.proofs.Common.{◌≡◌, map, take}
-use Rattle.log_explain.specs.Words.{bus_word, word_text}
+use Rattle.log_explain.specs.Words.{bus_word}
+use Rattle.text_lines.specs.Words.{word_text}
 use Rattle.log_explain.proofs.bus_words.words_of.Given as goal
 
 abbrev pub invariant-loop-name : goal.invariant-loop-name

@@ -2,8 +2,9 @@ use Rattle.std.proofs.Common.{◌≡◌, ◌∙◌, ◌++◌, ℕ, List, [], map
 use Rattle.std.proofs.lemmas.Option.{slice_get-map}
 use Rattle.std.specs.Option.{option_copied}
 use Rattle.line_text.specs.Buffer.{text_of}
-use Rattle.log_explain.specs.Words.{bus_word, word_text}
-use Rattle.log_explain.specs.declared.word.Word.{Word}
+use Rattle.log_explain.specs.Words.{bus_word}
+use Rattle.text_lines.specs.Words.{word_text}
+use Rattle.text_lines.specs.declared.word.Word.{Word}
 use Rattle.log_explain.proofs.bus_words.BusWords.put.Goals as goal
 
 -- the word at a place is that of the name there

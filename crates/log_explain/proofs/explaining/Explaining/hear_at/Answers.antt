@@ -1,10 +1,11 @@
-use Rattle.std.proofs.Common.{◌∙◌, ◌<◌, ◌^◌, length, option_map, refl, sym, ap, subst, arith}
+use Rattle.std.proofs.Common.{◌∙◌, ◌<◌, ◌^◌, List, length, option_map, refl, sym, ap, subst, arith}
 use Rattle.can_id.specs.declared.key.Key.{Key}
 use Rattle.tail_frame.specs.Frames.{seen}
 use Rattle.log_explain.specs.Lines.{line_on}
 use Rattle.log_explain.specs.Places.{slot_at}
 use Rattle.log_explain.specs.Slots.{IsCounted, IsLine}
 use Rattle.log_explain.specs.declared.line.FrameLine.{FrameLine}
+use Rattle.log_explain.specs.declared.tally.Tally.{Tally}
 use Rattle.log_explain.proofs.Heard.{said_at}
 use Rattle.log_explain.proofs.Nodes.{hears, w}
 use Rattle.log_explain.proofs.explaining.Explaining.hear_at.Goals as goal
@@ -19,7 +20,8 @@ returns-clause-heard c plan past h =
     let new = c.count.new.tallies.by_slot.items in
     let slot = c.slot_on-slot.result in
     let is = c.line_with-line.ensures in
-    let counted = subst (λ (l : FrameLine). IsCounted old.tallies.by_slot.items new l slot) is c.count.ensures in
+    let kept = subst (λ (ts : List Tally). IsCounted ts new c.line_with-line.result slot) (λ i. (c.keep_hint.ensures i).items) c.count.ensures in
+    let counted = subst (λ (l : FrameLine). IsCounted old.tallies.by_slot.items new l slot) is kept in
     let line = subst (λ (l : FrameLine). IsLine (w plan old past h) new past l (line_on (w plan old past h) rec past)) (sym is)
     (said_at plan old past h few rec f r.frame r.line r.moment r.bus r.ident c.args.place r.place new slot c.last_line-last.result c.reason_of_frame-reason.result
     (λ low. c.slot_on-slot.ensures low ∙ ap (λ (k : Key). option_map (slot_at c.args.place) k.source) c.key-key.ensures)

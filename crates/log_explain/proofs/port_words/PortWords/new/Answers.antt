@@ -1,6 +1,6 @@
 use Rattle.std.proofs.Common.{◌∙◌, ℕ, ◌+◌, [], ◌∷◌, length, map, ap}
 use Rattle.std.proofs.lemmas.List.{length-append}
-use Rattle.log_explain.specs.Words.{block_text}
+use Rattle.text_lines.specs.Words.{block_text}
 use Rattle.log_explain.proofs.Blocks.{one_more}
 use Rattle.log_explain.proofs.port_words.PortWords.new.Goals as goal
 

@@ -1,5 +1,6 @@
 use Rattle.std.proofs.Common.{◌≡◌, map, length}
-use Rattle.log_explain.specs.Words.{block_text, numbers}
+use Rattle.log_explain.specs.Words.{numbers}
+use Rattle.text_lines.specs.Words.{block_text}
 use Rattle.log_explain.proofs.port_words.PortWords.new.Given as goal
 
 abbrev pub invariant-loop-subject : goal.invariant-loop-subject
