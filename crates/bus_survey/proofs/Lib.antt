@@ -1,4 +1,5 @@
 pub mod Orders
+pub mod Ranks
 pub mod Tables
 pub mod CountLemmas
 pub mod FlowLemmas

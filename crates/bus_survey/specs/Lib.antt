@@ -1,6 +1,7 @@
 pub mod Flows
 pub mod Starts
 pub mod Counts
+pub mod Ranks
 pub mod Buses
 pub mod Sources
 pub mod Lines

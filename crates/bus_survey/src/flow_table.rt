@@ -1,9 +1,11 @@
 ghost use Rattle.std.specs.Prelude.{◌≡◌, ◌<◌, ◌≤◌, ◌^◌, ◌∷◌, [], List, OnOk, length};
 ghost use Rattle.tail_frame.specs.Frames.{FrameOf, seen};
-ghost use Rattle.bus_survey.specs.Counts.{AreShort, kept_frames, table};
+ghost use Rattle.bus_survey.specs.Counts.{AreShort, kept_frames};
+ghost use Rattle.bus_survey.specs.Ranks.{IsTableOf};
 
 use crate::flow::{Flow, flow_of};
 use crate::flow_counts::FlowCounts;
+use crate::flow_rank::rank;
 use cy_bits::NoMemory;
 use std::alloc::Global;
 use std::collections::BTreeMap;
@@ -15,14 +17,14 @@ use tail_frame::Frame;
 /// that is new, and for nothing else.
 #[derive(Drop)]
 pub struct FlowTable {
-    /// The flows, in their order, each with what is counted of its frames.
-    pub counts: BTreeMap<Flow, FlowCounts>,
+    /// The flows by their ranks, so in their order, each with what is counted of its frames.
+    pub counts: BTreeMap<u64, (Flow, FlowCounts)>,
 }
 
 impl FlowTable {
     /// No frame yet.
     pub fn new(alloc: Global) -> FlowTable
-        ensures { result.counts.entries ≡ table [] }
+        ensures { IsTableOf [] result.counts.entries }
     {
         FlowTable {
             counts: BTreeMap::new(alloc),
@@ -33,14 +35,15 @@ impl FlowTable {
     pub fn hear(&mut self, frame: &Frame<'_>) -> Result<(), NoMemory>
         requires { length frame.now.body.now ≤ 63 }
         ensures { OnOk result ((past : List FrameOf) → length past < 2 ^ 28 → AreShort past
-            → self.old.counts.entries ≡ table past
-            → self.new.counts.entries ≡ table (seen frame.now ∷ past)) }
+            → IsTableOf past self.old.counts.entries
+            → IsTableOf (seen frame.now ∷ past) self.new.counts.entries) }
     {
         let flow = flow_of(frame);
-        match self.counts.get_mut(&flow) {
-            Some(counts) => counts.add(frame),
+        let rank = rank(flow);
+        match self.counts.get_mut(&rank) {
+            Some(known) => known.1.add(frame),
             None => {
-                self.counts.insert(flow, first_counts(frame))?;
+                self.counts.insert(rank, (flow, first_counts(frame)))?;
             }
         }
         Ok(())

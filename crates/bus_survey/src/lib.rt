@@ -5,6 +5,7 @@ mod bus_counts;
 mod buses;
 mod flow;
 mod flow_counts;
+mod flow_rank;
 mod flow_table;
 mod lines;
 mod sources;

@@ -1,6 +1,7 @@
 //! The lines that are written.
-ghost use Rattle.std.specs.Prelude.{◌≡◌, ◌++◌, ◌∷◌, codes, decimal, OnOk};
-ghost use Rattle.line_text.specs.Buffer.{text_of};
+ghost use Rattle.std.specs.Prelude.{◌≡◌, ◌++◌, ◌∷◌, ◌+◌, ◌≤◌, codes, decimal, length, OnOk};
+ghost use Rattle.std.specs.Map.{values_of};
+ghost use Rattle.line_text.specs.Buffer.{text_of, room_of};
 ghost use Rattle.line_text.specs.Text.{line_of};
 ghost use Rattle.bus_survey.specs.Lines.{moment_or, number_or, kind_word, sender_word, name_of, bus_line, bus_lines, count_words, flow_line, flow_lines, end_line};
 
@@ -11,6 +12,9 @@ use crate::flow_counts::FlowCounts;
 use crate::flow_table::FlowTable;
 use cy_bits::{BusName, NoMemory, ShortList};
 use line_text::TextBuffer;
+
+/// Room for a line, and for what is put behind its last number.
+const LINE: usize = 1024;
 
 /// Appends the lines of the buses with these names, in their order.
 pub(crate) fn put_buses(
@@ -33,14 +37,15 @@ fn put_bus(text: &mut TextBuffer, name: &BusName, counts: &BusCounts) -> Result<
     ensures { OnOk result
         (text_of text.new ≡ text_of text.old ++ bus_line name.now counts.now) }
 {
-    text.push(b"bus ")?;
-    text.push(name.as_str().as_bytes())?;
-    put_count(text, b" records ", counts.records)?;
-    put_count(text, b" discarded ", counts.discarded)?;
-    put_moment(text, b" first ", counts.first)?;
-    put_moment(text, b" last ", counts.last)?;
-    put_count(text, b" silence ", counts.silence)?;
-    text.push(b"\n")?;
+    text.reserve(LINE)?;
+    text.put_slice(b"bus ");
+    text.put_slice(name.as_str().as_bytes());
+    put_count(text, b" records ", counts.records);
+    put_count(text, b" discarded ", counts.discarded);
+    put_moment(text, b" first ", counts.first);
+    put_moment(text, b" last ", counts.last);
+    put_count(text, b" silence ", counts.silence);
+    text.put_slice(b"\n");
     Ok(())
 }
 
@@ -51,9 +56,9 @@ pub(crate) fn put_flows(
     flows: &FlowTable,
 ) -> Result<(), NoMemory>
     ensures { OnOk result (text_of text.new
-        ≡ text_of text.old ++ flow_lines names.now flows.now.counts.entries) }
+        ≡ text_of text.old ++ flow_lines names.now (values_of flows.now.counts.entries)) }
 {
-    for (flow, counts) in &flows.counts {
+    for (flow, counts) in flows.counts.values() {
         put_flow(text, names, flow, counts)?;
     }
     Ok(())
@@ -69,31 +74,32 @@ fn put_flow(
     ensures { OnOk result
         (text_of text.new ≡ text_of text.old ++ flow_line names.now flow.now counts.now) }
 {
-    text.push(b"port ")?;
-    text.push(kind_word(flow.kind))?;
-    put_port(text, flow.port)?;
-    put_sender(text, flow.sender)?;
-    put_receiver(text, flow.destination)?;
-    text.push(b" ")?;
-    text.push(name_of(names, flow.bus))?;
-    put_counts(text, counts)?;
+    text.reserve(LINE)?;
+    text.put_slice(b"port ");
+    text.put_slice(kind_word(flow.kind));
+    put_port(text, flow.port);
+    put_sender(text, flow.sender);
+    put_receiver(text, flow.destination);
+    text.put_slice(b" ");
+    text.put_slice(name_of(names, flow.bus));
+    put_counts(text, counts);
     Ok(())
 }
 
 /// Appends what is counted of a flow, and the end of its line.
-fn put_counts(text: &mut TextBuffer, counts: &FlowCounts) -> Result<(), NoMemory>
-    ensures { OnOk result (text_of text.new ≡ text_of text.old ++ 32 ∷ line_of (count_words counts.now)) }
+fn put_counts(text: &mut TextBuffer, counts: &FlowCounts)
+    requires room { 512 ≤ room_of text.old }
+    ensures { text_of text.new ≡ text_of text.old ++ 32 ∷ line_of (count_words counts.now) }
 {
     let starts = &counts.starts;
-    put_count(text, b" frames ", counts.frames)?;
-    put_count(text, b" starts ", starts.count)?;
-    put_count(text, b" copies ", starts.copies)?;
-    put_count(text, b" gaps ", starts.gaps)?;
-    put_count(text, b" bytes ", counts.bytes)?;
-    put_number(text, b" every ", starts.waits.least)?;
-    put_number(text, b" ", starts.waits.greatest)?;
-    text.push(b"\n")?;
-    Ok(())
+    put_count(text, b" frames ", counts.frames);
+    put_count(text, b" starts ", starts.count);
+    put_count(text, b" copies ", starts.copies);
+    put_count(text, b" gaps ", starts.gaps);
+    put_count(text, b" bytes ", counts.bytes);
+    put_number(text, b" every ", starts.waits.least);
+    put_number(text, b" ", starts.waits.greatest);
+    text.put_slice(b"\n");
 }
 
 /// Appends the last line.
@@ -106,28 +112,33 @@ pub(crate) fn put_end(
     ensures { OnOk result
         (text_of text.new ≡ text_of text.old ++ end_line records discarded nodes) }
 {
-    put_count(text, b"end records ", records)?;
-    put_count(text, b" discarded ", discarded)?;
-    put_count(text, b" nodes ", nodes)?;
-    text.push(b"\n")?;
+    text.reserve(LINE)?;
+    put_count(text, b"end records ", records);
+    put_count(text, b" discarded ", discarded);
+    put_count(text, b" nodes ", nodes);
+    text.put_slice(b"\n");
     Ok(())
 }
 
 /// Appends a word and a number.
-fn put_count(text: &mut TextBuffer, word: &[u8], count: u64) -> Result<(), NoMemory>
-    ensures { OnOk result
-        (text_of text.new ≡ text_of text.old ++ (word.now ++ decimal count)) }
+#[inline(always)]
+fn put_count(text: &mut TextBuffer, word: &[u8], count: u64)
+    requires short { length word.now ≤ 16 }
+    requires room { 64 ≤ room_of text.old }
+    ensures text { text_of text.new ≡ text_of text.old ++ (word.now ++ decimal count) }
+    ensures room { room_of text.old ≤ room_of text.new + 40 }
 {
-    text.push(word)?;
-    text.reserve(24)?;
+    text.put_slice(word);
     text.put_number(count);
-    Ok(())
 }
 
 /// Appends a word, and a number or `-` where there is none.
-fn put_number(text: &mut TextBuffer, word: &[u8], number: Option<u64>) -> Result<(), NoMemory>
-    ensures { OnOk result
-        (text_of text.new ≡ text_of text.old ++ (word.now ++ number_or number)) }
+#[inline(always)]
+fn put_number(text: &mut TextBuffer, word: &[u8], number: Option<u64>)
+    requires short { length word.now ≤ 16 }
+    requires room { 64 ≤ room_of text.old }
+    ensures text { text_of text.new ≡ text_of text.old ++ (word.now ++ number_or number) }
+    ensures room { room_of text.old ≤ room_of text.new + 40 }
 {
     match number {
         Some(number) => put_count(text, word, number),
@@ -136,39 +147,49 @@ fn put_number(text: &mut TextBuffer, word: &[u8], number: Option<u64>) -> Result
 }
 
 /// Appends a word, and a moment or `-` where there is none.
-fn put_moment(text: &mut TextBuffer, word: &[u8], moment: Option<u64>) -> Result<(), NoMemory>
-    ensures { OnOk result
-        (text_of text.new ≡ text_of text.old ++ (word.now ++ moment_or moment)) }
+fn put_moment(text: &mut TextBuffer, word: &[u8], moment: Option<u64>)
+    requires short { length word.now ≤ 16 }
+    requires room { 64 ≤ room_of text.old }
+    ensures text { text_of text.new ≡ text_of text.old ++ (word.now ++ moment_or moment) }
+    ensures room { room_of text.old ≤ room_of text.new + 40 }
 {
-    let Some(moment) = moment else {
-        return put_none(text, word);
-    };
-    text.push(word)?;
-    text.reserve(32)?;
-    text.put_moment(moment);
-    Ok(())
+    match moment {
+        Some(moment) => {
+            text.put_slice(word);
+            text.put_moment(moment);
+        }
+        None => put_none(text, word),
+    }
 }
 
 /// Appends a word, and `-`.
-fn put_none(text: &mut TextBuffer, word: &[u8]) -> Result<(), NoMemory>
-    ensures { OnOk result (text_of text.new ≡ text_of text.old ++ (word.now ++ codes "-")) }
+#[inline(always)]
+fn put_none(text: &mut TextBuffer, word: &[u8])
+    requires short { length word.now ≤ 16 }
+    requires room { 64 ≤ room_of text.old }
+    ensures text { text_of text.new ≡ text_of text.old ++ (word.now ++ codes "-") }
+    ensures room { room_of text.old ≤ room_of text.new + 40 }
 {
-    text.push(word)?;
-    text.push(b"-")?;
-    Ok(())
+    text.put_slice(word);
+    text.put_slice(b"-");
 }
 
 /// Appends a space, and a port.
-fn put_port(text: &mut TextBuffer, port: u16) -> Result<(), NoMemory>
-    ensures { OnOk result (text_of text.new ≡ text_of text.old ++ (32 ∷ decimal port)) }
+#[inline(always)]
+fn put_port(text: &mut TextBuffer, port: u16)
+    requires room { 64 ≤ room_of text.old }
+    ensures text { text_of text.new ≡ text_of text.old ++ (32 ∷ decimal port) }
+    ensures room { room_of text.old ≤ room_of text.new + 40 }
 {
-    put_count(text, b" ", u64::from(port))
+    put_count(text, b" ", u64::from(port));
 }
 
 /// Appends a space, and a sender.
-fn put_sender(text: &mut TextBuffer, sender: Sender) -> Result<(), NoMemory>
-    ensures { OnOk result
-        (text_of text.new ≡ text_of text.old ++ (32 ∷ sender_word sender)) }
+#[inline(always)]
+fn put_sender(text: &mut TextBuffer, sender: Sender)
+    requires room { 64 ≤ room_of text.old }
+    ensures text { text_of text.new ≡ text_of text.old ++ (32 ∷ sender_word sender) }
+    ensures room { room_of text.old ≤ room_of text.new + 40 }
 {
     match sender {
         Sender::Node(node) => put_count(text, b" ", u64::from(node)),
@@ -177,9 +198,11 @@ fn put_sender(text: &mut TextBuffer, sender: Sender) -> Result<(), NoMemory>
 }
 
 /// Appends a space, and a receiver or `-` where there is none.
-fn put_receiver(text: &mut TextBuffer, receiver: Option<u8>) -> Result<(), NoMemory>
-    ensures { OnOk result
-        (text_of text.new ≡ text_of text.old ++ (32 ∷ number_or receiver)) }
+#[inline(always)]
+fn put_receiver(text: &mut TextBuffer, receiver: Option<u8>)
+    requires room { 64 ≤ room_of text.old }
+    ensures text { text_of text.new ≡ text_of text.old ++ (32 ∷ number_or receiver) }
+    ensures room { room_of text.old ≤ room_of text.new + 40 }
 {
     match receiver {
         Some(node) => put_count(text, b" ", u64::from(node)),
@@ -189,7 +212,8 @@ fn put_receiver(text: &mut TextBuffer, receiver: Option<u8>) -> Result<(), NoMem
 
 /// The word of what frames are for.
 fn kind_word(kind: FlowKind) -> &'static [u8]
-    ensures { result.now ≡ kind_word kind }
+    ensures word { result.now ≡ kind_word kind }
+    ensures short { length result.now ≡ 3 }
 {
     match kind {
         FlowKind::Message => b"msg",
@@ -200,7 +224,8 @@ fn kind_word(kind: FlowKind) -> &'static [u8]
 
 /// The name of a bus, by its place.
 fn name_of(names: &ShortList<BusName, 3>, bus: u8) -> &[u8]
-    ensures { result.now ≡ name_of names.now bus }
+    ensures name { result.now ≡ name_of names.now bus }
+    ensures short { length result.now ≤ 15 }
 {
     match names.get(bus as usize) {
         Some(name) => name.as_str().as_bytes(),

@@ -2,4 +2,4 @@ use Rattle.std.proofs.Common.{append_assoc}
 use Rattle.bus_survey.proofs.lines.put_bus.Goals as goal
 
 pub returns : goal.returns
-returns c = simp (c.in_ok-push-3.ensures.ok, c.in_ok-put_count-3.ensures {u = tt}, c.in_ok-put_moment-2.ensures {u = tt}, c.in_ok-put_moment.ensures {u = tt}, c.in_ok-put_count-2.ensures {u = tt}, c.in_ok-put_count.ensures {u = tt}, c.in_ok-push-2.ensures.ok, c.as_bytes.ensures.value, c.as_str.ensures.value, c.in_ok-push.ensures.ok, append_assoc)
+returns c = simp (c.put_slice-3.ensures.text, c.put_count-3.ensures.text, c.put_moment-2.ensures.text, c.put_moment.ensures.text, c.put_count-2.ensures.text, c.put_count.ensures.text, c.put_slice-2.ensures.text, c.as_bytes.ensures.value, c.as_str.ensures.value, c.put_slice.ensures.text, c.reserve.ensures.text, append_assoc)

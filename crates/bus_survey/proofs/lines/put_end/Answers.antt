@@ -2,4 +2,4 @@ use Rattle.std.proofs.Common.{append_assoc}
 use Rattle.bus_survey.proofs.lines.put_end.Goals as goal
 
 pub returns : goal.returns
-returns c = simp (c.in_ok-push.ensures.ok, c.in_ok-put_count-3.ensures {u = tt}, c.in_ok-put_count-2.ensures {u = tt}, c.in_ok-put_count.ensures {u = tt}, append_assoc)
+returns c = simp (c.put_slice.ensures.text, c.put_count-3.ensures.text, c.put_count-2.ensures.text, c.put_count.ensures.text, c.reserve.ensures.text, append_assoc)

@@ -22,8 +22,9 @@ pub returns : goal.returns
 returns c =
     let flow = c.args.flow.now in
     let names = c.args.names.now in
-    let kind = c.in_ok-push-2.ensures.ok ∙ ap (λ (w : List ℕ). text_of c.push.new.self ++ w) c.kind_word.ensures in
-    let name = c.in_ok-push-4.ensures.ok ∙ ap (λ (w : List ℕ). text_of c.push-3.new.self ++ w) c.name_of.ensures in
-    all (text_of c.args.text.now) (text_of c.push.new.self) (text_of c.push-2.new.self) (text_of c.put_port.new.text) (text_of c.put_sender.new.text) (text_of c.put_receiver.new.text) (text_of c.push-3.new.self) (text_of c.push-4.new.self) (text_of c.put_counts.new.text)
+    let start = c.put_slice.ensures.text ∙ ap (λ (t : List ℕ). t ++ codes "port ") c.reserve.ensures.text in
+    let kind = c.put_slice-2.ensures.text ∙ ap (λ (w : List ℕ). text_of c.put_slice.new.self ++ w) c.kind_word.ensures.word in
+    let name = c.put_slice-4.ensures.text ∙ ap (λ (w : List ℕ). text_of c.put_slice-3.new.self ++ w) c.name_of.ensures.name in
+    all (text_of c.args.text.now) (text_of c.put_slice.new.self) (text_of c.put_slice-2.new.self) (text_of c.put_port.new.text) (text_of c.put_sender.new.text) (text_of c.put_receiver.new.text) (text_of c.put_slice-3.new.self) (text_of c.put_slice-4.new.self) (text_of c.put_counts.new.text)
     (codes "port ") (kind_word flow.kind) (32 ∷ decimal flow.port) (32 ∷ sender_word flow.sender) (32 ∷ number_or flow.destination) (codes " ") (name_of names flow.bus) (32 ∷ line_of (count_words c.args.counts.now))
-    c.in_ok-push.ensures.ok kind (c.in_ok-put_port.ensures {u = tt}) (c.in_ok-put_sender.ensures {u = tt}) (c.in_ok-put_receiver.ensures {u = tt}) c.in_ok-push-3.ensures.ok name (c.in_ok-put_counts.ensures {u = tt})
+    start kind c.put_port.ensures.text c.put_sender.ensures.text c.put_receiver.ensures.text c.put_slice-3.ensures.text name c.put_counts.ensures

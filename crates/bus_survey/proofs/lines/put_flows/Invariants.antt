@@ -1,4 +1,5 @@
 use Rattle.std.proofs.Common.{◌≡◌, ◌++◌}
+use Rattle.std.specs.Map.{values_of}
 use Rattle.line_text.specs.Buffer.{text_of}
 use Rattle.bus_survey.specs.Lines.{flow_lines}
 use Rattle.bus_survey.proofs.lines.put_flows.Given as goal
@@ -7,4 +8,4 @@ use Rattle.bus_survey.proofs.lines.put_flows.Given as goal
 abbrev pub invariant-loop-flow : goal.invariant-loop-flow
 invariant-loop-flow l =
     text_of l.text ++ flow_lines l.names l.flow-iterator
-    ≡ text_of l.initial.text ++ flow_lines l.names l.flows.counts.entries
+    ≡ text_of l.initial.text ++ flow_lines l.names (values_of l.flows.counts.entries)

@@ -17,4 +17,4 @@ returns-clause-text c =
     let count : c.count.result ≡ nodes (frames past) = c.count.ensures (frames past) h.sources_are in
     let start = text_of c.args.gathered.now in
     joined start _ _ _ _ _ _ (c.in_ok-put_buses.ensures {u = tt}) (c.in_ok-put_flows.ensures {u = tt}) e
-    ∙ (λ i. start ++ (bus_lines (h.names_are i) (h.buses_are i) ++ flow_lines (h.names_are i) (h.flows_are i) ++ end_line (h.records_are i) (h.discarded_are i) (count i)))) c.put_end.ensures
+    ∙ (λ i. start ++ (bus_lines (h.names_are i) (h.buses_are i) ++ flow_lines (h.names_are i) (h.flows_are.0 i) ++ end_line (h.records_are i) (h.discarded_are i) (count i)))) c.put_end.ensures

@@ -1,8 +1,9 @@
 use Rattle.std.proofs.Common.{◌≡◌, ◌∙◌, ◌<◌, ◌^◌, List, ◌∷◌, length, Some, None, option_map, append-nil, sym, ap, subst, arith}
 use Rattle.log_loop.proofs.Plain.{plain_heard}
 use Rattle.tail_frame.specs.Frames.{FrameOf, frame_of, seen}
-use Rattle.bus_survey.specs.Counts.{AreShort, table}
+use Rattle.bus_survey.specs.Counts.{AreShort}
 use Rattle.bus_survey.specs.Flows.{frames}
+use Rattle.bus_survey.specs.Ranks.{IsTableOf}
 use Rattle.bus_survey.specs.Sources.{AreSources}
 use Rattle.bus_survey.specs.Surveyed.{step_text, last_text}
 use Rattle.bus_survey.proofs.SurveyLemmas.{frames_few, frames_none, frames_some, discarded_none, discarded_some}
@@ -18,7 +19,7 @@ returns-in_default-clause-heard c = plain_heard (λ first. step_text) (λ first.
       record {
         names_are = h.names_are;
         buses_are = c.add.ensures past few h.buses_are;
-        flows_are = h.flows_are ∙ ap table same;
+        flows_are = subst (λ (fs : List FrameOf). IsTableOf fs c.args.self.now.flows.counts.entries) same h.flows_are;
         sources_are = subst (λ (fs : List FrameOf). AreSources fs c.args.self.now.sources.heard) same h.sources_are;
         records_are = omega (arith, h.records_are);
         discarded_are = discarded_none rec past c.args.self.now.discarded _ few none h.discarded_are c.saturating_add-self.ensures;
@@ -40,7 +41,9 @@ returns-clause-heard c = plain_heard (λ first. step_text) (λ first. last_text 
       record {
         names_are = h.names_are;
         buses_are = c.add.ensures past few h.buses_are;
-        flows_are = (c.in_ok-hear.ensures {u = tt}) (frames past) (omega (arith, few, frames_few past)) h.short h.flows_are ∙ ap table more;
+        flows_are =
+            subst (λ (fs : List FrameOf). IsTableOf fs c.hear.new.self.counts.entries) more
+            ((c.in_ok-hear.ensures {u = tt}) (frames past) (omega (arith, few, frames_few past)) h.short h.flows_are);
         sources_are = subst (λ (fs : List FrameOf). AreSources fs c.add-2.new.self.heard) more (c.add-2.ensures (frames past) h.sources_are);
         records_are = omega (arith, h.records_are);
         discarded_are = h.discarded_are ∙ discarded_some rec past f some;
