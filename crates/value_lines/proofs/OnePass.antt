@@ -22,17 +22,17 @@ aligned (Var s n) h = absurd (false≢true h)
 aligned (Struct fs o) h = h
 aligned (Union fs o) h = h
 
-pub answered : (s : Sch) (line digits : List ℕ) (at p n : ℕ) (u v : List Bool) (old new : List ℕ) → is_composite s ≡ true →
+pub answered : (s : Sch) (line : List ℕ) (at p n : ℕ) (u v : List Bool) (old new : List ℕ) → is_composite s ≡ true →
     Scans (λ x. Fits s x) (λ x. value_text s x) (λ x. own_bits s x) line (drop at line) u v →
-    at ≡ length line → u ≡ [] → length v ≡ p → (p % 8 ≡ 0 → digits ≡ bytes v) → new ≡ old ++ hex_line digits → IsHeard (IsEncoded s n line) old new
-answered s line digits at p n u v old new composite scan end none size is_digits is_new =
+    at ≡ length line → u ≡ [] → length v ≡ p → (p % 8 ≡ 0 → new ≡ old ++ hex_line (bytes v)) → IsHeard (IsEncoded s n line) old new
+answered s line at p n u v old new composite scan end none size is_new =
     let x = scan.value in
     let w = own_bits s x in
     let is_v : v ≡ w = scan.put ∙ ap (λ l. l ++ w) none in
     let whole : p % 8 ≡ 0 = omega (arith, own_whole s x (aligned s composite), size, ap length is_v) in
     let rest : drop at line ≡ [] = drop_all at line (omega arith) in
     let text : value_text s x ≡ line = sym (append-nil (value_text s x)) ∙ ap (λ l. value_text s x ++ l) (sym rest) ∙ sym scan.spelled in
-    (hex_line digits, record { value = x; fits = scan.fits; spelled = text; written = ap hex_line (is_digits whole ∙ ap bytes is_v) }, is_new)
+    (hex_line (bytes v), record { value = x; fits = scan.fits; spelled = text; written = ap (λ l. hex_line (bytes l)) is_v }, is_new whole)
 
 -- a line that isn't too long
 pub heard : {T E : Type 0} (r : Result T E) (s : Sch) (n : ℕ) (line old new : List ℕ) → is_ok r ≡ true → is_long line ≡ false → OnOk r ((m : ℕ) → IsHeard (IsEncoded s m line) old new) → IsHeard (Encodes s n line) old new

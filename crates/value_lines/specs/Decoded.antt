@@ -8,7 +8,7 @@ use Rattle.dsdl_types.specs.Paths.{path_text}
 use Rattle.dsdl_types.specs.Reading.{Read, Got, Bad, own}
 use Rattle.dsdl_types.specs.Schemas.{Sch}
 use Rattle.dsdl_types.specs.Values.{Val}
-use Rattle.serdes.specs.Results.{read_why}
+use Rattle.wire_values.specs.Results.{read_why}
 use Rattle.value_text.specs.Texts.{value_text}
 use Rattle.value_lines.specs.LongLines.{is_long}
 use Rattle.value_lines.specs.declared.refusal.Refusal.{Refusal}

@@ -13,9 +13,9 @@ use dsdl_types::laws::{readings_stored, rules_suffice};
 use hex::FromHexError;
 use line_loop::LineStop;
 use line_text::TextBuffer;
-use serdes::{ReadError, read_as};
 use std::alloc::Global;
 use value_text::print_value;
+use wire_values::{ReadError, read_as};
 
 /// Gathers the text of the value that the bytes read as whose hex a line is.
 pub fn decode_by_value(

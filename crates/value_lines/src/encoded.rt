@@ -1,5 +1,6 @@
 //! The text of a value as the hex of its bytes.
-ghost use Rattle.std.specs.Prelude.{◌≡◌, ◌++◌, ℕ, true, OnOk, OnErr};
+ghost use Rattle.std.specs.Prelude.{◌≡◌, ◌≤◌, ◌+◌, ◌*◌, ◌^◌, ◌%◌, ◌++◌, ℕ, length, take, true, OnOk, OnErr};
+ghost use Rattle.cy_bits.specs.Bits.{bytes};
 ghost use Rattle.dsdl_types.specs.Definitions.{IsType};
 ghost use Rattle.dsdl_types.specs.OneWay.{schema_prop};
 ghost use Rattle.dsdl_types.specs.Rules.{IsSchema};
@@ -11,6 +12,7 @@ ghost use Rattle.line_loop.specs.Heard.{Hears, IsHeard};
 ghost use Rattle.line_loop.specs.Reply.{by_number, no_words};
 ghost use Rattle.line_text.specs.Buffer.{text_of};
 ghost use Rattle.value_lines.specs.Encoded.{hex_line, Encodes, IsEncoded};
+ghost use Rattle.value_scan.specs.Written.{written};
 
 use crate::LONGEST_LINE;
 use crate::refusal::Refusal;
@@ -18,11 +20,11 @@ use cy_bits::{Bytes, NoMemory};
 use dsdl_types::{Schema, Value};
 use line_loop::{LineListener, LineStop};
 use line_text::TextBuffer;
-use serdes::laws::{extent_has_room, fits_or_misfit};
-use serdes::{WriteError, write_as};
 use std::alloc::Global;
 use value_scan::{BitBuffer, GivesUp, scan_own};
 use value_text::{TextError, read_value};
+use wire_values::laws::{extent_has_room, fits_or_misfit};
+use wire_values::{WriteError, write_as};
 
 /// How many bytes behind the extent the bits of a line have, so that each number is put at once.
 const SLACK: usize = 8;
@@ -136,10 +138,40 @@ fn put_scanned(
     if at != text.len() {
         return Err(GivesUp);
     }
-    match put_hex_line(bits.as_slice(), gathered) {
+    match put_bits_line(bits, gathered) {
         Ok(()) => Ok(()),
         Err(_) => Err(GivesUp),
     }
+}
+
+/// Gathers the line of the bytes of some bits, where they are whole bytes: by blocks, where eight more stand behind them.
+#[inline(always)]
+fn put_bits_line(bits: &BitBuffer, gathered: &mut TextBuffer) -> Result<(), NoMemory>
+    ensures text { OnOk result (bits.now.place % 8 ≡ 0
+        → text_of gathered.new ≡ text_of gathered.old ++ hex_line (bytes (written bits.now))) }
+    ensures kept { OnErr result (text_of gathered.new ≡ text_of gathered.old) }
+{
+    let all = bits.room();
+    let count = bits.place / 8;
+    if all.len() < 8 || count > all.len() as u64 - 8 {
+        return put_hex_line(bits.as_slice(), gathered);
+    }
+    put_front_line(all, count as usize, gathered)
+}
+
+/// Gathers the line of the first bytes, behind which at least eight more stand.
+#[inline(always)]
+fn put_front_line(bytes: &[u8], count: usize, gathered: &mut TextBuffer) -> Result<(), NoMemory>
+    requires wide { count + 8 ≤ length bytes.now }
+    requires few { length bytes.now ≤ 2 ^ 37 }
+    ensures text { OnOk result
+        (text_of gathered.new ≡ text_of gathered.old ++ hex_line (take count bytes.now)) }
+    ensures kept { OnErr result (text_of gathered.new ≡ text_of gathered.old) }
+{
+    gathered.reserve(2 * count + 17)?;
+    gathered.put_hex_of(bytes, count);
+    gathered.put(b"\n", 1);
+    Ok(())
 }
 
 /// Gathers the hex of the serialized form of the value that a line reads as.

@@ -9,9 +9,9 @@ use Rattle.dsdl_types.specs.Values.{Val, Vals, More}
 use Rattle.dsdl_types.specs.Views.{Kind, Typed, Padding, is_padding, type_of, with_field, named, flds, body_of}
 use Rattle.dsdl_types.specs.declared.schema.Field.{Field as F}
 use Rattle.dsdl_types.specs.declared.schema.Body.{Body, out-Body}
-use Rattle.serdes.specs.Reads.{behind, skipped}
-use Rattle.serdes.proofs.Readings.{field_read, behind_more, then_fields}
-use Rattle.serdes.proofs.Schemata.{flds_next, flds_end, fields_are}
+use Rattle.wire_values.specs.Reads.{behind, skipped}
+use Rattle.wire_values.proofs.Readings.{field_read, behind_more, then_fields}
+use Rattle.wire_values.proofs.Schemata.{flds_next, flds_end, fields_are}
 use Rattle.value_text.proofs.Rest.{regroup}
 use Rattle.value_text.specs.Texts.{field_texts, value_text}
 use Rattle.value_text.specs.Words.{entry, following, lead}

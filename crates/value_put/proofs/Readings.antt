@@ -6,8 +6,8 @@ use Rattle.cy_bits.specs.Bits.{number, gap}
 use Rattle.dsdl_types.specs.Reading.{Read, Got, Bad, value_of, own, fields}
 use Rattle.dsdl_types.specs.Schemas.{Prim, Flds, Outline, Simple, width}
 use Rattle.dsdl_types.specs.Schemas as D
-use Rattle.serdes.specs.Reads.{behind}
-use Rattle.serdes.proofs.Readings.{simple_read, own_parts, window_got}
+use Rattle.wire_values.specs.Reads.{behind}
+use Rattle.wire_values.proofs.Readings.{simple_read, own_parts, window_got}
 use Rattle.value_text.proofs.Rest.{regroup}
 use Rattle.value_text.specs.Texts.{field_texts, simple_text, value_text}
 use Rattle.value_text.specs.Words.{separated}

@@ -7,7 +7,7 @@ use Rattle.dsdl_types.specs.Reading.{Read, Got, Bad, Index, and_then, under, par
 use Rattle.dsdl_types.specs.Schemas.{length_field_bits}
 use Rattle.dsdl_types.specs.Schemas as D
 use Rattle.dsdl_types.specs.Values.{Vals, More, Items, items_of}
-use Rattle.serdes.proofs.Readings.{own_var}
+use Rattle.wire_values.proofs.Readings.{own_var}
 use Rattle.value_text.proofs.Rest.{regroup}
 use Rattle.value_text.specs.Texts.{array_text, is_uint8, texts, value_text}
 use Rattle.value_text.specs.Words.{following, lead, separated}

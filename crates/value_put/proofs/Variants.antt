@@ -9,8 +9,8 @@ use Rattle.dsdl_types.specs.Schemas.{Flds, Outline, tag_bits, variants}
 use Rattle.dsdl_types.specs.Schemas as D
 use Rattle.dsdl_types.specs.Views.{Kind, Typed, Padding, is_padding, type_of, with_field, named, flds}
 use Rattle.dsdl_types.specs.declared.schema.Field.{Field as F}
-use Rattle.serdes.proofs.Readings.{own_tagged}
-use Rattle.serdes.proofs.Schemata.{flds_next}
+use Rattle.wire_values.proofs.Readings.{own_tagged}
+use Rattle.wire_values.proofs.Schemata.{flds_next}
 use Rattle.value_text.proofs.Rest.{regroup}
 use Rattle.value_text.specs.Texts.{value_text, variant_text}
 use Rattle.value_text.specs.Words.{entry, lead}

@@ -6,8 +6,8 @@ use Rattle.std.specs.Int.{from_le_bytes, w64}
 use Rattle.cy_bits.specs.Bits.{bits, number}
 use Rattle.cy_bits.proofs.BitFacts.{take_bits, drop_bits}
 use Rattle.cy_bits.proofs.BitPlaces.{number_take_more, number_below, number_none}
-use Rattle.serdes.proofs.Windows.{bits_drop, window_bits}
-use Rattle.serdes.specs.Reads.{behind}
+use Rattle.wire_values.proofs.Windows.{bits_drop, window_bits}
+use Rattle.wire_values.specs.Reads.{behind}
 use Rattle.dsdl_types.proofs.Padding.{bits_take}
 use Rattle.std.proofs.Common.{min, subst}
 use Rattle.std.proofs.lemmas.List.{length-take-le, drop-take, take-take}

@@ -1,6 +1,6 @@
 -- The bytes of a reader that count.
 use Rattle.std.specs.Prelude.{◌≡◌, ℕ, List, take}
-use Rattle.serdes.specs.Reads.{IsWindow}
+use Rattle.wire_values.specs.Reads.{IsWindow}
 use Rattle.value_put.specs.declared.bits.Bits.{Bits}
 
 unfoldable pub counted : Bits → List ℕ

@@ -3,7 +3,7 @@ use Rattle.std.specs.Prelude.{◌≡◌, ◌<◌, ◌^◌, ℕ, Bool, List, [], 
 use Rattle.dsdl_types.specs.Reading.{Read, Got, Bad}
 use Rattle.line_text.specs.Buffer.{text_of}
 use Rattle.line_text.specs.declared.text_buffer.TextBuffer.{TextBuffer}
-use Rattle.serdes.specs.Reads.{behind}
+use Rattle.wire_values.specs.Reads.{behind}
 use Rattle.value_put.specs.Counted.{counted}
 use Rattle.value_put.specs.declared.bits.Bits.{Bits}
 

@@ -20,6 +20,7 @@ pub struct Bits<'a> {
     pub place: u64,
     pub ghost slack: { size + 16 ≤ length bytes.now },
     pub ghost small: { size ≤ 2 ^ 37 },
+    pub ghost near: { place ≤ 2 ^ 42 },
 }
 
 #[tactic(auto, unfolding(crate::specs::Counted::counted))]
@@ -42,8 +43,8 @@ impl<'a> Bits<'a> {
         }
     }
 
-    /// The number of so many bits from the place on, and goes behind them. It gives up more than 64 bits, and places
-    /// beyond 2^39 bits.
+    /// The number of so many bits from the place on, and goes behind them. It gives up more than 64 bits, and may give up
+    /// places beyond 2^39 bits.
     #[inline(always)]
     pub fn take(&mut self, width: u32) -> Result<u64, Stop>
         ensures value { IfOk result (λ n. n ≡ number
@@ -66,10 +67,7 @@ impl<'a> Bits<'a> {
         ensures near { OnOk result (self.now.place + width ≤ 2 ^ 41) }
     {
         let place = self.place;
-        if place <= FAR
-            && place + u64::from(width) <= 8 * self.size
-            && place % 8 + u64::from(width) <= 64
-        {
+        if place + u64::from(width) <= 8 * self.size && place % 8 + u64::from(width) <= 64 {
             Ok(bits_at(self.bytes, place, width))
         } else {
             self.slow_number(width)
@@ -109,12 +107,15 @@ impl<'a> Bits<'a> {
         Ok(())
     }
 
-    /// Goes to the next multiple of 8 bits; gives up at places beyond 2^39 bits.
+    /// Goes to the next multiple of 8 bits; gives up at places beyond 2^39 bits that aren't one.
     #[inline(always)]
     pub fn align(&mut self) -> Result<(), Stop>
         ensures place { OnOk result (self.new.place ≡ self.old.place + gap self.old.place) }
         ensures bytes { counted self.new ≡ counted self.old }
     {
+        if self.place % 8 == 0 {
+            return Ok(());
+        }
         if self.place > FAR {
             return Err(Stop::GivesUp);
         }

@@ -3,7 +3,7 @@ ghost use Rattle.std.specs.Prelude.{◌≡◌, ◌+◌, OnOk, true};
 ghost use Rattle.dsdl_types.specs.Schemas.{is_aligned, is_delimited};
 ghost use Rattle.dsdl_types.specs.Views.{sch};
 ghost use Rattle.line_text.specs.Buffer.{text_of};
-ghost use Rattle.serdes.specs.Reads.{skipped};
+ghost use Rattle.wire_values.specs.Reads.{skipped};
 ghost use Rattle.value_put.specs.Counted.{counted};
 ghost use Rattle.value_put.specs.Parts.{own_told, part_told, window_told};
 ghost use Rattle.value_put.specs.Told.{Begins, Puts};

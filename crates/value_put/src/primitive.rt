@@ -1,10 +1,10 @@
 //! Primitive types (Cyphal Specification, section 3.4.3).
-ghost use Rattle.std.specs.Prelude.{◌≡◌, ◌≤◌, ◌<◌, ◌^◌, ◌/◌, ◌++◌, OnOk};
+ghost use Rattle.std.specs.Prelude.{◌≡◌, ◌≤◌, ◌<◌, ◌^◌, ◌/◌, ◌++◌, OnOk, decimal};
 ghost use Rattle.std.specs.Fmt.{signed_decimal};
 ghost use Rattle.dsdl_types.specs.Schemas.{PBool, PFloat, PInt, PUint, Prim, Simple};
 ghost use Rattle.dsdl_types.specs.Views.{is_saturated, sch};
 ghost use Rattle.line_text.specs.Buffer.{room_of, text_of};
-ghost use Rattle.serdes.specs.Reads.{signed_of};
+ghost use Rattle.wire_values.specs.Reads.{signed_of};
 ghost use Rattle.value_text.specs.Texts.{truth_text};
 ghost use Rattle.value_text.specs.Words.{hex_digits};
 ghost use Rattle.value_put.specs.Counted.{counted};
@@ -72,8 +72,21 @@ impl Primitive for Unsigned {
     #[inline(always)]
     fn put(&self, at: &mut Bits<'_>, text: &mut TextBuffer) -> Result<(), Stop> {
         let number = at.take(u32::from(self.bits))?;
-        text.put_number(number);
+        put_unsigned(number, text);
         Ok(())
+    }
+}
+
+/// Puts a number, of which the commonest have one digit.
+#[inline(always)]
+fn put_unsigned(number: u64, text: &mut TextBuffer)
+    requires room { 40 ≤ room_of text.old }
+    ensures text { text_of text.new ≡ text_of text.old ++ decimal number }
+{
+    if number < 10 {
+        text.put(&[b'0' + number as u8], 1);
+    } else {
+        text.put_number(number);
     }
 }
 

@@ -1,8 +1,9 @@
 //! Structures (Cyphal Specification, section 3.4.5).
 ghost use Rattle.std.specs.Prelude.{◌≡◌, IfOk, OnOk, false, true};
-ghost use Rattle.dsdl_types.specs.Views.{body_of, is_padding, named};
+ghost use Rattle.dsdl_types.specs.Schemas.{PUint, Simple};
+ghost use Rattle.dsdl_types.specs.Views.{Typed, body_of, is_padding, is_saturated, named};
 ghost use Rattle.line_text.specs.Buffer.{text_of};
-ghost use Rattle.serdes.specs.Forms.{struct_of};
+ghost use Rattle.wire_values.specs.Forms.{struct_of};
 ghost use Rattle.value_put.specs.Counted.{counted};
 ghost use Rattle.value_put.specs.Parts.{PutsField, fields_told, own_told};
 ghost use Rattle.value_put.specs.Told.{Begins, Puts};
@@ -12,9 +13,9 @@ use crate::marks::put_mark;
 use crate::name::put_name;
 use crate::own::{go_to_begin, put_part};
 use crate::parts::is_simple;
-use crate::primitive::put_simple;
+use crate::primitive::{Primitive, Unsigned, put_simple};
 use crate::stop::Stop;
-use dsdl_types::{Body, Field, Schema};
+use dsdl_types::{Body, Cast, Field, Schema};
 use line_text::TextBuffer;
 
 /// Puts a structure, with the padding behind its fields.
@@ -69,11 +70,35 @@ fn put_field(
             at.skip(u64::from(*bits))?;
             Ok(first)
         }
+        Schema::Uint { bits, cast } => {
+            put_unsigned_field(field, *bits, *cast, first, at, text)?;
+            Ok(false)
+        }
         _ => {
             put_named(field, first, at, text)?;
             Ok(false)
         }
     }
+}
+
+/// Puts a field that is an unsigned integer.
+#[tactic(auto, using(crate::proofs::Front::begins))]
+#[inline(always)]
+fn put_unsigned_field(
+    field: &Field,
+    bits: u8,
+    cast: Cast,
+    first: bool,
+    at: &mut Bits<'_>,
+    text: &mut TextBuffer,
+) -> Result<(), Stop>
+    requires { (named field.now).1 ≡ Typed (Simple (PUint bits (is_saturated cast))) }
+    ensures put { OnOk result (PutsField field.now first false at.old text.old at.new text.new) }
+    ensures same { counted at.new ≡ counted at.old }
+    ensures front { Begins (text_of text.old) (text_of text.new) }
+{
+    put_name(field, first, text)?;
+    Unsigned { bits, cast }.put(at, text)
 }
 
 /// Puts a field that isn't padding.

@@ -2,7 +2,7 @@
 ghost use Rattle.std.specs.Prelude.{◌≡◌, OnOk};
 ghost use Rattle.dsdl_types.specs.Views.{body_of};
 ghost use Rattle.line_text.specs.Buffer.{text_of};
-ghost use Rattle.serdes.specs.Forms.{union_of};
+ghost use Rattle.wire_values.specs.Forms.{union_of};
 ghost use Rattle.value_put.specs.Counted.{counted};
 ghost use Rattle.value_put.specs.Parts.{own_told, variant_told};
 ghost use Rattle.value_put.specs.Told.{Begins, Puts};

@@ -1,8 +1,8 @@
 -- Hex digits of a number and of its bytes.
-use Rattle.std.proofs.Common.{◌≡◌, ◌∙◌, ℕ, zero, suc, ◌+◌, ◌-◌, ◌*◌, ◌/◌, ◌%◌, ◌^◌, ◌<◌, ◌≤◌, Bool, List, [], ◌∷◌, ◌++◌, length, take, drop, get_or, slice_index, append_assoc, length-append, length-take, take_at, refl, sym, ap, subst, arith}
-use Rattle.std.proofs.lemmas.List.{take-append-drop, append-nil, length-take-le, take-append-le, take_all}
-use Rattle.std.proofs.lemmas.Nat.{shr_high, mod_low, shr_split, shr-shr, pow-add, pow_pos, mod_below, le_bytes_8}
-use Rattle.std.specs.Int.{from_be_bytes, from_le_bytes, to_le_bytes, w64}
+use Rattle.std.proofs.Common.{◌≡◌, ◌∙◌, ℕ, zero, suc, ◌+◌, ◌-◌, ◌*◌, ◌/◌, ◌%◌, ◌^◌, ◌<◌, ◌≤◌, Bool, List, [], ◌∷◌, ◌++◌, length, take, drop, get_or, slice_index, append_assoc, length-append, take_at, refl, sym, ap, subst, arith}
+use Rattle.std.proofs.lemmas.List.{take-append-drop, append-nil, length-take-le, take_all}
+use Rattle.std.proofs.lemmas.Nat.{shr_high, shr_split, shr-shr, pow-add, pow_pos, mod_below, le_bytes_8}
+use Rattle.std.specs.Int.{from_be_bytes, from_le_bytes, w64}
 use Rattle.hex.specs.Hex.{encode_upper, encode_with, upper_digits}
 use Rattle.cy_bits.specs.Bits.{bits, bits_of}
 use Rattle.cy_bits.proofs.BitFacts.{bits-append, length_bits_of}

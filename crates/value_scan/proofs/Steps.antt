@@ -18,12 +18,12 @@ use Rattle.dsdl_types.specs.Encoding as E
 use Rattle.dsdl_types.specs.Fits.{AllOf, Fits, FitFields}
 use Rattle.dsdl_types.specs.Schemas.{PBool, PFloat, PInt, PUint, Flds, Outline, End, Pad, Field, is_aligned, is_delimited, length_field_bits, tag_bits, variants}
 use Rattle.dsdl_types.specs.Schemas as D
-use Rattle.dsdl_types.specs.Values.{Val, Vals, Num, Empty, More, Items, Parts, Tagged, count}
+use Rattle.dsdl_types.specs.Values.{Vals, Num, Empty, More, Items, Parts, Tagged, count}
 use Rattle.dsdl_types.specs.Views.{Kind, Typed, Padding, is_padding, type_of, with_field, named, flds, body_of}
 use Rattle.dsdl_types.specs.declared.schema.Field.{Field as F}
 use Rattle.dsdl_types.specs.declared.schema.Body.{Body, out-Body}
-use Rattle.serdes.proofs.Schemata.{flds_next, flds_end, fields_are}
-use Rattle.serdes.proofs.Writings.{front_bits, padding_bits}
+use Rattle.wire_values.proofs.Schemata.{flds_next, flds_end, fields_are}
+use Rattle.wire_values.proofs.Writings.{front_bits, padding_bits}
 use Rattle.value_text.specs.Texts.{are_bytes, array_text, byte_text, field_texts, in_a_row, is_uint8, texts, value_text, variant_text}
 use Rattle.value_text.specs.Words.{entry, following, hex_digits, in_brackets, lead, separated}
 use Rattle.value_scan.specs.Scanned.{rest_of, Scans, Leaves, LeavesRow, LeavesVariant, RowScans, VariantScans}

@@ -1,10 +1,10 @@
 -- Bits that are whole bytes.
-use Rattle.std.proofs.Common.{◌≡◌, ◌∙◌, ℕ, ◌+◌, ◌-◌, ◌*◌, ◌/◌, ◌%◌, ◌<◌, ◌≤◌, List, ◌++◌, length, take, drop, get_or, length-take, take-append-drop, refl, sym, ap, arith}
+use Rattle.std.proofs.Common.{◌≡◌, ◌∙◌, ℕ, ◌+◌, ◌*◌, ◌/◌, ◌%◌, ◌<◌, ◌≤◌, List, ◌++◌, length, take, drop, get_or, length-take, take-append-drop, sym, ap, arith}
 use Rattle.std.proofs.lemmas.List.{append-nil}
 use Rattle.cy_bits.specs.Bits.{bits, bytes, zeros, gap}
 use Rattle.cy_bits.specs.Put.{put_bits}
 use Rattle.cy_bits.proofs.BitPlaces.{length_bits}
-use Rattle.serdes.proofs.Buffers.{front_bytes}
+use Rattle.wire_values.proofs.Buffers.{front_bytes}
 use Rattle.value_scan.proofs.BlockLemmas.{take_byte}
 
 pub whole_bytes : (b : List ℕ) (p : ℕ) → ((i : ℕ) → get_or b i 0 < 256) → p % 8 ≡ 0 → p ≤ 8 * length b → take (p / 8) b ≡ bytes (take p (bits b))

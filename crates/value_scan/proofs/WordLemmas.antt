@@ -1,11 +1,9 @@
 -- A number put from a bit on, in eight bytes.
-use Rattle.std.proofs.Common.{◌≡◌, ◌∙◌, ℕ, zero, suc, ◌+◌, ◌-◌, ◌*◌, ◌/◌, ◌%◌, ◌^◌, ◌<◌, ◌≤◌, Bool, List, [], ◌∷◌, ◌++◌, length, take, drop, get_or, append_assoc, length-append, length-take, take_at, refl, sym, ap, subst, arith}
+use Rattle.std.proofs.Common.{◌≡◌, ◌∙◌, ℕ, suc, ◌+◌, ◌-◌, ◌*◌, ◌/◌, ◌%◌, ◌^◌, ◌<◌, ◌≤◌, Bool, List, [], ◌∷◌, ◌++◌, length, take, drop, get_or, append_assoc, length-append, take_at, refl, sym, ap, subst, arith}
 use Rattle.std.proofs.lemmas.List.{take-append-le, take-append-drop, length-take-le}
 use Rattle.std.proofs.Math.Seq.{take-append-add, drop-cons}
 use Rattle.std.proofs.lemmas.Nat.{one_shl, shr_high, mod_low, shr_split, shr-shr, pow-add, pow_pos, mod_below}
-use Rattle.std.proofs.lemmas.Slice.{take-put_mid}
 use Rattle.std.specs.Int.{to_le_bytes, w64}
-use borrow.Rule.Slice.PartMut.{put_mid}
 use Rattle.cy_bits.specs.Bits.{bits, bits_of}
 use Rattle.cy_bits.proofs.BitFacts.{bits-append, length_bits_of}
 use Rattle.cy_bits.proofs.BitPlaces.{bits_of_split, bits_of_low, length_bits}

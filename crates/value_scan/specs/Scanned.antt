@@ -3,10 +3,10 @@ use Rattle.std.specs.Prelude.{◌≡◌, ℕ, ◌+◌, ◌-◌, Bool, true, fals
 use Rattle.dsdl_types.specs.Encoding.{each, field_bits, own_bits, part_bits, variant_bits}
 use Rattle.dsdl_types.specs.Fits.{AllOf, Fits, FitFields, FitsVariant}
 use Rattle.dsdl_types.specs.Schemas.{Flds, Sch}
-use Rattle.dsdl_types.specs.Values.{Val, Vals, count}
+use Rattle.dsdl_types.specs.Values.{count}
 use Rattle.value_text.specs.Texts.{array_text, field_texts, is_uint8, texts, value_text, variant_text}
 use Rattle.dsdl_types.specs.declared.schema.Field.{Field}
-use Rattle.serdes.specs.Reads.{in_front}
+use Rattle.wire_values.specs.Reads.{in_front}
 use Rattle.value_text.specs.Words.{following, separated}
 use Rattle.value_scan.specs.Written.{written}
 use Rattle.value_scan.specs.declared.bit_buffer.BitBuffer.{BitBuffer}

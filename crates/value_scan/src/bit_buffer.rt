@@ -2,7 +2,7 @@
 ghost use Rattle.std.specs.Prelude.{◌≤◌, ◌*◌, ◌^◌, length};
 
 use crate::gives_up::GivesUp;
-use crate::words::{put_word, whole_bytes};
+use crate::words::{all_bytes, put_word, whole_bytes};
 use cy_bits::BitWriter;
 use std::alloc::Global;
 
@@ -22,7 +22,7 @@ pub struct BitBuffer {
 }
 
 impl BitBuffer {
-    ghost use Rattle.std.specs.Prelude.{◌≡◌, ◌-◌, ◌++◌, ◌+◌, ◌%◌, ◌≤◌, [], true, OnOk};
+    ghost use Rattle.std.specs.Prelude.{◌≡◌, ◌-◌, ◌++◌, ◌+◌, ◌/◌, ◌%◌, ◌≤◌, [], take, true, OnOk};
     ghost use Rattle.cy_bits.specs.Bits.{bits_of, bytes};
     ghost use Rattle.dsdl_types.specs.Encoding.{lead};
     ghost use Rattle.value_scan.specs.Written.{IsPatched, written};
@@ -73,6 +73,16 @@ impl BitBuffer {
         ensures { self.now.place % 8 ≡ 0 → result.now ≡ bytes (written self.now) }
     {
         whole_bytes(self.bytes.as_slice(), self.place)
+    }
+
+    /// All bytes: where the bits are whole bytes, these stand in front.
+    #[inline(always)]
+    pub fn room(&self) -> &[u8]
+        ensures front { self.now.place % 8 ≡ 0
+            → take (self.now.place / 8) result.now ≡ bytes (written self.now) }
+        ensures few { length result.now ≤ 2 ^ 37 }
+    {
+        all_bytes(self.bytes.as_slice(), self.place)
     }
 
     /// Puts the low bits of a number, of which there are at most 64. They are written with all others of the number,

@@ -28,8 +28,17 @@ fn is_same(one: &[u8], other: &[u8]) -> bool
     } else if len <= 32 {
         is_front_same(one, other) && is_front_same(&one[len - 16..], &other[len - 16..])
     } else {
-        one == other
+        is_long_same(one, other)
     }
+}
+
+/// Whether two texts of any length are the same.
+#[cold]
+#[inline(never)]
+fn is_long_same(one: &[u8], other: &[u8]) -> bool
+    ensures { result ≡ true → one.now ≡ other.now }
+{
+    one == other
 }
 
 /// Whether the first sixteen bytes of two texts are the same.

@@ -1,9 +1,9 @@
 //! Structures: their fields in order, in braces.
 ghost use Rattle.std.specs.Prelude.{◌≡◌, ◌++◌, ◌-◌, ◌≤◌, true, false, codes, drop, length, IfOk, OnOk};
 ghost use Rattle.dsdl_types.specs.Encoding.{lead as lead_bits};
-ghost use Rattle.dsdl_types.specs.Schemas.{is_aligned};
-ghost use Rattle.dsdl_types.specs.Views.{body_of, is_padding, named, sch};
-ghost use Rattle.serdes.specs.Forms.{struct_of};
+ghost use Rattle.dsdl_types.specs.Schemas.{PUint, Simple, is_aligned};
+ghost use Rattle.dsdl_types.specs.Views.{Typed, body_of, is_padding, is_saturated, named, sch};
+ghost use Rattle.wire_values.specs.Forms.{struct_of};
 ghost use Rattle.value_text.specs.Words.{lead};
 ghost use Rattle.value_scan.specs.Written.{written};
 ghost use Rattle.value_scan.specs.Scanned.{AreFields, IsFieldScanned, IsOwn};
@@ -15,7 +15,7 @@ use crate::line::{behind, eat, skip};
 use crate::parts::is_aligned;
 use crate::primitives::{scan_float, scan_signed, scan_truth, scan_unsigned};
 use crate::scan::scan_composite;
-use dsdl_types::{Body, Field, Schema};
+use dsdl_types::{Body, Cast, Field, Schema};
 
 /// Scans a structure, and puts zeros up to a multiple of 8 bits behind its fields (Cyphal Specification, section
 /// 3.7.5).
@@ -75,11 +75,38 @@ fn scan_field(
             out.put(0, u32::from(*bits))?;
             Ok(first)
         }
+        Schema::Uint { bits, cast } => {
+            scan_unsigned_field(field, *bits, *cast, first, start, line, at, out)?;
+            Ok(false)
+        }
         _ => {
             scan_named(field, first, start, line, at, out)?;
             Ok(false)
         }
     }
+}
+
+/// Scans a field that is an unsigned integer, behind its name.
+#[inline(always)]
+fn scan_unsigned_field(
+    field: &Field,
+    bits: u8,
+    cast: Cast,
+    first: bool,
+    start: u64,
+    line: &[u8],
+    at: &mut usize,
+    out: &mut BitBuffer,
+) -> Result<(), GivesUp>
+    requires start { start ≤ out.old.place }
+    requires typed { (named field.now).1 ≡ Typed (Simple (PUint bits (is_saturated cast))) }
+    ensures scanned { OnOk result
+        (IsFieldScanned field.now first false start line.now at.old out.old at.new out.new) }
+    ensures place { OnOk result (start ≤ out.new.place) }
+{
+    let _ = cast;
+    eat_front(field, first, line, at)?;
+    scan_unsigned(bits, line, at, out)
 }
 
 /// Scans a field that isn't padding, behind its name.

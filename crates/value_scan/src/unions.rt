@@ -1,7 +1,7 @@
 //! Unions: one variant, in braces.
 ghost use Rattle.std.specs.Prelude.{◌≡◌, ◌++◌, ◌≤◌, codes, drop, OnOk};
 ghost use Rattle.dsdl_types.specs.Views.{body_of, named};
-ghost use Rattle.serdes.specs.Forms.{union_of};
+ghost use Rattle.wire_values.specs.Forms.{union_of};
 ghost use Rattle.value_scan.specs.Scanned.{IsOwn, IsVariant};
 
 use crate::bit_buffer::BitBuffer;
@@ -34,14 +34,18 @@ pub fn scan_union(
 }
 
 /// The tag of the variant whose name may stand there.
+#[inline(always)]
 fn tag_at(body: &Body, line: &[u8], at: usize) -> u64 {
     let mut tag = 0u64;
+    let begin = line.get(at);
     for field in body.fields.as_slice() {
         if field.schema.is_padding() {
             continue;
         }
         let mut next = at;
-        if eat_name(field, line, &mut next).is_ok() {
+        if field.name.as_str().as_bytes().first() == begin
+            && eat_name(field, line, &mut next).is_ok()
+        {
             return tag;
         }
         tag = tag.wrapping_add(1);
@@ -76,6 +80,7 @@ fn scan_variant(
 }
 
 /// Goes past a variant's name, a colon and a space.
+#[inline(always)]
 fn eat_name(field: &Field, line: &[u8], at: &mut usize) -> Result<(), GivesUp>
     ensures { OnOk result (drop at.old line.now
         ≡ (named field.now).0 ++ (codes ": " ++ drop at.new line.now)) }

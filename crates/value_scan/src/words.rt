@@ -31,3 +31,15 @@ pub fn whole_bytes(all: &[u8], place: u64) -> &[u8]
 {
     &all[..(place / 8) as usize]
 }
+
+/// All bytes, of which so many bits are in front: where these are whole bytes, they are the first.
+#[inline(always)]
+pub fn all_bytes(all: &[u8], place: u64) -> &[u8]
+    requires { place ≤ 8 * length all.now }
+    ensures all { result.now ≡ all.now }
+    ensures front { place % 8 ≡ 0
+        → take (place / 8) result.now ≡ bytes (take place (bits all.now)) }
+{
+    let _ = place;
+    all
+}

@@ -4,9 +4,9 @@ use Rattle.dsdl_types.specs.Reading.{own, part}
 use Rattle.dsdl_types.specs.Schemas.{holding_bits, tag_bits, variants}
 use Rattle.dsdl_types.specs.Views.{sch, body_of, flds, named, type_of}
 use Rattle.line_text.specs.Buffer.{text_of}
-use Rattle.serdes.specs.Reads.{behind, window_read}
-use Rattle.serdes.proofs.Readings.{behind_more, part_window}
-use Rattle.serdes.proofs.Schemata.{fixed_is, fields_are}
+use Rattle.wire_values.specs.Reads.{behind, window_read}
+use Rattle.wire_values.proofs.Readings.{behind_more, part_window}
+use Rattle.wire_values.proofs.Schemata.{fixed_is, fields_are}
 use Rattle.value_text.specs.Texts.{value_text}
 use Rattle.value_text.specs.Words.{lead}
 use Rattle.value_put.specs.Counted.{counted}

@@ -2,7 +2,7 @@ use Rattle.std.proofs.Common.{◌≡◌, ◌∙◌, take, ap, subst}
 use Rattle.cy_bits.specs.Bits.{bits}
 use Rattle.dsdl_types.specs.Views.{sch}
 use Rattle.line_text.specs.Buffer.{text_of}
-use Rattle.serdes.specs.Reads.{behind}
+use Rattle.wire_values.specs.Reads.{behind}
 use Rattle.value_put.specs.Counted.{counted}
 use Rattle.value_put.specs.Parts.{own_told}
 use Rattle.value_put.specs.Told.{Yes, after}

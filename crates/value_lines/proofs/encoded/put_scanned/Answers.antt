@@ -10,5 +10,5 @@ pub returns-in-Ok-clause-text : goal.returns-in-Ok-clause-text
 returns-in-Ok-clause-text c = λ n.
     let out = c.scan_own.new.out in
     let end : c.scan_own.new.at ≡ length c.args.text.now = omega arith in
-    answered (sch c.args.schema.now) c.args.text.now c.as_slice.result.now c.scan_own.new.at out.place n (written c.start.new.self) (written out)
-    (text_of c.args.gathered.now) (text_of c.put_hex_line.new.gathered) c.requires.1 c.in_ok-scan_own.ensures.scanned end c.in_ok-start.ensures (place_is out) c.as_slice.ensures c.in-Ok.ensures.text
+    answered (sch c.args.schema.now) c.args.text.now c.scan_own.new.at out.place n (written c.start.new.self) (written out)
+    (text_of c.args.gathered.now) (text_of c.put_bits_line.new.gathered) c.requires.1 c.in_ok-scan_own.ensures.scanned end c.in_ok-start.ensures (place_is out) c.in-Ok.ensures.text

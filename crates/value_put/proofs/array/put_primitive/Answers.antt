@@ -1,6 +1,6 @@
 use Rattle.dsdl_types.specs.Schemas.{Simple}
 use Rattle.line_text.specs.Buffer.{text_of}
-use Rattle.serdes.specs.Reads.{behind}
+use Rattle.wire_values.specs.Reads.{behind}
 use Rattle.value_put.specs.Counted.{counted}
 use Rattle.value_put.proofs.Readings.{on_ok}
 use Rattle.value_put.proofs.Rows.{told_item}

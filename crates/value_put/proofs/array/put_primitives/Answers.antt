@@ -1,7 +1,7 @@
 use Rattle.std.proofs.Common.{◌∙◌}
 use Rattle.dsdl_types.specs.Schemas.{Simple}
 use Rattle.line_text.specs.Buffer.{text_of}
-use Rattle.serdes.specs.Reads.{behind}
+use Rattle.wire_values.specs.Reads.{behind}
 use Rattle.value_put.specs.Counted.{counted}
 use Rattle.value_put.specs.Parts.{row_told}
 use Rattle.value_put.specs.Told.{told_at}

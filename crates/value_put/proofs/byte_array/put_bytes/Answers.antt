@@ -2,8 +2,8 @@ use Rattle.std.proofs.Common.{◌≡◌, ◌∙◌, ◌+◌, ◌*◌, ◌≤◌,
 use Rattle.cy_bits.specs.Bits.{bits}
 use Rattle.dsdl_types.specs.Views.{sch}
 use Rattle.line_text.specs.Buffer.{text_of}
-use Rattle.serdes.specs.Reads.{behind}
-use Rattle.serdes.proofs.Readings.{behind_more}
+use Rattle.wire_values.specs.Reads.{behind}
+use Rattle.wire_values.proofs.Readings.{behind_more}
 use Rattle.value_put.specs.Counted.{counted}
 use Rattle.value_put.specs.Parts.{array_told}
 use Rattle.value_put.specs.Told.{after}

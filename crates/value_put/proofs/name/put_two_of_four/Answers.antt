@@ -1,8 +1,10 @@
-use Rattle.std.proofs.Common.{◌-◌, arith, length}
+use Rattle.std.proofs.Common.{◌∙◌, ◌-◌, arith, ap, length, refl, take}
 use Rattle.line_text.specs.Buffer.{text_of}
-use Rattle.value_put.proofs.Blocks.{two_blocks}
+use Rattle.std.specs.Prelude.{◌++◌, codes}
+use Rattle.value_put.proofs.Blocks.{two_blocks_and}
 use Rattle.value_put.proofs.name.put_two_of_four.Goals as goal
 
 pub returns-clause-text : goal.returns-clause-text
 returns-clause-text c =
-    two_blocks 4 (length c.args.word.now - 4) c.args.word.now (text_of c.args.text.now) (text_of c.put.new.self) (text_of c.put-2.new.self) (omega arith) (omega arith) c.put.ensures.text c.put-2.ensures.text
+    two_blocks_and 4 (length c.args.word.now - 4) 6 c.args.word.now (text_of c.args.text.now) (text_of c.put.new.self) (text_of c.put-2.new.self) (codes ": : ") (omega arith) (omega arith) refl c.put.ensures.text
+    (c.put-2.ensures.text ∙ ap (λ l. text_of c.put.new.self ++ take 6 l) c.joined_of_four-both.ensures)

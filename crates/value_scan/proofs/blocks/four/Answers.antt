@@ -1,4 +1,4 @@
-use Rattle.std.proofs.Common.{◌≡◌, ◌^◌, ◌<◌, take, get_or, arith, rules, Fits, w8}
+use Rattle.std.proofs.Common.{◌≡◌, take, get_or, arith, rules, Fits, w8}
 use Rattle.std.proofs.lemmas.List.{length-take-le}
 use Rattle.std.proofs.lemmas.Nat.{le_bytes_4}
 use Rattle.std.specs.Int.{from_le_bytes, w32}

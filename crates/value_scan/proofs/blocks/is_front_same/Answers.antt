@@ -1,4 +1,4 @@
-use Rattle.std.proofs.Common.{◌≡◌, length, take, drop, refl, arith, rules}
+use Rattle.std.proofs.Common.{◌≡◌, rules}
 use Rattle.std.specs.Int.{to_le_bytes, w64}
 use Rattle.value_scan.proofs.BlockLemmas.{halves_meet, same_blocks}
 use Rattle.value_scan.proofs.blocks.is_front_same.Goals as goal

@@ -1,4 +1,4 @@
-use Rattle.std.proofs.Common.{◌≡◌, ◌-◌, ◌≤◌, true, length, take, drop, refl, arith, rules, ap, sym, ◌∙◌}
+use Rattle.std.proofs.Common.{◌≡◌, true, arith, rules}
 use Rattle.std.specs.Int.{to_le_bytes, w32, w64}
 use Rattle.value_scan.proofs.BlockLemmas.{ends_meet, same_blocks}
 use Rattle.value_scan.proofs.blocks.is_same.Goals as goal

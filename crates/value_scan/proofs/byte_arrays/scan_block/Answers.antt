@@ -1,4 +1,4 @@
-use Rattle.std.proofs.Common.{◌≡◌, ◌∙◌, ◌*◌, drop, ap, sym, subst}
+use Rattle.std.proofs.Common.{◌∙◌, ◌*◌, drop, ap, sym, subst}
 use Rattle.std.proofs.lemmas.List.{drop-drop}
 use Rattle.value_scan.specs.Bytes.{AreInFront}
 use Rattle.value_scan.specs.Written.{written}

@@ -1,4 +1,4 @@
-use Rattle.std.proofs.Common.{◌+◌, ◌≤◌, drop, arith}
+use Rattle.std.proofs.Common.{drop, arith}
 use Rattle.value_scan.specs.Written.{written}
 use Rattle.value_scan.proofs.HexLemmas.{bytes_none, bytes_more}
 use Rattle.value_scan.proofs.byte_arrays.scan_hex.Goals as goal

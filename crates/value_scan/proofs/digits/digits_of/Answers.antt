@@ -1,5 +1,4 @@
-use Rattle.std.proofs.Common.{◌≡◌, ◌∙◌, ◌+◌, ◌<◌, ◌^◌, ◌≤◌, get_or, length, take, ap, arith, Fits, w8, refl}
-use Rattle.std.specs.Fmt.{decimal}
+use Rattle.std.proofs.Common.{◌≡◌, ◌∙◌, ◌+◌, ◌≤◌, get_or, length, take, ap, arith, Fits, w8, refl}
 use Rattle.value_scan.proofs.DigitLemmas.{wrote_more, wrote_all}
 use Rattle.value_scan.proofs.digits.digits_of.Goals as goal
 

@@ -1,4 +1,4 @@
-use Rattle.std.proofs.Common.{◌≡◌, ◌<◌, ◌≤◌, ℕ, length, get_or, arith, rules}
+use Rattle.std.proofs.Common.{◌≡◌, ◌<◌, ℕ, length, get_or, arith, rules}
 use Rattle.value_scan.proofs.HexLemmas.{bytes_found, no_bytes}
 use Rattle.value_scan.proofs.hex_text.bytes_in.Goals as goal
 

@@ -1,4 +1,4 @@
-use Rattle.std.proofs.Common.{◌≡◌, ◌<◌, ◌≤◌, ℕ, length, get_or, arith, rules}
+use Rattle.std.proofs.Common.{◌≡◌, ◌<◌, ℕ, length, get_or, rules}
 use Rattle.value_scan.proofs.HexLemmas.{number_found}
 use Rattle.value_scan.proofs.hex_text.number_in.Goals as goal
 

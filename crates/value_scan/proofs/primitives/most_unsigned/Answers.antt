@@ -1,5 +1,5 @@
 use Rattle.std.proofs.Common.{◌≡◌, ◌∙◌, ◌-◌, ◌/◌, ◌^◌, ap, arith}
-use Rattle.serdes.proofs.Casts.{most_is}
+use Rattle.wire_values.proofs.Casts.{most_is}
 use Rattle.value_scan.proofs.primitives.most_unsigned.Goals as goal
 
 pub returns : goal.returns

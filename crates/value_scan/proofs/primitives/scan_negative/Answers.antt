@@ -1,8 +1,8 @@
-use Rattle.std.proofs.Common.{◌≡◌, ◌∙◌, ◌∷◌, ◌++◌, ◌-◌, ◌<◌, ◌≤◌, ◌^◌, ap, arith, negsuc, refl, suc, sym}
+use Rattle.std.proofs.Common.{◌∙◌, ◌++◌, ◌-◌, ◌<◌, ◌≤◌, ◌^◌, ap, arith, negsuc, refl}
 use Rattle.std.proofs.Math.Pow.{pow_mono}
 use Rattle.cy_bits.specs.Bits.{bits_of}
 use Rattle.dsdl_types.specs.Values.{Num}
-use Rattle.serdes.proofs.Casts.{signed_negative}
+use Rattle.wire_values.proofs.Casts.{signed_negative}
 use Rattle.value_scan.specs.Written.{written}
 use Rattle.value_scan.proofs.Steps.{negative_text, on_ok, within_half}
 use Rattle.value_scan.proofs.primitives.scan_negative.Goals as goal

@@ -1,6 +1,5 @@
 use Rattle.std.proofs.Common.{◌∙◌, ◌++◌, ◌-◌, ◌<◌, ◌≤◌, ◌^◌, arith, pos}
 use Rattle.std.proofs.Math.Pow.{pow_mono}
-use Rattle.std.proofs.lemmas.Nat.{pow_pos}
 use Rattle.cy_bits.specs.Bits.{bits_of}
 use Rattle.dsdl_types.specs.Values.{Num}
 use Rattle.value_scan.specs.Written.{written}

@@ -1,4 +1,4 @@
-use Rattle.std.proofs.Common.{◌≡◌, ◌∙◌, ◌+◌, ◌-◌, ◌*◌, ◌%◌, ◌^◌, ◌<◌, ◌++◌, ap, arith, Fits, w64}
+use Rattle.std.proofs.Common.{◌∙◌, ◌-◌, ◌++◌, ap}
 use Rattle.cy_bits.specs.Bits.{bits_of}
 use Rattle.value_scan.proofs.WordLemmas.{joined, joined_bits}
 use Rattle.value_scan.proofs.words.behind_low.Goals as goal

@@ -1,4 +1,4 @@
-use Rattle.std.proofs.Common.{◌≡◌, ◌∙◌, ◌+◌, ◌/◌, ◌≤◌, length, refl, sym, ap, arith}
+use Rattle.std.proofs.Common.{◌∙◌, ◌+◌, ◌/◌, length, refl, ap, arith}
 use Rattle.std.proofs.lemmas.Slice.{take-put_mid}
 use Rattle.value_scan.proofs.WordLemmas.{word_put}
 use Rattle.value_scan.proofs.words.put_word.Goals as goal

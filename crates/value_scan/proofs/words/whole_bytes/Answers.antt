@@ -1,4 +1,4 @@
-use Rattle.std.proofs.Common.{◌^◌, ◌<◌, ℕ, Fits, arith, get_or, w8}
+use Rattle.std.proofs.Common.{◌<◌, ℕ, Fits, arith, get_or, w8}
 use Rattle.value_scan.proofs.WholeBytes.{whole_bytes}
 use Rattle.value_scan.proofs.words.whole_bytes.Goals as goal
 

@@ -1,7 +1,7 @@
-use Rattle.std.proofs.Common.{◌∙◌, ◌++◌, ◌*◌, ◌≤◌, length, take, drop, take_at, ◌≡◌, sym, ap, arith}
+use Rattle.std.proofs.Common.{◌∙◌, ◌++◌, ◌≤◌, length, take, drop, take_at, ◌≡◌, sym, ap, arith}
 use Rattle.cy_bits.specs.Bits.{bits, bits_of}
 use Rattle.cy_bits.proofs.BitPlaces.{length_bits}
-use Rattle.serdes.proofs.PutAnswers.{put_done}
+use Rattle.wire_values.proofs.PutAnswers.{put_done}
 use Rattle.value_scan.proofs.Steps.{more_written}
 use Rattle.value_scan.proofs.bit_buffer.BitBuffer.put_slowly.Goals as goal
 
