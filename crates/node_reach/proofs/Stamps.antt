@@ -5,7 +5,7 @@ use Rattle.cy_bits.proofs.BitPlaces.{number_below}
 use Rattle.std.proofs.Common.{take}
 use Rattle.dsdl_types.specs.Schemas.{extent_of}
 use Rattle.dsdl_types.specs.Values.{Val, Num, Parts, Empty, More}
-use Rattle.serdes.specs.Payloads.{payload_value}
+use Rattle.wire_values.specs.Payloads.{payload_value}
 use Rattle.std_types.specs.Times.{synchronization_of}
 use Rattle.std_types.specs.Types.{schema_of}
 use Rattle.std_types.specs.declared.std_name.StdName.TheVariants.{Synchronization}

@@ -13,7 +13,7 @@ use Rattle.pnp_alloc.specs.declared.event.AllocEvent.{AllocEvent}
 use Rattle.pnp_alloc.specs.declared.event.AllocEvent.TheVariants.{Seen, Wanted}
 use Rattle.pnp_alloc.specs.declared.event.AllocOut.{AllocOut}
 use Rattle.pnp_alloc.specs.declared.event.AllocOut.TheVariants.{Noted, Given, Full}
-use Rattle.serdes.specs.Payloads.{payload_value}
+use Rattle.wire_values.specs.Payloads.{payload_value}
 use Rattle.std_types.specs.Allocation.{node_id_allocation_of, node_id_allocation_value}
 use Rattle.std_types.specs.Types.{schema_of}
 use Rattle.std_types.specs.declared.allocation.NodeId.{NodeId}

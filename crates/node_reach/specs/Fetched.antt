@@ -13,7 +13,7 @@ use Rattle.file_client.specs.declared.event.FetchOut.TheVariants.{Ask, Wait, Don
 use Rattle.frag.specs.Wire.{frames}
 use Rattle.line_text.specs.Text.{moment_text, line_of}
 use Rattle.log_loop.specs.Voice.{Voice, plain_voice}
-use Rattle.serdes.specs.Payloads.{payload_value}
+use Rattle.wire_values.specs.Payloads.{payload_value}
 use Rattle.std_types.specs.Files.{read_request_value, read_reply_of}
 use Rattle.std_types.specs.Types.{schema_of}
 use Rattle.std_types.specs.declared.file.ReadReply.{ReadReply}

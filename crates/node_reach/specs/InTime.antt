@@ -1,21 +1,11 @@
 -- No session of a table heard anything later than a moment.
-use Rattle.std.specs.Prelude.{ℕ, List, [], ◌∷◌}
-use Rattle.std.specs.Coded.{×_prop, Unit-prop, le_prop}
-use Rattle.rx_table.specs.Ports.{Entry, PortState}
-use Rattle.rx_table.specs.Table.{EntriesHeard, HeardBy}
+use Rattle.std.specs.Prelude.{ℕ}
+use Rattle.rx_table.specs.InTime.{HeardBy-prop}
+use Rattle.rx_table.specs.Table.{HeardBy}
 use Rattle.rx_table.specs.Views.{states_of}
 use Rattle.rx_table.specs.declared.table.Table.{Table}
 use Rattle.std_types.specs.declared.shape.StdType.{StdType}
 use Rattle.node_reach.specs.PortTypes.{type_schema}
-
-EntriesHeard-prop : (now : ℕ) (es : List Entry) → IsProp (EntriesHeard now es)
-EntriesHeard-prop now [] = Unit-prop
-EntriesHeard-prop now (e ∷ es) = ×_prop le_prop (EntriesHeard-prop now es)
-
--- that can be true in one way alone
-HeardBy-prop : (now : ℕ) (ps : List PortState) → IsProp (HeardBy now ps)
-HeardBy-prop now [] = Unit-prop
-HeardBy-prop now (p ∷ ps) = ×_prop (EntriesHeard-prop now p.entries) (HeardBy-prop now ps)
 
 -- no session of this table heard anything later
 abbrev pub IsInTime : ℕ → Table StdType → Type 0

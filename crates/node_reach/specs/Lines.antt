@@ -1,19 +1,15 @@
 -- The lines that are written.
 use Rattle.std.specs.Prelude.{ℕ, ℤ, pos, negsuc, ◌+◌, ◌/◌, ◌%◌, List, [], ◌∷◌, ◌++◌, codes, decimal}
 use Rattle.hex.specs.Hex.{encode_upper}
-use Rattle.line_text.specs.Text.{moment_text, ident_text, line_of}
+use Rattle.line_text.specs.Text.{moment_text, line_of}
+use Rattle.line_text.specs.TxLine.{tx_text}
 use Rattle.net_monitor.specs.declared.node_state.NodeState.{NodeState}
 use Rattle.time_sync.specs.declared.sync.Estimate.{Estimate}
 
--- a frame that is sent on a bus
-abbrev pub tx_line : ℕ → ℕ → List ℕ → List ℕ → List ℕ
-tx_line moment ident bus bytes =
-    line_of (codes "tx" ∷ moment_text moment ∷ bus ∷ ident_text ident ∷ encode_upper bytes ∷ [])
-
--- these frames on a bus, the first one first
+-- the lines of these frames that are sent on a bus, the first one first
 abbrev pub tx_on : ℕ → ℕ → List ℕ → List (List ℕ) → List ℕ
 tx_on moment ident bus [] = []
-tx_on moment ident bus (bytes ∷ frames) = tx_line moment ident bus bytes ++ tx_on moment ident bus frames
+tx_on moment ident bus (bytes ∷ frames) = tx_text moment bus ident bytes ++ tx_on moment ident bus frames
 
 -- and on each of these buses
 abbrev pub tx_lines : ℕ → ℕ → List (List ℕ) → List (List ℕ) → List ℕ

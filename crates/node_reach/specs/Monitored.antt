@@ -6,7 +6,7 @@ use Rattle.log_loop.specs.Voice.{Voice, plain_voice}
 use Rattle.net_monitor.specs.Beats.{Beat}
 use Rattle.net_monitor.specs.Online.{heard, online}
 use Rattle.net_monitor.specs.declared.node_state.NodeState.{NodeState}
-use Rattle.serdes.specs.Payloads.{payload_value}
+use Rattle.wire_values.specs.Payloads.{payload_value}
 use Rattle.std_types.specs.Node.{heartbeat_of}
 use Rattle.std_types.specs.Times.{synchronization_of}
 use Rattle.std_types.specs.Types.{schema_of}

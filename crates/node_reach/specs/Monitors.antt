@@ -3,7 +3,7 @@ use Rattle.std.specs.Prelude.{◌≡◌, ℕ, List, length, Option}
 use Rattle.dsdl_types.specs.Views.{sch}
 use Rattle.net_monitor.specs.Beats.{Beat}
 use Rattle.net_monitor.specs.Stands.{Stands}
-use Rattle.serdes.specs.Payloads.{payload_value}
+use Rattle.wire_values.specs.Payloads.{payload_value}
 use Rattle.std_types.specs.Types.{schema_of}
 use Rattle.std_types.specs.declared.std_name.StdName.TheVariants.{Heartbeat, Synchronization}
 use Rattle.tail_frame.specs.declared.logged.Record.{Record}

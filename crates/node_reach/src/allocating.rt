@@ -8,11 +8,11 @@ use cy_bits::NoMemory;
 use line_text::TextBuffer;
 use log_loop::Listener;
 use pnp_alloc::{AllocEvent, AllocOut, Allocator};
-use serdes::payload_value;
 use std::alloc::Global;
 use std_types::allocation::NodeIdAllocation;
 use std_types::{Standard, StdName, std_type};
 use tail_frame::{Record, frame_of};
+use wire_values::payload_value;
 
 /// The subject of `uavcan.pnp.NodeIDAllocationData.1.0`.
 const SUBJECT: u16 = 8166;

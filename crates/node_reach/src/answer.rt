@@ -3,11 +3,11 @@ ghost use Rattle.node_reach.specs.Allocated.{answer_payload};
 
 use cy_bits::{List, NoMemory};
 use dsdl_types::laws::readings_stored;
-use serdes::laws::{extent_has_room, fits_or_misfit};
-use serdes::{WriteError, write_as};
 use std::alloc::Global;
 use std_types::allocation::{NodeId, NodeIdAllocation};
 use std_types::{Standard, StdName, std_type};
+use wire_values::laws::{extent_has_room, fits_or_misfit};
+use wire_values::{WriteError, write_as};
 
 /// The most bytes that the message of an answer has.
 pub(crate) const MOST: usize = 48;

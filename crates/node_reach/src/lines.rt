@@ -3,7 +3,8 @@ ghost use Rattle.std.specs.Prelude.{◌≡◌, ◌<◌, ◌≤◌, ◌+◌, ◌+
 ghost use Rattle.frag.specs.Wire.{frames};
 ghost use Rattle.line_text.specs.Buffer.{text_of, room_of};
 ghost use Rattle.node_reach.specs.Buses.{bus_names};
-ghost use Rattle.node_reach.specs.Lines.{tx_line, tx_on, tx_lines, uid_bytes, given_line, full_line, node_line, offline_line, signed, end_line};
+ghost use Rattle.line_text.specs.TxLine.{tx_text};
+ghost use Rattle.node_reach.specs.Lines.{tx_on, tx_lines, uid_bytes, given_line, full_line, node_line, offline_line, signed, end_line};
 ghost use Rattle.node_reach.specs.Monitored.{estimate_line};
 
 use cy_bits::NoMemory;
@@ -62,18 +63,10 @@ fn put_frame(
     requires bus { length bus.now ≤ 15 }
     requires bytes { length bytes.now ≤ 64 }
     ensures { OnOk result
-        (text_of text.new ≡ text_of text.old ++ tx_line moment ident bus.now bytes.now) }
+        (text_of text.new ≡ text_of text.old ++ tx_text moment bus.now ident bytes.now) }
 {
     text.reserve(256)?;
-    text.put_slice(b"tx ");
-    text.put_moment(moment);
-    text.put_slice(b" ");
-    text.put_slice(bus);
-    text.put_slice(b" ");
-    text.put_ident(ident);
-    text.put_slice(b" ");
-    text.put_hex(bytes);
-    text.put_slice(b"\n");
+    text.put_tx(moment, bus, ident, bytes);
     Ok(())
 }
 

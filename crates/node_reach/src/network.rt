@@ -5,12 +5,12 @@ use crate::transfer::Transfer;
 use cy_bits::NoMemory;
 use dsdl_types::Value;
 use net_monitor::Monitor;
-use serdes::payload_value;
 use std::alloc::Global;
 use std_types::node::Heartbeat;
 use std_types::time::Synchronization;
 use std_types::{Standard, StdName, StdType, std_type};
 use time_sync::Sync;
+use wire_values::payload_value;
 
 /// The subject of `uavcan.node.Heartbeat.1.0`.
 pub(crate) const HEARTBEAT: u16 = 7509;

@@ -3,11 +3,11 @@ ghost use Rattle.node_reach.specs.Fetched.{request_payload};
 
 use cy_bits::{Bytes, NoMemory};
 use dsdl_types::laws::readings_stored;
-use serdes::laws::{extent_has_room, fits_or_misfit};
-use serdes::{WriteError, write_as};
 use std::alloc::Global;
 use std_types::file::ReadRequest;
 use std_types::{Standard, StdName, std_type};
+use wire_values::laws::{extent_has_room, fits_or_misfit};
+use wire_values::{WriteError, write_as};
 
 /// The most bytes that a request to read has, which is its extent.
 pub(crate) const MOST: usize = 300;

@@ -6,11 +6,11 @@ use crate::transfer::Transfer;
 use can_id::Kind;
 use cy_bits::NoMemory;
 use file_client::FetchEvent;
-use serdes::payload_value;
 use std::alloc::Global;
 use std_types::file::ReadReply;
 use std_types::{Standard, StdName, std_type};
 use tail_frame::Record;
+use wire_values::payload_value;
 
 /// A response to a request to read.
 #[derive(Drop)]

@@ -13,10 +13,10 @@ use Rattle.rx_table.specs.Table.{keyed, port_on}
 use Rattle.node_plan.specs.Bound.{bound_of}
 use Rattle.node_plan.specs.IsPlan.{IsPlan}
 use Rattle.node_plan.specs.declared.plan.Plan.{Plan}
-use Rattle.node_core.specs.declared.line.Line.{Line}
-use Rattle.node_core.specs.declared.line.FullLine.{FullLine}
-use Rattle.node_core.specs.declared.line.Line.TheVariants.{Full}
-use Rattle.node_core.specs.declared.numbers.Numbers.{Numbers}
+use Rattle.report_lines.specs.declared.line.Line.{Line}
+use Rattle.report_lines.specs.declared.line.FullLine.{FullLine}
+use Rattle.report_lines.specs.declared.line.Line.TheVariants.{Full}
+use Rattle.report_lines.specs.declared.numbers.Numbers.{Numbers}
 use Rattle.node_core.specs.Heard.{ports_of}
 use Rattle.node_core.specs.declared.file_reply.FileReply.{FileReply}
 use Rattle.node_core.specs.Queues.{Queue, Sends, full_line, fulls, fulls_from, leaving, takes, waiting}

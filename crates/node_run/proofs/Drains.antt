@@ -5,7 +5,7 @@ use Rattle.std.proofs.lemmas.List.{get_or-set_same, set-set, set-get_or, length-
 use Rattle.std.proofs.Math.Seq.{drop-cons, get_or-append_seam, set-append_seam, take-suc}
 use Rattle.tx_queue.specs.Waiting.{least, leaving as leaver, staying}
 use Rattle.tx_queue.specs.declared.frame.OutFrame.{OutFrame}
-use Rattle.node_core.specs.declared.line.Line.{Line}
+use Rattle.report_lines.specs.declared.line.Line.{Line}
 use Rattle.node_core.specs.Pops.{Pops, queue_at, with_waiting}
 use Rattle.node_core.specs.Queues.{Queue, leave, stay, bus_lines, leaving_from, drained}
 use Rattle.node_core.specs.Steps.{Kept}

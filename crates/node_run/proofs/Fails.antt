@@ -3,7 +3,7 @@ use Rattle.std.proofs.Common.{◌≡◌, ◌∙◌, ◌≤◌, ℕ, Bool, true, 
 use Rattle.std.specs.Prelude.{if◌then◌else◌}
 use Rattle.file_service.specs.Causes.{TellsFault}
 use Rattle.node_core.specs.Files.{is_failed}
-use Rattle.node_core.specs.LineSinks.{put_behind}
+use Rattle.report_lines.specs.LineSinks.{put_behind}
 use Rattle.node_core.specs.Steps.{Heard, Step, failed_at, failed_lines, ticks_from}
 use Rattle.node_core.specs.declared.file_reply.FileReply.{FileReply}
 use Rattle.tail_frame.specs.declared.logged.Record.{Record}

@@ -4,16 +4,16 @@ use Rattle.frame_log.specs.declared.error.LogError.{LogError}
 use Rattle.frame_log.specs.declared.error.LogError.TheVariants as error
 use Rattle.node_plan.specs.Bound.{bound_of}
 use Rattle.node_plan.specs.declared.plan.Plan.{Plan}
-use Rattle.node_core.specs.declared.line.Line.{Line}
-use Rattle.node_core.specs.declared.numbers.Numbers.{Numbers}
+use Rattle.report_lines.specs.declared.line.Line.{Line}
+use Rattle.report_lines.specs.declared.numbers.Numbers.{Numbers}
 use Rattle.node_core.specs.Keeps.{keeps}
-use Rattle.node_core.specs.LineSinks.{BeginsList, put_behind}
+use Rattle.report_lines.specs.LineSinks.{BeginsList, put_behind}
 use Rattle.node_core.specs.Queues.{Queue, fulls, leaving, waiting}
 use Rattle.node_core.proofs.Waits.{all_stay, none_leaves}
 use Rattle.node_plan.specs.declared.plan.BusPlan.{BusPlan}
 use Rattle.node_core.specs.Stands.{Stands}
 use Rattle.node_core.specs.Steps.{Step, Tick, Kept, ticks_from, emptying, failed_lines, kept, left, lines, lines_at, lines_behind, moment_of, numbers, pushed, received_at, records, sends}
-use Rattle.node_core.specs.Text.{text}
+use Rattle.text_lines.specs.Text.{text}
 use Rattle.node_run.specs.Failures.{Failures, TellsFailures}
 use Rattle.node_run.specs.Goes.{BreaksOff, Broke, GoesOn, IsFew, Runs, State, report_of, with_sent}
 use Rattle.node_run.specs.Tells.{HasTold}

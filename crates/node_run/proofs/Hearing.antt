@@ -5,12 +5,12 @@ use Rattle.cy_outside.specs.Files.{Files}
 use Rattle.tail_frame.specs.declared.logged.Record.{Record}
 use Rattle.node_plan.specs.declared.plan.Plan.{Plan}
 use Rattle.node_core.specs.declared.file_reply.FileReply.{FileReply}
-use Rattle.node_core.specs.declared.line.Line.{Line}
-use Rattle.node_core.specs.declared.numbers.Numbers.{Numbers}
+use Rattle.report_lines.specs.declared.line.Line.{Line}
+use Rattle.report_lines.specs.declared.numbers.Numbers.{Numbers}
 use Rattle.node_core.specs.Keeps.{IsServedBy, keeps}
 use Rattle.node_core.specs.Queues.{Queue, rounds, waiting}
 use Rattle.node_core.specs.Steps.{Heard, IsServedAt, Kept, Met, Step, failed_at, failed_lines, first_of, kept, lines_behind, met, met_records, steps, ticks_before, ticks_done, ticks_from}
-use Rattle.node_core.specs.Text.{text}
+use Rattle.text_lines.specs.Text.{text}
 use Rattle.node_core.proofs.Waits.{records_of_steps}
 use Rattle.node_run.specs.declared.log.clock.Clock.{Clock}
 use Rattle.node_run.specs.Goes.{BreaksOff, Broke, GoesOn, IsFew, IsFrom, IsLast, Runs, State, last_tick, next_behind, report_of, ticks_left}

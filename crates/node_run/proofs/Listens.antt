@@ -8,8 +8,8 @@ use Rattle.log_loop.specs.Voice.{Voice}
 use Rattle.file_service.specs.Causes.{TellsFault}
 use Rattle.node_core.specs.Files.{is_failed}
 use Rattle.node_core.specs.Keeps.{keeps}
-use Rattle.node_core.specs.LineSinks.{put_behind}
-use Rattle.node_core.specs.declared.line.Line.{Line}
+use Rattle.report_lines.specs.LineSinks.{put_behind}
+use Rattle.report_lines.specs.declared.line.Line.{Line}
 use Rattle.node_core.specs.Steps.{Heard, Met, Step, failed_at, failed_lines, met, steps, ticks_from}
 use Rattle.node_core.specs.declared.file_reply.FileReply.{FileReply}
 use Rattle.node_core.proofs.Served.{something_served}

@@ -1,9 +1,12 @@
 -- How reading a root ends.
-use Rattle.std.proofs.Common.{◌≡◌, ◌⊎◌, inl, inr, ℕ, List, Err, sym, subst}
+use Rattle.std.proofs.Common.{◌≡◌, ◌⊎◌, inl, inr, ℕ, ◌+◌, ◌≤◌, Bool, true, false, List, Option, Some, None, Err, sym, subst, arith}
+use Rattle.std.specs.Prelude.{IfSome, if◌then◌else◌}
+use Rattle.cy_outside.specs.Files.{Files}
+use Rattle.dsdl_files.specs.Folders.{calls_of_folder}
 use Rattle.dsdl_files.specs.Causes.{HasFolderCause}
 use Rattle.dsdl_files.specs.declared.error.FolderError.{FolderError}
 use Rattle.dsdl_files.specs.declared.error.FolderError.TheVariants as folder
-use Rattle.node_run.specs.Loaded.{not_read, HasLoadCause}
+use Rattle.node_run.specs.Loaded.{is_none, calls_of, not_read, HasLoadCause}
 use Rattle.node_run.specs.declared.status.Status.{Status}
 use Rattle.node_run.specs.declared.status.Status.TheVariants as status
 
@@ -21,3 +24,18 @@ module _ (A B : Type 0) (root : List ℕ) (old new : ℕ) where
   status_cause error stat h (inr (e, f)) =
       let same : new ≡ old = subst (λ (x : FolderError). HasFolderCause {T = A} old new (Err x)) e h in
       subst (λ (s : Status). HasLoadCause {T = B} old new (Err s)) (sym f) same
+
+-- the calls of a root, by whether it stands for none
+abbrev calls_by : Bool → List ℕ → Files → ℕ
+calls_by none root files = if none then 0 else calls_of_folder files root
+
+module _ (root : List ℕ) (old : ℕ) where
+  -- nothing is called for a root that stands for none
+  pub none_called : (told : Option Files) → IfSome told (λ files. old ≤ old + calls_of root files)
+  none_called None = tt
+  none_called (Some files) = omega arith
+
+  -- a folder is read for any other
+  pub folder_called : (told : Option Files) (new : ℕ) → is_none root ≡ false → IfSome told (λ files. new ≤ old + calls_of_folder files root)
+      → IfSome told (λ files. new ≤ old + calls_of root files)
+  folder_called told new e = subst (λ none. IfSome told (λ files. new ≤ old + calls_by none root files)) (sym e)

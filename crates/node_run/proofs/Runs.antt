@@ -16,11 +16,11 @@ use Rattle.log_loop.specs.declared.ended.Ended.{Ended}
 use Rattle.log_loop.specs.declared.ended.Ended.TheVariants as end
 use Rattle.node_plan.specs.Bound.{bound_of}
 use Rattle.node_plan.specs.declared.plan.Plan.{Plan}
-use Rattle.node_core.specs.declared.line.Line.{Line}
-use Rattle.node_core.specs.declared.numbers.Numbers.{Numbers}
+use Rattle.report_lines.specs.declared.line.Line.{Line}
+use Rattle.report_lines.specs.declared.numbers.Numbers.{Numbers}
 use Rattle.node_core.specs.Steps.{AreServed, Met, Step, emptying, end_numbers, failed_lines, first_of, lines, lines_on, met_records, new_steps, steps, ticks_before, ticks_done, ticks_from, ticks_until, ticks_upto}
-use Rattle.node_core.specs.LineSinks.{put_behind}
-use Rattle.node_core.specs.Text.{text, end_text}
+use Rattle.report_lines.specs.LineSinks.{put_behind}
+use Rattle.text_lines.specs.Text.{text, end_text}
 use Rattle.node_run.specs.declared.log.running.Running.{Running}
 use Rattle.node_run.specs.declared.status.Status.{Status}
 use Rattle.node_run.specs.declared.status.Status.TheVariants as status

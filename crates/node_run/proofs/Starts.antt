@@ -11,7 +11,7 @@ use Rattle.log_loop.proofs.Runs.{told_none}
 use Rattle.log_loop.proofs.Written.{begins_none}
 use Rattle.node_plan.specs.Bound.{bound_of}
 use Rattle.node_plan.specs.declared.plan.Plan.{Plan}
-use Rattle.node_core.specs.declared.line.Line.{Line}
+use Rattle.report_lines.specs.declared.line.Line.{Line}
 use Rattle.node_core.specs.Heard.{ports_of}
 use Rattle.node_core.specs.Keeps.{keeps}
 use Rattle.node_core.specs.Queues.{waiting}

@@ -9,19 +9,19 @@ use Rattle.node_plan.specs.declared.plan.Plan.{Plan}
 use Rattle.node_core.specs.Came.{TellsRequest, came_lines, came_request, heard_lines}
 use Rattle.node_core.specs.Files.{IsServed}
 use Rattle.node_core.specs.Keeps.{IsServedBy, answered, keeps, reply_by}
-use Rattle.node_core.specs.LineSinks.{BeginsList, put_behind}
+use Rattle.report_lines.specs.LineSinks.{BeginsList, put_behind}
 use Rattle.node_core.specs.Queues.{fulls}
 use Rattle.node_core.specs.Heard.{IsElsewhere}
 use Rattle.node_core.specs.Quick.{AsksNothing}
 use Rattle.node_core.specs.Shapes.{port_schema}
 use Rattle.node_core.specs.Stands.{Gives, Holds, IsWithinBound, Stands, StandsAsBefore, Takes, TellsBadCrc}
 use Rattle.node_core.specs.Steps.{Step, Heard, IsServedAt, Kept, failed_lines, got, held_at, is_bad_at, is_nosession, is_rx, kept, lines_at, one_if, pushed, records, request_on, sends}
-use Rattle.node_core.specs.Text.{text}
+use Rattle.text_lines.specs.Text.{text}
 use Rattle.node_core.specs.declared.came.Came.{Came}
 use Rattle.node_core.specs.declared.file_reply.FileReply.{FileReply}
-use Rattle.node_core.specs.declared.line.Line.{Line}
+use Rattle.report_lines.specs.declared.line.Line.{Line}
 use Rattle.node_core.specs.declared.node.Node.{Node}
-use Rattle.node_core.specs.declared.numbers.Numbers.{Numbers}
+use Rattle.report_lines.specs.declared.numbers.Numbers.{Numbers}
 use Rattle.node_core.specs.declared.request.Request.{Request}
 use Rattle.node_run.specs.Follows.{BrokeFollowing, Follows, asked, following}
 use Rattle.node_run.specs.Failures.{Failures, TellsFailures}

@@ -4,11 +4,11 @@ use Rattle.std.specs.Prelude.{OnOk, OnErr, get_or}
 use Rattle.std.proofs.lemmas.List.{map-append}
 use Rattle.std.proofs.Math.Seq.{take-suc}
 use Rattle.node_plan.specs.declared.plan.BusPlan.{BusPlan}
-use Rattle.node_core.specs.declared.line.FullLine.{FullLine}
-use Rattle.node_core.specs.declared.line.Line.{Line}
-use Rattle.node_core.specs.declared.line.Line.TheVariants.{Full}
-use Rattle.node_core.specs.LineSinks.{BeginsList, put_behind}
-use Rattle.node_core.specs.Text.{line_text, text}
+use Rattle.report_lines.specs.declared.line.FullLine.{FullLine}
+use Rattle.report_lines.specs.declared.line.Line.{Line}
+use Rattle.report_lines.specs.declared.line.Line.TheVariants.{Full}
+use Rattle.report_lines.specs.LineSinks.{BeginsList, put_behind}
+use Rattle.text_lines.specs.Text.{line_text, text}
 use Rattle.node_run.specs.Tells.{Counts, HasTold}
 use Rattle.node_run.specs.declared.log.tally.Seen.{Seen}
 

@@ -9,7 +9,7 @@ use Rattle.tx_queue.specs.declared.frame.OutFrame.{OutFrame}
 use Rattle.node_plan.specs.IsPlan.{IsBus, IsPlan}
 use Rattle.node_plan.specs.declared.plan.BusPlan.{BusPlan}
 use Rattle.node_plan.specs.declared.plan.Plan.{Plan}
-use Rattle.node_core.specs.declared.line.Line.{Line}
+use Rattle.report_lines.specs.declared.line.Line.{Line}
 use Rattle.node_core.specs.Queues.{Sends, Queue, needs, room, takes, push, push_all, leave, stay, tx_line, bus_lines, leaving, leaving_from, drained, rounds, waiting}
 use Rattle.node_core.specs.Steps.{Step, empty_queue, is_rx, is_nosession, is_tx, kept, sends}
 use Rattle.node_core.proofs.Waits.{all_stay, none_leaves}

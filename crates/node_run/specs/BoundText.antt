@@ -5,7 +5,7 @@ use Rattle.cy_outside.specs.Written.{behind, Begins}
 use Rattle.node_plan.specs.Bound.{port_bound, bound_of}
 use Rattle.node_plan.specs.Ports.{PlanPort, ports}
 use Rattle.node_plan.specs.declared.plan.Plan.{Plan}
-use Rattle.node_core.specs.Text.{kind_text, line_of}
+use Rattle.text_lines.specs.Text.{kind_text, line_of}
 use Rattle.node_run.specs.declared.status.Status.{Status}
 use Rattle.node_run.specs.declared.status.Status.TheVariants as status
 

@@ -2,7 +2,7 @@
 use Rattle.std.specs.Prelude.{◌≡◌, ◌≤◌, ◌⊎◌, ◌+◌, ◌-◌, ◌^◌, ℕ, List, [], Option, length}
 use Rattle.file_service.specs.Causes.{TellsFault}
 use Rattle.node_core.specs.Files.{is_failed}
-use Rattle.node_core.specs.LineSinks.{put_behind}
+use Rattle.report_lines.specs.LineSinks.{put_behind}
 use Rattle.node_core.specs.Steps.{Step, failed_at}
 use Rattle.node_core.specs.declared.file_reply.FileReply.{FileReply}
 

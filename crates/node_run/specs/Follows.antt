@@ -6,15 +6,15 @@ use Rattle.node_plan.specs.declared.plan.Plan.{Plan}
 use Rattle.node_core.specs.Came.{came_lines, came_request}
 use Rattle.node_core.specs.Files.{IsServed}
 use Rattle.node_core.specs.Keeps.{answered, keeps, reply_by}
-use Rattle.node_core.specs.LineSinks.{BeginsList}
+use Rattle.report_lines.specs.LineSinks.{BeginsList}
 use Rattle.node_core.specs.Queues.{fulls, leaving}
 use Rattle.node_core.specs.Steps.{Heard, Kept, left}
 use Rattle.node_core.specs.declared.came.Came.{Came}
 use Rattle.node_core.specs.declared.file_reply.FileReply.{FileReply}
-use Rattle.node_core.specs.declared.line.Line.{Line}
+use Rattle.report_lines.specs.declared.line.Line.{Line}
 use Rattle.node_core.specs.declared.node.Node.{Node}
 use Rattle.node_core.specs.declared.request.Request.{Request}
-use Rattle.node_core.specs.Writer.{writes_for}
+use Rattle.text_lines.specs.Writer.{writes_for}
 use Rattle.node_run.specs.Failures.{Failures, FailsAs, FailsUntold}
 use Rattle.node_run.specs.Goes.{State, state_in, with_sent}
 use Rattle.node_run.specs.Leaves.{IsSameNode}

@@ -5,11 +5,11 @@ use Rattle.tail_frame.specs.declared.logged.Record.{Record}
 use Rattle.log_loop.specs.Voice.{Voice}
 use Rattle.node_plan.specs.Bound.{bound_of}
 use Rattle.node_plan.specs.declared.plan.Plan.{Plan}
-use Rattle.node_core.specs.declared.line.Line.{Line}
-use Rattle.node_core.specs.declared.numbers.Numbers.{Numbers}
+use Rattle.report_lines.specs.declared.line.Line.{Line}
+use Rattle.report_lines.specs.declared.numbers.Numbers.{Numbers}
 use Rattle.node_core.specs.Queues.{rounds, waiting}
 use Rattle.node_core.specs.Steps.{Heard, IsServedAt, Met, met_records, first_of, ticks_before, ticks_done, steps, kept, emptying, lines_on, all_lines, is_tx, end_numbers}
-use Rattle.node_core.specs.Text.{text, end_text}
+use Rattle.text_lines.specs.Text.{text, end_text}
 use Rattle.node_run.specs.declared.log.clock.Clock.{Clock}
 use Rattle.node_run.specs.declared.log.tally.Seen.{Seen}
 use Rattle.node_run.specs.Failures.{Failures}

@@ -8,7 +8,7 @@ use Rattle.node_core.specs.Keeps.{IsServedBy}
 use Rattle.node_core.specs.Laws.{SomethingServed}
 use Rattle.node_core.specs.Steps.{Heard, IsServedAt, Met, Step, failed_lines, met, met_records, steps, ticks_before}
 use Rattle.node_core.specs.declared.file_reply.FileReply.{FileReply}
-use Rattle.node_core.specs.declared.line.Line.{Line}
+use Rattle.report_lines.specs.declared.line.Line.{Line}
 use Rattle.node_run.specs.Failures.{AreFailures, Failures, FailsAs, FailsUntold, TellsFailures, failures}
 use Rattle.node_run.specs.Goes.{Broke, GoesOn, Runs, State, report_of, state_in, unbroken}
 use Rattle.node_run.specs.Hears.{BrokeOff, CutShort, HasEnded, Hears, run_voice}

@@ -1,9 +1,9 @@
 -- The namespace that a root stands for.
-use Rattle.std.specs.Prelude.{◌≡◌, ◌⊎◌, ℕ, Bool, true, false, List, [], codes, Option, IfSome, Result, Ok, Err, ⊤}
+use Rattle.std.specs.Prelude.{◌≡◌, ◌⊎◌, ℕ, Bool, true, false, if◌then◌else◌, List, [], codes, Option, IfSome, Result, Ok, Err, ⊤}
 use Rattle.std.specs.Str.{bytes_eq}
 use Rattle.cy_outside.specs.Files.{Files}
 use Rattle.cy_outside.specs.Outside.{Rose}
-use Rattle.dsdl_files.specs.Folders.{files_of_folder}
+use Rattle.dsdl_files.specs.Folders.{calls_of_folder, files_of_folder}
 use Rattle.dsdl_files.specs.declared.file.DsdlFile.{DsdlFile}
 use Rattle.dsdl_files.specs.declared.error.FolderError.{FolderError}
 use Rattle.dsdl_files.specs.declared.error.FolderError.TheVariants as folder
@@ -79,3 +79,8 @@ abbrev pub HasLoadCause : {T : Type 0} → ℕ → ℕ → Result T Status → T
 HasLoadCause old new (Ok answer) = new ≡ old
 HasLoadCause old new (Err status.ReadFault) = Rose old new
 HasLoadCause old new (Err other) = new ≡ old
+
+-- how many calls of a tree with these files the namespace of a root takes at most: none where it
+-- stands for none
+abbrev pub calls_of : List ℕ → Files → ℕ
+calls_of root files = if is_none root then 0 else calls_of_folder files root

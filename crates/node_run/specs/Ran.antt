@@ -9,11 +9,11 @@ use Rattle.frame_log.specs.declared.error.LogError.TheVariants as error
 use Rattle.frame_log.specs.declared.error.LogWhy.TheVariants as why
 use Rattle.log_loop.specs.Gone.{FirstOf}
 pub use Rattle.log_loop.specs.Voice.{newest_first}
-use Rattle.node_core.specs.declared.line.Line.{Line}
-use Rattle.node_core.specs.declared.numbers.Numbers.{Numbers}
-use Rattle.node_core.specs.LineSinks.{put_behind}
+use Rattle.report_lines.specs.declared.line.Line.{Line}
+use Rattle.report_lines.specs.declared.numbers.Numbers.{Numbers}
+use Rattle.report_lines.specs.LineSinks.{put_behind}
 use Rattle.node_core.specs.Steps.{Met, Step, steps, lines, lines_at, emptying, all_lines, numbers, end_numbers, failed_lines}
-use Rattle.node_core.specs.Text.{text, end_text}
+use Rattle.text_lines.specs.Text.{text, end_text}
 use Rattle.log_loop.specs.declared.ended.Ended.{Ended}
 use Rattle.log_loop.specs.declared.ended.Ended.TheVariants as end
 use Rattle.node_run.specs.Failures.{Failures, AreFailures, TellsFailures, failures}

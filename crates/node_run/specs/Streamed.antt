@@ -5,7 +5,7 @@ use Rattle.log_loop.specs.Gone.{FirstOf}
 use Rattle.log_loop.specs.Streamed.{HasWritten}
 use Rattle.node_plan.specs.declared.plan.Plan.{Plan}
 use Rattle.node_core.specs.Steps.{Met, Step, steps, lines}
-use Rattle.node_core.specs.Text.{text}
+use Rattle.text_lines.specs.Text.{text}
 use Rattle.node_run.specs.Ran.{Reported, At, AtEnd, Emptied}
 use Rattle.node_run.specs.Taken.{AreOfBytes}
 use Rattle.node_run.specs.ValueLines.{Flow}

@@ -5,11 +5,11 @@ use Rattle.tail_frame.specs.declared.logged.Record.{Record}
 use Rattle.rx_table.specs.declared.fed.Met.{Met}
 use Rattle.node_plan.specs.declared.plan.BusPlan.{BusPlan}
 use Rattle.node_core.specs.Came.{met_lines}
-use Rattle.node_core.specs.declared.line.Line.{Line}
+use Rattle.report_lines.specs.declared.line.Line.{Line}
 use Rattle.node_core.specs.declared.node.Node.{Node}
-use Rattle.node_core.specs.LineSinks.{put_behind}
+use Rattle.report_lines.specs.LineSinks.{put_behind}
 use Rattle.node_core.specs.Steps.{is_nosession, is_rx, one_if}
-use Rattle.node_core.specs.Text.{text}
+use Rattle.text_lines.specs.Text.{text}
 use Rattle.node_run.specs.declared.log.tally.Seen.{Seen}
 
 -- the text of these lines is gathered behind what was, and the sink has them behind those that it

@@ -17,9 +17,10 @@ use crate::status::Status;
 use cy_bits::{BusName, ShortList};
 use cy_outside::{Sink, Source, Tree};
 use log_loop::{Ended, listen};
-use node_core::{KeptLines, LineSink, LineWriter, Node, Numbers};
+use node_core::{KeptLines, LineSink, Node, Numbers};
 use node_plan::{BusPlan, Plan, bound};
 use std::alloc::Global;
+use text_lines::LineWriter;
 
 /// Runs the node of a plan over a log: a step for each record, and at the log's end the last line.
 /// The files that it serves are those of a tree. A sink takes the lines of the steps, and the lines

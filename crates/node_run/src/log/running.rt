@@ -28,8 +28,9 @@ use cy_bits::{NoMemory, ShortList};
 use cy_outside::Tree;
 use line_text::TextBuffer;
 use log_loop::Listener;
-use node_core::{Came, Lead, LineSink, LineWriter, Node, Numbers, Request};
+use node_core::{Came, Lead, LineSink, Node, Numbers, Request};
 use tail_frame::Record;
+use text_lines::LineWriter;
 
 /// A node, the numbers of its run, and where its lines go.
 #[derive(Drop)]

@@ -2,19 +2,20 @@
 ghost use Rattle.std.specs.Prelude.{◌≡◌, ◌<◌, ◌++◌, IfOk, OnOk, OnErr, length, map};
 ghost use Rattle.line_text.specs.Buffer.{text_of};
 ghost use Rattle.node_core.specs.Keeps.{keeps};
-ghost use Rattle.node_core.specs.LineSinks.{BeginsList};
+ghost use Rattle.report_lines.specs.LineSinks.{BeginsList};
 ghost use Rattle.node_core.specs.Pops.{queue_at};
 ghost use Rattle.node_core.specs.Queues.{bus_lines, leaving, rounds, waiting};
 ghost use Rattle.node_core.specs.Steps.{left};
-ghost use Rattle.node_core.specs.Writer.{writes_for};
-ghost use Rattle.node_core.specs.declared.line.Line.TheVariants.{Full};
+ghost use Rattle.text_lines.specs.Writer.{writes_for};
+ghost use Rattle.report_lines.specs.declared.line.Line.TheVariants.{Full};
 ghost use Rattle.node_run.specs.Leaves.{IsSameNode, bus_left};
 ghost use Rattle.node_run.specs.Tells.{HasTold};
 
 use crate::log::telling::{tell, tell_fulls};
 use cy_bits::{NoMemory, ShortList};
 use line_text::TextBuffer;
-use node_core::{FullLine, LineRef, LineSink, LineWriter, Node, TxRef};
+use node_core::{FullLine, LineRef, LineSink, Node, TxRef};
+use text_lines::LineWriter;
 
 /// Tells on which buses there was no room for what a step sends, and lets frames leave behind it.
 /// Answers how many left.

@@ -1,6 +1,6 @@
 ghost use Rattle.std.specs.Prelude.{◌≡◌, ◌≤◌, ◌<◌, count_by};
 ghost use Rattle.node_core.specs.Steps.{is_rx, is_nosession, one_if};
-ghost use Rattle.node_core.specs.Told.{told_lines};
+ghost use Rattle.report_lines.specs.Lent.{told_lines};
 
 use node_core::{LineRef, Numbers};
 

@@ -2,21 +2,22 @@
 ghost use Rattle.std.specs.Prelude.{◌≡◌, ◌++◌, ◌∷◌, [], IfOk, IfSome, OnOk, OnErr, Some, false, if◌then◌else◌, map};
 ghost use Rattle.line_text.specs.Buffer.{text_of};
 ghost use Rattle.tail_frame.specs.Frames.{frame_of, seen};
-ghost use Rattle.node_core.specs.LineSinks.{BeginsList, put_behind};
+ghost use Rattle.report_lines.specs.LineSinks.{BeginsList, put_behind};
 ghost use Rattle.node_core.specs.Quick.{IsPlaced, IsUntyped, quick_is_bad, quick_lines};
-ghost use Rattle.node_core.specs.Text.{text};
-ghost use Rattle.node_core.specs.Told.{told_lines};
-ghost use Rattle.node_core.specs.Writer.{writes_for};
-ghost use Rattle.node_core.specs.declared.line.Line.TheVariants.{Full};
+ghost use Rattle.text_lines.specs.Text.{text};
+ghost use Rattle.report_lines.specs.Lent.{told_lines};
+ghost use Rattle.text_lines.specs.Writer.{writes_for};
+ghost use Rattle.report_lines.specs.declared.line.Line.TheVariants.{Full};
 ghost use Rattle.node_run.specs.Tells.{Counts, HasTold, framed_lines};
 
 use crate::log::tally::Seen;
 use cy_bits::{NoMemory, ShortList};
 use line_text::TextBuffer;
-use node_core::{FullLine, LineRef, LineSink, LineWriter, Node, Quick};
+use node_core::{FullLine, LineRef, LineSink, Node, Quick};
 use rx_session::Step;
 use rx_table::Met;
 use tail_frame::{Record, frame_of};
+use text_lines::LineWriter;
 
 /// Gathers the text of a line, if there is one, and hands the line to the sink.
 #[inline(always)]

@@ -1,7 +1,8 @@
 //! The namespace of a root.
-ghost use Rattle.std.specs.Prelude.{◌≡◌, ◌⊎◌, IfOk, IfErr, codes};
+ghost use Rattle.std.specs.Prelude.{◌≡◌, ◌≤◌, ◌+◌, ◌⊎◌, IfOk, IfErr, IfSome, codes};
 ghost use Rattle.dsdl_types.specs.Definitions.{IsNamespace};
-ghost use Rattle.node_run.specs.Loaded.{AreFilesOf, IsLoaded, IsNotLoaded, not_read, not_resolved, HasLoadCause};
+ghost use Rattle.node_run.specs.Loaded.{AreFilesOf, IsLoaded, IsNotLoaded, calls_of, not_read, not_resolved};
+ghost use Rattle.node_run.specs.Loaded.{HasLoadCause};
 
 use crate::status::Status;
 use cy_bits::{List, Text};
@@ -27,6 +28,8 @@ pub fn load<T: Tree>(alloc: Global, tree: &mut T, root: &str) -> Result<Namespac
     ensures cause { HasLoadCause (T.faults tree.old) (T.faults tree.new) result }
     ensures files { T.files tree.new ≡ T.files tree.old }
     ensures unlisted { root.now ≡ codes "none" → tree.new ≡ tree.old }
+    ensures calls { IfSome (T.files tree.old)
+        (λ files. T.calls tree.new ≤ T.calls tree.old + calls_of root.now files) }
 {
     let files = match files_of(alloc, tree, root) {
         Ok(files) => files,
@@ -39,12 +42,15 @@ pub fn load<T: Tree>(alloc: Global, tree: &mut T, root: &str) -> Result<Namespac
 }
 
 /// The files that a root stands for.
+#[tactic(auto, using(crate::proofs::Roots::none_called, crate::proofs::Roots::folder_called))]
 fn files_of<T: Tree>(alloc: Global, tree: &mut T, root: &str) -> Result<List<DsdlFile>, Status>
     ensures are { IfOk result (AreFilesOf root.now (T.files tree.old)) }
     ensures refused { IfErr result (IsNotLoaded root.now (T.files tree.old)) }
     ensures cause { HasLoadCause (T.faults tree.old) (T.faults tree.new) result }
     ensures files { T.files tree.new ≡ T.files tree.old }
     ensures unlisted { root.now ≡ codes "none" → tree.new ≡ tree.old }
+    ensures calls { IfSome (T.files tree.old)
+        (λ files. T.calls tree.new ≤ T.calls tree.old + calls_of root.now files) }
 {
     if root == NONE {
         return Ok(List::empty(alloc));

@@ -7,8 +7,8 @@ use Rattle.dsdl_types.specs.Schemas.{Sch, extent_of}
 use Rattle.dsdl_types.specs.Stored.{IsStored}
 use Rattle.dsdl_types.specs.Values.{Val}
 use Rattle.dsdl_types.specs.Views.{sch, val}
-use Rattle.serdes.specs.Misfits.{misfit}
-use Rattle.serdes.specs.Results.{IsWritten}
+use Rattle.wire_values.specs.Misfits.{misfit}
+use Rattle.wire_values.specs.Results.{IsWritten}
 use Rattle.std_types.specs.Allocation.{node_id_allocation_value, FitsNodeId}
 use Rattle.std_types.specs.AllocationLaws.{node_id_allocation_back}
 use Rattle.std_types.specs.Types.{schema_of}

@@ -8,8 +8,8 @@ use Rattle.dsdl_types.specs.Schemas.{Sch, extent_of}
 use Rattle.dsdl_types.specs.Stored.{IsStored}
 use Rattle.dsdl_types.specs.Values.{Val}
 use Rattle.dsdl_types.specs.Views.{sch, val}
-use Rattle.serdes.specs.Misfits.{misfit}
-use Rattle.serdes.specs.Results.{IsWritten}
+use Rattle.wire_values.specs.Misfits.{misfit}
+use Rattle.wire_values.specs.Results.{IsWritten}
 use Rattle.std_types.specs.Files.{read_request_value}
 use Rattle.std_types.specs.FileLaws.{read_request_back}
 use Rattle.std_types.specs.Types.{schema_of}

@@ -2,7 +2,7 @@ use Rattle.std.proofs.Common.{◌≡◌, ◌∙◌, ℕ, ◌%◌, ◌^◌, ◌<�
 use Rattle.dsdl_types.specs.Schemas.{Sch}
 use Rattle.dsdl_types.specs.Values.{Val}
 use Rattle.dsdl_types.specs.Views.{val}
-use Rattle.serdes.specs.Payloads.{payload_value}
+use Rattle.wire_values.specs.Payloads.{payload_value}
 use Rattle.std_types.specs.Types.{schema_of}
 use Rattle.std_types.specs.declared.std_name.StdName.TheVariants.{Synchronization}
 use Rattle.std_types.specs.declared.time.Synchronization as stored

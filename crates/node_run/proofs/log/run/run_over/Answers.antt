@@ -1,7 +1,7 @@
 use Rattle.std.proofs.Common.{◌≤◌, refl, sym, ap, ap₂, subst, ◌∙◌, []}
 use Rattle.node_plan.specs.Bound.{bound_of}
-use Rattle.node_core.specs.declared.numbers.Numbers.{Numbers}
-use Rattle.node_core.specs.Writer.{writes_for}
+use Rattle.report_lines.specs.declared.numbers.Numbers.{Numbers}
+use Rattle.text_lines.specs.Writer.{writes_for}
 use Rattle.node_run.specs.declared.status.Status.TheVariants as status
 use Rattle.node_run.specs.Failures.{failures}
 use Rattle.node_run.specs.Goes.{state, state_in}

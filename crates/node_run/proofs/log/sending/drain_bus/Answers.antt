@@ -1,10 +1,10 @@
 use Rattle.std.proofs.Common.{◌≡◌, ◌∙◌, ◌+◌, ◌-◌, ◌++◌, ◌∷◌, [], List, map, suc, refl, sym, ap, subst, arith, append-nil}
 use Rattle.line_text.specs.Buffer.{text_of}
-use Rattle.node_core.specs.declared.line.Line.{Line}
+use Rattle.report_lines.specs.declared.line.Line.{Line}
 use Rattle.node_core.specs.Keeps.{keeps}
 use Rattle.node_core.specs.Pops.{queue_at, with_waiting}
 use Rattle.node_core.specs.Queues.{Queue, leave, stay, tx_line}
-use Rattle.node_core.specs.Writer.{writes_for}
+use Rattle.text_lines.specs.Writer.{writes_for}
 use Rattle.node_run.specs.Tells.{HasTold}
 use Rattle.node_run.proofs.Drains.{set_same, gave_none, gave_some, in_reach, leave_none, stay_none, line_more}
 use Rattle.node_run.proofs.Tells.{told_next, told_none}

@@ -1,11 +1,11 @@
 use Rattle.std.proofs.Common.{◌≡◌, ◌++◌, ◌-◌, List, map}
 use Rattle.tx_queue.specs.declared.frame.OutFrame.{OutFrame}
 use Rattle.line_text.specs.Buffer.{text_of}
-use Rattle.node_core.specs.declared.line.Line.{Line}
+use Rattle.report_lines.specs.declared.line.Line.{Line}
 use Rattle.node_core.specs.Keeps.{keeps}
 use Rattle.node_core.specs.Pops.{queue_at, with_waiting}
 use Rattle.node_core.specs.Queues.{bus_lines, leave, stay, tx_line}
-use Rattle.node_core.specs.Writer.{writes_for}
+use Rattle.text_lines.specs.Writer.{writes_for}
 use Rattle.node_run.specs.Leaves.{IsSameNode}
 use Rattle.node_run.specs.Tells.{HasTold}
 use Rattle.node_run.proofs.log.sending.drain_bus.Given as goal

@@ -1,12 +1,12 @@
 use Rattle.std.proofs.Common.{◌≡◌, ◌∙◌, ◌+◌, ◌<◌, ◌++◌, List, [], drop, refl, sym, ap, subst}
 use Rattle.line_text.specs.Buffer.{text_of}
-use Rattle.node_core.specs.declared.line.Line.{Line}
+use Rattle.report_lines.specs.declared.line.Line.{Line}
 use Rattle.node_core.specs.Keeps.{keeps}
-use Rattle.node_core.specs.LineSinks.{BeginsList}
+use Rattle.report_lines.specs.LineSinks.{BeginsList}
 use Rattle.node_core.specs.Pops.{queue_at}
 use Rattle.node_core.specs.Queues.{Queue, bus_lines, leaving, leaving_from}
 use Rattle.node_core.specs.Steps.{Kept}
-use Rattle.node_core.specs.Writer.{writes_for}
+use Rattle.text_lines.specs.Writer.{writes_for}
 use Rattle.node_core.proofs.Steps.{on_err}
 use Rattle.node_run.specs.Leaves.{bus_left}
 use Rattle.node_run.specs.Tells.{HasTold}

@@ -1,9 +1,9 @@
 use Rattle.std.proofs.Common.{◌≡◌, ◌++◌, List, map, take, drop}
 use Rattle.line_text.specs.Buffer.{text_of}
-use Rattle.node_core.specs.declared.line.Line.{Line}
+use Rattle.report_lines.specs.declared.line.Line.{Line}
 use Rattle.node_core.specs.Keeps.{keeps}
 use Rattle.node_core.specs.Queues.{drained, leaving, leaving_from}
-use Rattle.node_core.specs.Writer.{writes_for}
+use Rattle.text_lines.specs.Writer.{writes_for}
 use Rattle.node_run.specs.Leaves.{IsSameNode}
 use Rattle.node_run.specs.Tells.{HasTold}
 use Rattle.node_run.proofs.log.sending.drain_buses.Given as goal

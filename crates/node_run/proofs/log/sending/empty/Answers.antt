@@ -1,11 +1,11 @@
 use Rattle.std.proofs.Common.{◌≡◌, ◌∙◌, ◌+◌, ◌-◌, ◌++◌, suc, List, [], map, length, length-append, refl, sym, ap, subst, arith, append-nil}
 use Rattle.line_text.specs.Buffer.{text_of}
-use Rattle.node_core.specs.declared.line.Line.{Line}
+use Rattle.report_lines.specs.declared.line.Line.{Line}
 use Rattle.node_core.specs.Keeps.{keeps}
-use Rattle.node_core.specs.LineSinks.{BeginsList}
+use Rattle.report_lines.specs.LineSinks.{BeginsList}
 use Rattle.node_core.specs.Queues.{Queue, drained, leaving, rounds, waiting}
 use Rattle.node_core.specs.Steps.{Kept}
-use Rattle.node_core.specs.Writer.{writes_for}
+use Rattle.text_lines.specs.Writer.{writes_for}
 use Rattle.node_core.proofs.Steps.{on_err}
 use Rattle.node_run.specs.Tells.{HasTold}
 use Rattle.node_run.proofs.Drains.{line_more}

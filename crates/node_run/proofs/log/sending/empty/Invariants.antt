@@ -1,9 +1,9 @@
 use Rattle.std.proofs.Common.{◌≡◌, ◌+◌, ◌++◌, ◌-◌, List, length}
 use Rattle.line_text.specs.Buffer.{text_of}
-use Rattle.node_core.specs.declared.line.Line.{Line}
+use Rattle.report_lines.specs.declared.line.Line.{Line}
 use Rattle.node_core.specs.Keeps.{keeps}
 use Rattle.node_core.specs.Queues.{rounds, waiting}
-use Rattle.node_core.specs.Writer.{writes_for}
+use Rattle.text_lines.specs.Writer.{writes_for}
 use Rattle.node_run.specs.Tells.{HasTold}
 use Rattle.node_run.proofs.log.sending.empty.Given as goal
 

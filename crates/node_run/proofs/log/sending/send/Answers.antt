@@ -2,8 +2,8 @@ use Rattle.std.proofs.Common.{map, subst}
 use Rattle.line_text.specs.Buffer.{text_of}
 use Rattle.node_core.specs.Keeps.{keeps}
 use Rattle.node_core.specs.Queues.{leaving}
-use Rattle.node_core.specs.Writer.{writes_for}
-use Rattle.node_core.specs.declared.line.Line.TheVariants.{Full}
+use Rattle.text_lines.specs.Writer.{writes_for}
+use Rattle.report_lines.specs.declared.line.Line.TheVariants.{Full}
 use Rattle.node_core.proofs.Steps.{on_err}
 use Rattle.node_run.specs.Tells.{HasTold}
 use Rattle.node_run.proofs.Tells.{begins_later, begins_more, on_err_by, on_ok_by, told_more}

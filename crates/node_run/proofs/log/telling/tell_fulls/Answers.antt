@@ -1,7 +1,7 @@
 use Rattle.std.proofs.Common.{◌∙◌, subst, List}
 use Rattle.line_text.specs.Buffer.{text_of}
-use Rattle.node_core.specs.declared.line.Line.{Line}
-use Rattle.node_core.specs.Writer.{writes_for}
+use Rattle.report_lines.specs.declared.line.Line.{Line}
+use Rattle.text_lines.specs.Writer.{writes_for}
 use Rattle.node_run.specs.Tells.{HasTold}
 use Rattle.node_run.proofs.Tells.{full_next, told_next}
 use Rattle.node_run.proofs.log.telling.tell_fulls.Goals as goal

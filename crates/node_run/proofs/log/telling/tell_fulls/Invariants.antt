@@ -1,7 +1,7 @@
 use Rattle.std.proofs.Common.{◌≡◌, map, take}
 use Rattle.line_text.specs.Buffer.{text_of}
-use Rattle.node_core.specs.Writer.{writes_for}
-use Rattle.node_core.specs.declared.line.Line.TheVariants.{Full}
+use Rattle.text_lines.specs.Writer.{writes_for}
+use Rattle.report_lines.specs.declared.line.Line.TheVariants.{Full}
 use Rattle.node_run.specs.Tells.{HasTold}
 use Rattle.node_run.proofs.log.telling.tell_fulls.Given as goal
 

@@ -1,7 +1,7 @@
 use Rattle.std.proofs.Common.{◌≡◌, Bool, true, false, IfOk, sym, subst}
 use Rattle.line_text.specs.Buffer.{text_of}
 use Rattle.node_core.specs.Quick.{quick_is_bad, quick_lines}
-use Rattle.node_core.specs.Writer.{writes_for}
+use Rattle.text_lines.specs.Writer.{writes_for}
 use Rattle.node_core.proofs.Messages.{ignored_says, held_says, bad_says, whole_good, delivered_good}
 use Rattle.node_run.specs.Tells.{Counts}
 use Rattle.node_run.proofs.Tells.{told_silent, counts_silent}

@@ -2,12 +2,12 @@ use Rattle.std.proofs.Common.{◌∙◌, ◌++◌, ◌∷◌, [], Bool, List, So
 use Rattle.std.specs.Prelude.{if◌then◌else◌}
 use Rattle.line_text.specs.Buffer.{text_of}
 use Rattle.node_core.specs.Keeps.{keeps}
-use Rattle.node_core.specs.LineSinks.{BeginsList, put_behind}
+use Rattle.report_lines.specs.LineSinks.{BeginsList, put_behind}
 use Rattle.node_core.specs.Queues.{leaving}
 use Rattle.node_core.specs.Steps.{Kept, left}
-use Rattle.node_core.specs.Writer.{writes_for}
-use Rattle.node_core.specs.declared.line.Line.{Line}
-use Rattle.node_core.specs.declared.numbers.Numbers.{Numbers}
+use Rattle.text_lines.specs.Writer.{writes_for}
+use Rattle.report_lines.specs.declared.line.Line.{Line}
+use Rattle.report_lines.specs.declared.numbers.Numbers.{Numbers}
 use Rattle.node_core.proofs.Steps.{on_err}
 use Rattle.node_run.specs.Follows.{asked, following}
 use Rattle.node_run.specs.Goes.{with_sent}

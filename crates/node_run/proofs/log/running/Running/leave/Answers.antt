@@ -1,7 +1,7 @@
 use Rattle.std.proofs.Common.{◌∙◌, ◌<◌, ◌^◌, refl, sym, arith}
 use Rattle.line_text.specs.Buffer.{text_of}
 use Rattle.node_core.specs.Keeps.{keeps}
-use Rattle.node_core.specs.Writer.{writes_for}
+use Rattle.text_lines.specs.Writer.{writes_for}
 use Rattle.node_core.specs.declared.file_reply.FileReply.TheVariants.{NoFile}
 use Rattle.node_run.proofs.Goes.{none_kept, none_sent, none_told}
 use Rattle.node_run.proofs.SameNodes.{still}

@@ -1,14 +1,14 @@
 use Rattle.std.proofs.Common.{◌∙◌, ◌++◌, List, refl, ap, subst, arith, map, rules}
 use Rattle.line_text.specs.Buffer.{text_of}
 use Rattle.node_core.specs.Keeps.{keeps}
-use Rattle.node_core.specs.LineSinks.{BeginsList}
+use Rattle.report_lines.specs.LineSinks.{BeginsList}
 use Rattle.node_core.specs.Queues.{leaving}
-use Rattle.node_core.specs.Writer.{writes_for}
+use Rattle.text_lines.specs.Writer.{writes_for}
 use Rattle.node_core.specs.declared.file_reply.FileReply.TheVariants.{NoFile}
-use Rattle.node_core.specs.declared.line.FullLine.{FullLine}
-use Rattle.node_core.specs.declared.line.Line.{Line}
-use Rattle.node_core.specs.declared.line.Line.TheVariants.{Full}
-use Rattle.node_core.specs.declared.numbers.Numbers.{Numbers}
+use Rattle.report_lines.specs.declared.line.FullLine.{FullLine}
+use Rattle.report_lines.specs.declared.line.Line.{Line}
+use Rattle.report_lines.specs.declared.line.Line.TheVariants.{Full}
+use Rattle.report_lines.specs.declared.numbers.Numbers.{Numbers}
 use Rattle.node_core.proofs.Steps.{on_err}
 use Rattle.node_run.specs.Goes.{with_sent}
 use Rattle.node_run.specs.Tells.{HasTold}

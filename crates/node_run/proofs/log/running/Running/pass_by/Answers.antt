@@ -1,6 +1,6 @@
 use Rattle.std.proofs.Common.{None, false, [], refl, arith}
 use Rattle.line_text.specs.Buffer.{text_of}
-use Rattle.node_core.specs.Writer.{writes_for}
+use Rattle.text_lines.specs.Writer.{writes_for}
 use Rattle.node_core.proofs.Steps.{on_err}
 use Rattle.node_run.specs.Goes.{state_in}
 use Rattle.node_run.proofs.Takes.{broke_following, came_by, runs_behind, served_by, text_behind}

@@ -4,11 +4,11 @@ use Rattle.std.specs.Option.{ForSome}
 use Rattle.line_text.specs.Buffer.{text_of}
 use Rattle.node_plan.specs.declared.plan.Plan.{Plan}
 use Rattle.node_core.specs.Came.{came_lines, came_request}
-use Rattle.node_core.specs.LineSinks.{put_behind}
+use Rattle.report_lines.specs.LineSinks.{put_behind}
 use Rattle.node_core.specs.Sending.{IsRequestTo}
 use Rattle.node_core.specs.Steps.{Heard, failed_at}
-use Rattle.node_core.specs.Told.{told_lines}
-use Rattle.node_core.specs.Writer.{writes_for}
+use Rattle.report_lines.specs.Lent.{told_lines}
+use Rattle.text_lines.specs.Writer.{writes_for}
 use Rattle.node_core.specs.declared.came.Heard.{Heard as HeardFrame}
 use Rattle.node_core.proofs.Steps.{on_err}
 use Rattle.node_run.specs.Follows.{request_ended}

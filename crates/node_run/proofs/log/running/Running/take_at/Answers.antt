@@ -1,9 +1,9 @@
 use Rattle.std.proofs.Common.{◌∙◌, None, refl, ap, arith}
 use Rattle.line_text.specs.Buffer.{text_of}
-use Rattle.node_core.specs.Writer.{writes_for}
+use Rattle.text_lines.specs.Writer.{writes_for}
 use Rattle.node_core.proofs.Steps.{on_err}
 use Rattle.node_run.specs.Goes.{state, state_in}
-use Rattle.node_core.specs.LineSinks.{put_behind}
+use Rattle.report_lines.specs.LineSinks.{put_behind}
 use Rattle.node_core.specs.Quick.{quick_is_bad, quick_lines}
 use Rattle.node_core.specs.Steps.{Heard, failed_at}
 use Rattle.node_run.proofs.Takes.{breaks_again, broke_following, broke_untold, came_quick, runs_behind, served_by, taken_again, text_behind}

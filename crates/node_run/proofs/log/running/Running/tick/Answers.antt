@@ -2,13 +2,13 @@ use Rattle.std.proofs.Common.{◌≡◌, ◌≤◌, ◌∙◌, [], Some, map, re
 use Rattle.line_text.specs.Buffer.{text_of}
 use Rattle.node_plan.specs.Bound.{bound_of}
 use Rattle.node_plan.specs.declared.plan.Plan.{Plan}
-use Rattle.node_core.specs.declared.line.Line.TheVariants.{Full}
-use Rattle.node_core.specs.declared.numbers.Numbers.{Numbers}
+use Rattle.report_lines.specs.declared.line.Line.TheVariants.{Full}
+use Rattle.report_lines.specs.declared.numbers.Numbers.{Numbers}
 use Rattle.node_core.specs.Keeps.{beaten, keeps}
 use Rattle.node_core.specs.Queues.{fulls}
 use Rattle.node_core.specs.Sending.{beat}
 use Rattle.node_core.specs.Steps.{Step, Tick, pushed, records}
-use Rattle.node_core.specs.Writer.{writes_for}
+use Rattle.text_lines.specs.Writer.{writes_for}
 use Rattle.node_core.proofs.Steps.{on_err}
 use Rattle.node_run.specs.Goes.{state, state_in}
 use Rattle.node_run.proofs.Counts.{numbers_tick}

@@ -1,12 +1,12 @@
 use Rattle.std.proofs.Common.{◌≡◌, ◌∙◌, ◌++◌, ◌≤◌, ◌^◌, [], List, length, sym, ap, ap₂, subst, append-nil, append_assoc, arith}
 use Rattle.line_text.specs.Buffer.{text_of}
 use Rattle.node_plan.specs.declared.plan.BusPlan.{BusPlan}
-use Rattle.node_core.specs.declared.line.Line.{Line}
-use Rattle.node_core.specs.declared.numbers.Numbers.{Numbers}
-use Rattle.node_core.specs.LineSinks.{BeginsList, put_behind}
+use Rattle.report_lines.specs.declared.line.Line.{Line}
+use Rattle.report_lines.specs.declared.numbers.Numbers.{Numbers}
+use Rattle.report_lines.specs.LineSinks.{BeginsList, put_behind}
 use Rattle.node_core.specs.Queues.{rounds, waiting}
 use Rattle.node_core.specs.Steps.{Kept, emptying, end_numbers, failed_lines, lines, steps}
-use Rattle.node_core.specs.Text.{end_text, text}
+use Rattle.text_lines.specs.Text.{end_text, text}
 use Rattle.node_core.proofs.Steps.{on_err}
 use Rattle.node_run.specs.Failures.{failures}
 use Rattle.node_run.specs.Ran.{reported}
