@@ -1,8 +1,8 @@
 -- From what was done to all that is said of a call.
 use Rattle.std.proofs.Common.{◌≡◌, ◌↔◌, inl, inr, ℕ, true, false, List, [], Option, Some, None, refl, sym, ap}
 use Rattle.dsdl_resolve.specs.Laws.{HaveOneAnswer}
-use Rattle.node_core.specs.declared.line.Line.{Line}
-use Rattle.node_core.specs.declared.numbers.Numbers.{Numbers}
+use Rattle.report_lines.specs.declared.line.Line.{Line}
+use Rattle.report_lines.specs.declared.numbers.Numbers.{Numbers}
 use Rattle.node_plan.specs.Laws.{OnePlan}
 use Rattle.node_run.specs.Failures.{failures}
 use Rattle.node_run.specs.Ran.{reported, numbers_of, of_failed, of_report}

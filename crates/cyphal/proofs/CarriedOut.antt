@@ -1,6 +1,6 @@
 -- From what a command did to what is said of any command.
 use Rattle.std.proofs.Common.{◌≡◌, ◌∙◌, ◌⊎◌, inl, inr, ℕ, true, false, List, Option, refl, sym, ap, subst, arith}
-use Rattle.node_core.specs.declared.line.Line.{Line}
+use Rattle.report_lines.specs.declared.line.Line.{Line}
 use Rattle.node_run.specs.Failures.{Failures}
 use Rattle.node_run.specs.Ran.{no_numbers, reported}
 use Rattle.node_run.specs.declared.status.Status.{Status}

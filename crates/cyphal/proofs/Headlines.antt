@@ -22,11 +22,11 @@ use Rattle.frame_log.specs.Log.{log_of}
 use Rattle.frame_log.specs.declared.error.LogError.{LogError}
 use Rattle.log_loop.specs.Gone.{FirstOf}
 use Rattle.log_loop.proofs.Written.{begins_none}
-use Rattle.node_core.specs.declared.line.Line.{Line}
+use Rattle.report_lines.specs.declared.line.Line.{Line}
 use Rattle.rx_table.specs.Heard.{frames}
-use Rattle.node_core.specs.LineSinks.{put_behind}
+use Rattle.report_lines.specs.LineSinks.{put_behind}
 use Rattle.node_core.specs.Steps.{AreServed, Met, Step, lines, all_lines, met_records, records, steps, without_files}
-use Rattle.node_core.specs.Text.{text}
+use Rattle.text_lines.specs.Text.{text}
 use Rattle.session_lines.specs.Reported.{rxs, of_key, IsSession, StepsReportAll}
 use Rattle.session_lines.specs.Values.{type_of, IsSentTo, SayValues, SaysDueValue}
 use Rattle.session_lines.proofs.Frames.{frames_are, are_records, in_order}

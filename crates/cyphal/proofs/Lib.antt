@@ -15,4 +15,5 @@ pub mod Headlines
 pub mod Streaming
 pub mod Answered
 pub mod CarriedOut
+pub mod TreeCalls
 pub mod Premises

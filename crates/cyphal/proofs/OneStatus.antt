@@ -1,5 +1,5 @@
 -- What is asked for has one status, where all that decides it is told: by each way in which a command ends.
-use Rattle.std.proofs.Common.{◌≡◌, ◌∙◌, inl, inr, ℕ, true, ◌&&◌, ◌||◌, List, Option, Some, None, is_some, refl, sym, subst}
+use Rattle.std.proofs.Common.{◌≡◌, ◌∙◌, inl, inr, ℕ, true, ◌&&◌, ◌||◌, List, Option, Some, None, is_some, refl, sym, ap, subst}
 use Rattle.clap.proofs.WalkLemmas.{both}
 use Rattle.cy_outside.specs.Files.{Files}
 use Rattle.dsdl_resolve.specs.Laws.{HaveOneAnswer}
@@ -7,16 +7,17 @@ use Rattle.dsdl_types.specs.Definitions.{IsNamespace}
 use Rattle.dsdl_types.specs.declared.namespace.Namespace.{Namespace}
 use Rattle.node_plan.specs.Laws.{OnePlan}
 use Rattle.node_reach.specs.Buses.{bus_names}
-use Rattle.node_run.specs.Compared.{compared}
+use Rattle.node_run.specs.Compared.{compared, ended}
 use Rattle.node_run.specs.Loaded.{is_none}
 use Rattle.node_run.specs.NamedTypes.{message_named}
 use Rattle.node_run.specs.Ran.{names_of}
 use Rattle.node_run.specs.ValueLines.{Answering, Ends, HasOneStatus}
 use Rattle.node_run.specs.declared.status.Status.{Status}
 use Rattle.node_run.specs.declared.status.Status.TheVariants as status
+use Rattle.type_versions.proofs.One.{one_answer}
 use Rattle.value_lines.specs.Decoded.{Decodes}
 use Rattle.value_lines.specs.Encoded.{Encodes}
-use Rattle.cyphal.specs.Words.{Command, Compile, Compat, Encode, Decode, Run, Gen, Order, Survey}
+use Rattle.cyphal.specs.Words.{Command, Compile, Compat, Versions, Encode, Decode, Run, Gen, Order, Survey}
 use Rattle.cyphal.specs.Job.{Told, Job}
 use Rattle.cyphal.specs.LogEnds.{EndsAsLog}
 use Rattle.cyphal.specs.Plans.{EndsAt}
@@ -27,6 +28,7 @@ use Rattle.cyphal.specs.jobs.Compile.{Compiles}
 use Rattle.cyphal.specs.jobs.Order.{EndsAsLines}
 use Rattle.cyphal.specs.jobs.Run.{over}
 use Rattle.cyphal.specs.jobs.Values.{AnswersLines}
+use Rattle.cyphal.specs.jobs.Versions.{VersionsEnd, ComparesVersions}
 use Rattle.cyphal.specs.Expected.{job_asked}
 use Rattle.cyphal.proofs.Loaded.{Comes, loaded, Found, found_told, not_loaded, one}
 use Rattle.cyphal.proofs.LogEnds.{one_log_end}
@@ -49,6 +51,10 @@ compares new old names stat = stat ≡ compared names new old
 abbrev answers_in : Answering → List ℕ → Told → Namespace → Status → Type 0
 answers_in answers name told names stat = IsNamespace names × Ends answers (message_named names name) name told.input stat
 
+-- a namespace's versions have one end
+one_end_of_versions : (names : Namespace) (s t : Status) → VersionsEnd names s → VersionsEnd names t → s ≡ t
+one_end_of_versions names s t a b = a.ends ∙ ap ended (one_answer names a.lines b.lines a.first b.first a.are b.are).1 ∙ sym b.ends
+
 module _ (root : List ℕ) (told : Option Files) (f : Found root told) where
   comes_compiled : (stat : Status) → Compiles root told stat → Comes root laid_out f.found stat
   comes_compiled status.Ok c = loaded c.1.files c.0 (f.are c.1.files c.1.are) c.1.compiled refl
@@ -59,6 +65,10 @@ module _ (root : List ℕ) (told : Option Files) (f : Found root told) where
   comes_compared : (new old : List ℕ) (stat : Status) → Compares root new old told stat → Comes root (compares new old) f.found stat
   comes_compared new old stat (h, inl n) = not_loaded root (compares new old) told f stat h n
   comes_compared new old stat (h, inr c) = loaded c.is.files c.names (f.are c.is.files c.is.are) c.is.compiled c.ends
+
+  comes_to_versions : (stat : Status) → ComparesVersions root told stat → Comes root VersionsEnd f.found stat
+  comes_to_versions stat (h, inl n) = not_loaded root VersionsEnd told f stat h n
+  comes_to_versions stat (h, inr c) = loaded c.is.files c.names (f.are c.is.files c.is.are) c.is.compiled c.compared
 
 module _ (answers : Answering) (root name : List ℕ) (told : Told) where
   comes_answered : (f : Found root told.files) (stat : Status) → AnswersLines answers root name told stat → Comes root (answers_in answers name told) f.found stat
@@ -86,6 +96,11 @@ module _ (laws : HaveOneAnswer × OnePlan) (encodes : HasOneStatus Encodes) (dec
   by_comparing root new old files s t h a b =
       let f = found_told (is_none root) root files refl h in
       one laws.0 root (compares new old) (λ names a b x y. x ∙ sym y) f.found s t (comes_compared root files f new old s a) (comes_compared root files f new old t b)
+
+  by_versions : (root : List ℕ) (files : Option Files) (s t : Status) → (is_none root || is_some files) ≡ true → ComparesVersions root files s → ComparesVersions root files t → s ≡ t
+  by_versions root files s t h a b =
+      let f = found_told (is_none root) root files refl h in
+      one laws.0 root VersionsEnd one_end_of_versions f.found s t (comes_to_versions root files f s a) (comes_to_versions root files f t b)
 
   -- by the lines of the input in it
   by_lines : (answers : Answering) → HasOneStatus answers → (root name : List ℕ) (told : Told) (s t : Status)
@@ -120,6 +135,7 @@ module _ (laws : HaveOneAnswer × OnePlan) (encodes : HasOneStatus Encodes) (dec
   single : (command : Command) → IsSingle (job_of command)
   single (Compile root) told s t h a b = by_compiling root told.files s t h a b
   single (Compat root new old) told s t h a b = by_comparing root new old told.files s t h a b
+  single (Versions root) told s t h a b = by_versions root told.files s t h a b
   single (Encode root name) told s t h a b = by_lines Encodes encodes root name told s t h a b
   single (Decode root name) told s t h a b = by_lines Decodes decodes root name told s t h a b
   single (Run root path) told s t h a b = by_running root path told s t h a b

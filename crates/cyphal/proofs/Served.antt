@@ -1,7 +1,7 @@
 -- In which requests of files the tree failed, by the command.
 use Rattle.std.proofs.Common.{◌≡◌, ◌∙◌, ◌⊎◌, inl, inr, ℕ, false, List, [], ◌∷◌, Option, Some, None, refl, sym, ap, subst}
 use Rattle.frame_log.specs.Log.{log_of}
-use Rattle.node_core.specs.LineSinks.{put_behind}
+use Rattle.report_lines.specs.LineSinks.{put_behind}
 use Rattle.node_core.specs.Steps.{failed_lines, steps}
 use Rattle.node_run.specs.Failures.{AreFailures, Failures}
 use Rattle.node_run.specs.Ran.{Ran, names_of}

@@ -1,4 +1,5 @@
 pub mod Compat
+pub mod Versions
 pub mod Values
 pub mod Run
 pub mod Gen

@@ -1,7 +1,6 @@
 -- The line that is written of a status.
 use Rattle.std.specs.Prelude.{ℕ, List, [], ◌∷◌, ◌++◌, codes, decimal}
-use Rattle.compat_check.specs.declared.verdict.CompatWhy.{CompatWhy}
-use Rattle.compat_check.specs.declared.verdict.CompatWhy.TheVariants as compat_why
+use Rattle.type_versions.specs.Lines.{compat_why_text}
 use Rattle.dsdl_names.specs.declared.NameError.{NameError}
 use Rattle.dsdl_names.specs.declared.NameError.TheVariants as name_error
 use Rattle.dsdl_resolve.specs.declared.why.DsdlWhy.{DsdlWhy}
@@ -39,13 +38,6 @@ abbrev pub read_why_number : ReadWhy → ℕ
 read_why_number (read_why.BadTag n) = n
 read_why_number (read_why.BadLength n) = n
 read_why_number (read_why.BadDelimiter n) = n
-
-abbrev pub compat_why_text : CompatWhy → List ℕ
-compat_why_text compat_why.Kind = codes "Kind"
-compat_why_text compat_why.Sealing = codes "Sealing"
-compat_why_text compat_why.Extent = codes "Extent"
-compat_why_text compat_why.Sealed = codes "Sealed"
-compat_why_text compat_why.Count = codes "Count"
 
 -- that memory was wanted is no cause of a refused name
 abbrev pub name_error_text : NameError → List ℕ

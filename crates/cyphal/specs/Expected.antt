@@ -11,6 +11,7 @@ use Rattle.cyphal.specs.jobs.{job_of}
 abbrev pub no_job : Job
 no_job = record {
   calls_tree = false;
+  needs = λ files. 0;
   takes_input = false;
   serves = false;
   may_end = of_words;

@@ -16,7 +16,7 @@ use Rattle.cy_outside.specs.Files.{Files}
 use Rattle.cy_outside.specs.Written.{behind, Begins}
 use Rattle.frame_log.specs.Log.{Log, log_of}
 use Rattle.node_plan.specs.declared.plan.Plan.{Plan}
-use Rattle.node_core.specs.declared.line.Line.{Line}
+use Rattle.report_lines.specs.declared.line.Line.{Line}
 use Rattle.rx_table.specs.Heard.{heard_as}
 use Rattle.node_core.specs.Steps.{AreServed, Met, met_records, steps, without_files}
 use Rattle.session_lines.specs.Reported.{rxs, of_key, IsSession}

@@ -1,5 +1,5 @@
 -- What is said of a command: each file of specs/jobs/ makes one job.
-use Rattle.std.specs.Prelude.{◌≡◌, ℕ, Bool, true, false, List, Option}
+use Rattle.std.specs.Prelude.{◌≡◌, ◌≤◌, ◌+◌, ℕ, Bool, true, false, List, Option, IfSome}
 use Rattle.cy_outside.specs.Files.{Files}
 use Rattle.cy_outside.specs.Outside.{Rose}
 use Rattle.node_run.specs.Failures.{Failures}
@@ -56,6 +56,8 @@ pub record ReportsNothing (came : Outcome) : Type 0 where
 pub record Job : Type 1 where
   -- whether it calls anything of the tree
   pub calls_tree : Bool
+  -- how many calls of a tree with these files it needs at most before it takes of the input
+  pub needs : Files → ℕ
   -- whether it takes of the input
   pub takes_input : Bool
   -- whether it answers requests of files of the tree
@@ -69,6 +71,10 @@ pub record Job : Type 1 where
   -- what it did, where it did something
   pub did : Told → Outcome → Type 0
 
+-- a tree was called at most so often, where its files are told
+abbrev pub CallsAtMost : (Files → ℕ) → Option Files → ℕ → ℕ → Type 0
+CallsAtMost most told old new = IfSome told (λ files. new ≤ old + most files)
+
 -- the statuses that may come at any time
 abbrev pub is_fault : Status → Bool
 is_fault status.ReadFault = true
@@ -76,12 +82,13 @@ is_fault status.WriteFault = true
 is_fault status.NoMemory = true
 is_fault other = false
 
--- the statuses of a command that came to the end of what counts of its input
+-- the statuses of a command that came to the end of what counts of its input, or of what it compares
 abbrev pub is_settled : Status → Bool
 is_settled status.Ok = true
 is_settled (status.Log n why) = true
 is_settled (status.Text n) = true
 is_settled (status.Unreadable n path why) = true
+is_settled (status.NotNewer path why) = true
 is_settled status.LogLong = true
 is_settled other = false
 

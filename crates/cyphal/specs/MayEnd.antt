@@ -36,6 +36,11 @@ of_types (status.NotNewer path why) = true
 of_types (status.NoFile path) = true
 of_types other = of_text other
 
+-- of versions that are compared
+abbrev pub of_versions : Status → Bool
+of_versions (status.NotNewer path why) = true
+of_versions other = of_text other
+
 -- of a log that is heard
 abbrev pub of_log : Status → Bool
 of_log (status.Log line why) = true

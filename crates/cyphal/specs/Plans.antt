@@ -1,12 +1,12 @@
 -- What a command of a plan comes to: why the root has no namespace, or in it what the file at the
 -- plan's path gives.
-use Rattle.std.specs.Prelude.{◌≡◌, ◌⊎◌, ℕ, false, List, Option, Some, None, IfSome}
+use Rattle.std.specs.Prelude.{◌≡◌, ◌⊎◌, ◌+◌, ◌^◌, ℕ, min, length, false, List, Option, Some, None, IfSome}
 use Rattle.std.specs.FinMap as map
-use Rattle.cy_outside.specs.Files.{Files}
+use Rattle.cy_outside.specs.Files.{Files, bytes_at, reads_of}
 use Rattle.dsdl_types.specs.declared.namespace.Namespace.{Namespace}
 use Rattle.node_plan.specs.Plan.{PlanIs, Good, Bad, IsPlanOf}
 use Rattle.node_plan.specs.declared.plan.Plan.{Plan}
-use Rattle.node_run.specs.Loaded.{IsLoaded, IsNotLoaded}
+use Rattle.node_run.specs.Loaded.{IsLoaded, IsNotLoaded, calls_of}
 use Rattle.node_run.specs.declared.status.Status.{Status}
 use Rattle.node_run.specs.declared.status.Status.TheVariants as status
 use Rattle.cyphal.specs.Job.{is_fault}
@@ -64,3 +64,9 @@ pub record PlanAt (root path : List ℕ) (files : Option Files) (plan : Plan) : 
   pub names : Namespace
   pub is : IsLoaded root files names
   pub gives : GivesPlan names path files plan
+
+-- how many calls of a tree with these files the plan at a path takes at most: those of the root's
+-- namespace, and the reads of as many bytes as decide which plan it is
+abbrev pub plan_calls : List ℕ → List ℕ → Files → ℕ
+plan_calls root path files =
+    calls_of root files + reads_of (min (2 ^ 20 + 33) (length (bytes_at files path)))

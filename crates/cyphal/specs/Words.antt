@@ -10,16 +10,18 @@ use Rattle.cyphal.specs.declared.words.Accepted.{Accepted}
 use Rattle.cyphal.specs.declared.words.Accepted.TheVariants as accepted
 
 -- what the words ask for: the layouts of the types below this root, whether one of them is newer
--- than another, values of one of them as bytes, bytes as values of it, a run of the plan at this
--- path, which is read in the namespace of the root, its memory bound, its text in version 2, the
--- run of the log that is made of this number, who is online in the log of the input, which a node
--- with this node-ID hears, node-IDs for the nodes of that log that have none, the file that a node
--- with this node-ID fetches of another one over that log, the lines of a log in the order of their
--- moments, with a window of so many microseconds, what the buses with these names carry, or what
--- became of each frame of a log by such a plan
+-- than another, whether each of their versions is newer than the one before it, values of one of
+-- them as bytes, bytes as values of it, a run of the plan at this path, which is read in the
+-- namespace of the root, its memory bound, its text in version 2, the run of the log that is made of
+-- this number, who is online in the log of the input, which a node with this node-ID hears, node-IDs
+-- for the nodes of that log that have none, the file that a node with this node-ID fetches of
+-- another one over that log, the lines of a log in the order of their moments, with a window of so
+-- many microseconds, what the buses with these names carry, or what became of each frame of a log by
+-- such a plan
 pub data Command : Type 0 where
   Compile : List ℕ → Command
   Compat : List ℕ → List ℕ → List ℕ → Command
+  Versions : List ℕ → Command
   Encode : List ℕ → List ℕ → Command
   Decode : List ℕ → List ℕ → Command
   Run : List ℕ → List ℕ → Command
@@ -43,6 +45,7 @@ names_of (Three a b c) = a.name.now ∷ b.name.now ∷ c.name.now ∷ []
 abbrev pub asked_by : Accepted → Command
 asked_by (accepted.Compile root) = Compile root.now
 asked_by (accepted.Compat root new old) = Compat root.now new.now old.now
+asked_by (accepted.Versions root) = Versions root.now
 asked_by (accepted.Encode root name) = Encode root.now name.now
 asked_by (accepted.Decode root name) = Decode root.now name.now
 asked_by (accepted.Run root plan) = Run root.now plan.now
@@ -122,10 +125,11 @@ named_of_node word node =
 abbrev pub named_of_one : List ℕ → List ℕ → Option Command
 named_of_one word argument =
     if bytes_eq word (codes "compile") then Some (Compile argument)
+    else (if bytes_eq word (codes "versions") then Some (Versions argument)
     else (if bytes_eq word (codes "gen") then option_map Gen (number_given argument)
     else (if bytes_eq word (codes "order") then option_map Order (window_given argument)
     else (if bytes_eq word (codes "survey") then option_map Survey (buses_given argument)
-    else named_of_node word (node_given argument))))
+    else named_of_node word (node_given argument)))))
 
 -- the command that a word names, of a root and a plan
 abbrev pub named_of_plan : List ℕ → List ℕ → List ℕ → Option Command
@@ -149,10 +153,10 @@ named_of_three word first second third =
     else (if bytes_eq word (codes "fetch")
     then fetch_given (node_given first) (node_given second) third else None)
 
--- what the words ask for, where they are accepted: `compile ROOT`, `compat ROOT NEW OLD`, `encode
--- ROOT TYPE`, `decode ROOT TYPE`, `run ROOT PLAN`, `bound ROOT PLAN`, `migrate ROOT PLAN`, `explain
--- ROOT PLAN`, `gen NUMBER`, `order MICROS`, `survey BUSES`, `monitor NODE`, `allocate NODE` or `fetch
--- NODE SERVER PATH`
+-- what the words ask for, where they are accepted: `compile ROOT`, `compat ROOT NEW OLD`, `versions
+-- ROOT`, `encode ROOT TYPE`, `decode ROOT TYPE`, `run ROOT PLAN`, `bound ROOT PLAN`, `migrate ROOT
+-- PLAN`, `explain ROOT PLAN`, `gen NUMBER`, `order MICROS`, `survey BUSES`, `monitor NODE`, `allocate
+-- NODE` or `fetch NODE SERVER PATH`
 abbrev pub command_of : List (List ℕ) → Option Command
 command_of [] = None
 command_of (word ∷ []) = None

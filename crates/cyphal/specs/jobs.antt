@@ -1,6 +1,7 @@
 -- The commands: a file makes the job of each, or of those that differ in what they are given.
 pub mod Compile
 pub mod Compat
+pub mod Versions
 pub mod Values
 pub mod Run
 pub mod Bound
@@ -21,6 +22,7 @@ use Rattle.cyphal.specs.Words.{Command}
 use Rattle.cyphal.specs.Job.{Job}
 use Rattle.cyphal.specs.jobs.Compile.{compile_job}
 use Rattle.cyphal.specs.jobs.Compat.{compat_job}
+use Rattle.cyphal.specs.jobs.Versions.{versions_job}
 use Rattle.cyphal.specs.jobs.Values.{values_job}
 use Rattle.cyphal.specs.jobs.Run.{run_job}
 use Rattle.cyphal.specs.jobs.Bound.{bound_job}
@@ -36,6 +38,7 @@ use Rattle.cyphal.specs.jobs.Explain.{explain_job}
 abbrev pub job_of : Command → Job
 job_of (command.Compile root) = compile_job root
 job_of (command.Compat root new old) = compat_job root new old
+job_of (command.Versions root) = versions_job root
 job_of (command.Encode root name) = values_job Encodes root name
 job_of (command.Decode root name) = values_job Decodes root name
 job_of (command.Run root path) = run_job root path

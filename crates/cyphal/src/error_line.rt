@@ -3,16 +3,16 @@ ghost use Rattle.std.specs.Prelude.{◌≡◌, OnOk, OnErr};
 ghost use Rattle.std.specs.List.{flat_map};
 ghost use Rattle.cy_outside.specs.Outside.{Rose};
 ghost use Rattle.cy_outside.specs.Written.{behind, Begins};
-ghost use Rattle.cyphal.specs.ErrorLine.{plan_why_text, log_why_text, read_why_word, read_why_number, compat_why_text, numbered, unreadable, not_newer, missing, error_line};
+ghost use Rattle.cyphal.specs.ErrorLine.{plan_why_text, log_why_text, read_why_word, read_why_number, numbered, unreadable, not_newer, missing, error_line};
 
 use crate::dsdl_line::put_refused_file;
-use compat_check::CompatWhy;
 use cy_outside::{Failed, Sink, put_all};
 use dsdl_types::ReadWhy;
 use frame_log::LogWhy;
 use itoa::Buffer;
 use node_plan::PlanWhy;
 use node_run::Status;
+use type_versions::compat_why_text;
 
 /// Writes the line of a status, in pieces; of `Ok` there is none.
 pub fn put_error<E: Sink>(err: &mut E, status: &Status) -> Result<(), Failed>
@@ -193,18 +193,5 @@ fn read_why_number(why: ReadWhy) -> u64
 {
     match why {
         ReadWhy::BadTag(n) | ReadWhy::BadLength(n) | ReadWhy::BadDelimiter(n) => n,
-    }
-}
-
-/// The word of why a type isn't newer.
-fn compat_why_text(why: CompatWhy) -> &'static [u8]
-    ensures { result.now ≡ compat_why_text why }
-{
-    match why {
-        CompatWhy::Kind => b"Kind",
-        CompatWhy::Sealing => b"Sealing",
-        CompatWhy::Extent => b"Extent",
-        CompatWhy::Sealed => b"Sealed",
-        CompatWhy::Count => b"Count",
     }
 }

@@ -1,11 +1,12 @@
 //! The commands: a file does what each asks for, or what those do that differ in what they are
 //! given.
 ghost use Rattle.std.specs.Prelude.{◌≡◌, false};
+ghost use Rattle.cy_outside.specs.Outside.{Rose};
 ghost use Rattle.node_run.specs.Failures.{failures};
 ghost use Rattle.node_run.specs.Ran.{reported};
 ghost use Rattle.cyphal.specs.CarriedOut.{IsCarriedOut};
 ghost use Rattle.cyphal.specs.Cause.{outside};
-ghost use Rattle.cyphal.specs.Job.{outcome, told_by};
+ghost use Rattle.cyphal.specs.Job.{outcome, told_by, CallsAtMost};
 ghost use Rattle.cyphal.specs.Words.{asked_by};
 ghost use Rattle.cyphal.specs.jobs.{job_of};
 
@@ -22,6 +23,7 @@ pub mod ordered;
 pub mod reach;
 pub mod run;
 pub mod survey;
+pub mod versions;
 
 use crate::counted::Counted;
 use crate::words::Accepted;
@@ -42,6 +44,7 @@ use reach::{Hearing, hear_log};
 use run::run_plan;
 use std::alloc::Global;
 use survey::survey_buses;
+use versions::compare_versions;
 
 /// Does what a command asks for.
 pub fn carry_out<T: Tree, L: Source, O: Sink, K: LineSink>(
@@ -62,11 +65,17 @@ pub fn carry_out<T: Tree, L: Source, O: Sink, K: LineSink>(
         let old = outside (T.faults tree.old) (L.faults input.old) (O.faults out.old) input.old in
         let new = outside (T.faults tree.new) (L.faults input.new) (O.faults out.new) input.new in
         IsCarriedOut (job_of (asked_by given.entry)) told came old new }
+    ensures needed { let needs = (job_of (asked_by given.entry)).needs in
+        result.status ≡ Status.ReadFault → ¬ Rose (L.faults input.old) (L.faults input.new)
+        → CallsAtMost needs (T.files tree.old) (T.calls tree.old) (T.calls tree.new) }
 {
     match given {
         Accepted::Compile { root } => Counted::nothing(compile_root(alloc, root, tree, out)),
         Accepted::Compat { root, new, old } => {
             Counted::nothing(compat_types(alloc, root, new, old, tree, out))
+        }
+        Accepted::Versions { root } => {
+            Counted::nothing(compare_versions(alloc, root, tree, out))
         }
         Accepted::Encode { root, name } => {
             Counted::nothing(encode_lines(alloc, root, name, tree, input, out))

@@ -1,14 +1,14 @@
 //! The file of a plan, read in the namespace of a root.
-ghost use Rattle.std.specs.Prelude.{◌≡◌, ◌⊎◌, ℕ, true, false, IfOk, IfErr, OnOk, Some};
-ghost use Rattle.cy_outside.specs.Files.{ReadsFront};
+ghost use Rattle.std.specs.Prelude.{◌≡◌, ◌≤◌, ◌+◌, ◌⊎◌, ℕ, true, false, IfOk, IfErr, OnOk, Some};
+ghost use Rattle.cy_outside.specs.Files.{ReadsFront, front_length, reads_of};
 ghost use Rattle.cy_outside.specs.Outside.{Rose};
 ghost use Rattle.dsdl_types.specs.Definitions.{IsNamespace};
 ghost use Rattle.dsdl_types.specs.declared.namespace.Namespace.{Namespace as Names};
 ghost use Rattle.node_plan.specs.IsPlan.{IsPlan};
 ghost use Rattle.node_plan.specs.declared.plan.PlanWhy.{PlanWhy as Why};
-ghost use Rattle.cyphal.specs.Job.{is_fault, is_settled};
+ghost use Rattle.cyphal.specs.Job.{is_fault, is_settled, CallsAtMost};
 ghost use Rattle.cyphal.specs.MayEnd.{of_plan};
-ghost use Rattle.cyphal.specs.Plans.{EndsAt, EndsIn, without_plan, GivesPlan, PlanAt};
+ghost use Rattle.cyphal.specs.Plans.{EndsAt, EndsIn, without_plan, plan_calls, GivesPlan, PlanAt};
 
 use cy_bits::{Bytes, Text};
 use cy_outside::{Tree, TreeError, read_file};
@@ -18,7 +18,7 @@ use node_run::{Status, load};
 use std::alloc::Global;
 
 /// How much is read of a plan's file: more bytes than a plan has.
-const MOST: usize = MAX_TEXT + 1;
+pub const MOST: usize = MAX_TEXT + 1;
 
 /// The plan at a path, read in the namespace of a root, or how a command ends for want of it. The
 /// root comes first: where it has no namespace, nothing of the plan is read.
@@ -35,6 +35,8 @@ pub fn plan_at<T: Tree>(alloc: Global, root: &str, path: &str, tree: &mut T) -> 
         → Rose (T.faults tree.old) (T.faults tree.new)) }
     ensures write { IfErr result (λ stat. ¬ (stat ≡ Status.WriteFault)) }
     ensures early { IfErr result (λ stat. is_settled stat ≡ false) }
+    ensures calls { CallsAtMost (plan_calls root.now path.now)
+        (T.files tree.old) (T.calls tree.old) (T.calls tree.new) }
 {
     let names = match load(alloc, tree, root) {
         Ok(names) => names,
@@ -63,6 +65,8 @@ fn plan_in<T: Tree>(
         → Rose (T.faults tree.old) (T.faults tree.new)) }
     ensures write { IfErr result (λ stat. ¬ (stat ≡ Status.WriteFault)) }
     ensures early { IfErr result (λ stat. is_settled stat ≡ false) }
+    ensures calls { T.calls tree.new
+        ≤ T.calls tree.old + reads_of (front_length (T.files tree.old) path.now MOST) }
 {
     let text = match text_at(alloc, path, tree) {
         Ok(text) => text,
@@ -88,6 +92,8 @@ pub fn text_at<T: Tree>(alloc: Global, path: &str, tree: &mut T) -> Result<Bytes
         → Rose (T.faults tree.old) (T.faults tree.new)) }
     ensures write { IfErr result (λ stat. ¬ (stat ≡ Status.WriteFault)) }
     ensures early { IfErr result (λ stat. is_settled stat ≡ false) }
+    ensures calls { T.calls tree.new
+        ≤ T.calls tree.old + reads_of (front_length (T.files tree.old) path.now MOST) }
 {
     match read_file(alloc, tree, path, MOST) {
         Ok(Some(text)) => Ok(text),

@@ -1,10 +1,11 @@
 //! The top call: the report keeps its lines.
 ghost use Rattle.std.specs.Prelude.{◌≡◌, false, map, string_bytes};
+ghost use Rattle.cy_outside.specs.Outside.{Rose};
 ghost use Rattle.node_run.specs.Ran.{numbers_of, of_failed, of_report};
 ghost use Rattle.cyphal.specs.Answered.{stream, HasSaid, IsAnswered, IsReported};
 ghost use Rattle.cyphal.specs.Cause.{outside};
 ghost use Rattle.cyphal.specs.Expected.{job_for};
-ghost use Rattle.cyphal.specs.Job.{outcome, told_by};
+ghost use Rattle.cyphal.specs.Job.{outcome, told_by, CallsAtMost};
 
 use crate::run_words::run_words;
 use cy_outside::{Sink, Source, Tree};
@@ -49,6 +50,10 @@ pub fn top<T: Tree, L: Source, O: Sink, E: Sink>(
         → tree.new ≡ tree.old }
     ensures said { let old = stream (E.faults err.old) (E.written err.old) in
         HasSaid result.status old (stream (E.faults err.new) (E.written err.new)) }
+    // A read fault of the tree is one of a call that the command needs.
+    ensures needed { let needs = (job_for (map string_bytes words.now)).needs in
+        result.status ≡ Status.ReadFault → ¬ Rose (L.faults input.old) (L.faults input.new)
+        → CallsAtMost needs (T.files tree.old) (T.calls tree.old) (T.calls tree.new) }
 {
     let mut kept = KeptLines::new(alloc);
     let done = run_words(alloc, words, tree, input, out, err, &mut kept);

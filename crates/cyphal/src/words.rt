@@ -23,6 +23,10 @@ pub enum Accepted<'a> {
         new: &'a str,
         old: &'a str,
     },
+    /// Writes whether each version of a type of a root is newer than the one before it.
+    Versions {
+        root: &'a str,
+    },
     /// Writes values of a type of a root as bytes.
     Encode {
         root: &'a str,
@@ -91,6 +95,10 @@ cyphal compat ROOT NEW OLD
     other writes; names are as a.b.Name.1.0, with .Request or .Response behind
     them for a half of a service
 
+cyphal versions ROOT
+    writes for each version of a type of ROOT whether it is newer than the one
+    before it, of the same major version above 0
+
 cyphal encode ROOT TYPE
     writes for each line of standard input, the text of a value of TYPE, the
     hex of its bytes
@@ -146,10 +154,10 @@ statuses: 0 done, 1 usage, 2 DSDL file refused, 3 plan refused, 4 log refused,
     12 no such file, folder or type
 ";
 
-/// The command that the words are, so `compile ROOT`, `compat ROOT NEW OLD`, `encode ROOT TYPE`,
-/// `decode ROOT TYPE`, `run ROOT PLAN`, `bound ROOT PLAN`, `migrate ROOT PLAN`, `explain ROOT PLAN`,
-/// `gen NUMBER`, `order MICROS`, `survey BUSES`, `monitor NODE`, `allocate NODE` or `fetch NODE SERVER
-/// PATH`; none where they aren't accepted. It wants memory where they are.
+/// The command that the words are, so `compile ROOT`, `compat ROOT NEW OLD`, `versions ROOT`, `encode
+/// ROOT TYPE`, `decode ROOT TYPE`, `run ROOT PLAN`, `bound ROOT PLAN`, `migrate ROOT PLAN`, `explain
+/// ROOT PLAN`, `gen NUMBER`, `order MICROS`, `survey BUSES`, `monitor NODE`, `allocate NODE` or `fetch
+/// NODE SERVER PATH`; none where they aren't accepted. It wants memory where they are.
 pub fn command_of<'a>(alloc: Global, words: &'a [String]) -> Result<Option<Accepted<'a>>, NoMemory>
     ensures is { let asked = command_of (map string_bytes words.entry.now) in
         IfOk result (λ given. option_map asked_by given ≡ asked) }
@@ -211,6 +219,8 @@ fn of_one<'a>(word: &str, argument: &'a str) -> Option<Accepted<'a>>
 {
     if word == "compile" {
         Some(Accepted::Compile { root: argument })
+    } else if word == "versions" {
+        Some(Accepted::Versions { root: argument })
     } else if word == "gen" {
         of_number(number_of(argument.as_bytes()))
     } else if word == "order" {

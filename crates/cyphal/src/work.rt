@@ -1,11 +1,12 @@
 //! What the words ask for is done here, by the command that they are.
 ghost use Rattle.std.specs.Prelude.{◌≡◌, ◌↔◌, None, false, map, string_bytes};
+ghost use Rattle.cy_outside.specs.Outside.{Rose};
 ghost use Rattle.node_run.specs.Failures.{failures};
 ghost use Rattle.node_run.specs.Ran.{reported};
 ghost use Rattle.cyphal.specs.CarriedOut.{IsCarriedOut};
 ghost use Rattle.cyphal.specs.Cause.{outside};
 ghost use Rattle.cyphal.specs.Expected.{job_for};
-ghost use Rattle.cyphal.specs.Job.{outcome, told_by};
+ghost use Rattle.cyphal.specs.Job.{outcome, told_by, CallsAtMost};
 ghost use Rattle.cyphal.specs.Words.{command_of};
 
 use crate::counted::Counted;
@@ -17,6 +18,7 @@ use node_run::Status;
 use std::alloc::Global;
 
 /// Does what the words ask for.
+#[tactic(auto, using(crate::proofs::TreeCalls::no_calls))]
 pub fn work<T: Tree, L: Source, O: Sink, K: LineSink>(
     alloc: Global,
     words: &[String],
@@ -37,6 +39,9 @@ pub fn work<T: Tree, L: Source, O: Sink, K: LineSink>(
         let old = outside (T.faults tree.old) (L.faults input.old) (O.faults out.old) input.old in
         let new = outside (T.faults tree.new) (L.faults input.new) (O.faults out.new) input.new in
         IsCarriedOut (job_for (map string_bytes words.now)) told came old new }
+    ensures needed { let needs = (job_for (map string_bytes words.now)).needs in
+        result.status ≡ Status.ReadFault → ¬ Rose (L.faults input.old) (L.faults input.new)
+        → CallsAtMost needs (T.files tree.old) (T.calls tree.old) (T.calls tree.new) }
 {
     let command = match command_of(alloc, words) {
         Ok(Some(command)) => command,

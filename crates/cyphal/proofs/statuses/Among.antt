@@ -25,11 +25,12 @@ use Rattle.node_run.specs.declared.status.Status.{Status}
 use Rattle.node_run.specs.declared.status.Status.TheVariants as status
 use Rattle.cyphal.specs.Expected.{job_asked}
 use Rattle.cyphal.specs.Job.{is_fault}
-use Rattle.cyphal.specs.MayEnd.{of_root, of_plan, of_text, of_types, of_log, of_values}
+use Rattle.cyphal.specs.MayEnd.{of_root, of_plan, of_text, of_types, of_versions, of_log, of_values}
 use Rattle.cyphal.specs.Words as command
 use Rattle.cyphal.specs.Words.{Command}
 use Rattle.cyphal.specs.jobs.Compat.{Compares, CompareIn}
 use Rattle.cyphal.specs.jobs.Compile.{Compiles}
+use Rattle.cyphal.specs.jobs.Versions.{ComparesVersions, VersionsIn}
 
 pub of_first : (a b : Bool) → a ≡ true → (a || b) ≡ true
 of_first a b e = ap (λ x. x || b) e
@@ -86,6 +87,27 @@ pub compat_among : (root new old : List ℕ) (files : Option Files) (stat : Stat
 compat_among root new old files stat h = elim (cases_Bool (is_fault stat)) [
   | inl e ↦ fault_among stat e
   | inr e ↦ compared_among root new old files stat (h e).1
+]
+
+versions_end : (v : Verdict) → of_versions (ended v) ≡ true
+versions_end verdict.Yes = refl
+versions_end (verdict.No path why) = refl
+
+fault_of_versions : (stat : Status) → is_fault stat ≡ true → (of_root stat || of_versions stat) ≡ true
+fault_of_versions status.ReadFault e = refl
+fault_of_versions status.WriteFault e = refl
+fault_of_versions status.NoMemory e = refl
+fault_of_versions other e = absurd (false≢true e)
+
+compared_versions : (root : List ℕ) (files : Option Files) (stat : Status) → IsNotLoaded root files stat ⊎ VersionsIn root files stat → (of_root stat || of_versions stat) ≡ true
+compared_versions root files stat (inl h) = of_first (of_root stat) (of_versions stat) (root_among root files stat h)
+compared_versions root files stat (inr c) =
+    of_second (of_root stat) (of_versions stat) (ap of_versions c.compared.ends ∙ versions_end c.compared.first)
+
+pub versions_among : (root : List ℕ) (files : Option Files) (stat : Status) → (is_fault stat ≡ false → ComparesVersions root files stat) → (of_root stat || of_versions stat) ≡ true
+versions_among root files stat h = elim (cases_Bool (is_fault stat)) [
+  | inl e ↦ fault_of_versions stat e
+  | inr e ↦ compared_versions root files stat (h e).1
 ]
 
 pub bound_among : (plan : Plan) (stat : Status) (before after : Option (List ℕ)) → HasBound plan stat before after → of_text stat ≡ true

@@ -6,7 +6,7 @@ use Rattle.node_run.specs.BoundText.{HasBound}
 use Rattle.node_run.specs.declared.status.Status.TheVariants as status
 use Rattle.cyphal.specs.Job.{Job, Printed, ReportsNothing, print_of}
 use Rattle.cyphal.specs.MayEnd.{of_plan, of_text}
-use Rattle.cyphal.specs.Plans.{PlanEnds, EndsAt, PlanAt}
+use Rattle.cyphal.specs.Plans.{PlanEnds, EndsAt, PlanAt, plan_calls}
 
 -- each plan has a memory bound
 abbrev pub bounded : PlanEnds
@@ -22,6 +22,7 @@ pub record HasBoundAt (root path : List ℕ) (files : Option Files)
 abbrev pub bound_job : List ℕ → List ℕ → Job
 bound_job root path = record {
   calls_tree = true;
+  needs = plan_calls root path;
   takes_input = false;
   serves = false;
   may_end = λ stat. of_plan stat || of_text stat;

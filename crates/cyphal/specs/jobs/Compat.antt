@@ -3,7 +3,7 @@ use Rattle.std.specs.Prelude.{◌≡◌, ◌⊎◌, ◌↔◌, ℕ, true, false,
 use Rattle.cy_outside.specs.Files.{Files}
 use Rattle.dsdl_types.specs.declared.namespace.Namespace.{Namespace}
 use Rattle.node_run.specs.Compared.{compared, HasCompared, IsNewer}
-use Rattle.node_run.specs.Loaded.{is_none, IsLoaded, IsNotLoaded}
+use Rattle.node_run.specs.Loaded.{is_none, IsLoaded, IsNotLoaded, calls_of}
 use Rattle.node_run.specs.declared.status.Status.{Status}
 use Rattle.node_run.specs.declared.status.Status.TheVariants as status
 use Rattle.cyphal.specs.Job.{Job, Printed, ReportsNothing, print_of, is_fault}
@@ -34,6 +34,7 @@ pub record HasComparedAt (root new old : List ℕ) (files : Option Files)
 abbrev pub compat_job : List ℕ → List ℕ → List ℕ → Job
 compat_job root new old = record {
   calls_tree = true;
+  needs = calls_of root;
   takes_input = false;
   serves = false;
   may_end = λ stat. of_root stat || of_types stat;

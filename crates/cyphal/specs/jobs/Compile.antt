@@ -3,7 +3,7 @@ use Rattle.std.specs.Prelude.{ℕ, true, false, ◌||◌, List, Option, is_some}
 use Rattle.cy_outside.specs.Files.{Files}
 use Rattle.dsdl_types.specs.declared.namespace.Namespace.{Namespace}
 use Rattle.node_run.specs.Layouts.{HasLayouts}
-use Rattle.node_run.specs.Loaded.{is_none, IsLoaded, IsNotLoaded}
+use Rattle.node_run.specs.Loaded.{is_none, IsLoaded, IsNotLoaded, calls_of}
 use Rattle.node_run.specs.declared.status.Status.{Status}
 use Rattle.node_run.specs.declared.status.Status.TheVariants as status
 use Rattle.cyphal.specs.Job.{Job, Printed, ReportsNothing, print_of}
@@ -26,6 +26,7 @@ pub record HasCompiledAt (root : List ℕ) (files : Option Files) (print : Print
 abbrev pub compile_job : List ℕ → Job
 compile_job root = record {
   calls_tree = true;
+  needs = calls_of root;
   takes_input = false;
   serves = false;
   may_end = λ stat. of_root stat || of_text stat;

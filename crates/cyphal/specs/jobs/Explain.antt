@@ -8,7 +8,7 @@ use Rattle.node_run.specs.ValueLines.{Flow}
 use Rattle.node_run.specs.declared.status.Status.{Status}
 use Rattle.cyphal.specs.Job.{Job, ReportsNothing, flow_of}
 use Rattle.cyphal.specs.MayEnd.{of_plan, of_log}
-use Rattle.cyphal.specs.Plans.{EndsAt, PlanAt}
+use Rattle.cyphal.specs.Plans.{EndsAt, PlanAt, plan_calls}
 use Rattle.cyphal.specs.jobs.Reach.{HasListened}
 use Rattle.cyphal.specs.jobs.Run.{over}
 
@@ -23,6 +23,7 @@ pub record HasExplainedAt (root path : List ℕ) (files : Option Files) (stat : 
 abbrev pub explain_job : List ℕ → List ℕ → Job
 explain_job root path = record {
   calls_tree = true;
+  needs = plan_calls root path;
   takes_input = true;
   serves = false;
   may_end = λ stat. of_plan stat || of_log stat;

@@ -13,6 +13,7 @@ HasGeneratedAt number print = HasGenerated number print.status print.before prin
 abbrev pub gen_job : ℕ → Job
 gen_job number = record {
   calls_tree = false;
+  needs = λ files. 0;
   takes_input = false;
   serves = false;
   may_end = of_text;

@@ -55,6 +55,7 @@ EndsAsLines window input stat = IfSome input (λ bytes. EndsIn window bytes stat
 abbrev pub order_job : ℕ → Job
 order_job window = record {
   calls_tree = false;
+  needs = λ files. 0;
   takes_input = true;
   serves = false;
   may_end = of_log;

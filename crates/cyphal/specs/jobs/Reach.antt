@@ -38,6 +38,7 @@ pub record HasListened (names : List (List ℕ)) (said : Voice Record) (stat : S
 abbrev pub heard_job : List (List ℕ) → Voice Record → Job
 heard_job names said = record {
   calls_tree = false;
+  needs = λ files. 0;
   takes_input = true;
   serves = false;
   may_end = of_log;

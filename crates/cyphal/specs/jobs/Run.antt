@@ -7,7 +7,7 @@ use Rattle.node_run.specs.Ran.{names_of}
 use Rattle.cyphal.specs.Job.{Told, Outcome, Job, flow_of}
 use Rattle.cyphal.specs.MayEnd.{of_plan, of_log}
 use Rattle.cyphal.specs.LogEnds.{EndsAsLog}
-use Rattle.cyphal.specs.Plans.{PlanEnds, EndsAt, PlanAt}
+use Rattle.cyphal.specs.Plans.{PlanEnds, EndsAt, PlanAt, plan_calls}
 
 -- a run of a plan ends as the log of the input does
 abbrev pub over : Option (List ℕ) → PlanEnds
@@ -24,6 +24,7 @@ pub record HasRunAt (root path : List ℕ) (told : Told) (came : Outcome) : Type
 abbrev pub run_job : List ℕ → List ℕ → Job
 run_job root path = record {
   calls_tree = true;
+  needs = plan_calls root path;
   takes_input = true;
   serves = true;
   may_end = λ stat. of_plan stat || of_log stat;

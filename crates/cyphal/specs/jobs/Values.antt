@@ -4,7 +4,7 @@ use Rattle.std.specs.Prelude.{◌≡◌, ◌⊎◌, ℕ, true, false, ◌&&◌, 
 use Rattle.cy_outside.specs.Files.{Files}
 use Rattle.dsdl_types.specs.Definitions.{IsNamespace}
 use Rattle.dsdl_types.specs.declared.namespace.Namespace.{Namespace}
-use Rattle.node_run.specs.Loaded.{is_none, IsLoaded, IsNotLoaded}
+use Rattle.node_run.specs.Loaded.{is_none, IsLoaded, IsNotLoaded, calls_of}
 use Rattle.node_run.specs.NamedTypes.{message_named}
 use Rattle.node_run.specs.ValueLines.{Answering, Flow, AreStreamed, Ends, HasAnsweredLines}
 use Rattle.node_run.specs.declared.status.Status.{Status}
@@ -39,6 +39,7 @@ pub record HasAnsweredAt (answers : Answering) (root name : List ℕ) (files : O
 abbrev pub values_job : Answering → List ℕ → List ℕ → Job
 values_job answers root name = record {
   calls_tree = true;
+  needs = calls_of root;
   takes_input = true;
   serves = false;
   may_end = λ stat. of_root stat || of_values stat;

@@ -1,9 +1,9 @@
 //! `bound ROOT PLAN`: the memory bound of a plan.
 ghost use Rattle.std.specs.Prelude.{◌≡◌, ◌⊎◌, ◌||◌, true, false};
-ghost use Rattle.cyphal.specs.Job.{is_fault, printed, WroteNothing};
+ghost use Rattle.cyphal.specs.Job.{is_fault, printed, WroteNothing, CallsAtMost};
 ghost use Rattle.cyphal.specs.Cause.{counts, HasCause};
 ghost use Rattle.cyphal.specs.MayEnd.{of_plan, of_text};
-ghost use Rattle.cyphal.specs.Plans.{EndsAt};
+ghost use Rattle.cyphal.specs.Plans.{EndsAt, plan_calls};
 ghost use Rattle.cyphal.specs.jobs.Bound.{bounded, HasBoundAt};
 
 use crate::plan_file::plan_at;
@@ -27,6 +27,8 @@ pub fn bound_plan<T: Tree, O: Sink>(
         HasCause result old new }
     ensures ran { let print = printed result (O.written out.old) (O.written out.new) in
         WroteNothing print ⊎ HasBoundAt root.now path.now (T.files tree.old) print }
+    ensures calls { CallsAtMost (plan_calls root.now path.now)
+        (T.files tree.old) (T.calls tree.old) (T.calls tree.new) }
 {
     let plan = match plan_at(alloc, root, path, tree) {
         Ok(plan) => plan,

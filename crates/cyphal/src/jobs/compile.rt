@@ -1,6 +1,7 @@
 //! `compile ROOT`: the layouts of the types below a root.
 ghost use Rattle.std.specs.Prelude.{◌≡◌, ◌⊎◌, false};
-ghost use Rattle.cyphal.specs.Job.{is_fault, printed, WroteNothing};
+ghost use Rattle.node_run.specs.Loaded.{calls_of};
+ghost use Rattle.cyphal.specs.Job.{is_fault, printed, WroteNothing, CallsAtMost};
 ghost use Rattle.cyphal.specs.Cause.{counts, HasCause};
 ghost use Rattle.cyphal.specs.jobs.Compile.{Compiles, HasCompiledAt};
 
@@ -21,6 +22,8 @@ pub fn compile_root<T: Tree, O: Sink>(
         HasCause result old new }
     ensures ran { let print = printed result (O.written out.old) (O.written out.new) in
         WroteNothing print ⊎ HasCompiledAt root.now (T.files tree.old) print }
+    ensures calls { CallsAtMost (calls_of root.now)
+        (T.files tree.old) (T.calls tree.old) (T.calls tree.new) }
 {
     let names = match load(alloc, tree, root) {
         Ok(names) => names,

@@ -2,7 +2,8 @@
 ghost use Rattle.std.specs.Prelude.{◌≡◌, ◌⊎◌, ◌||◌, true, false};
 ghost use Rattle.value_lines.specs.Decoded.{Decodes};
 ghost use Rattle.node_run.specs.ValueLines.{flow};
-ghost use Rattle.cyphal.specs.Job.{is_fault, printed, told_by, TookNothing};
+ghost use Rattle.node_run.specs.Loaded.{calls_of};
+ghost use Rattle.cyphal.specs.Job.{is_fault, printed, told_by, TookNothing, CallsAtMost};
 ghost use Rattle.cyphal.specs.Cause.{outside, HasCauseOver};
 ghost use Rattle.cyphal.specs.MayEnd.{of_root, of_values};
 ghost use Rattle.cyphal.specs.jobs.Values.{values_job, HasAnsweredAt};
@@ -35,6 +36,8 @@ pub fn decode_lines<T: Tree, L: Source, O: Sink>(
         let told = flow (L.left input.old) (L.left input.new) print.before print.after in
         TookNothing print old new
         ⊎ HasAnsweredAt Decodes root.now name.now (T.files tree.old) result told }
+    ensures calls { CallsAtMost (calls_of root.now)
+        (T.files tree.old) (T.calls tree.old) (T.calls tree.new) }
 {
     let names = match load(alloc, tree, root) {
         Ok(names) => names,

@@ -2,9 +2,9 @@
 ghost use Rattle.std.specs.Prelude.{◌≡◌, ◌⊎◌, ◌||◌, true, false};
 ghost use Rattle.node_run.specs.ValueLines.{flow};
 ghost use Rattle.cyphal.specs.Cause.{outside, HasCauseOver};
-ghost use Rattle.cyphal.specs.Job.{is_fault, printed, TookNothing};
+ghost use Rattle.cyphal.specs.Job.{is_fault, printed, TookNothing, CallsAtMost};
 ghost use Rattle.cyphal.specs.MayEnd.{of_plan, of_log};
-ghost use Rattle.cyphal.specs.Plans.{EndsAt};
+ghost use Rattle.cyphal.specs.Plans.{EndsAt, plan_calls};
 ghost use Rattle.cyphal.specs.jobs.Explain.{explain_job, HasExplainedAt};
 ghost use Rattle.cyphal.specs.jobs.Run.{over};
 
@@ -38,6 +38,8 @@ pub fn explain_plan<T: Tree, L: Source, O: Sink>(
         let told = flow (L.left input.old) (L.left input.new) print.before print.after in
         TookNothing print old new
         ⊎ HasExplainedAt root.now path.now (T.files tree.old) result told }
+    ensures calls { CallsAtMost (plan_calls root.now path.now)
+        (T.files tree.old) (T.calls tree.old) (T.calls tree.new) }
 {
     let plan = match plan_at(alloc, root, path, tree) {
         Ok(plan) => plan,

@@ -1,15 +1,16 @@
 //! `migrate ROOT PLAN`: a plan's text in version 2.
-ghost use Rattle.std.specs.Prelude.{◌≡◌, ◌⊎◌, ◌||◌, true, false, IfErr, IfOk, OnOk};
+ghost use Rattle.std.specs.Prelude.{◌≡◌, ◌⊎◌, ◌||◌, ◌≤◌, ◌+◌, true, false, IfErr, IfOk, OnOk};
+ghost use Rattle.cy_outside.specs.Files.{front_length, reads_of};
 ghost use Rattle.cy_outside.specs.Outside.{Rose};
 ghost use Rattle.dsdl_types.specs.Definitions.{IsNamespace};
-ghost use Rattle.cyphal.specs.Job.{is_fault, is_settled, printed, WroteNothing};
+ghost use Rattle.cyphal.specs.Job.{is_fault, is_settled, printed, WroteNothing, CallsAtMost};
 ghost use Rattle.cyphal.specs.Cause.{counts, HasCause};
 ghost use Rattle.cyphal.specs.MayEnd.{of_plan, of_text};
-ghost use Rattle.cyphal.specs.Plans.{EndsAt, EndsIn, without_plan};
+ghost use Rattle.cyphal.specs.Plans.{EndsAt, EndsIn, plan_calls, without_plan};
 ghost use Rattle.cyphal.specs.jobs.Bound.{bounded};
 ghost use Rattle.cyphal.specs.jobs.Migrate.{Becomes, BecomesAt, HasMigratedAt};
 
-use crate::plan_file::{plan_refused, text_at};
+use crate::plan_file::{MOST, plan_refused, text_at};
 use cy_bits::Bytes;
 use cy_outside::{Sink, Tree, put_all};
 use dsdl_types::Namespace;
@@ -34,6 +35,8 @@ pub fn migrate_plan<T: Tree, O: Sink>(
         HasCause result old new }
     ensures ran { let print = printed result (O.written out.old) (O.written out.new) in
         WroteNothing print ⊎ HasMigratedAt root.now path.now (T.files tree.old) print }
+    ensures calls { CallsAtMost (plan_calls root.now path.now)
+        (T.files tree.old) (T.calls tree.old) (T.calls tree.new) }
 {
     let text = match migrated_at(alloc, root, path, tree) {
         Ok(text) => text,
@@ -64,6 +67,8 @@ fn migrated_at<T: Tree>(
         → Rose (T.faults tree.old) (T.faults tree.new)) }
     ensures write { IfErr result (λ stat. ¬ (stat ≡ Status.WriteFault)) }
     ensures early { IfErr result (λ stat. is_settled stat ≡ false) }
+    ensures calls { CallsAtMost (plan_calls root.now path.now)
+        (T.files tree.old) (T.calls tree.old) (T.calls tree.new) }
 {
     let names = match load(alloc, tree, root) {
         Ok(names) => names,
@@ -90,6 +95,8 @@ fn migrated_in<T: Tree>(
         → Rose (T.faults tree.old) (T.faults tree.new)) }
     ensures write { IfErr result (λ stat. ¬ (stat ≡ Status.WriteFault)) }
     ensures early { IfErr result (λ stat. is_settled stat ≡ false) }
+    ensures calls { T.calls tree.new
+        ≤ T.calls tree.old + reads_of (front_length (T.files tree.old) path.now MOST) }
 {
     let text = match text_at(alloc, path, tree) {
         Ok(text) => text,

@@ -1,10 +1,12 @@
 //! `run ROOT PLAN`: a plan over the log of the input.
 ghost use Rattle.std.specs.Prelude.{◌≡◌};
+ghost use Rattle.cy_outside.specs.Outside.{Rose};
 ghost use Rattle.node_run.specs.Failures.{failures};
 ghost use Rattle.node_run.specs.Ran.{reported};
 ghost use Rattle.cyphal.specs.CarriedOut.{IsCarriedOut};
 ghost use Rattle.cyphal.specs.Cause.{outside};
-ghost use Rattle.cyphal.specs.Job.{outcome, told_by};
+ghost use Rattle.cyphal.specs.Job.{outcome, told_by, CallsAtMost};
+ghost use Rattle.cyphal.specs.Plans.{plan_calls};
 ghost use Rattle.cyphal.specs.jobs.Run.{run_job};
 
 #[cfg(test)]
@@ -37,6 +39,9 @@ pub fn run_plan<T: Tree, L: Source, O: Sink, K: LineSink>(
         let old = outside (T.faults tree.old) (L.faults input.old) (O.faults out.old) input.old in
         let new = outside (T.faults tree.new) (L.faults input.new) (O.faults out.new) input.new in
         IsCarriedOut (run_job root.now path.now) told came old new }
+    ensures needed { let needs = plan_calls root.now path.now in
+        result.status ≡ Status.ReadFault → ¬ Rose (L.faults input.old) (L.faults input.new)
+        → CallsAtMost needs (T.files tree.old) (T.calls tree.old) (T.calls tree.new) }
 {
     let plan = match plan_at(alloc, root, path, tree) {
         Ok(plan) => plan,

@@ -1,6 +1,7 @@
 use Rattle.std.proofs.Common.{inr, refl}
 use Rattle.cyphal.proofs.CarriedOut.{for_given, printed_out, read_out}
-use Rattle.cyphal.proofs.statuses.Among.{compile_among, compat_among, gen_among, log_among}
+use Rattle.cyphal.proofs.TreeCalls.{given_calls, no_calls}
+use Rattle.cyphal.proofs.statuses.Among.{compile_among, compat_among, versions_among, gen_among, log_among}
 use Rattle.cyphal.proofs.jobs.carry_out.Goals as goal
 
 pub returns-in-Compile-clause-done : goal.returns-in-Compile-clause-done
@@ -14,6 +15,12 @@ returns-in-Compat-clause-done g c =
     let done = c.compat_types.ensures in
     for_given _ _ _ _ _ _ c.in-Compat.is
     (printed_out _ _ c.compat_types.result _ _ refl c.nothing-in-Compat.result c.nothing-in-Compat.ensures _ _ _ _ refl refl done.answer (compat_among _ _ _ _ c.compat_types.result done.answer) done.cause done.ran (λ d n. (d, n)))
+
+pub returns-in-Versions-clause-done : goal.returns-in-Versions-clause-done
+returns-in-Versions-clause-done g c =
+    let done = c.compare_versions.ensures in
+    for_given _ _ _ _ _ _ c.in-Versions.is
+    (printed_out _ _ c.compare_versions.result _ _ refl c.nothing-in-Versions.result c.nothing-in-Versions.ensures _ _ _ _ refl refl done.answer (versions_among _ _ c.compare_versions.result done.answer) done.cause done.ran (λ d n. (d, n)))
 
 pub returns-in-Encode-clause-done : goal.returns-in-Encode-clause-done
 returns-in-Encode-clause-done g c =
@@ -84,3 +91,48 @@ returns-in-Explain-clause-done g c =
     let done = c.explain_plan.ensures in
     for_given _ _ _ _ _ _ c.in-Explain.is
     (read_out _ _ c.explain_plan.result _ _ refl c.nothing-in-Explain.result c.nothing-in-Explain.ensures g.L.Source.left _ _ _ _ refl done.answer done.among done.cause done.ran (λ d n. (d, n)))
+
+pub returns-in-Compile-clause-needed : goal.returns-in-Compile-clause-needed
+returns-in-Compile-clause-needed g c = λ _ _. given_calls _ _ _ _ _ c.in-Compile.is c.compile_root.ensures.calls
+
+pub returns-in-Compat-clause-needed : goal.returns-in-Compat-clause-needed
+returns-in-Compat-clause-needed g c = λ _ _. given_calls _ _ _ _ _ c.in-Compat.is c.compat_types.ensures.calls
+
+pub returns-in-Encode-clause-needed : goal.returns-in-Encode-clause-needed
+returns-in-Encode-clause-needed g c = λ _ _. given_calls _ _ _ _ _ c.in-Encode.is c.encode_lines.ensures.calls
+
+pub returns-in-Decode-clause-needed : goal.returns-in-Decode-clause-needed
+returns-in-Decode-clause-needed g c = λ _ _. given_calls _ _ _ _ _ c.in-Decode.is c.decode_lines.ensures.calls
+
+pub returns-in-Bound-clause-needed : goal.returns-in-Bound-clause-needed
+returns-in-Bound-clause-needed g c = λ _ _. given_calls _ _ _ _ _ c.in-Bound.is c.bound_plan.ensures.calls
+
+pub returns-in-Migrate-clause-needed : goal.returns-in-Migrate-clause-needed
+returns-in-Migrate-clause-needed g c = λ _ _. given_calls _ _ _ _ _ c.in-Migrate.is c.migrate_plan.ensures.calls
+
+pub returns-in-Explain-clause-needed : goal.returns-in-Explain-clause-needed
+returns-in-Explain-clause-needed g c = λ _ _. given_calls _ _ _ _ _ c.in-Explain.is c.explain_plan.ensures.calls
+
+pub returns-in-Run-clause-needed : goal.returns-in-Run-clause-needed
+returns-in-Run-clause-needed g c = λ fault input. given_calls _ _ _ _ _ c.in-Run.is (c.run_plan.ensures.needed fault input)
+
+pub returns-in-Gen-clause-needed : goal.returns-in-Gen-clause-needed
+returns-in-Gen-clause-needed g c = λ _ _. given_calls _ _ _ _ _ c.in-Gen.is (no_calls (λ files. 0) _ _)
+
+pub returns-in-Monitor-clause-needed : goal.returns-in-Monitor-clause-needed
+returns-in-Monitor-clause-needed g c = λ _ _. given_calls _ _ _ _ _ c.in-Monitor.is (no_calls (λ files. 0) _ _)
+
+pub returns-in-Allocate-clause-needed : goal.returns-in-Allocate-clause-needed
+returns-in-Allocate-clause-needed g c = λ _ _. given_calls _ _ _ _ _ c.in-Allocate.is (no_calls (λ files. 0) _ _)
+
+pub returns-in-Fetch-clause-needed : goal.returns-in-Fetch-clause-needed
+returns-in-Fetch-clause-needed g c = λ _ _. given_calls _ _ _ _ _ c.in-Fetch.is (no_calls (λ files. 0) _ _)
+
+pub returns-in-Order-clause-needed : goal.returns-in-Order-clause-needed
+returns-in-Order-clause-needed g c = λ _ _. given_calls _ _ _ _ _ c.in-Order.is (no_calls (λ files. 0) _ _)
+
+pub returns-in-Survey-clause-needed : goal.returns-in-Survey-clause-needed
+returns-in-Survey-clause-needed g c = λ _ _. given_calls _ _ _ _ _ c.in-Survey.is (no_calls (λ files. 0) _ _)
+
+pub returns-in-Versions-clause-needed : goal.returns-in-Versions-clause-needed
+returns-in-Versions-clause-needed g c = λ _ _. given_calls _ _ _ _ _ c.in-Versions.is c.compare_versions.ensures.calls

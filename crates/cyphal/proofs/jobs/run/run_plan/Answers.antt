@@ -33,6 +33,12 @@ returns-in-Err-clause-done g c =
     (inl (record { nothing = record { written = refl; not_settled = err.early; not_write = err.write }; source = refl; tree = err.read }))
     (λ d. absurd d)
 
+pub returns-in-Err-clause-needed : goal.returns-in-Err-clause-needed
+returns-in-Err-clause-needed g c = λ fault input. c.in-Err.ensures.calls
+
+pub returns-clause-needed : goal.returns-clause-needed
+returns-clause-needed g c = λ fault input. absurd (input (c.run_over-status.ensures.read fault))
+
 pub returns-clause-done : goal.returns-clause-done
 returns-clause-done g c =
     let root = c.args.root.now in

@@ -1,0 +1,16 @@
+use Rattle.std.proofs.Common.{inr}
+use Rattle.cyphal.proofs.statuses.Versions.{versions_usage, versions_read}
+use Rattle.cyphal.proofs.jobs.versions.compare_versions.Goals as goal
+
+pub returns-clause-answer : goal.returns-clause-answer
+returns-clause-answer g c h =
+    (h, inr (record { names = c.in-Ok.names; is = c.in-Ok.ensures.loaded; compared = c.write_versions.ensures.ends h }))
+
+pub returns-clause-cause : goal.returns-clause-cause
+returns-clause-cause g c =
+    let written = g.O.Sink.written in record {
+      usage = versions_usage c.in-Ok.names c.write_versions.result (written c.args.out.now) (written c.write_versions.new.out) c.write_versions.ensures.written;
+      read = λ e. absurd (versions_read c.in-Ok.names c.write_versions.result (written c.args.out.now) (written c.write_versions.new.out) c.write_versions.ensures.written e);
+      write = c.write_versions.ensures.write;
+      kept = λ e. (c.in-Ok.ensures.cause, c.write_versions.ensures.kept e);
+    }
