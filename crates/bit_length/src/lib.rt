@@ -31,7 +31,8 @@ pub enum LengthError {
         /// That member, in bits.
         greatest: u64,
     },
-    /// Want of memory, or a set whose form would need more than 2^20 runs.
+    /// Want of memory, or a set whose form would need more than 2^20 runs, or more than 2^22 while
+    /// it is worked out.
     NoMemory,
 }
 

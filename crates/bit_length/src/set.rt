@@ -73,8 +73,9 @@ impl LengthSet {
         })
     }
 
-    /// The lengths of a delimited type of an extent in bits: 32, for the delimiter header, and each
-    /// multiple of 8 from 0 to the extent. Takes no memory.
+    /// The lengths of a delimited type of an extent in bits, a multiple of 8 and at most 2^63: 32,
+    /// for the delimiter header (Cyphal Specification, section 3.7.5), and each multiple of 8 from
+    /// 0 to the extent. Takes no memory.
     pub fn delimited(alloc: Global, extent: u64) -> Result<LengthSet, LengthError>
         requires whole { extent % 8 ≡ 0 }
         requires small { extent ≤ 2 ^ 63 }
@@ -142,7 +143,7 @@ impl LengthSet {
         run_with(self.others.as_slice(), self.step, n).is_some()
     }
 
-    /// The least length that is no less than a number.
+    /// The least length that is no less than a number, if there is one.
     pub fn next(&self, n: u64) -> Option<u64>
         ensures { IsNext (Has self.now) n result }
     {
@@ -618,7 +619,7 @@ impl LengthSet {
         Ok(self.join_within(&zero)?.repeat_within(n)?)
     }
 
-    /// The set of each member, brought up to a multiple of `to` bits.
+    /// The set of each member, brought up to a multiple of `to` bits, 1 or more.
     pub fn pad(&self, to: u32) -> Result<LengthSet, LengthError>
         requires { 0 < to }
         ensures members { IfOk result (λ s. Same (Has s) (Pads (Has self.now) to)) }
@@ -651,7 +652,7 @@ impl LengthSet {
         })
     }
 
-    /// Whether some member is `r` modulo `k`.
+    /// Whether some member is `r` modulo `k`, which is 1 or more.
     pub fn residue(&self, k: u32, r: u32) -> bool
         requires { 0 < k }
         ensures { IsTrue result ↔ SomeLeaves (Has self.now) k r }
@@ -667,7 +668,7 @@ impl LengthSet {
         false
     }
 
-    /// What the members leave modulo `k`, ascending.
+    /// What the members leave modulo `k`, which is 1 or more, ascending.
     pub fn residues(&self, alloc: Global, k: u32) -> Result<List<u64>, NoMemory>
         requires { 0 < k }
         ensures { IfOk result (λ residues. residues ≡ residues_of self.now k) }

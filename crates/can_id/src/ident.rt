@@ -3,7 +3,7 @@ ghost use Rattle.can_id.specs.Identifiers.{key_of, priority_of, destination_of};
 
 use crate::key::{Key, Kind};
 
-/// What an identifier says of its frame.
+/// What an identifier says of its frame (Cyphal Specification, section 4.2).
 ///
 /// A priority is 0 (exceptional) to 7 (optional), a node-ID 0 to 127.
 #[derive(Clone, Copy, Debug, PartialEq, Eq)]
@@ -79,7 +79,7 @@ impl Ident {
         }
     }
 
-    /// The priority, 0 (exceptional) to 7 (optional).
+    /// The priority (Cyphal Specification, section 4.1.1): 0 (exceptional) to 7 (optional).
     #[inline(always)]
     pub fn priority(self) -> u8
         ensures { result ≡ priority_of self }

@@ -1,4 +1,4 @@
-/// What a transfer is for.
+/// What a transfer is for (Cyphal Specification, section 4.1.1).
 #[derive(Clone, Copy, Debug, PartialEq, Eq)]
 pub enum Kind {
     /// Published on a subject.
@@ -9,7 +9,7 @@ pub enum Kind {
     Response,
 }
 
-/// What the frames of one session have in common.
+/// What the frames of one session have in common (Cyphal Specification, section 4.1).
 #[derive(Clone, Copy, Debug, PartialEq, Eq)]
 pub struct Key {
     /// What the transfer is for.

@@ -1,4 +1,5 @@
-//! The 29-bit identifiers of Cyphal/CAN frames: what each says of its frame, and how it is made.
+//! The 29-bit identifiers of Cyphal/CAN frames (Cyphal Specification, section 4.2): what each says
+//! of its frame, and how it is made.
 #![tactic(auto)]
 
 pub mod ident;

@@ -4,7 +4,7 @@ ghost use Rattle.can_id.specs.declared.ident.Ident.{Ident};
 
 use crate::ident::Ident;
 
-/// The identifier of a frame that is sent. `parse` undoes it.
+/// The identifier of a frame that is sent (Cyphal Specification, section 4.2). `parse` undoes it.
 pub fn make(ident: Ident) -> u32
     requires { IsIdent ident }
     ensures value { result ≡ bits ident }
@@ -38,8 +38,9 @@ pub fn make(ident: Ident) -> u32
     }
 }
 
-/// What an identifier says, or `None` where a frame with it is discarded: bit 23 is set, bit 7 of a
-/// message is set, or the source of a service is its destination.
+/// What an identifier of 29 bits says (Cyphal Specification, section 4.2), or `None` where a frame
+/// with it is discarded: bit 23 is set, bit 7 of a message is set, or the source of a service is
+/// its destination.
 #[inline(always)]
 pub fn parse(bits: u32) -> Option<Ident>
     requires { bits < 2 ^ 29 }

@@ -1,4 +1,4 @@
-//! The first difference of two types.
+//! The first difference of two types (Cyphal Specification, section 3.8).
 ghost use Rattle.std.specs.Prelude.{◌≡◌, ◌==◌, ◌&&◌, Bool, IfOk};
 ghost use Rattle.dsdl_types.specs.Difference.{Count, Item, Kind, below, difference, difference_fields, outlined, same_fields, unless};
 ghost use Rattle.dsdl_types.specs.Views.{body_of, kind_of, named, sch};

@@ -1,4 +1,5 @@
-//! Whether a new version of a data type can live beside an old one.
+//! Whether a new version of a data type can live beside an old one (Cyphal Specification,
+//! section 3.8).
 #![tactic(auto)]
 
 mod compare;

@@ -11,7 +11,8 @@ use cy_bits::{NoMemory, Text};
 use dsdl_types::Schema;
 use std::alloc::Global;
 
-/// Why a type isn't newer than another. At each place these are looked for in this order.
+/// Why a type isn't newer than another (Cyphal Specification, section 3.8). At each place these are
+/// looked for in this order.
 #[derive(Clone, Copy, PartialEq, Eq, Debug)]
 pub enum CompatWhy {
     /// The kinds, widths, casts or array lengths differ.
@@ -26,7 +27,7 @@ pub enum CompatWhy {
     Count,
 }
 
-/// Whether a type is newer than another.
+/// Whether a type is newer than another (Cyphal Specification, section 3.8).
 #[derive(Drop)]
 pub enum Verdict {
     /// It is.

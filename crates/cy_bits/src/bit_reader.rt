@@ -2,7 +2,7 @@ ghost use Rattle.std.specs.Prelude.{◌≡◌, ◌≤◌, ◌<◌, ◌+◌, ◌^
 ghost use Rattle.cy_bits.specs.Bits.{bits, gap, number};
 
 /// Bytes, and a place in them or behind them where bits are read, least significant first (Cyphal
-/// Specification, section 3.7.2). Bits past the end are zeros. No call takes memory.
+/// Specification, section 3.7.1). Bits past the end are zeros. No call takes memory.
 #[derive(Clone, Copy, Drop)]
 pub struct BitReader<'a> {
     /// The bytes.

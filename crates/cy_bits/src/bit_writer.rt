@@ -7,7 +7,7 @@ ghost use Rattle.cy_bits.specs.Put.{put_bits};
 pub struct Full;
 
 /// A place in a buffer where bits are written, least significant first (Cyphal Specification,
-/// section 3.7.2). The buffer is handed in at each call. No call takes memory.
+/// section 3.7.1). The buffer is handed in at each call. No call takes memory.
 #[derive(Clone, Copy, Debug, PartialEq, Eq)]
 pub struct BitWriter {
     /// The place in bits from the beginning of the buffer.

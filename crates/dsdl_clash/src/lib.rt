@@ -1,4 +1,5 @@
-//! Which definitions of a namespace clash, by their versions or by their ports.
+//! Which definitions of a namespace clash, by their versions or by their ports (Cyphal
+//! Specification, section 3.8).
 #![tactic(auto)]
 
 mod clash;

@@ -1,5 +1,6 @@
-//! The tokens of a line of a DSDL definition: at each place the longest one is taken. Blanks stand
-//! between tokens, and a comment runs from `#` to the end of the line.
+//! The tokens of a line of a DSDL definition (Cyphal Specification, section 3.2): at each place the
+//! longest one is taken. Blanks stand between tokens, and a comment runs from `#` to the end of the
+//! line.
 #![tactic(auto)]
 
 mod bytes;

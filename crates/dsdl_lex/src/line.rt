@@ -11,7 +11,7 @@ use crate::token::{Token, TokenKind};
 use cy_bits::{List, NoMemory};
 use std::alloc::Global;
 
-/// Why a line has no tokens.
+/// Why a line has no tokens (Cyphal Specification, section 3.2).
 #[derive(Clone, Copy, Debug, Drop, PartialEq, Eq)]
 pub enum LexError {
     /// No token begins at this byte, counted from 0.
@@ -71,7 +71,8 @@ fn found_at(line: &[u8], at: usize, clear: &mut usize) -> Option<(TokenKind, usi
     best
 }
 
-/// The tokens of a line, in order; comments and blanks give none. Takes time linear in the line.
+/// The tokens of a line, in order (Cyphal Specification, section 3.2); comments and blanks give
+/// none. Takes time linear in the line. A line of 2^32 bytes or more may not be given.
 pub fn tokens_of(alloc: Global, line: &[u8]) -> Result<List<Token>, LexError>
     requires { length line.now < 2 ^ 32 }
     ensures tokens { IfOk result (λ tokens. Lexes line.now 0 tokens) }

@@ -1,3 +1,4 @@
+//! Numbers (Cyphal Specification, section 3.2), read byte by byte.
 ghost use Rattle.std.specs.Prelude.{◌≡◌};
 ghost use Rattle.dsdl_lex.specs.NumberText as text;
 ghost use Rattle.dsdl_lex.specs.Numbers as spec;
@@ -9,11 +10,17 @@ use crate::token::TokenKind;
 /// Which digits of a number are read.
 #[derive(Clone, Copy)]
 pub enum Digits {
+    /// Decimal ones before a point.
     Whole,
+    /// Decimal ones behind a point.
     Fraction,
+    /// Decimal ones of an exponent.
     Exponent,
+    /// Those behind `0b`.
     Binary,
+    /// Those behind `0o`.
     Octal,
+    /// Those behind `0x`.
     Hexadecimal,
 }
 

@@ -1,3 +1,4 @@
+//! The line between a request and its response (Cyphal Specification, section 3.2).
 ghost use Rattle.std.specs.Prelude.{◌≡◌, ℕ, ◌+◌, ◌≤◌, ◌<◌, true, false, length, slice_index, take, drop, IfNone, IfSome};
 ghost use Rattle.std.specs.List.{list_all};
 ghost use Rattle.dsdl_lex.specs.Bytes as bytes;

@@ -1,3 +1,4 @@
+//! Tokens of any kind (Cyphal Specification, section 3.2), read byte by byte.
 ghost use Rattle.std.specs.Prelude.{◌≡◌};
 ghost use Rattle.dsdl_lex.specs.Steps as spec;
 ghost use Rattle.dsdl_lex.specs.Scans.{is_in_name};
@@ -16,7 +17,9 @@ pub enum State {
     Plain,
     /// Behind bytes that begin no token.
     Dead,
+    /// In a name or a reference.
     Word(WordState),
+    /// In a number.
     Number(NumberState),
     /// In a string between such quotes.
     Inside(u8),

@@ -1,4 +1,4 @@
-/// What a token is.
+/// What a token is (Cyphal Specification, section 3.2).
 #[derive(Clone, Copy, Debug, PartialEq, Eq)]
 pub enum TokenKind {
     /// Names and a version with points between them, as `uavcan.node.Health.1.0`.
@@ -15,7 +15,8 @@ pub enum TokenKind {
     Sign,
 }
 
-/// A token of a line. Its places count the bytes of the line from 0.
+/// A token of a line (Cyphal Specification, section 3.2). Its places count the bytes of the line
+/// from 0.
 #[derive(Clone, Copy, Debug, PartialEq, Eq)]
 pub struct Token {
     /// What it is.

@@ -1,3 +1,4 @@
+//! Names and references (Cyphal Specification, section 3.2), read byte by byte.
 ghost use Rattle.std.specs.Prelude.{◌≡◌};
 ghost use Rattle.dsdl_lex.specs.Words as spec;
 
@@ -16,9 +17,11 @@ pub enum WordState {
     Later,
     /// Behind a point and a name.
     Point,
+    /// In the major number of a version, which is this so far.
     Major(u8),
     /// Behind the point between the versions.
     MajorPoint(u8),
+    /// In the minor number of a version: the major one, and what this is so far.
     Minor(u8, u8),
 }
 

@@ -1,7 +1,7 @@
 use cy_bits::NoMemory;
 use dsdl_names::TypeId;
 
-/// Why files have no links.
+/// Why files have no links (Cyphal Specification, section 3.4.5).
 #[derive(Drop)]
 pub enum LinkError {
     /// A file refers to a type that no file defines.
@@ -28,7 +28,7 @@ impl From<NoMemory> for LinkError {
     }
 }
 
-/// Why files have no order in which they can be valued.
+/// Why files have no order in which they can be valued (Cyphal Specification, section 3.4.5).
 #[derive(Clone, Copy, Debug, PartialEq, Eq)]
 pub enum CycleError {
     /// A file reaches itself through references.

@@ -1,4 +1,5 @@
-//! Which file of a namespace refers to which, and the order in which files are valued.
+//! Which file of a namespace refers to which (Cyphal Specification, section 3.4.5), and the order
+//! in which files are valued.
 #![tactic(auto)]
 
 mod cycle;

@@ -40,7 +40,7 @@ impl Links {
         self.files.len()
     }
 
-    /// The files that a file refers to.
+    /// The files that the file of this number, below `len`, refers to.
     pub fn of(&self, file: usize) -> &[usize]
         requires { file < length self.now }
         ensures value { result.now ≡ links_at self.now file }
@@ -50,10 +50,11 @@ impl Links {
     }
 }
 
-/// The links of files, which are in path order. A reference means the first file that defines its type.
+/// The links of files (Cyphal Specification, section 3.4.5), which are in path order. A reference
+/// means the first file that defines its type.
 ///
-/// `Unresolved` is the first file with a reference to no file, and on it the first such reference in the
-/// order of the text. Takes time about linear in the references.
+/// `Unresolved` is the first file with a reference to no file, and on it the first such reference
+/// in the order of the text. Takes time about linear in the references.
 pub fn links_of(alloc: Global, files: &[Source]) -> Result<Links, LinkError>
     ensures linked { IfOk result (AreLinks files.now) }
     ensures unresolved { IfErr result (IsLinkError files.now) }

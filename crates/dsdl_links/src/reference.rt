@@ -97,7 +97,8 @@ fn reference_in<'a>(leaf: &'a ExprNode) -> Option<&'a Reference>
     }
 }
 
-/// The type that a reference means in the definition of a type; one without a name means none.
+/// The type that a reference means in the definition of a type (Cyphal Specification,
+/// section 3.4.5); one without a name means none.
 pub fn type_of(
     alloc: Global,
     own: &FullName,

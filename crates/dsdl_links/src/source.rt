@@ -17,7 +17,7 @@ pub struct Source {
     pub mentions: List<Mention>,
 }
 
-/// A type that a line refers to.
+/// A type that a line refers to (Cyphal Specification, section 3.4.5).
 #[derive(Drop)]
 pub struct Mention {
     /// The line, counted from 1.
@@ -26,9 +26,10 @@ pub struct Mention {
     pub id: TypeId,
 }
 
-/// The types that the statements of a definition refer to, in the order of the text: on a line a type,
-/// then its bound, then a value. A reference without a namespace means the namespace of `own`, the type
-/// that the statements define.
+/// The types that the statements of a definition refer to (Cyphal Specification, section 3.4.5), in
+/// the order of the text: on a line a type, then its bound, then a value. A reference without a
+/// namespace means the namespace of `own`, the type that the statements define. There are fewer
+/// than 2^32 statements.
 pub fn mentions_of(
     alloc: Global,
     own: &FullName,

@@ -6,7 +6,7 @@ use std::alloc::Global;
 use std::cmp::Ordering;
 use std::marker::Model;
 
-/// A full name: two names or more, seen as its dotted text.
+/// A full name (Cyphal Specification, section 3.1): two names or more, seen as its dotted text.
 #[derive(Drop)]
 pub struct FullName {
     text: Bytes,
@@ -24,7 +24,7 @@ impl Model for FullName {
 }
 
 impl FullName {
-    /// Takes a dotted text as it is, without memory.
+    /// Takes a dotted text of two names or more as it is, without memory.
     pub fn new(text: Bytes) -> FullName
         requires { 2 ≤ length (names_of text) }
         ensures { result ≡ text }

@@ -1,4 +1,4 @@
-//! The names of types and of their files.
+//! The names of types and of their files (Cyphal Specification, section 3.1).
 #![tactic(auto)]
 
 ghost use Rattle.std.specs.Prelude.{◌≡◌};
@@ -17,16 +17,16 @@ pub use parse::{parse_file_name, parse_type_id};
 use std::alloc::Global;
 pub use word::is_reserved;
 
-/// A type: its full name and its version.
+/// A type (Cyphal Specification, section 3.1): its full name and its version.
 ///
 /// Types are ordered by the bytes of their dotted names, and then by version.
 #[derive(PartialEq, Eq, PartialOrd, Ord, Drop)]
 pub struct TypeId {
     /// The full name.
     pub name: FullName,
-    /// The major number of the version.
+    /// The major number of the version, 0 to 255.
     pub major: u8,
-    /// The minor number of the version.
+    /// The minor number of the version, 0 to 255.
     pub minor: u8,
 }
 
@@ -40,7 +40,7 @@ impl TryCopy for TypeId {
     }
 }
 
-/// What the path of a file says.
+/// What the path of a file says (Cyphal Specification, section 3.1).
 #[derive(Drop)]
 pub struct FileName {
     /// The type that the file defines.
@@ -49,10 +49,12 @@ pub struct FileName {
     pub port: Option<u16>,
 }
 
-/// Why a text is no name, the first of these that holds.
+/// Why a text is no name, the first of these that holds (Cyphal Specification, sections 3.1 and
+/// 3.2).
 #[derive(Clone, Copy, Debug, PartialEq, Eq, Drop)]
 pub enum NameError {
-    /// There is no folder, the number of points is wrong, or a name isn't a letter or `_` and then letters, digits and `_`.
+    /// There is no folder or namespace, the number of points is wrong, the name of a file doesn't
+    /// end in `.dsdl`, or a name isn't a letter or `_` and then letters, digits and `_`.
     BadName,
     /// A name is kept for the language.
     Reserved,

@@ -11,8 +11,9 @@ use crate::word::{all_names, any_reserved, is_name, is_reserved};
 use crate::{FileName, NameError, TypeId};
 use std::alloc::Global;
 
-/// The type and the port of a file, by its path below the folder of all types: folders, and then
-/// `Short.major.minor.dsdl`, with `port.` before it where the type has a port.
+/// The type and the port of a file, by its path below the folder of all types (Cyphal
+/// Specification, section 3.1): folders, and then `Short.major.minor.dsdl`, with `port.` before it
+/// where the type has a port.
 pub fn parse_file_name(alloc: Global, path: &str) -> Result<FileName, NameError>
     ensures answer { result ≢ Err NameError.NoMemory → result ≡ file_name_of path.now }
     ensures is_type { IfOk result (λ file. IsType file.id × IsPort file.port) }
@@ -23,7 +24,8 @@ pub fn parse_file_name(alloc: Global, path: &str) -> Result<FileName, NameError>
     }
 }
 
-/// The type of a dotted name with its version, as `uavcan.node.Heartbeat.1.0`.
+/// The type of a dotted name with its version (Cyphal Specification, section 3.1), as
+/// `uavcan.node.Heartbeat.1.0`.
 pub fn parse_type_id(alloc: Global, text: &str) -> Result<TypeId, NameError>
     ensures answer { result ≢ Err NameError.NoMemory → result ≡ type_id_of text.now }
     ensures is_type { IfOk result IsType }

@@ -1,4 +1,4 @@
-//! Which texts are names, and which names are kept.
+//! Which texts are names, and which names are kept (Cyphal Specification, section 3.2).
 ghost use Rattle.std.specs.Prelude.{◌≡◌};
 ghost use Rattle.std.specs.List.{list_all, list_any};
 ghost use Rattle.std.specs.Char.{is_ascii_digit};
@@ -67,7 +67,10 @@ fn is_numbered(word: &[u8], text: &[u8]) -> bool
     }
 }
 
-/// Whether a name is kept for the language.
+/// Whether a name is kept for the language (Cyphal Specification, section 3.2): `truncated`,
+/// `saturated`, `true`, `false`, `bool`, `void`, `byte` or `utf8`; `uint`, `int`, `float` or `void`
+/// with digits behind it; all of these in either case of their letters; or a name that begins and
+/// ends with `_`.
 pub fn is_reserved(name: &[u8]) -> bool
     ensures { result ≡ is_reserved name.now }
 {

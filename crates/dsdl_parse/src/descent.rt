@@ -1,5 +1,6 @@
-//! Reading expressions by descent: each function reads one rule of the grammar from the front of the
-//! words. `depth` is the number of levels of nesting that may still be opened.
+//! Reading expressions by descent: each function reads one rule of the grammar (Cyphal
+//! Specification, section 3.2) from the front of the words. `depth` is the number of levels of
+//! nesting that may still be opened.
 ghost use Rattle.std.specs.Prelude.{◌≡◌, ◌≤◌, length, true};
 ghost use Rattle.std.specs.Bool.{OnTrue};
 ghost use Rattle.dsdl_parse.specs.Words.{alone, seen};

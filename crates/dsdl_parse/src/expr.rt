@@ -9,19 +9,20 @@ pub struct Span {
     pub to: u32,
 }
 
-/// A type by its name and its version.
+/// A type by its name and its version (Cyphal Specification, section 3.2).
 #[derive(Drop)]
 pub struct Reference {
     /// The namespaces, the outermost first, and the short name; the short name alone means the
     /// namespace of the file that refers.
     pub names: List<Text>,
-    /// The major number of the version.
+    /// The major number of the version, 0 to 255.
     pub major: u8,
-    /// The minor number of the version.
+    /// The minor number of the version, 0 to 255.
     pub minor: u8,
 }
 
-/// An expression with its place in the line. Parentheses around it aren't part of its place.
+/// An expression with its place in the line (Cyphal Specification, section 3.2). Parentheses around
+/// it aren't part of its place.
 #[cycle(expr)]
 pub struct Expr {
     /// From its first token to its last one.
@@ -30,7 +31,7 @@ pub struct Expr {
     pub node: ExprNode,
 }
 
-/// What an expression is. An operator is its text.
+/// What an expression is (Cyphal Specification, section 3.2). An operator is its text.
 #[cycle(expr)]
 #[derive(Drop)]
 pub enum ExprNode {

@@ -1,4 +1,4 @@
-//! Types as they are written.
+//! Types as they are written (Cyphal Specification, section 3.4).
 ghost use Rattle.std.specs.Prelude.{◌≡◌, ◌∷◌};
 ghost use Rattle.dsdl_lex.specs.Tokens.{IsKind};
 ghost use Rattle.dsdl_parse.specs.Answers.{Gives};

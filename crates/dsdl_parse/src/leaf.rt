@@ -1,4 +1,4 @@
-//! The trees of single tokens.
+//! The trees of single tokens (Cyphal Specification, section 3.2).
 ghost use Rattle.std.specs.Prelude.{◌≡◌, true, IfOk};
 ghost use Rattle.dsdl_lex.specs.Texts.{is_string};
 ghost use Rattle.dsdl_lex.specs.Tokens.{IsKind};

@@ -1,4 +1,4 @@
-//! The binary operators that group from the left.
+//! The binary operators that group from the left (Cyphal Specification, section 3.2).
 ghost use Rattle.std.specs.Prelude.{◌≡◌, IfSome};
 ghost use Rattle.dsdl_lex.specs.Tokens.{IsKind};
 ghost use Rattle.dsdl_parse.specs.Words.{any_of, first_in, orders};

@@ -1,5 +1,5 @@
-//! The lines of DSDL definitions: statements, types and expressions, each with the tree that its
-//! words say.
+//! The lines of DSDL definitions (Cyphal Specification, section 3.2): statements, types and
+//! expressions, each with the tree that its words say.
 #![tactic(auto)]
 
 mod descent;

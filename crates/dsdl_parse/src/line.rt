@@ -1,4 +1,4 @@
-//! The statement of a line.
+//! The statement of a line (Cyphal Specification, section 3.2).
 ghost use Rattle.std.specs.Prelude.{◌≡◌, ◌∷◌, ◌<◌, ◌^◌, IfOk, Err, length};
 ghost use Rattle.dsdl_lex.specs.Tokens.{IsKind};
 ghost use Rattle.dsdl_parse.specs.declared.read_error.ReadError.TheVariants as error;

@@ -1,10 +1,10 @@
 use cy_bits::NoMemory;
 use dsdl_lex::LexError;
 
-/// Why words weren't read.
+/// Why words weren't read (Cyphal Specification, section 3.2).
 #[derive(Clone, Copy, Debug, PartialEq, Eq)]
 pub enum ReadError {
-    /// They aren't what the grammar wants there.
+    /// They aren't what the grammar wants there, or nest more than 64 levels deep.
     Syntax,
     /// The memory for the tree was refused.
     NoMemory,

@@ -1,4 +1,4 @@
-//! The references that tokens are.
+//! The references that tokens are (Cyphal Specification, section 3.2).
 ghost use Rattle.std.specs.Prelude.{◌≡◌, ◌≤◌, ◌++◌, ◌∷◌, [], true, length, map, IfOk, Some};
 ghost use Rattle.std.specs.List.{All};
 ghost use Rattle.dsdl_lex.specs.Texts.{IsReference, is_name, is_version, number_of};

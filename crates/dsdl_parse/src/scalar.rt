@@ -1,4 +1,4 @@
-//! The type of one value.
+//! The type of one value (Cyphal Specification, section 3.4).
 ghost use Rattle.std.specs.Prelude.{◌≡◌, ◌∷◌, IfOk, IfSome, option_map};
 ghost use Rattle.std.specs.Char.{is_ascii_digit};
 ghost use Rattle.std.specs.List.{list_all};

@@ -11,14 +11,14 @@ use crate::text::first_line;
 use cy_bits::{List, NoMemory};
 use std::alloc::Global;
 
-/// The statements of a definition's text.
+/// The statements of a definition's text (Cyphal Specification, section 3.2).
 #[derive(Drop)]
 pub struct Ast {
     /// One statement a line, in order; an empty line has one too.
     pub lines: List<Statement>,
 }
 
-/// Why a text has no statements.
+/// Why a text has no statements (Cyphal Specification, section 3.2).
 #[derive(Clone, Copy, Debug, Drop, PartialEq, Eq)]
 pub enum SyntaxError {
     /// This line, counted from 1, is the first that is no line of the grammar.
@@ -48,11 +48,13 @@ fn at_line(error: ReadError, line: u32) -> SyntaxError
     }
 }
 
-/// The statements of a text, one a line. Lines end with a newline, which the last one may lack; one
-/// `\r` before it isn't part of the line, and nothing behind the last newline is no line.
+/// The statements of a text, one a line (Cyphal Specification, section 3.2). Lines end with a
+/// newline, which the last one may lack; one `\r` before it isn't part of the line, and nothing
+/// behind the last newline is no line.
 ///
-/// `Syntax` comes exactly where a line is no line of the grammar, and names the first one. A text of
-/// 2^32 bytes or more may not be given.
+/// `Syntax` comes exactly where a line is no line of the grammar, and names the first one; no
+/// expression of the grammar nests more than 64 levels deep. A text of 2^32 bytes or more may not
+/// be given.
 pub fn parse(alloc: Global, text: &[u8]) -> Result<Ast, SyntaxError>
     requires { length text.now < 2 ^ 32 }
     ensures ast { IfOk result (λ ast. IsAst text.now ast.lines) }

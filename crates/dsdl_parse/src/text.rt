@@ -1,4 +1,4 @@
-//! The lines of a text.
+//! The lines of a text (Cyphal Specification, section 3.2).
 ghost use Rattle.std.specs.Prelude.{◌≡◌, [], MatchOption};
 ghost use Rattle.dsdl_parse.specs.Lines.{IsFirstLine, without_return};
 

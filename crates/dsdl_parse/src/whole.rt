@@ -11,7 +11,8 @@ use crate::words::Words;
 use dsdl_lex::Token;
 use std::alloc::Global;
 
-/// The expression that all tokens of a line together are; Syntax exactly where they are none.
+/// The expression, of at most 64 levels of nesting, that all tokens of a line together are (Cyphal
+/// Specification, section 3.2); Syntax exactly where they are none.
 #[tactic(auto, using(crate::proofs::WholeReads::whole, crate::proofs::WholeReads::none_whole, crate::proofs::WholeReads::not_whole))]
 pub fn parse_expression(alloc: Global, line: &[u8], tokens: &[Token]) -> Result<Expr, ReadError>
     requires { Lexes line.now 0 tokens.now }

@@ -1,5 +1,5 @@
-//! The laws of schemas, values and their serialized form. Each is the contract of a function that does
-//! nothing, for the schemas of `specs/Schemas.antt`.
+//! The laws of schemas, values and their serialized form (Cyphal Specification, section 3.7). Each
+//! is the contract of a function that does nothing, for the schemas of `specs/Schemas.antt`.
 
 ghost use Rattle.std.specs.Prelude.{◌≡◌, ℕ, List, ◌≤◌, ◌^◌, length, true};
 ghost use Rattle.dsdl_types.specs.Schemas.{Sch, is_composite};

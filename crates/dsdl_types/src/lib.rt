@@ -1,4 +1,5 @@
-//! Data types: their schemas and values, the namespace that holds them, and the laws of their serialized form.
+//! Data types (Cyphal Specification, chapter 3): their schemas and values, the namespace that holds
+//! them, and the laws of their serialized form.
 #![tactic(auto)]
 
 mod definition;

@@ -6,7 +6,7 @@ use crate::Definition;
 use cy_bits::{List, Text};
 use dsdl_names::TypeId;
 
-/// The types of a folder of files.
+/// The types of a folder of files (Cyphal Specification, section 3.1).
 #[derive(Drop)]
 pub struct Namespace {
     /// The definitions, in the order of their files' paths.
@@ -15,7 +15,7 @@ pub struct Namespace {
     pub prints: List<Print>,
 }
 
-/// What one `@print` wrote.
+/// What one `@print` wrote (Cyphal Specification, section 3.6).
 #[derive(Drop)]
 pub struct Print {
     /// The path of the file.

@@ -78,7 +78,7 @@ pub struct Body {
     pub sealed: bool,
 }
 
-/// A field of a structure or a variant of a union.
+/// A field of a structure or a variant of a union (Cyphal Specification, section 3.5).
 #[derive(Drop)]
 #[cycle(schema)]
 pub struct Field {
@@ -96,7 +96,7 @@ impl Schema {
         matches!(self, Schema::Void { .. })
     }
 
-    /// The extent of a composite in bytes; 0 of another type.
+    /// The extent of a composite in bytes; 0 of another type. The schema keeps the rules.
     #[tactic(auto, using(crate::proofs::SchemaRules::extent_whole, crate::proofs::Views::extent_is))]
     pub fn extent_bytes(&self) -> usize
         requires { IsSchema (sch self.now) }

@@ -5,12 +5,13 @@ ghost use Rattle.dsdl_types.specs.Views.{sch};
 
 use crate::Schema;
 
-/// A composite type as its payloads are received: its schema, and to how many bytes they are cut.
-/// `laws::shape_laws` says what of a payload this keeps.
+/// A composite type as its payloads are received (Cyphal Specification, section 3.4.5): its schema,
+/// and to how many bytes they are cut. `laws::shape_laws` says what of a payload this keeps.
 pub trait Shape {
     ghost shape: { Self → Sch };
 
-    /// The extent in bytes. A longer payload is cut to it. Takes no memory.
+    /// The extent in bytes. A longer payload is cut to it (Cyphal Specification, section 3.7.1).
+    /// Takes no memory.
     fn extent_bytes(&self) -> usize
         ensures { 8 * result ≡ extent_of (shape self.now) };
 

@@ -3,7 +3,7 @@ ghost use Rattle.std.specs.Prelude.{◌≡◌, IfOk};
 use cy_bits::{Boxed, List, NoMemory, TryCopy};
 use std::alloc::Global;
 
-/// A value of a schema.
+/// A value of a schema (Cyphal Specification, section 3.4).
 #[derive(Drop)]
 #[cycle(value)]
 pub enum Value {

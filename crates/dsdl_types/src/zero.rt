@@ -7,8 +7,9 @@ use crate::{Body, Schema, Value};
 use cy_bits::{Boxed, List, NoMemory};
 use std::alloc::Global;
 
-/// The zero of a schema: what no bytes read as. It is false, 0, as many zeros as a fixed array has items,
-/// no items of a variable one, the zero of each field, and the first variant with its zero.
+/// The zero of a schema: what no bytes read as (Cyphal Specification, section 3.7.1). It is false,
+/// 0, as many zeros as a fixed array has items, no items of a variable one, the zero of each field,
+/// and the first variant with its zero.
 #[cycle(zero)]
 pub fn zero_of(alloc: Global, schema: &Schema) -> Result<Value, NoMemory>
     ensures { IfOk result (λ v. val v ≡ zero_of (sch schema.now)) }

@@ -1,4 +1,4 @@
-/// What a client of a file server hears.
+/// What a client of a file server hears (Cyphal Specification, section 5.3.7).
 #[derive(Clone, Copy, Debug)]
 pub enum FetchEvent<'a> {
     /// A response of the server to a request to read.
@@ -14,7 +14,7 @@ pub enum FetchEvent<'a> {
     Late,
 }
 
-/// What a client does at an event.
+/// What a client does at an event (Cyphal Specification, section 5.3.7).
 #[derive(Clone, Copy, Debug, PartialEq, Eq)]
 pub enum FetchOut {
     /// It makes the next request.

@@ -11,7 +11,7 @@ const PIECE: usize = 256;
 /// How many requests at one offset may be late until the client gives up.
 const MOST_LATE: u8 = 8;
 
-/// A client that fetches a file.
+/// A client that fetches a file (Cyphal Specification, section 5.3.7).
 ///
 /// It stands for a list of events: those that `event` was called with. Only `open` takes memory.
 #[derive(Drop)]

@@ -1,4 +1,5 @@
-//! A client that fetches a file from a file server, piece by piece, whatever of its replies is lost, repeated or late.
+//! A client that fetches a file from a file server (Cyphal Specification, section 5.3.7), piece by
+//! piece, whatever of its replies is lost, repeated or late.
 #![tactic(auto)]
 
 pub mod event;

@@ -8,8 +8,8 @@ use std::marker::Model;
 use tail_frame::Tail;
 use transfer_crc::Crc;
 
-/// The data bytes of each frame of a transfer, first to last, with their tails. Seen as the list of
-/// those that are left. No memory is taken.
+/// The data bytes of each frame of a transfer, first to last, with their tails (Cyphal
+/// Specification, section 4.2). Seen as the list of those that are left. No memory is taken.
 #[derive(Drop)]
 pub struct Frames<'a> {
     payload: &'a [u8],
@@ -35,7 +35,7 @@ impl<'a> Model for Frames<'a> {
 }
 
 impl<'a> Frames<'a> {
-    /// The frames of a payload below 2^40 bytes, with a transfer-ID of 0 to 31, in frames of `mtu`
+    /// The frames of a payload of at most 2^40 bytes, with a transfer-ID of 0 to 31, in frames of `mtu`
     /// bytes, 8 or 64.
     pub fn new(payload: &'a [u8], tid: u8, mtu: u8) -> Frames<'a>
         requires mtu { IsFrameSize mtu }

@@ -1,4 +1,5 @@
-//! Transfers as they are sent: a payload cut into the data bytes of its frames.
+//! Transfers as they are sent (Cyphal Specification, section 4.1.3): a payload cut into the data
+//! bytes of its frames (section 4.2).
 #![tactic(auto)]
 
 pub mod frames;

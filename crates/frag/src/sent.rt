@@ -1,7 +1,7 @@
 use can_id::Key;
 use cy_bits::{Bytes, List};
 
-/// A transfer of a key, as its sender submitted it.
+/// A transfer of a key, as its sender submitted it (Cyphal Specification, section 4.1.1).
 #[derive(Drop)]
 pub struct Transfer {
     /// 0 (exceptional) to 7 (optional).
@@ -16,7 +16,7 @@ pub struct Transfer {
     pub payload: Bytes,
 }
 
-/// The transfers of a key that were sent, on every bus.
+/// The transfers of a key that were sent, on every bus (Cyphal Specification, section 4.1.3).
 #[derive(Drop)]
 pub struct Sent {
     /// The kind, port and source of all of them.

@@ -1,7 +1,8 @@
 ghost use Rattle.std.specs.Prelude.{◌≡◌, ◌≤◌, ◌<◌, ◌+◌, ◌^◌, List, ℕ, length, IsTrue, ◌↔◌};
 ghost use Rattle.frag.specs.Wire.{IsFrameSize, IsLeastPadding, fitting, last_size, padding, last_frame};
 
-/// The number of frames of a payload of `len` bytes, in frames of `mtu` bytes, 8 or 64.
+/// The number of frames of a payload of `len` bytes, at most 2^40, in frames of `mtu` bytes, 8 or
+/// 64 (Cyphal Specification, section 4.2).
 pub fn count(len: u64, mtu: u8) -> u64
     requires mtu { IsFrameSize mtu }
     requires len { len ≤ 2 ^ 40 }
@@ -12,7 +13,7 @@ pub fn count(len: u64, mtu: u8) -> u64
 }
 
 /// The number of zero bytes behind a payload of `len` bytes: as few as give its last frame a length
-/// that a frame can have.
+/// that a frame can have (Cyphal Specification, section 4.2).
 #[tactic(auto, unfolding(crate::specs::Wire::padding))]
 pub(crate) fn padding(len: u64, mtu: u8) -> u8
     requires mtu { IsFrameSize mtu }

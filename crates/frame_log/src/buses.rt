@@ -71,6 +71,7 @@ impl Model for Buses {
 }
 
 impl Buses {
+    /// Buses with these names, each numbered by its place from 0.
     pub fn new(names: ShortList<BusName, 3>) -> Buses
         ensures { result ≡ names }
     {
@@ -85,6 +86,7 @@ impl Buses {
         }
     }
 
+    /// The names in a row, at most 3.
     #[inline(always)]
     pub fn as_slice(&self) -> &[BusName]
         ensures value { result.now ≡ self.now }

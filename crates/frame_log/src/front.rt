@@ -11,7 +11,9 @@ use std::simd::prelude::*;
 #[derive(Clone, Copy, Drop)]
 pub struct Front {
     text: u8x16,
+    /// The number of its bytes, at most 16.
     pub len: usize,
+    /// The seconds that it says, below 10^12.
     pub seconds: u64,
     ghost reads: { Reads front_of text len seconds },
     ghost short: { len ≤ 16 },

@@ -18,8 +18,11 @@ use tail_frame::FrameData;
 pub struct Seen {
     /// The length of the line without its newline.
     pub len: usize,
+    /// Its moment in microseconds.
     pub moment: u64,
+    /// The place of its bus among the reader's, counted from 0.
     pub bus: u8,
+    /// Its CAN identifier.
     pub ident: u32,
 }
 

@@ -1,4 +1,5 @@
-//! The lengths of composites alone, where no row of a field is asked for.
+//! The lengths of composites alone (Cyphal Specification, section 3.7.5), where no row of a field
+//! is asked for.
 ghost use Rattle.std.specs.Prelude.{ℕ, ◌^◌, ◌≤◌, IfOk};
 ghost use Rattle.bit_length.specs.Lengths.{Has, Same};
 ghost use Rattle.dsdl_types.specs.Greatest.{longest};

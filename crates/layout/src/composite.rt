@@ -17,12 +17,13 @@ use cy_bits::{List, NoMemory, TryCopy};
 use dsdl_types::{Body, Field, Schema};
 use std::alloc::Global;
 
-/// The rows of a composite, and the lengths that it can have by itself.
+/// The rows of a composite, and the lengths that it can have by itself (Cyphal Specification,
+/// section 3.7.5).
 #[derive(Drop)]
 pub struct Composite {
     /// A row for each field or variant that isn't padding, in order.
     pub rows: List<Row>,
-    /// The lengths, without a delimiter header.
+    /// The lengths in bits, without a delimiter header.
     pub lengths: LengthSet,
 }
 

@@ -13,7 +13,8 @@ use dsdl_types::Field;
 use std::alloc::Global;
 
 /// Where the fields of a structure can end that has one field more, from the places where those
-/// before it can end: no padding at the structure's own end is counted.
+/// before it can end (Cyphal Specification, section 3.7.5): no padding at the structure's own end
+/// is counted. None of these ends is above 2^32 bits.
 #[cycle(lengths)]
 pub fn ends_after(alloc: Global, places: &LengthSet, field: &Field) -> Result<LengthSet, NoMemory>
     requires formed { AreFormed (alone (named field.now)) }

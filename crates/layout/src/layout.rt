@@ -9,8 +9,8 @@ use bit_length::LengthSet;
 use cy_bits::List;
 use dsdl_types::{Schema, Shape};
 
-/// The layout of a composite: where its fields can stand, and which lengths they and the whole can
-/// have.
+/// The layout of a composite (Cyphal Specification, section 3.7): where its fields can stand, and
+/// which lengths they and the whole can have.
 #[derive(Drop)]
 pub struct Layout {
     /// A row for each field or variant that isn't padding, in order.

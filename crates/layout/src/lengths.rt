@@ -37,8 +37,9 @@ pub fn own_lengths(alloc: Global, schema: &Schema) -> Result<LengthSet, NoMemory
     }
 }
 
-/// The lengths that a type can have as a part of another: those of a delimited type count its
-/// delimiter header, and go to its extent.
+/// The lengths that a type can have as a part of another, in bits (Cyphal Specification,
+/// section 3.7.5): those of a delimited type count its delimiter header, and go to its extent. None
+/// of them is above 2^32 bits.
 #[cycle(lengths)]
 pub fn part_lengths(alloc: Global, schema: &Schema) -> Result<LengthSet, NoMemory>
     requires formed { IsFormed (sch schema.now) }
@@ -65,14 +66,14 @@ fn delimited_extent(schema: &Schema) -> Option<u64>
     }
 }
 
-/// The bits of an array's length field, by its capacity.
+/// The bits of an array's length field (Cyphal Specification, section 3.7.4), by its capacity.
 fn length_field_bits(capacity: u64) -> u64
     ensures { result ≡ length_field_bits capacity }
 {
     holding_bits(capacity)
 }
 
-/// The bits of a union's tag, by the number of its variants.
+/// The bits of a union's tag (Cyphal Specification, section 3.7.5), by the number of its variants.
 pub fn tag_bits(variants: u64) -> u64
     ensures { result ≡ tag_bits variants }
 {

@@ -1,4 +1,5 @@
-//! The layout of a data type: where its fields can stand and which lengths they can have.
+//! The layout of a data type (Cyphal Specification, section 3.7): where its fields can stand and
+//! which lengths they can have.
 #![tactic(auto)]
 
 mod bodies;

@@ -11,8 +11,8 @@ use cy_bits::{NoMemory, TryCopy};
 use dsdl_types::Schema;
 use std::alloc::Global;
 
-/// The rows and the lengths of a structure or a union that keeps the rules, without a copy of its
-/// schema.
+/// The rows and the lengths of a structure or a union that keeps the rules (Cyphal Specification,
+/// section 3.7.5), without a copy of its schema.
 pub fn composite_of(alloc: Global, schema: &Schema) -> Result<Composite, NoMemory>
     requires rules { IsSchema (sch schema.now) }
     requires composite { is_composite (sch schema.now) ≡ true }

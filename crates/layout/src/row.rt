@@ -7,7 +7,8 @@ use bit_length::LengthSet;
 use cy_bits::Text;
 use dsdl_types::{Cast, Schema};
 
-/// What is known of a field of a structure or a variant of a union, before any value is.
+/// What is known of a field of a structure or a variant of a union (Cyphal Specification,
+/// section 3.7), before any value is.
 #[derive(Drop)]
 pub struct Row {
     /// Its name.
@@ -17,12 +18,13 @@ pub struct Row {
     /// Which lengths it can have, in bits. Those of a delimited type count its delimiter header
     /// (Cyphal Specification, section 3.7.5).
     pub lengths: LengthSet,
-    /// What is done to a number that the type doesn't hold: of an unsigned integer or a float, or
-    /// of an array of such. All other types have none.
+    /// What is done to a number that the type doesn't hold (Cyphal Specification, section 3.4.3):
+    /// of an unsigned integer or a float, or of an array of such. All other types have none.
     pub cast: Option<Cast>,
 }
 
-/// The cast of an unsigned integer or a float, or of an array of such.
+/// The cast of an unsigned integer or a float (Cyphal Specification, section 3.4.3), or of an array
+/// of such.
 pub fn cast_of(schema: &Schema) -> Option<Cast>
     requires { IsFormed (sch schema.now) }
     ensures { result ≡ cast_of (sch schema.now) }

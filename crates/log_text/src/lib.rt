@@ -4,12 +4,13 @@
 
 ghost use Rattle.log_text.specs.Written.{Example, LineIsRead, LogIsRead, TextIsShort};
 
-/// The line of a record reads as its frame, has no newline, and has at most 63 bytes.
+/// The line of a record of classic CAN reads as its frame, has no newline, and has at most 63
+/// bytes.
 pub fn line_is_read()
     ensures { LineIsRead }
 {}
 
-/// The text of records in turn reads as these records, with no refusal.
+/// The text of records of classic CAN in turn reads as these records, with no refusal.
 pub fn log_is_read()
     ensures { LogIsRead }
 {}

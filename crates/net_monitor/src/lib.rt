@@ -1,4 +1,5 @@
-//! Who is online: the heartbeats of a network's nodes, and what they give of each node.
+//! Who is online (Cyphal Specification, section 5.3.2): the heartbeats of a network's nodes, and
+//! what they give of each node.
 #![tactic(auto)]
 
 pub mod laws;

@@ -4,7 +4,8 @@ use crate::node_state::NodeState;
 use cy_bits::ShortList;
 use std_types::node::Heartbeat;
 
-/// The heartbeats of each node, as far as they tell how it is.
+/// The heartbeats of each node, as far as they tell how it is (Cyphal Specification,
+/// section 5.3.2).
 ///
 /// It stands for a list of heartbeats: those that `event` was called with.
 #[derive(Drop)]
@@ -33,7 +34,7 @@ impl Monitor {
         }
     }
 
-    /// Hears a heartbeat of a node, at a moment in microseconds not before the last one.
+    /// Hears a heartbeat of a node, 0 to 127, at a moment in microseconds not before the last one.
     pub fn event(&mut self, moment: u64, node: u8, beat: &Heartbeat)
         requires order { self.old.latest ≤ moment }
         requires node { node ≤ 127 }
@@ -67,8 +68,8 @@ impl Monitor {
         list
     }
 
-    /// The nodes that are online at a moment in microseconds not before the last heartbeat's,
-    /// ascending: those with a heartbeat at most 3 seconds before it.
+    /// The nodes that are online at a moment in microseconds, ascending: those whose last heartbeat
+    /// is at most 3 seconds before it.
     pub fn online(&self, moment: u64) -> ShortList<NodeState, 128>
         ensures { (past : List Beat) → Stands past self.now → result ≡ online moment past }
     {

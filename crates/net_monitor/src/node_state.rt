@@ -2,7 +2,8 @@ ghost use Rattle.std.specs.Prelude.{◌≡◌, ◌+◌, nat_le};
 
 use std_types::node::{Health, Heartbeat, Mode};
 
-/// How a node is: its last heartbeat, and how often it restarted.
+/// How a node is: its last heartbeat, and how often it restarted (Cyphal Specification,
+/// section 5.3.2).
 #[derive(Clone, Copy)]
 pub struct NodeState {
     /// Its node-ID, at most 127.
@@ -35,7 +36,7 @@ impl Default for NodeState {
 impl NodeState {
     ghost use Rattle.net_monitor.specs.Kept.{restarts_after};
 
-    /// The number of restarts once a heartbeat with this uptime follows.
+    /// The number of restarts once a heartbeat with this uptime in seconds follows.
     pub fn restarts_after(&self, uptime: u32) -> u64
         ensures { result ≡ restarts_after self.now uptime }
     {
@@ -46,7 +47,7 @@ impl NodeState {
         }
     }
 
-    /// Whether the last heartbeat is at most 3 seconds before this moment.
+    /// Whether the last heartbeat is at most 3 seconds before this moment in microseconds.
     pub fn is_online(&self, moment: u64) -> bool
         ensures { result ≡ nat_le moment (self.now.last + 3000000) }
     {

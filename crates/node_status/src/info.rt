@@ -36,7 +36,8 @@ pub fn info_reply(alloc: Global, info: &NodeInfo) -> Result<NodeInfo, NoMemory>
 }
 
 /// The payload of the reply to `uavcan.node.GetInfo.1.0` (Cyphal Specification, section 5.3.3) of a
-/// node that is as `info` says, but for what `info_reply` sets. At most 83 bytes; takes no memory.
+/// node that is as `info` says, but for what `info_reply` sets. The fields of `info` are within
+/// their limits. At most 83 bytes; takes no memory.
 pub fn info_payload(info: &NodeInfo) -> ShortList<u8, 128>
     requires { FitsNodeInfo info.now }
     ensures { result ≡ info_payload info.now }

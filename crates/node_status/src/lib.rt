@@ -1,4 +1,5 @@
-//! What a node says of itself: its heartbeat, and the reply of `uavcan.node.GetInfo.1.0`.
+//! What a node says of itself: its heartbeat, and the reply of `uavcan.node.GetInfo.1.0` (Cyphal
+//! Specification, sections 5.3.2 and 5.3.3).
 #![tactic(auto)]
 
 mod heartbeat;

@@ -4,7 +4,7 @@ ghost use Rattle.pnp_alloc.specs.Used.{is_open, IsUsedAbove};
 use crate::event::{AllocEvent, AllocOut, Owner};
 use cy_bits::ShortList;
 
-/// Gives node-IDs from 125 down to nodes without one.
+/// Gives node-IDs from 125 down to nodes without one (Cyphal Specification, section 5.3.12).
 ///
 /// It stands for a list of events: those that `hear` was called with.
 #[derive(Drop)]
@@ -41,7 +41,7 @@ impl Allocator {
     }
 
     /// Hears an event. A unique id that has a node-ID is given it again, any other the greatest
-    /// free one. A node that is seen has a node-ID of at most 127.
+    /// free one from 125 down to 1. A node that is seen has a node-ID of at most 127.
     pub fn hear(&mut self, ev: AllocEvent) -> AllocOut
         requires { IsFit ev }
         ensures stands { (own : ℕ) (past : List Event)

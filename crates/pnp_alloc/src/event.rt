@@ -1,4 +1,4 @@
-/// What an allocator hears.
+/// What an allocator hears (Cyphal Specification, section 5.3.12).
 #[derive(Clone, Copy, Debug, PartialEq, Eq)]
 pub enum AllocEvent {
     /// A node was seen on the bus.
@@ -13,7 +13,7 @@ pub enum AllocEvent {
     },
 }
 
-/// What an allocator answers.
+/// What an allocator answers (Cyphal Specification, section 5.3.12).
 #[derive(Clone, Copy, Debug, PartialEq, Eq)]
 pub enum AllocOut {
     /// A node was seen; there is nothing to answer.

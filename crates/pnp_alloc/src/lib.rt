@@ -1,4 +1,5 @@
-//! Node-IDs for nodes without one: who gets which number, and who keeps it.
+//! Node-IDs for nodes without one (Cyphal Specification, section 5.3.12): who gets which number,
+//! and who keeps it.
 #![tactic(auto)]
 
 pub mod allocator;

@@ -4,7 +4,8 @@ ghost use Rattle.redundancy.specs.Hear.{hear, lateness_of, force_then, answer_at
 
 use crate::laws::hearing;
 
-/// The bus in force for a session, and when a frame of the session was last heard on it.
+/// The bus in force for a session, and when a frame of the session was last heard on it (Cyphal
+/// Specification, section 4.1).
 ///
 /// It stands for a list of records of one key: those of every frame that `hear` was called with.
 #[derive(Clone, Copy, Debug, PartialEq, Eq)]
@@ -15,7 +16,7 @@ pub struct Force {
     pub heard: u64,
 }
 
-/// Whether a frame is heard.
+/// Whether a frame is heard (Cyphal Specification, section 4.1).
 #[derive(Clone, Copy, Debug, PartialEq, Eq)]
 pub enum Heard {
     /// The frame is on a bus that isn't in force and that it doesn't take over.
@@ -40,11 +41,13 @@ impl Force {
         }
     }
 
-    /// Hears a frame of the session, at a moment in microseconds not before the last one heard.
+    /// Hears a frame of the session, at a moment in microseconds not before the last one heard;
+    /// `timeout` is in microseconds too.
     ///
-    /// The first start frame's bus is in force. A start frame on another bus takes over where nothing
-    /// was heard for more than the timeout. A frame on the bus in force is heard, and is late where the
-    /// silence before it was longer than the timeout. A frame elsewhere changes nothing.
+    /// The first start frame's bus is in force. A start frame on another bus takes over where
+    /// nothing was heard for more than the timeout. A frame on the bus in force is heard, and is
+    /// late where the silence before it was longer than the timeout. A frame elsewhere changes
+    /// nothing.
     #[inline(always)]
     pub fn hear(&mut self, bus: u8, moment: u64, start: bool, timeout: u64) -> Heard
         requires { self.old.heard ≤ moment }

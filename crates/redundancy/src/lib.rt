@@ -1,4 +1,5 @@
-//! Which of several redundant buses is in force for a session, and which frames are heard.
+//! Which of several redundant buses (Cyphal Specification, section 4.1) is in force for a session,
+//! and which frames are heard.
 #![tactic(auto)]
 
 pub mod force;

@@ -1,5 +1,5 @@
-//! Registers of a node: named values that others read, list and write, each behind a guard that
-//! keeps it within its limits.
+//! Registers of a node (Cyphal Specification, section 5.3.10): named values that others read, list
+//! and write, each behind a guard that keeps it within its limits.
 #![tactic(auto)]
 
 pub mod laws;

@@ -17,8 +17,8 @@ use std_types::register::AccessReply;
 use std_types::register_value::RegisterValue;
 use std_types::registers::{Limits, Register};
 
-/// The registers of a node, each kept within its limits. A clause sees the list of the registers,
-/// in which the number of a register is its place.
+/// The registers of a node, each kept within its limits (Cyphal Specification, section 5.3.10). A
+/// clause sees the list of the registers, in which the number of a register is its place.
 #[derive(Drop)]
 pub struct Limited {
     list: Vec<Register>,
@@ -40,7 +40,9 @@ impl Model for Limited {
 }
 
 impl Limited {
-    /// Equal registers.
+    /// A copy of registers: at most 256, whose names differ and have at most 255 bytes, whose
+    /// arrays are within their capacities, and each within its limits. Want of memory is the only
+    /// refusal.
     pub fn open(alloc: Global, registers: &[Register]) -> Result<Limited, NoMemory>
         requires { AreKept registers.now }
         ensures { IfOk result (λ r. r ≡ registers.now) }
@@ -78,8 +80,8 @@ impl Limited {
         access(self.alloc, &mut self.list, &guard, name, value)
     }
 
-    /// The name of the register with this number, which has at most 255 bytes; `None` past the
-    /// last. Takes no memory.
+    /// The name of the register with this number, counted from 0, which has at most 255 bytes;
+    /// `None` past the last. Takes no memory.
     pub fn name(&self, index: u16) -> Option<&[u8]>
         ensures name { option_copied result ≡ name_at self.now index }
         ensures short { IfSome result (λ n. length n.now ≤ 255) }

@@ -30,7 +30,7 @@ pub fn limits_of(alloc: Global, registers: &[Register]) -> Result<List<Option<Li
 }
 
 /// The answer of a guard that keeps registers within these limits: yes where the value is within
-/// those of the register of that number, and no where there is none.
+/// those of the register of that number, counted from 0, and no where there is none.
 pub fn is_allowed(limits: &[Option<Limits>], number: u16, value: &RegisterValue) -> bool
     ensures { result ≡ is_allowed limits.now number value.now }
 {

@@ -15,7 +15,8 @@ use std_types::register_value::RegisterValue;
 use std_types::registers::Register;
 use std_types::time::SynchronizedTimestamp;
 
-/// Reads the register with a name, and writes it first where it takes the value.
+/// Reads the register with a name, and writes it first where it takes the value (Cyphal
+/// Specification, section 5.3.10).
 ///
 /// It takes a value that isn't empty, where it is mutable, the value is of its variant and has as
 /// many items (strings and unstructured aside), and the guard says yes. The reply has the value
@@ -55,7 +56,8 @@ pub fn access<G: Fn(u16, &RegisterValue) -> bool>(
     Ok(reply(mutable, copy))
 }
 
-/// The name of the register with this number; `None` past the last. Takes no memory.
+/// The name of the register with this number, counted from 0; `None` past the last. Takes no
+/// memory.
 pub fn name(list: &[Register], index: u16) -> Option<&[u8]>
     ensures name { option_copied result ≡ name_at list.now index }
     ensures short { AreRegisters list.now → IfSome result (λ n. length n.now ≤ 255) }

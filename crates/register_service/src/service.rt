@@ -16,7 +16,8 @@ use std_types::register::AccessReply;
 use std_types::register_value::RegisterValue;
 use std_types::registers::Register;
 
-/// The registers of a node, with the guard that is asked before one of them is written.
+/// The registers of a node (Cyphal Specification, section 5.3.10), with the guard that is asked
+/// before one of them is written.
 ///
 /// They stand for a list of requests: those that they were called with.
 #[derive(Drop)]
@@ -82,7 +83,8 @@ impl<G: Fn(u16, &RegisterValue) -> bool + Drop> Registers<G> {
         access(self.alloc, &mut self.list, &self.guard, name, value)
     }
 
-    /// The name of the register with this number; `None` past the last. Takes no memory.
+    /// The name of the register with this number, counted from 0; `None` past the last. Takes no
+    /// memory.
     pub fn list(&self, index: u16) -> Option<&[u8]>
         ensures name { option_copied result ≡ name_at self.now.list.items index }
         ensures reply { (allowed : ℕ → RegisterValue → Bool) (opened : ListOf Register)

@@ -1,4 +1,5 @@
-//! One session: the frames of one kind, port and source, put together into transfers.
+//! One session: the frames of one kind, port and source, put together into transfers (Cyphal
+//! Specification, section 4.1.4).
 #![tactic(auto)]
 
 pub mod laws;

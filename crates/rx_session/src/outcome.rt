@@ -1,6 +1,6 @@
 ghost use Rattle.std.specs.Prelude.{◌≡◌, take};
 
-/// A transfer that was received.
+/// A transfer that was received (Cyphal Specification, section 4.1.4).
 #[derive(Clone, Copy, Debug)]
 pub struct Delivery<'a> {
     /// The number of the bus that its first frame came on.
@@ -19,14 +19,15 @@ pub struct Delivery<'a> {
     pub payload: &'a [u8],
 }
 
-/// What a frame came to.
+/// What a frame came to (Cyphal Specification, section 4.1.4).
 #[derive(Clone, Copy, Debug)]
 pub enum Outcome<'a> {
     /// The frame is none that the session expects.
     Ignored,
     /// The frame was taken, and its transfer isn't complete.
     Held,
-    /// The frame ends a transfer whose bytes don't fit their CRC.
+    /// The frame ends a transfer whose bytes don't fit their CRC (Cyphal Specification,
+    /// section 4.2).
     BadCrc,
     /// The frame ends a transfer.
     Delivered(Delivery<'a>),

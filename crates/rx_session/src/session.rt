@@ -16,7 +16,7 @@ use std::marker::PhantomData;
 use tail_frame::Frame;
 use transfer_crc::Crc;
 
-/// A transfer of several frames of which some were taken.
+/// A transfer of several frames of which some were taken (Cyphal Specification, section 4.1.4).
 #[derive(Clone, Copy, Debug, PartialEq, Eq)]
 pub struct Part {
     /// Its transfer-ID, 0 to 31.
@@ -33,7 +33,8 @@ pub struct Part {
     pub crc: Crc,
 }
 
-/// The reception of the transfers of one kind, port and source, over all buses.
+/// The reception of the transfers of one kind, port and source, over all buses (Cyphal
+/// Specification, section 4.1.4).
 #[derive(Drop)]
 pub struct Session<S> {
     /// The bus in force, and when a frame was last heard on it.
@@ -63,12 +64,16 @@ impl<S: Shape> Session<S> {
         })
     }
 
-    /// Takes a frame of the session's kind, port and source, at a moment not before the last one heard.
-    /// A payload is lent from the buffer.
+    /// Takes a frame of the session's kind, port and source, at a moment not before the last one
+    /// heard. The timeout is in microseconds. A payload is lent from the buffer.
     ///
-    /// A frame on a bus that isn't in force changes nothing. A start frame begins a transfer anew, unless
-    /// it isn't late and has the transfer-ID last delivered. Any other frame is taken where it has the
-    /// transfer-ID and the toggle that are expected. At an end the CRC over all bytes decides.
+    /// A frame on a bus that isn't in force changes nothing. A start frame begins a transfer anew,
+    /// unless it isn't late and has the transfer-ID last delivered. Any other frame is taken where
+    /// it has the transfer-ID and the toggle that are expected. At an end the CRC over all bytes
+    /// decides.
+    ///
+    /// The short form of `step` and `lend`, for a caller that takes each answer at once; a table
+    /// calls these two.
     pub fn accept(&mut self, frame: &Frame, timeout: u64) -> Outcome<'_>
         requires { self.old.force.heard ≤ frame.now.moment }
         ensures* after { sem 𝓛 (Rests (the_row S.row) self.entry (λ new.

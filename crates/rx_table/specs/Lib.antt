@@ -7,6 +7,7 @@ pub mod Stands
 pub mod Ports
 pub mod Laws
 pub mod Table
+pub mod InTime
 pub mod Heard
 pub mod Places
 pub mod PortViews

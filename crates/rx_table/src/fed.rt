@@ -3,14 +3,15 @@ ghost use Rattle.rx_table.specs.Places.{whole_index};
 
 use rx_session::{Delivery, Front, Outcome, Step};
 
-/// What a frame came to in a table.
+/// What a frame came to in a table (Cyphal Specification, section 4.1.4).
 #[derive(Clone, Copy, Debug)]
 pub enum Fed<'a> {
     /// Its kind and port aren't subscribed.
     NoPort,
     /// It is a start frame of a new source, and the port has as many sources as it takes.
     NoSession,
-    /// It is anonymous, and is delivered at once. The payload is lent from the frame.
+    /// It is anonymous (Cyphal Specification, section 4.1), and is delivered at once. The payload
+    /// is lent from the frame.
     Anonymous(Delivery<'a>),
     /// What its session made of it. The payload is lent from the session's buffer, or that of a whole
     /// transfer from the frame.

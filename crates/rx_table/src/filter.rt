@@ -8,7 +8,7 @@ use can_id::Ident;
 use tail_frame::{Frame, Record, frame_of};
 
 /// The frame that a record is, or `None` where it is discarded, is the node's own, or is of a
-/// service of another node (sections 4.1 and 4.2 of the Cyphal Specification).
+/// service of another node (Cyphal Specification, sections 4.1 and 4.2).
 #[inline(always)]
 pub fn frame_for(node: u8, rec: &Record) -> Option<Frame<'_>>
     ensures value { option_map seen result ≡ frame_for node rec.now }

@@ -1,4 +1,5 @@
-//! Laws of reception, each the contract of a call that does nothing.
+//! Laws of reception (Cyphal Specification, section 4.1.4), each the contract of a call that does
+//! nothing.
 
 ghost use Rattle.rx_table.specs.Table.{TableHeard};
 ghost use Rattle.std.specs.Prelude.{ℕ, List};

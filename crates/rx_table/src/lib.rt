@@ -1,4 +1,5 @@
-//! Sessions of many sources on many ports, and what they deliver.
+//! Sessions of many sources on many ports, and what they deliver (Cyphal Specification,
+//! section 4.1.4).
 #![tactic(auto)]
 
 pub mod fed;

@@ -20,7 +20,7 @@ use rx_session::{Front, Outcome, Session, Step, lend};
 use std::alloc::Global;
 use tail_frame::Frame;
 
-/// A subscription with the sessions of its sources.
+/// A subscription with the sessions of its sources (Cyphal Specification, section 4.1.4).
 #[derive(Drop)]
 pub struct Port<S> {
     /// What its transfers are for.

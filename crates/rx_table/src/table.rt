@@ -12,7 +12,7 @@ use rx_session::Step;
 use std::alloc::Global;
 use tail_frame::Frame;
 
-/// Sessions for the sources of every subscribed port.
+/// Sessions for the sources of every subscribed port (Cyphal Specification, section 4.1.4).
 ///
 /// It stands for a log: the frames with a source that it was fed, in their order.
 #[derive(Drop)]
@@ -55,7 +55,7 @@ impl<S: Shape> Table<S> {
     ghost use Rattle.rx_table.specs.declared.fed.SubscribeError.TheVariants.{Taken};
     ghost use Rattle.rx_table.specs.contracts.table.Table.{the_row};
 
-    /// A table with no subscription. It stands for the empty log.
+    /// A table with no subscription and this timeout in microseconds. It stands for the empty log.
     pub fn new(alloc: Global, timeout: u64) -> Result<Table<S>, NoMemory>
         ensures ports { IfOk result (λ t. t.ports.items ≡ []) }
         ensures timeout { IfOk result (λ t. t.timeout ≡ timeout) }
@@ -73,8 +73,8 @@ impl<S: Shape> Table<S> {
 
     /// Subscribes to a kind and port, for the first `sources` sources that send a start frame.
     ///
-    /// The table has no source yet and fewer than 2^16 subscriptions, `sources` is 1 to 128, and the
-    /// shape's extent is at most 2^32 bits. Taken where that kind and port is there; the table is then as
+    /// The table has fewer than 2^16 subscriptions, `sources` is 1 to 128, and the shape's extent is
+    /// at most 2^32 bits; what it stands for is told of a table that has no source yet. Taken where that kind and port is there; the table is then as
     /// before, as it is at want of memory.
     pub fn subscribe(
         &mut self,
@@ -147,6 +147,9 @@ impl<S: Shape> Table<S> {
     /// delivered at once. A start frame of a new source opens a session where the port has fewer sources
     /// than it takes: only then is memory taken, and want of it leaves the table as it was. A frame that
     /// isn't a start, of a source with no session, is ignored.
+    ///
+    /// The short form of `step` and `lend`, for a caller that takes each answer at once; a node
+    /// calls these two.
     pub fn feed<'a>(&'a mut self, frame: &Frame<'a>) -> Result<Fed<'a>, NoMemory>
         requires { HasHeardBy S.shape frame.now.moment self.old }
         ensures* after { sem 𝓛 (Rests (the_row S.row) self.entry

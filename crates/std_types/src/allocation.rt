@@ -9,15 +9,15 @@ use cy_bits::{List, NoMemory};
 use dsdl_types::Value;
 use std::alloc::Global;
 
-/// `uavcan.node.ID.1.0`.
+/// `uavcan.node.ID.1.0` (Cyphal Specification, section 5.3).
 #[derive(Clone, Copy)]
 pub struct NodeId {
-    /// The node-ID.
+    /// The node-ID, 0 to 65535; on Cyphal/CAN at most 127.
     pub value: u16,
 }
 
-/// `uavcan.pnp.NodeIDAllocationData.1.0`, with the port 8166: a node asks for a node-ID, or is
-/// given one.
+/// `uavcan.pnp.NodeIDAllocationData.1.0`, with the port 8166 (Cyphal Specification,
+/// section 5.3.12): a node asks for a node-ID, or is given one.
 #[derive(Drop)]
 pub struct NodeIdAllocation {
     /// The number that tells the node from all others, written in its low 48 bits.

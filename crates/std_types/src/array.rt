@@ -8,102 +8,102 @@ use cy_bits::{Bytes, List, NoMemory};
 use dsdl_types::Value;
 use std::alloc::Global;
 
-/// `uavcan.primitive.Empty.1.0`.
+/// `uavcan.primitive.Empty.1.0` (Cyphal Specification, section 5.3.6).
 #[derive(Clone, Copy)]
 pub struct Empty {}
 
-/// `uavcan.primitive.String.1.0`.
+/// `uavcan.primitive.String.1.0` (Cyphal Specification, section 5.3.6).
 #[derive(Drop)]
 pub struct PrimitiveString {
     /// The bytes of a text, at most 256.
     pub value: Bytes,
 }
 
-/// `uavcan.primitive.Unstructured.1.0`.
+/// `uavcan.primitive.Unstructured.1.0` (Cyphal Specification, section 5.3.6).
 #[derive(Drop)]
 pub struct Unstructured {
     /// The bytes, at most 256.
     pub value: Bytes,
 }
 
-/// `uavcan.primitive.array.Bit.1.0`.
+/// `uavcan.primitive.array.Bit.1.0` (Cyphal Specification, section 5.3.6).
 #[derive(Drop)]
 pub struct Bit {
     /// The truth values, at most 2,048.
     pub value: List<bool>,
 }
 
-/// `uavcan.primitive.array.Integer64.1.0`.
+/// `uavcan.primitive.array.Integer64.1.0` (Cyphal Specification, section 5.3.6).
 #[derive(Drop)]
 pub struct Integer64 {
     /// The numbers, at most 32.
     pub value: List<i64>,
 }
 
-/// `uavcan.primitive.array.Integer32.1.0`.
+/// `uavcan.primitive.array.Integer32.1.0` (Cyphal Specification, section 5.3.6).
 #[derive(Drop)]
 pub struct Integer32 {
     /// The numbers, at most 64.
     pub value: List<i32>,
 }
 
-/// `uavcan.primitive.array.Integer16.1.0`.
+/// `uavcan.primitive.array.Integer16.1.0` (Cyphal Specification, section 5.3.6).
 #[derive(Drop)]
 pub struct Integer16 {
     /// The numbers, at most 128.
     pub value: List<i16>,
 }
 
-/// `uavcan.primitive.array.Integer8.1.0`.
+/// `uavcan.primitive.array.Integer8.1.0` (Cyphal Specification, section 5.3.6).
 #[derive(Drop)]
 pub struct Integer8 {
     /// The numbers, at most 256.
     pub value: List<i8>,
 }
 
-/// `uavcan.primitive.array.Natural64.1.0`.
+/// `uavcan.primitive.array.Natural64.1.0` (Cyphal Specification, section 5.3.6).
 #[derive(Drop)]
 pub struct Natural64 {
     /// The numbers, at most 32.
     pub value: List<u64>,
 }
 
-/// `uavcan.primitive.array.Natural32.1.0`.
+/// `uavcan.primitive.array.Natural32.1.0` (Cyphal Specification, section 5.3.6).
 #[derive(Drop)]
 pub struct Natural32 {
     /// The numbers, at most 64.
     pub value: List<u32>,
 }
 
-/// `uavcan.primitive.array.Natural16.1.0`.
+/// `uavcan.primitive.array.Natural16.1.0` (Cyphal Specification, section 5.3.6).
 #[derive(Drop)]
 pub struct Natural16 {
     /// The numbers, at most 128.
     pub value: List<u16>,
 }
 
-/// `uavcan.primitive.array.Natural8.1.0`.
+/// `uavcan.primitive.array.Natural8.1.0` (Cyphal Specification, section 5.3.6).
 #[derive(Drop)]
 pub struct Natural8 {
     /// The numbers, at most 256.
     pub value: List<u8>,
 }
 
-/// `uavcan.primitive.array.Real64.1.0`.
+/// `uavcan.primitive.array.Real64.1.0` (Cyphal Specification, section 5.3.6).
 #[derive(Drop)]
 pub struct Real64 {
     /// The raw bits of the numbers, at most 32.
     pub value: List<u64>,
 }
 
-/// `uavcan.primitive.array.Real32.1.0`.
+/// `uavcan.primitive.array.Real32.1.0` (Cyphal Specification, section 5.3.6).
 #[derive(Drop)]
 pub struct Real32 {
     /// The raw bits of the numbers, at most 64.
     pub value: List<u32>,
 }
 
-/// `uavcan.primitive.array.Real16.1.0`.
+/// `uavcan.primitive.array.Real16.1.0` (Cyphal Specification, section 5.3.6).
 #[derive(Drop)]
 pub struct Real16 {
     /// The raw bits of the numbers, at most 128.

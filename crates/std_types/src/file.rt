@@ -7,29 +7,30 @@ use cy_bits::{Bytes, NoMemory};
 use dsdl_types::Value;
 use std::alloc::Global;
 
-/// `uavcan.file.Path.2.0`.
+/// `uavcan.file.Path.2.0` (Cyphal Specification, section 5.3.7).
 #[derive(Drop)]
 pub struct Path {
     /// The path, of at most 255 bytes.
     pub path: Bytes,
 }
 
-/// `uavcan.file.Error.1.0`: 0 Ok, 2 not found, 5 I/O, 13 denied, 21 directory, 22 invalid, 27 too
-/// large, 28 no space, 38 not supported, 65535 unknown.
+/// `uavcan.file.Error.1.0` (Cyphal Specification, section 5.3.7): 0 Ok, 2 not found, 5 I/O, 13
+/// denied, 21 directory, 22 invalid, 27 too large, 28 no space, 38 not supported, 65535 unknown.
 #[derive(Clone, Copy)]
 pub struct FileError {
     /// The code.
     pub value: u16,
 }
 
-/// The request of `uavcan.file.GetInfo`, with the port 405: what is at a path.
+/// The request of `uavcan.file.GetInfo`, with the port 405 (Cyphal Specification, section 5.3.7):
+/// what is at a path.
 #[derive(Drop)]
 pub struct InfoRequest {
     /// The path, of at most 255 bytes.
     pub path: Bytes,
 }
 
-/// The reply of `uavcan.file.GetInfo`.
+/// The reply of `uavcan.file.GetInfo` (Cyphal Specification, section 5.3.7).
 #[derive(Clone, Copy)]
 pub struct InfoReply {
     /// How the call ended.
@@ -48,32 +49,32 @@ pub struct InfoReply {
     pub is_writeable: bool,
 }
 
-/// The request of `uavcan.file.List`, with the port 406.
+/// The request of `uavcan.file.List`, with the port 406 (Cyphal Specification, section 5.3.7).
 #[derive(Drop)]
 pub struct FileListRequest {
-    /// The number of an entry of the folder.
+    /// The number of an entry of the folder, counted from 0.
     pub entry_index: u32,
     /// The path of the folder, of at most 255 bytes.
     pub directory_path: Bytes,
 }
 
-/// The reply of `uavcan.file.List`.
+/// The reply of `uavcan.file.List` (Cyphal Specification, section 5.3.7).
 #[derive(Drop)]
 pub struct FileListReply {
     /// The name of the entry, of at most 255 bytes; empty past the last.
     pub entry_base_name: Bytes,
 }
 
-/// The request of `uavcan.file.Read`, with the port 408.
+/// The request of `uavcan.file.Read`, with the port 408 (Cyphal Specification, section 5.3.7).
 #[derive(Drop)]
 pub struct ReadRequest {
-    /// The place of the first byte, written in its low 40 bits.
+    /// The place of the first byte, counted from 0; written in its low 40 bits.
     pub offset: u64,
     /// The path of the file, of at most 255 bytes.
     pub path: Bytes,
 }
 
-/// The reply of `uavcan.file.Read`.
+/// The reply of `uavcan.file.Read` (Cyphal Specification, section 5.3.7).
 #[derive(Drop)]
 pub struct ReadReply {
     /// How the call ended.

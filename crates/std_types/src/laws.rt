@@ -18,7 +18,7 @@ pub fn schemas_keep_rules()
     ensures composite { (name : StdName) → is_composite (schema_of name) ≡ true }
 {}
 
-/// A struct through its value and back: the same struct.
+/// A struct whose fields are within their limits, through its value and back: the same struct.
 pub fn through_value<S: Standard>(alloc: Global, given: &S) -> Result<S, NoMemory>
     requires { S.fits given.now }
     ensures { IfOk result (λ x. x ≡ given.now) }
@@ -28,7 +28,7 @@ pub fn through_value<S: Standard>(alloc: Global, given: &S) -> Result<S, NoMemor
     Ok(made)
 }
 
-/// A value through its struct and back: the same value.
+/// A value of the schema, through its struct and back: the same value.
 pub fn through_type<S: Standard + Drop>(alloc: Global, given: &Value) -> Result<Value, NoMemory>
     requires { IsStored S.schema (val given.now) }
     ensures { IfOk result (λ v. v ≡ given.now) }

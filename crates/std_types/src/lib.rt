@@ -1,5 +1,5 @@
-//! The standard data types of a node: each as a struct, its schema, and its value, which determine
-//! each other.
+//! The standard data types of a node (Cyphal Specification, chapter 5): each as a struct, its
+//! schema, and its value, which determine each other.
 #![tactic(auto)]
 
 pub mod allocation;

@@ -9,21 +9,24 @@ use cy_bits::{Bytes, List, NoMemory};
 use dsdl_types::Value;
 use std::alloc::Global;
 
-/// `uavcan.node.Health.1.0`: 0 nominal, 1 advisory, 2 caution, 3 warning.
+/// `uavcan.node.Health.1.0` (Cyphal Specification, section 5.3.2): 0 nominal, 1 advisory, 2
+/// caution, 3 warning.
 #[derive(Clone, Copy)]
 pub struct Health {
-    /// The health.
+    /// The health, 0 to 3.
     pub value: u8,
 }
 
-/// `uavcan.node.Mode.1.0`: 0 operational, 1 initialization, 2 maintenance, 3 software update.
+/// `uavcan.node.Mode.1.0` (Cyphal Specification, section 5.3.2): 0 operational, 1 initialization, 2
+/// maintenance, 3 software update.
 #[derive(Clone, Copy)]
 pub struct Mode {
-    /// The mode.
+    /// The mode, 0 to 3.
     pub value: u8,
 }
 
-/// `uavcan.node.Version.1.0`.
+/// `uavcan.node.Version.1.0`, of a protocol, a hardware or a software (Cyphal Specification,
+/// section 5.3.3).
 #[derive(Clone, Copy)]
 pub struct Version {
     /// The major number.
@@ -32,7 +35,8 @@ pub struct Version {
     pub minor: u8,
 }
 
-/// `uavcan.node.Heartbeat.1.0`, with the port 7509: that a node is online, and how it is.
+/// `uavcan.node.Heartbeat.1.0`, with the port 7509 (Cyphal Specification, section 5.3.2): that a
+/// node is online, and how it is.
 #[derive(Clone, Copy)]
 pub struct Heartbeat {
     /// How long the node has run, in seconds.
@@ -45,11 +49,12 @@ pub struct Heartbeat {
     pub vendor_specific_status_code: u8,
 }
 
-/// The request of `uavcan.node.GetInfo.1.0`, with the port 430.
+/// The request of `uavcan.node.GetInfo.1.0`, with the port 430 (Cyphal Specification,
+/// section 5.3.3).
 #[derive(Clone, Copy)]
 pub struct NodeInfoRequest {}
 
-/// The reply of `uavcan.node.GetInfo.1.0`: what a node is.
+/// The reply of `uavcan.node.GetInfo.1.0` (Cyphal Specification, section 5.3.3): what a node is.
 #[derive(Drop)]
 pub struct NodeInfo {
     /// The version of the protocol.

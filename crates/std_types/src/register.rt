@@ -10,14 +10,15 @@ use cy_bits::{Bytes, NoMemory};
 use dsdl_types::Value;
 use std::alloc::Global;
 
-/// `uavcan.register.Name.1.0`.
+/// `uavcan.register.Name.1.0` (Cyphal Specification, section 5.3.10).
 #[derive(Drop)]
 pub struct Name {
     /// The name, of at most 255 bytes.
     pub name: Bytes,
 }
 
-/// The request of `uavcan.register.Access.1.0`, with the port 384: reads and writes a register.
+/// The request of `uavcan.register.Access.1.0`, with the port 384 (Cyphal Specification,
+/// section 5.3.10): reads and writes a register.
 #[derive(Drop)]
 pub struct AccessRequest {
     /// The name of the register, of at most 255 bytes.
@@ -26,7 +27,7 @@ pub struct AccessRequest {
     pub value: RegisterValue,
 }
 
-/// The reply of `uavcan.register.Access.1.0`.
+/// The reply of `uavcan.register.Access.1.0` (Cyphal Specification, section 5.3.10).
 #[derive(Drop)]
 pub struct AccessReply {
     /// When the value was read.
@@ -39,14 +40,15 @@ pub struct AccessReply {
     pub value: RegisterValue,
 }
 
-/// The request of `uavcan.register.List.1.0`, with the port 385.
+/// The request of `uavcan.register.List.1.0`, with the port 385 (Cyphal Specification,
+/// section 5.3.10).
 #[derive(Clone, Copy)]
 pub struct ListRequest {
-    /// The number of a register.
+    /// The number of a register, counted from 0.
     pub index: u16,
 }
 
-/// The reply of `uavcan.register.List.1.0`.
+/// The reply of `uavcan.register.List.1.0` (Cyphal Specification, section 5.3.10).
 #[derive(Drop)]
 pub struct ListReply {
     /// The name of the register, of at most 255 bytes; empty past the last.

@@ -13,7 +13,7 @@ use cy_bits::{Boxed, Bytes, List, NoMemory};
 use dsdl_types::Value;
 use std::alloc::Global;
 
-/// `uavcan.register.Value.1.0`.
+/// `uavcan.register.Value.1.0` (Cyphal Specification, section 5.3.10).
 #[derive(Drop)]
 pub enum RegisterValue {
     /// No value.

@@ -1,7 +1,8 @@
 use crate::register_value::RegisterValue;
 use cy_bits::Text;
 
-/// A register of a node: a named value that others read, and write where it is mutable.
+/// A register of a node (Cyphal Specification, section 5.3.10): a named value that others read, and
+/// write where it is mutable.
 #[derive(Drop)]
 pub struct Register {
     /// Its name.

@@ -11,7 +11,7 @@ use cy_bits::NoMemory;
 use dsdl_types::{Schema, Shape};
 use std::alloc::Global;
 
-/// A standard type, as its payloads are received.
+/// A standard type (Cyphal Specification, chapter 5), as its payloads are received.
 #[derive(Drop)]
 pub struct StdType {
     /// Its name.

@@ -8,7 +8,7 @@ use cy_bits::NoMemory;
 use dsdl_types::Value;
 use std::alloc::Global;
 
-/// A struct for a standard data type.
+/// A struct for a standard data type (Cyphal Specification, chapter 5).
 pub trait Standard: Sized {
     ghost schema: { Sch };
 

@@ -1,4 +1,5 @@
-/// The name of a standard type, or of a half of a standard service.
+/// The name of a standard type, or of a half of a standard service (Cyphal Specification,
+/// chapter 5).
 #[derive(Clone, Copy)]
 pub enum StdName {
     /// `uavcan.node.Health.1.0`.

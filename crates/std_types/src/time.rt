@@ -5,14 +5,16 @@ use cy_bits::NoMemory;
 use dsdl_types::Value;
 use std::alloc::Global;
 
-/// `uavcan.time.SynchronizedTimestamp.1.0`.
+/// `uavcan.time.SynchronizedTimestamp.1.0`, a moment of the network's time (Cyphal Specification,
+/// section 5.3.5).
 #[derive(Clone, Copy)]
 pub struct SynchronizedTimestamp {
     /// The moment in microseconds, written in its low 56 bits; 0 is unknown.
     pub microsecond: u64,
 }
 
-/// `uavcan.time.Synchronization.1.0`, with the port 7168: a master's time.
+/// `uavcan.time.Synchronization.1.0`, with the port 7168 (Cyphal Specification, section 5.3.5): a
+/// master's time.
 #[derive(Clone, Copy)]
 pub struct Synchronization {
     /// When the master sent its previous message, in microseconds, written in its low 56 bits.

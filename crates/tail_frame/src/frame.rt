@@ -6,7 +6,8 @@ use crate::logged::Record;
 use crate::tail::Tail;
 use can_id::{Ident, parse};
 
-/// A record whose identifier and tail byte are those of a Cyphal frame.
+/// A record whose identifier and tail byte are those of a Cyphal frame (Cyphal Specification,
+/// section 4.2).
 #[derive(Clone, Copy, Debug)]
 pub struct Frame<'a> {
     /// The line of the log, counted from 1.
@@ -23,9 +24,10 @@ pub struct Frame<'a> {
     pub body: &'a [u8],
 }
 
-/// The frame that a record is, or `None` where it is discarded: its identifier says nothing, it has no
-/// data, it is a start with toggle 0, it is anonymous and not both start and end, it isn't an end and
-/// has fewer than 7 bytes before the tail, or it isn't both start and end and has none.
+/// The frame that a record is, or `None` where it is discarded (Cyphal Specification, section 4.2):
+/// its identifier says nothing, it has no data, it is a start with toggle 0, it is anonymous and
+/// not both start and end, it isn't an end and has fewer than 7 bytes before the tail, or it isn't
+/// both start and end and has none.
 #[inline(always)]
 pub fn frame_of(rec: &Record) -> Option<Frame<'_>>
     ensures value { option_map seen result ≡ frame_of rec.now }

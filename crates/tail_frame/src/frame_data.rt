@@ -75,7 +75,7 @@ impl FrameData {
         self.size = size + 1;
     }
 
-    /// Appends the first `n` bytes of a block. There is room for them.
+    /// Appends the first `n` bytes of a block, at most 8. There is room for them.
     #[inline(always)]
     pub fn put(&mut self, block: &[u8; 8], n: usize)
         requires few { n ≤ 8 }

@@ -1,4 +1,5 @@
-//! The frames of Cyphal/CAN: a record of a log with its identifier and its tail byte taken apart.
+//! The frames of Cyphal/CAN (Cyphal Specification, section 4.2): a record of a log with its
+//! identifier and its tail byte taken apart.
 #![tactic(auto)]
 
 pub mod frame;

@@ -1,7 +1,7 @@
 ghost use Rattle.std.specs.Prelude.{◌≡◌, ◌<◌, IsTrue};
 ghost use Rattle.tail_frame.specs.Frames.{tail_of, tail_byte};
 
-/// The tail byte, the last data byte of a frame.
+/// The tail byte, the last data byte of a frame (Cyphal Specification, section 4.2).
 #[derive(Clone, Copy, Debug, PartialEq, Eq)]
 pub struct Tail {
     /// Bit 7: whether the frame is its transfer's first.

@@ -1,6 +1,6 @@
 ghost use Rattle.std.specs.Prelude.{◌≡◌, ◌<◌, ◌^◌, ◌+◌, nat_le};
 
-/// What is kept of the last message of a source.
+/// What is kept of the last message of a source (Cyphal Specification, section 5.3.5).
 #[derive(Clone, Copy)]
 pub struct Last {
     /// Its moment in microseconds, below 2^62.
@@ -16,7 +16,10 @@ pub struct Last {
 impl Last {
     ghost use Rattle.time_sync.specs.Pairs.{offset_after};
 
-    /// The offset of the source's last pair once a message follows.
+    /// The offset in microseconds of the source's last pair once a message follows: with its moment
+    /// in microseconds, its transfer-ID, 0 to 31, and `stamp`, the source's own moment of sending
+    /// the message before it, in microseconds below 2^56. The two are a pair where the transfer-ID
+    /// is the next one, at most 2 seconds lie between them, and the stamp isn't 0.
     pub fn offset_after(&self, moment: u64, tid: u8, stamp: u64) -> Option<i64>
         requires tid { tid < 32 }
         requires stamp { stamp < 2 ^ 56 }
@@ -30,7 +33,7 @@ impl Last {
         }
     }
 
-    /// Whether the message is at most 3 seconds before this moment.
+    /// Whether the message is at most 3 seconds before this moment in microseconds.
     pub fn is_recent(&self, moment: u64) -> bool
         ensures { result ≡ nat_le moment (self.now.moment + 3000000) }
     {

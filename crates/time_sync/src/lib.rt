@@ -1,4 +1,5 @@
-//! The network's time: who tells it, and how far it is from the own moments.
+//! The network's time (Cyphal Specification, section 5.3.5): who tells it, and how far it is from
+//! the own moments.
 #![tactic(auto)]
 
 pub mod last;

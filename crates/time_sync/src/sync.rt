@@ -2,7 +2,7 @@ ghost use Rattle.std.specs.Prelude.{◌≡◌, ◌≤◌, ◌<◌, ◌^◌, ◌�
 
 use crate::last::Last;
 
-/// The messages of each source, as far as they tell the time.
+/// The messages of each source, as far as they tell the time (Cyphal Specification, section 5.3.5).
 ///
 /// It stands for a list of messages: those that `hear` was called with.
 #[derive(Drop)]
@@ -14,10 +14,10 @@ pub struct Sync {
     ghost full: { length sources ≡ 128 },
 }
 
-/// The network's time.
+/// The network's time (Cyphal Specification, section 5.3.5).
 #[derive(Clone, Copy, Debug, PartialEq, Eq)]
 pub struct Estimate {
-    /// The source that tells it.
+    /// The source that tells it, 0 to 127.
     pub source: u8,
     /// The network's time less the own moment, in microseconds.
     pub offset: i64,
@@ -39,8 +39,9 @@ impl Sync {
         }
     }
 
-    /// Hears a message of a source, at a moment in microseconds not before the last one: its
-    /// transfer-ID, and the source's own moment of sending the message before it, or 0.
+    /// Hears a message of a source, 0 to 127, at a moment in microseconds below 2^62 and not before
+    /// the last one: its transfer-ID, 0 to 31, and the source's own moment of sending the message
+    /// before it in microseconds below 2^56, or 0.
     pub fn hear(&mut self, moment: u64, source: u8, tid: u8, stamp: u64)
         requires order { self.old.latest ≤ moment }
         requires moment { moment < 2 ^ 62 }
@@ -68,7 +69,9 @@ impl Sync {
         self.latest = moment;
     }
 
-    /// The network's time at a moment in microseconds.
+    /// The network's time at a moment in microseconds, told by the least source with a message at
+    /// most 3 seconds before it. `None` where there is no such source, or where no two messages of
+    /// it told an offset.
     pub fn estimate(&self, moment: u64) -> Option<Estimate>
         ensures { (past : List Message) → Stands past self.now → result ≡ estimate moment past }
     {

@@ -1,4 +1,4 @@
-//! The CRC of a transfer of several frames: CRC-16/CCITT-FALSE.
+//! The CRC of a transfer of several frames (Cyphal Specification, section 4.2): CRC-16/CCITT-FALSE.
 #![tactic(auto)]
 
 ghost use Rattle.std.specs.Prelude.{◌≡◌, ℕ, List, ◌++◌, length};
@@ -10,7 +10,7 @@ mod tests;
 
 use std::marker::Model;
 
-/// The running CRC of bytes, seen as a number below 2^16.
+/// The running CRC of bytes (Cyphal Specification, section 4.2), seen as a number below 2^16.
 ///
 /// The polynomial is 0x1021 and the start 0xFFFF; nothing is reflected, and the end isn't inverted.
 #[derive(Clone, Copy, Debug, PartialEq, Eq)]

@@ -1,6 +1,6 @@
 use cy_bits::ShortList;
 
-/// A frame that waits to be sent.
+/// A frame that waits to be sent (Cyphal Specification, section 4.2).
 #[derive(Drop)]
 pub struct OutFrame {
     /// The identifier. On the bus a lower one has the higher priority.

@@ -1,4 +1,5 @@
-//! Frames that wait to be sent on a bus: the least identifier leaves first, and of equal ones the first pushed.
+//! Frames that wait to be sent on a bus (Cyphal Specification, section 4.2): the least identifier
+//! leaves first, and of equal ones the first pushed.
 #![tactic(auto)]
 
 pub mod frame;

@@ -6,7 +6,8 @@ use cy_bits::NoMemory;
 use frag::{Frames, count};
 use std::alloc::Global;
 
-/// The frames that wait to be sent on a bus, in the order of pushing.
+/// The frames that wait to be sent on a bus, in the order of pushing (Cyphal Specification,
+/// section 4.2).
 ///
 /// Only `new` takes memory.
 #[derive(Drop)]
@@ -33,8 +34,9 @@ impl TxQueue {
         Ok(TxQueue { places, waiting })
     }
 
-    /// Puts the frames of a transfer at the end of the list, each with the identifier: a payload of at most 2^40
-    /// bytes with a transfer-ID of 0 to 31, in frames of `mtu` bytes, 8 or 64.
+    /// Puts the frames of a transfer at the end of the list, each with the identifier (Cyphal
+    /// Specification, section 4.1.3): a payload of at most 2^40 bytes with a transfer-ID of 0 to
+    /// 31, in frames of `mtu` bytes, 8 or 64.
     ///
     /// Answers Full, and puts none of them, where they are more than the free places.
     pub fn push_transfer(

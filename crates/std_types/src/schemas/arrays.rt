@@ -1,4 +1,4 @@
-//! The schemas of the standard types: primitives and arrays.
+//! The schemas of the standard types: primitives and arrays (Cyphal Specification, section 5.3.6).
 ghost use Rattle.std.specs.Prelude.{◌≡◌, IfOk, codes, true};
 ghost use Rattle.dsdl_types.specs.Schemas.{End, Field, Struct, Var};
 ghost use Rattle.dsdl_types.specs.Views.{Typed, kind_of, sch};

@@ -1,4 +1,4 @@
-//! The schemas of the standard types: files.
+//! The schemas of the standard types: files (Cyphal Specification, section 5.3.7).
 ghost use Rattle.std.specs.Prelude.{◌≡◌, IfOk};
 ghost use Rattle.dsdl_types.specs.Views.{Typed, kind_of};
 ghost use Rattle.std_types.specs.Schemas.{file_error, file_list_reply, file_list_request, info_reply, info_request, path, read_reply, read_request};

@@ -1,4 +1,4 @@
-//! The schemas of the standard types: a node.
+//! The schemas of the standard types: a node (Cyphal Specification, chapter 5).
 ghost use Rattle.std.specs.Prelude.{◌≡◌, IfOk};
 ghost use Rattle.dsdl_types.specs.Views.{Typed, kind_of};
 ghost use Rattle.std_types.specs.Schemas.{health, heartbeat, mode, node_id, node_id_allocation, node_info, node_info_request, synchronization, synchronized_timestamp, version};

@@ -1,4 +1,4 @@
-//! The schemas of the standard types: registers.
+//! The schemas of the standard types: registers (Cyphal Specification, section 5.3.10).
 ghost use Rattle.std.specs.Prelude.{◌≡◌, IfOk};
 ghost use Rattle.dsdl_types.specs.Views.{Typed, kind_of};
 ghost use Rattle.std_types.specs.Schemas.{access_reply, access_request, list_reply, list_request, register_name, register_value};

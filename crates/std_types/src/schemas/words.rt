@@ -1,4 +1,4 @@
-//! The words of a schema.
+//! The words of a schema (Cyphal Specification, section 3.4).
 ghost use Rattle.std.specs.Prelude.{◌≡◌, IfOk, [], true, false};
 ghost use Rattle.dsdl_types.specs.Schemas.{End, Fixed, Struct, Union, Var};
 ghost use Rattle.dsdl_types.specs.Views.{Padding, Typed, flds, kind_of, sch, with_field};
