@@ -1,5 +1,6 @@
 -- Sets of numbers, by what their members are.
-use Rattle.std.specs.Prelude.{◌≡◌, ℕ, zero, suc, ◌+◌, ◌-◌, ◌*◌, ◌/◌, ◌%◌, ◌^◌, ◌<◌, ◌≤◌, ◌⊎◌, ◌↔◌, List, Contains, Option, MatchOption, Result, Err}
+use Rattle.std.specs.Prelude.{◌≡◌, ℕ, zero, suc, ◌+◌, ◌-◌, ◌*◌, ◌/◌, ◌%◌, ◌^◌, ◌<◌, ◌≤◌, ◌⊎◌, ◌↔◌}
+use Rattle.std.specs.Prelude.{List, Contains, Option, MatchOption, Result, Err}
 use Rattle.bit_length.specs.declared.LengthError.{LengthError}
 use Rattle.bit_length.specs.declared.LengthError.TheVariants as error
 

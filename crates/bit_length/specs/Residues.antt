@@ -1,5 +1,6 @@
 -- Remainders of numbers, and tables of marks that are made of them.
-use Rattle.std.specs.Prelude.{◌≡◌, ℕ, ◌%◌, ◌<◌, ◌==◌, ◌⊎◌, ◌↔◌, Bool, true, false, List, length, slice_index_or}
+use Rattle.std.specs.Prelude.{◌≡◌, ℕ, ◌%◌, ◌<◌, ◌==◌, ◌⊎◌, ◌↔◌, Bool, true, false, List, length}
+use Rattle.std.specs.Prelude.{slice_index_or}
 use Rattle.std.specs.List.{list_any}
 use Rattle.bit_length.specs.Lengths.{Numbers, Has, Same, SomeLeaves}
 use Rattle.bit_length.specs.Runs.{numbers_below}

@@ -1,5 +1,7 @@
--- What is counted of the records of one bus. Records are a list with the newest first; `past` is what came before.
-use Rattle.std.specs.Prelude.{ℕ, ◌+◌, ◌-◌, ◌==◌, max, if◌then◌else◌, List, [], ◌∷◌, length, map, Option, Some, None, unwrap_or, is_none}
+-- What is counted of the records of one bus. Records are a list with the newest first; `past` is
+-- what came before.
+use Rattle.std.specs.Prelude.{ℕ, ◌+◌, ◌-◌, ◌==◌, max, if◌then◌else◌, List, [], ◌∷◌, length, map}
+use Rattle.std.specs.Prelude.{Option, Some, None, unwrap_or, is_none}
 use Rattle.tail_frame.specs.Frames.{frame_of}
 use Rattle.tail_frame.specs.declared.logged.Record.{Record}
 use Rattle.bus_survey.specs.Starts.{one_if}

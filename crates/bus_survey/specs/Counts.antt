@@ -1,4 +1,5 @@
--- What is counted of the frames of one flow. Frames are a list with the newest first; `past` is what came before.
+-- What is counted of the frames of one flow. Frames are a list with the newest first; `past` is
+-- what came before.
 use Rattle.std.specs.Prelude.{ℕ, ◌+◌, ◌≤◌, if◌then◌else◌, List, [], ◌∷◌, length, map, ⊤}
 use Rattle.tail_frame.specs.Frames.{FrameOf}
 use Rattle.bus_survey.specs.Flows.{flows, of_flow}

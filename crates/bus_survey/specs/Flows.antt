@@ -1,5 +1,5 @@
--- The flows of frames, and the order in which they are told. Frames are a list with the newest first; `past` is what came
--- before.
+-- The flows of frames, and the order in which they are told. Frames are a list with the newest
+-- first; `past` is what came before.
 use Rattle.std.specs.Prelude.{ℕ, Bool, if◌then◌else◌, List, [], ◌∷◌, Option, Some, None}
 use Rattle.std.specs.BTreeSet.{insert_key}
 use Rattle.std.specs.Option.{option_cmp}
@@ -59,7 +59,8 @@ sender_order (Node a) Anonymous = Less
 sender_order Anonymous (Node b) = Greater
 sender_order Anonymous Anonymous = Equal
 
--- flows come by their kinds, then by their ports, their senders, their receivers, and last by their buses
+-- flows come by their kinds, then by their ports, their senders, their receivers, and last by their
+-- buses
 abbrev pub flow_order : Flow → Flow → Ordering
 flow_order a b =
     ordering_then (nat_cmp (kind_number a.kind) (kind_number b.kind))

@@ -1,5 +1,6 @@
 -- The lines that are written.
-use Rattle.std.specs.Prelude.{ℕ, List, [], ◌∷◌, ◌++◌, codes, decimal, Option, Some, None, unwrap_or, slice_get}
+use Rattle.std.specs.Prelude.{ℕ, List, [], ◌∷◌, ◌++◌, codes, decimal, Option, Some, None, unwrap_or}
+use Rattle.std.specs.Prelude.{slice_get}
 use Rattle.line_text.specs.Text.{moment_text, line_of}
 use Rattle.bus_survey.specs.declared.bus_counts.BusCounts.{BusCounts}
 use Rattle.bus_survey.specs.declared.flow.Flow.{Flow}

@@ -1,5 +1,6 @@
 -- The nodes that sent frames. Frames are a list with the newest first; `past` is what came before.
-use Rattle.std.specs.Prelude.{◌≡◌, ◌<◌, ℕ, zero, suc, ◌+◌, Bool, false, ◌||◌, ◌==◌, List, [], ◌∷◌, Option, Some, None, slice_index_or}
+use Rattle.std.specs.Prelude.{◌≡◌, ◌<◌, ℕ, zero, suc, ◌+◌, Bool, false, ◌||◌, ◌==◌, List, [], ◌∷◌}
+use Rattle.std.specs.Prelude.{Option, Some, None, slice_index_or}
 use Rattle.can_id.specs.Identifiers.{key_of}
 use Rattle.tail_frame.specs.Frames.{FrameOf}
 use Rattle.bus_survey.specs.Starts.{one_if}

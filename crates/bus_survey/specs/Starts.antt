@@ -1,5 +1,8 @@
--- What is counted of the starts of one flow. Starts and moments are lists with the newest first; `past` is what came before.
-use Rattle.std.specs.Prelude.{ℕ, ◌+◌, ◌-◌, ◌%◌, ◌==◌, ◌&&◌, not, min, max, Bool, false, if◌then◌else◌, List, [], ◌∷◌, ◌++◌, length, Option, Some, None, unwrap_or}
+-- What is counted of the starts of one flow. Starts and moments are lists with the newest first;
+-- `past` is what came before.
+use Rattle.std.specs.Prelude.{ℕ, ◌+◌, ◌-◌, ◌%◌, ◌==◌, ◌&&◌, not, min, max, Bool, false}
+use Rattle.std.specs.Prelude.{if◌then◌else◌, List, [], ◌∷◌, ◌++◌, length, Option, Some, None}
+use Rattle.std.specs.Prelude.{unwrap_or}
 use Rattle.bus_survey.specs.declared.starts.Start.{Start}
 use Rattle.bus_survey.specs.declared.starts.Starts.{Starts}
 use Rattle.bus_survey.specs.declared.waits.Waits.{Waits}
@@ -38,7 +41,8 @@ abbrev pub is_copy : Option ℕ → ℕ → Bool
 is_copy None tid = false
 is_copy (Some before) tid = tid == before
 
--- there is a gap before a start that is no copy, and hasn't the transfer-ID that follows that of the start before
+-- there is a gap before a start that is no copy, and hasn't the transfer-ID that follows that of
+-- the start before
 abbrev pub is_gap : Option ℕ → ℕ → Bool
 is_gap None tid = false
 is_gap (Some before) tid = not (tid == before) && not (tid == (before + 1) % 32)

@@ -1,4 +1,5 @@
--- What `survey` says of a log. Records and frames are lists with the newest first; `past` is what came before.
+-- What `survey` says of a log. Records and frames are lists with the newest first; `past` is what
+-- came before.
 use Rattle.std.specs.Prelude.{ℕ, List, [], ◌++◌, length}
 use Rattle.log_loop.specs.Voice.{Voice, plain_voice}
 use Rattle.tail_frame.specs.declared.logged.Record.{Record}

@@ -22,7 +22,8 @@ use Rattle.std.specs.Prelude.{nat_lt, not, ◌||◌}
 use Rattle.can_id.specs.declared.ident.Ident.{Ident}
 use Rattle.can_id.specs.declared.ident.Ident.TheVariants.{Message, Anonymous, Service}
 use Rattle.can_id.specs.declared.key.Key.{Key}
-use Rattle.can_id.specs.declared.key.Kind.TheVariants.{Message as message, Request as request, Response as response}
+use Rattle.can_id.specs.declared.key.Kind.TheVariants.{Message as message, Request as request}
+use Rattle.can_id.specs.declared.key.Kind.TheVariants.{Response as response}
 
 -- the number that `count` bits of n make, from bit `at` on
 abbrev pub field : ℕ → ℕ → ℕ → ℕ

@@ -1,4 +1,5 @@
--- The text of the way to a part: names with a point between, and brackets for the items of an array.
+-- The text of the way to a part: names with a point between, and brackets for the items of an
+-- array.
 use Rattle.std.specs.Prelude.{ℕ, List, [], ◌∷◌, ◌++◌, codes}
 use Rattle.dsdl_types.specs.Difference.{Turn, Named, Item}
 

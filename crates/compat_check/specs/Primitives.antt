@@ -1,6 +1,7 @@
 -- Types without parts.
 use Rattle.std.specs.Prelude.{Bool, false, Option, Some, None}
-use Rattle.dsdl_types.specs.Schemas.{Prim, PBool, PUint, PInt, PFloat, Sch, Simple, Fixed, Var, Struct, Union}
+use Rattle.dsdl_types.specs.Schemas.{Prim, PBool, PUint, PInt, PFloat, Sch, Simple, Fixed, Var}
+use Rattle.dsdl_types.specs.Schemas.{Struct, Union}
 use Rattle.dsdl_types.specs.Difference.{same_prim}
 use Rattle.dsdl_types.specs.Views.{is_saturated}
 use Rattle.compat_check.specs.declared.primitive.Primitive.{Primitive}

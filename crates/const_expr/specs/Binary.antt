@@ -1,14 +1,17 @@
 -- What a binary operator makes of two constants.
-use Rattle.std.specs.Prelude.{ℕ, ◌&&◌, ◌||◌, ◌++◌, nat_lt, ℤ, pos, negsuc, Bool, not, List, [], ◌∷◌, length, filter, Option, Some, None, Result, Ok, Err, if◌then◌else◌}
+use Rattle.std.specs.Prelude.{ℕ, ◌&&◌, ◌||◌, ◌++◌, nat_lt, ℤ, pos, negsuc, Bool, not, List, [], ◌∷◌}
+use Rattle.std.specs.Prelude.{length, filter, Option, Some, None, Result, Ok, Err, if◌then◌else◌}
 use Rattle.std.specs.Int.{w128, int_bit_and, int_bit_or, int_bit_xor}
 use Rattle.bit_length.specs.Residues.{residues_of}
-use Rattle.cy_ratio.specs.Fraction.{Fraction, sum_of, difference_of, product_of, quotient_of, remainder_of, power_of}
+use Rattle.cy_ratio.specs.Fraction.{Fraction, sum_of, difference_of, product_of, quotient_of}
+use Rattle.cy_ratio.specs.Fraction.{remainder_of, power_of}
 use Rattle.cy_ratio.specs.declared.RatioError.{RatioError}
 use Rattle.const_expr.specs.declared.constant.Const.{Const, out-Const}
 use Rattle.const_expr.specs.declared.constant.Const.TheVariants as c
 use Rattle.const_expr.specs.declared.constant.Const.TheOpen as o
 use Rattle.const_expr.specs.declared.operator.Operator.{Operator}
-use Rattle.const_expr.specs.declared.operator.Operator.TheVariants.{Logic, Compare, Bits, Arithmetic, Power}
+use Rattle.const_expr.specs.declared.operator.Operator.TheVariants.{Logic, Compare, Bits}
+use Rattle.const_expr.specs.declared.operator.Operator.TheVariants.{Arithmetic, Power}
 use Rattle.const_expr.specs.declared.operator.Logic.{Logic as LogicSign}
 use Rattle.const_expr.specs.declared.operator.Logic.TheVariants as logic
 use Rattle.const_expr.specs.declared.operator.Bits.{Bits as BitsSign}
@@ -18,7 +21,8 @@ use Rattle.const_expr.specs.declared.operator.Arithmetic.TheVariants as arithmet
 use Rattle.const_expr.specs.declared.why.Why.{Why}
 use Rattle.const_expr.specs.declared.why.Why.TheVariants as why
 use Rattle.const_expr.specs.Refusals.{and_then}
-use Rattle.const_expr.specs.Constants.{Layer, whole, whole_of, naturals, number_of, has, with_all, gathered, are_of_one_kind}
+use Rattle.const_expr.specs.Constants.{Layer, whole, whole_of, naturals, number_of, has, with_all}
+use Rattle.const_expr.specs.Constants.{gathered, are_of_one_kind}
 use Rattle.const_expr.specs.Operators.{operator_of}
 use Rattle.const_expr.specs.Compare.{compared}
 
@@ -161,7 +165,8 @@ abbrev pub unless_found : Option (List Const) → Result Const Why → Result Co
 unless_found (Some xs) other = Ok (c.Set xs)
 unless_found None other = other
 
--- Comparisons and remainders of lengths by small divisors work at any size. For all else a set of lengths is listed.
+-- Comparisons and remainders of lengths by small divisors work at any size. For all else a set of
+-- lengths is listed.
 abbrev pub applied : Operator → Const → Const → Result Const Why
 applied (Compare r) u v = compared r (out-Const u) (out-Const v)
 applied (Arithmetic arithmetic.Rem) u v = unless_found (residues_in (out-Const u) (small_divisor (out-Const v))) (on_listed (Arithmetic arithmetic.Rem) u v)

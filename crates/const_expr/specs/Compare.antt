@@ -1,5 +1,6 @@
 -- Comparing constants.
-use Rattle.std.specs.Prelude.{ℕ, ◌==◌, Bool, true, false, not, ◌&&◌, List, Option, Some, None, Result, Ok, Err, if◌then◌else◌}
+use Rattle.std.specs.Prelude.{ℕ, ◌==◌, Bool, true, false, not, ◌&&◌, List, Option, Some, None}
+use Rattle.std.specs.Prelude.{Result, Ok, Err, if◌then◌else◌}
 use Rattle.std.specs.Str.{bytes_eq}
 use Rattle.std.specs.Ordering.{is_eq, bool_cmp}
 use Rattle.std.specs.declared.cmp.Ordering.{Ordering}
@@ -64,8 +65,8 @@ of_sets r same (Some xs) (Some ys) = if same then Ok (c.Truth (of_inclusion r (i
 of_sets r same (Some xs) None = Err why.Kind
 of_sets r same None ys = Err why.Kind
 
--- Two numbers, truth values, strings or sets of one kind; a set of lengths counts as a set of numbers. Truth
--- values and strings have no order, sets are ordered by inclusion.
+-- Two numbers, truth values, strings or sets of one kind; a set of lengths counts as a set of
+-- numbers. Truth values and strings have no order, sets are ordered by inclusion.
 abbrev pub compared : Relation → Layer → Layer → Result Const Why
 compared r (o.Number x) (o.Number y) = Ok (c.Truth (of_order r (order_of x y)))
 compared r (o.Truth a) (o.Truth b) = of_equality r (is_eq (bool_cmp a b))

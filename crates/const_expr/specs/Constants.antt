@@ -1,5 +1,6 @@
 -- Constants as what they are made of, and the ascending sets of them.
-use Rattle.std.specs.Prelude.{◌≡◌, ℕ, ◌==◌, ◌≤◌, length, ℤ, pos, Bool, true, false, List, [], ◌∷◌, map, AllPairs, Option, Some, None, Result, Ok, Err, if◌then◌else◌}
+use Rattle.std.specs.Prelude.{◌≡◌, ℕ, ◌==◌, ◌≤◌, length, ℤ, pos, Bool, true, false, List, [], ◌∷◌}
+use Rattle.std.specs.Prelude.{map, AllPairs, Option, Some, None, Result, Ok, Err, if◌then◌else◌}
 use Rattle.std.specs.List.{list_any, list_all, insert}
 use Rattle.std.specs.declared.cmp.Ordering.{Ordering}
 use Rattle.std.specs.declared.cmp.Ordering.TheVariants.{Less, Equal, Greater}
@@ -13,7 +14,8 @@ use Rattle.const_expr.specs.declared.constant.Const.TheOpen as o
 use Rattle.const_expr.specs.declared.why.Why.{Why}
 use Rattle.const_expr.specs.Refusals.{of_error}
 
--- a constant as what it is made of: a number, a truth value, a string, the members of a set, lengths, or a type
+-- a constant as what it is made of: a number, a truth value, a string, the members of a set,
+-- lengths, or a type
 abbrev pub Layer : Type 0
 Layer = o.Const-F Const
 

@@ -1,5 +1,7 @@
 -- The value of a number as it is written.
-use Rattle.std.specs.Prelude.{ℕ, suc, ◌*◌, ◌^◌, ◌==◌, ℤ, pos, negsuc, neg_ℤ, ◌-ℤ◌, Bool, not, ◌||◌, nat_lt, List, [], ◌∷◌, ◌++◌, length, filter, drop, Result, Ok, Err, if◌then◌else◌}
+use Rattle.std.specs.Prelude.{ℕ, suc, ◌*◌, ◌^◌, ◌==◌, ℤ, pos, negsuc, neg_ℤ, ◌-ℤ◌, Bool, not, ◌||◌}
+use Rattle.std.specs.Prelude.{nat_lt, List, [], ◌∷◌, ◌++◌, length, filter, drop, Result, Ok, Err}
+use Rattle.std.specs.Prelude.{if◌then◌else◌}
 use Rattle.std.specs.List.{before_first, after_first}
 use Rattle.std.specs.Str.Parse.{digits_value}
 use Rattle.cy_ratio.specs.Fraction.{fraction_of}
@@ -40,8 +42,8 @@ is_point b = b == 46
 abbrev pub is_exponent_sign : ℕ → Bool
 is_exponent_sign b = (b == 101) || (b == 69)
 
--- digits before and behind a point, and an exponent: the digits without the point times 10 to the exponent less
--- the number of those behind the point
+-- digits before and behind a point, and an exponent: the digits without the point times 10 to the
+-- exponent less the number of those behind the point
 abbrev pub decimal : List ℕ → List ℕ → ℤ → Result Const Why
 decimal front back exponent = scaled_within (digits_value 10 (front ++ back)) (exponent -ℤ pos (length back))
 
@@ -63,8 +65,8 @@ base_of _ = 10
 abbrev pub in_base : ℕ → List ℕ → Result Const Why
 in_base base text = if base == 10 then decimal_of text else natural_within (digits_value base (digits (drop 2 text)))
 
--- The value of a number: digits of the base 2, 8 or 16 behind `0b`, `0o` or `0x`, else decimal digits with a
--- point and an exponent. Range where a number on the way leaves i128, or the exponent with the point in it
--- leaves -38 to 38.
+-- The value of a number: digits of the base 2, 8 or 16 behind `0b`, `0o` or `0x`, else decimal
+-- digits with a point and an exponent. Range where a number on the way leaves i128, or the exponent
+-- with the point in it leaves -38 to 38.
 unfoldable pub literal : List ℕ → Result Const Why
 literal text = in_base (base_of text) text

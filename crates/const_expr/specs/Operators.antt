@@ -2,7 +2,8 @@
 use Rattle.std.specs.Prelude.{ℕ, List, Option, Some, None, if◌then◌else◌, codes}
 use Rattle.std.specs.Str.{bytes_eq}
 use Rattle.const_expr.specs.declared.operator.Operator.{Operator}
-use Rattle.const_expr.specs.declared.operator.Operator.TheVariants.{Logic, Compare, Bits, Arithmetic, Power}
+use Rattle.const_expr.specs.declared.operator.Operator.TheVariants.{Logic, Compare, Bits}
+use Rattle.const_expr.specs.declared.operator.Operator.TheVariants.{Arithmetic, Power}
 use Rattle.const_expr.specs.declared.operator.Logic.TheVariants as logic
 use Rattle.const_expr.specs.declared.operator.Relation.TheVariants as relation
 use Rattle.const_expr.specs.declared.operator.Bits.TheVariants as bits

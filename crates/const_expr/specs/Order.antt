@@ -1,5 +1,6 @@
 -- The order of the members of sets is total.
-use Rattle.std.proofs.Common.{◌≡◌, ℕ, pos, Bool, false, List, [], refl, sym, subst, Less, Equal, Greater}
+use Rattle.std.proofs.Common.{◌≡◌, ℕ, pos, Bool, false, List, [], refl, sym, subst, Less, Equal}
+use Rattle.std.proofs.Common.{Greater}
 use Rattle.std.specs.declared.cmp.Ordering.{Ordering}
 use Rattle.std.specs.Ordering.{nat_cmp, bool_cmp, on, then_cmp, ordering_then}
 use Rattle.std.specs.Cmp.{IsTotalOrder, on_total, then_total, nat_cmp_total, bool_cmp_total}

@@ -1,7 +1,10 @@
 -- The lengths of a schema as a list.
-use Rattle.std.specs.Prelude.{ℕ, zero, suc, ◌+◌, ◌*◌, ◌-◌, ◌^◌, ◌==◌, ◌&&◌, ◌||◌, nat_le, Bool, true, false, List}
+use Rattle.std.specs.Prelude.{ℕ, zero, suc, ◌+◌, ◌*◌, ◌-◌, ◌^◌, ◌==◌, ◌&&◌, ◌||◌, nat_le, Bool}
+use Rattle.std.specs.Prelude.{true, false, List}
 use Rattle.bit_length.specs.Runs.{numbers_below}
-use Rattle.dsdl_types.specs.Schemas.{Sch, Flds, Simple, Fixed, Var, Struct, Union, End, Pad, Field, is_aligned, is_delimited, extent_of, length_field_bits, tag_bits, width, variants}
+use Rattle.dsdl_types.specs.Schemas.{Sch, Flds, Simple, Fixed, Var, Struct, Union, End, Pad, Field}
+use Rattle.dsdl_types.specs.Schemas.{is_aligned, is_delimited, extent_of, length_field_bits}
+use Rattle.dsdl_types.specs.Schemas.{tag_bits, width, variants}
 use Rattle.dsdl_types.specs.Greatest.{up, from_lead}
 
 -- whether some number up to n passes a test
@@ -9,8 +12,8 @@ abbrev pub some_to : ℕ → (ℕ → Bool) → Bool
 some_to zero test = test zero
 some_to (suc n) test = test (suc n) || some_to n test
 
--- whether n is one of the lengths as a part of another type: those of the type by itself, or for a delimited
--- one 32 and each multiple of 8 up to the extent
+-- whether n is one of the lengths as a part of another type: those of the type by itself, or for a
+-- delimited one 32 and each multiple of 8 up to the extent
 abbrev pub is_part : Bool → ℕ → (ℕ → Bool) → ℕ → Bool
 is_part false extent own n = own n
 is_part true extent own n = some_to extent (λ c. nat_le (8 * c) extent && (n == 32 + 8 * c))

@@ -1,4 +1,5 @@
--- The left parts of an expression: the left operand of a binary operator, and what stands in front of a point.
+-- The left parts of an expression: the left operand of a binary operator, and what stands in front
+-- of a point.
 use Rattle.std.specs.Prelude.{◌≡◌, Bool, true, false, Ok}
 use Rattle.dsdl_parse.specs.declared.expr.Span.{Span}
 use Rattle.dsdl_parse.specs.declared.expr.Expr.{Expr, out-Expr}
@@ -29,7 +30,8 @@ IsLeftIn a _ = ⊥
 abbrev pub IsLeftOf : Expr → Expr → Type 0
 IsLeftOf a x = IsLeftIn a (out-ExprNode (out-Expr x).node)
 
--- the value of one layer of an expression whose left part is worth u; of an expression without a left part u itself
+-- the value of one layer of an expression whose left part is worth u; of an expression without a
+-- left part u itself
 abbrev pub onto_node : Scope → e.ExprNode-F ExprNode Expr → Span → Const → Valued
 onto_node scope (e.Binary op left right) s u = with_value (value_of scope right) (λ v. at s (binary op u v))
 onto_node scope (e.Member left name) s u = at s (member scope u name)

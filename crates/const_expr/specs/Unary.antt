@@ -1,5 +1,6 @@
 -- What an operator makes of one constant, and which set a set literal is.
-use Rattle.std.specs.Prelude.{ℕ, ◌==◌, ◌&&◌, nat_lt, pos, Bool, not, List, [], ◌∷◌, Option, Some, None, Result, Ok, Err, if◌then◌else◌}
+use Rattle.std.specs.Prelude.{ℕ, ◌==◌, ◌&&◌, nat_lt, pos, Bool, not, List, [], ◌∷◌, Option, Some}
+use Rattle.std.specs.Prelude.{None, Result, Ok, Err, if◌then◌else◌}
 use Rattle.std.specs.List.{list_all}
 use Rattle.cy_ratio.specs.Fraction.{difference_of}
 use Rattle.const_expr.specs.declared.constant.Const.{Const, out-Const}

@@ -1,4 +1,5 @@
--- The constant that an expression is worth, or the first refusal in it. Operands are valued left before right, and both always.
+-- The constant that an expression is worth, or the first refusal in it. Operands are valued left
+-- before right, and both always.
 use Rattle.std.specs.Prelude.{List, [], ◌∷◌, Result, Ok, Err}
 use Rattle.dsdl_parse.specs.declared.expr.Span.{Span}
 use Rattle.dsdl_parse.specs.declared.expr.Expr.{Expr, Expr-F}
@@ -19,7 +20,8 @@ abbrev pub Valued : Type 0
 Valued = Result Const ExprError
 
 -- what follows a value; a refusal stays
-abbrev pub with_value : {A B : Type 0} → Result A ExprError → (A → Result B ExprError) → Result B ExprError
+abbrev pub with_value : {A B : Type 0} → Result A ExprError → (A → Result B ExprError)
+    → Result B ExprError
 with_value (Ok a) next = next a
 with_value (Err why) next = Err why
 

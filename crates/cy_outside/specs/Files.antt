@@ -1,14 +1,18 @@
 -- Files under paths: which paths are folders, and what a tree answers at a path.
-use Rattle.std.specs.Prelude.{◌≡◌, ◌≢◌, ◌==◌, ◌∷◌, ◌-◌, ◌+◌, ◌/◌, ℕ, Bool, true, false, cond, List, [], Option, Some, None, length, take, drop, min, is_some, option_map, unwrap_or, ⊤}
+use Rattle.std.specs.Prelude.{◌≡◌, ◌≢◌, ◌==◌, ◌∷◌, ◌-◌, ◌+◌, ◌/◌, ℕ, Bool, true, false, cond, List}
+use Rattle.std.specs.Prelude.{[], Option, Some, None, length, take, drop, min, is_some, option_map}
+use Rattle.std.specs.Prelude.{unwrap_or, ⊤}
 use Rattle.std.specs.List.{list_any, before_first, All, AllPairs, Contains}
 use Rattle.std.specs.Ordering.{nat_cmp}
 use Rattle.std.specs.Cmp.Lexicographic.{slice_cmp}
 use Rattle.std.specs.FinMap as map
 use Rattle.cy_outside.specs.declared.tree.Entry.{Entry}
 use Rattle.cy_outside.specs.declared.tree.Listing.{Listing}
-use Rattle.cy_outside.specs.declared.tree.Listing.TheVariants.{Entries, Absent as NoListing, NotFolder}
+use Rattle.cy_outside.specs.declared.tree.Listing.TheVariants.{Entries, Absent as NoListing}
+use Rattle.cy_outside.specs.declared.tree.Listing.TheVariants.{NotFolder}
 use Rattle.cy_outside.specs.declared.tree.Got.{Got}
-use Rattle.cy_outside.specs.declared.tree.Got.TheVariants.{Bytes, Absent as NoBytes, Folder as FolderGot}
+use Rattle.cy_outside.specs.declared.tree.Got.TheVariants.{Bytes, Absent as NoBytes}
+use Rattle.cy_outside.specs.declared.tree.Got.TheVariants.{Folder as FolderGot}
 use Rattle.cy_outside.specs.declared.tree.Size.{Size}
 use Rattle.cy_outside.specs.declared.tree.Size.TheVariants.{File, Folder, Absent}
 

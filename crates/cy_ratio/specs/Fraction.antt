@@ -1,5 +1,7 @@
 -- Fractions in lowest terms, and the answer of each operation by the numbers that its rule names.
-use Rattle.std.specs.Prelude.{◌≡◌, ℕ, zero, suc, ◌*◌, ◌/◌, ◌%◌, ◌^◌, ◌<◌, ℤ, pos, negsuc, neg_ℤ, ◌+ℤ◌, ◌-ℤ◌, ◌*ℤ◌, unsigned_abs, int_div, nat_lt, Bool, true, false, if◌then◌else◌, List, [], ◌∷◌, Result, Ok, Err}
+use Rattle.std.specs.Prelude.{◌≡◌, ℕ, zero, suc, ◌*◌, ◌/◌, ◌%◌, ◌^◌, ◌<◌, ℤ, pos, negsuc, neg_ℤ}
+use Rattle.std.specs.Prelude.{◌+ℤ◌, ◌-ℤ◌, ◌*ℤ◌, unsigned_abs, int_div, nat_lt, Bool, true, false}
+use Rattle.std.specs.Prelude.{if◌then◌else◌, List, [], ◌∷◌, Result, Ok, Err}
 use Rattle.std.specs.Int.{int_div_euclid}
 use Rattle.std.specs.Ordering.{int_cmp}
 use Rattle.std.specs.declared.cmp.Ordering.{Ordering}
@@ -53,7 +55,8 @@ abbrev pub within : Fraction → Result Fraction RatioError
 within f = where_fit (f.num ∷ pos f.den ∷ []) (Ok f)
 
 -- what follows a fraction; a refusal stays
-abbrev pub and_then : Result Fraction RatioError → (Fraction → Result Fraction RatioError) → Result Fraction RatioError
+abbrev pub and_then : Result Fraction RatioError → (Fraction → Result Fraction RatioError)
+    → Result Fraction RatioError
 and_then (Ok f) next = next f
 and_then (Err why) next = Err why
 

@@ -1,5 +1,6 @@
 -- The order of fractions is total.
-use Rattle.std.proofs.Common.{◌≡◌, ℕ, zero, suc, ◌*◌, ℤ, pos, negsuc, neg_ℤ, ◌*ℤ◌, ◌+ℤ◌, refl, sym, ap, ◌∙◌, subst, arith, Less, Equal, Greater}
+use Rattle.std.proofs.Common.{◌≡◌, ℕ, zero, suc, ◌*◌, ℤ, pos, negsuc, neg_ℤ, ◌*ℤ◌, ◌+ℤ◌, refl, sym}
+use Rattle.std.proofs.Common.{ap, ◌∙◌, subst, arith, Less, Equal, Greater}
 use Rattle.std.proofs.lemmas.Int.{ints}
 use Rattle.std.proofs.lemmas.Cmp.{int_cmp_total}
 use Rattle.std.proofs.Math.IntN.{*ℤ_comm, *ℤ-zero, suc_ℤ-*ℤ}
@@ -54,11 +55,14 @@ module _ (a c e : ℤ) (p q s : ℕ) where
   back : int_cmp (c *ℤ pos (suc s)) (e *ℤ pos (suc q)) ≡ int_cmp ((c *ℤ pos (suc p)) *ℤ pos (suc s)) ((e *ℤ pos (suc q)) *ℤ pos (suc p))
   back = scale_cmp (c *ℤ pos (suc s)) (e *ℤ pos (suc q)) p ∙ ap (λ z. int_cmp z ((e *ℤ pos (suc q)) *ℤ pos (suc p))) (turn c (suc s) (suc p))
 
-  chain : int_cmp (a *ℤ pos (suc q)) (c *ℤ pos (suc p)) ≡ Less → int_cmp (c *ℤ pos (suc s)) (e *ℤ pos (suc q)) ≡ Less → int_cmp (a *ℤ pos (suc s)) (e *ℤ pos (suc p)) ≡ Less
+  chain : int_cmp (a *ℤ pos (suc q)) (c *ℤ pos (suc p)) ≡ Less
+      → int_cmp (c *ℤ pos (suc s)) (e *ℤ pos (suc q)) ≡ Less
+      → int_cmp (a *ℤ pos (suc s)) (e *ℤ pos (suc p)) ≡ Less
   chain h k = wide ∙ int_cmp_total.trans ((a *ℤ pos (suc q)) *ℤ pos (suc s)) ((c *ℤ pos (suc p)) *ℤ pos (suc s)) ((e *ℤ pos (suc q)) *ℤ pos (suc p))
       (sym (scale_cmp (a *ℤ pos (suc q)) (c *ℤ pos (suc p)) s) ∙ h) (sym back ∙ k)
 
-  alike : int_cmp (a *ℤ pos (suc q)) (c *ℤ pos (suc p)) ≡ Equal → int_cmp (a *ℤ pos (suc s)) (e *ℤ pos (suc p)) ≡ int_cmp (c *ℤ pos (suc s)) (e *ℤ pos (suc q))
+  alike : int_cmp (a *ℤ pos (suc q)) (c *ℤ pos (suc p)) ≡ Equal
+      → int_cmp (a *ℤ pos (suc s)) (e *ℤ pos (suc p)) ≡ int_cmp (c *ℤ pos (suc s)) (e *ℤ pos (suc q))
   alike h = wide ∙ ap (λ z. int_cmp (z *ℤ pos (suc s)) ((e *ℤ pos (suc q)) *ℤ pos (suc p))) (equal_is (a *ℤ pos (suc q)) (c *ℤ pos (suc p)) h) ∙ sym back
 
 one_below : (n : ℕ) → (k : ℕ) × (divisor n ≡ suc k)
@@ -73,10 +77,12 @@ order_total = record {
   congr = λ x y z. same x.num y.num z.num (divisor x.den) (divisor y.den) (divisor z.den) (one_below x.den) (one_below y.den) (one_below z.den);
 }
   where
-    go : (a c e : ℤ) (p q s : ℕ) → (i : ℕ) × (p ≡ suc i) → (j : ℕ) × (q ≡ suc j) → (k : ℕ) × (s ≡ suc k) →
+    go : (a c e : ℤ) (p q s : ℕ) → (i : ℕ) × (p ≡ suc i) → (j : ℕ) × (q ≡ suc j)
+        → (k : ℕ) × (s ≡ suc k) →
         int_cmp (a *ℤ pos q) (c *ℤ pos p) ≡ Less → int_cmp (c *ℤ pos s) (e *ℤ pos q) ≡ Less → int_cmp (a *ℤ pos s) (e *ℤ pos p) ≡ Less
     go a c e p q s i j k = rw (i.1, j.1, k.1) (chain a c e i.0 j.0 k.0)
 
-    same : (a c e : ℤ) (p q s : ℕ) → (i : ℕ) × (p ≡ suc i) → (j : ℕ) × (q ≡ suc j) → (k : ℕ) × (s ≡ suc k) →
+    same : (a c e : ℤ) (p q s : ℕ) → (i : ℕ) × (p ≡ suc i) → (j : ℕ) × (q ≡ suc j)
+        → (k : ℕ) × (s ≡ suc k) →
         int_cmp (a *ℤ pos q) (c *ℤ pos p) ≡ Equal → int_cmp (a *ℤ pos s) (e *ℤ pos p) ≡ int_cmp (c *ℤ pos s) (e *ℤ pos q)
     same a c e p q s i j k = rw (i.1, j.1, k.1) (alike a c e i.0 j.0 k.0)

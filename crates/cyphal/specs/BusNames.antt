@@ -1,5 +1,6 @@
 -- The names of buses in a word.
-use Rattle.std.specs.Prelude.{ℕ, Bool, true, ◌==◌, nat_le, ◌&&◌, not, List, [], ◌∷◌, length, Option, Some, None, if◌then◌else◌}
+use Rattle.std.specs.Prelude.{ℕ, Bool, true, ◌==◌, nat_le, ◌&&◌, not, List, [], ◌∷◌, length, Option}
+use Rattle.std.specs.Prelude.{Some, None, if◌then◌else◌}
 use Rattle.std.specs.List.{list_all, list_any, slice_split}
 use Rattle.std.specs.Str.{bytes_eq}
 use Rattle.node_plan.specs.Names.{is_bus_name}

@@ -82,7 +82,8 @@ is_fault status.WriteFault = true
 is_fault status.NoMemory = true
 is_fault other = false
 
--- the statuses of a command that came to the end of what counts of its input, or of what it compares
+-- the statuses of a command that came to the end of what counts of its input, or of what it
+-- compares
 abbrev pub is_settled : Status → Bool
 is_settled status.Ok = true
 is_settled (status.Log n why) = true

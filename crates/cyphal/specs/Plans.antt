@@ -1,6 +1,7 @@
 -- What a command of a plan comes to: why the root has no namespace, or in it what the file at the
 -- plan's path gives.
-use Rattle.std.specs.Prelude.{◌≡◌, ◌⊎◌, ◌+◌, ◌^◌, ℕ, min, length, false, List, Option, Some, None, IfSome}
+use Rattle.std.specs.Prelude.{◌≡◌, ◌⊎◌, ◌+◌, ◌^◌, ℕ, min, length, false, List, Option, Some, None}
+use Rattle.std.specs.Prelude.{IfSome}
 use Rattle.std.specs.FinMap as map
 use Rattle.cy_outside.specs.Files.{Files, bytes_at, reads_of}
 use Rattle.dsdl_types.specs.declared.namespace.Namespace.{Namespace}

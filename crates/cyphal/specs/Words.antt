@@ -1,5 +1,6 @@
 -- Which words are a command.
-use Rattle.std.specs.Prelude.{ℕ, Bool, false, ◌==◌, nat_le, ◌&&◌, not, List, [], ◌∷◌, length, codes, Option, Some, None, option_map, if◌then◌else◌}
+use Rattle.std.specs.Prelude.{ℕ, Bool, false, ◌==◌, nat_le, ◌&&◌, not, List, [], ◌∷◌, length, codes}
+use Rattle.std.specs.Prelude.{Option, Some, None, option_map, if◌then◌else◌}
 use Rattle.std.specs.List.{list_all}
 use Rattle.std.specs.Str.{bytes_eq}
 use Rattle.dsdl_names.specs.Words.{number_to}
@@ -12,12 +13,12 @@ use Rattle.cyphal.specs.declared.words.Accepted.TheVariants as accepted
 -- what the words ask for: the layouts of the types below this root, whether one of them is newer
 -- than another, whether each of their versions is newer than the one before it, values of one of
 -- them as bytes, bytes as values of it, a run of the plan at this path, which is read in the
--- namespace of the root, its memory bound, its text in version 2, the run of the log that is made of
--- this number, who is online in the log of the input, which a node with this node-ID hears, node-IDs
--- for the nodes of that log that have none, the file that a node with this node-ID fetches of
--- another one over that log, the lines of a log in the order of their moments, with a window of so
--- many microseconds, what the buses with these names carry, or what became of each frame of a log by
--- such a plan
+-- namespace of the root, its memory bound, its text in version 2, the run of the log that is made
+-- of this number, who is online in the log of the input, which a node with this node-ID hears,
+-- node-IDs for the nodes of that log that have none, the file that a node with this node-ID fetches
+-- of another one over that log, the lines of a log in the order of their moments, with a window of
+-- so many microseconds, what the buses with these names carry, or what became of each frame of a
+-- log by such a plan
 pub data Command : Type 0 where
   Compile : List ℕ → Command
   Compat : List ℕ → List ℕ → List ℕ → Command
@@ -155,8 +156,8 @@ named_of_three word first second third =
 
 -- what the words ask for, where they are accepted: `compile ROOT`, `compat ROOT NEW OLD`, `versions
 -- ROOT`, `encode ROOT TYPE`, `decode ROOT TYPE`, `run ROOT PLAN`, `bound ROOT PLAN`, `migrate ROOT
--- PLAN`, `explain ROOT PLAN`, `gen NUMBER`, `order MICROS`, `survey BUSES`, `monitor NODE`, `allocate
--- NODE` or `fetch NODE SERVER PATH`
+-- PLAN`, `explain ROOT PLAN`, `gen NUMBER`, `order MICROS`, `survey BUSES`, `monitor NODE`,
+-- `allocate NODE` or `fetch NODE SERVER PATH`
 abbrev pub command_of : List (List ℕ) → Option Command
 command_of [] = None
 command_of (word ∷ []) = None

@@ -1,5 +1,6 @@
 -- Which definitions of a namespace clash: by their versions, or by their ports.
-use Rattle.std.specs.Prelude.{ℕ, ◌==◌, ◌&&◌, ◌||◌, Bool, true, false, not, List, [], ◌∷◌, ◌++◌, length, Option, Some, None, if◌then◌else◌}
+use Rattle.std.specs.Prelude.{ℕ, ◌==◌, ◌&&◌, ◌||◌, Bool, true, false, not, List, [], ◌∷◌, ◌++◌}
+use Rattle.std.specs.Prelude.{length, Option, Some, None, if◌then◌else◌}
 use Rattle.std.specs.List.{list_any}
 use Rattle.std.specs.Str.{bytes_eq}
 use Rattle.dsdl_types.specs.Schemas.{Sch, is_delimited, extent_of}
@@ -39,8 +40,8 @@ same_outlines (parts.Message s) (parts.Service request response) = false
 same_outlines (parts.Service request response) (parts.Message t) = false
 same_outlines (parts.Service request response) (parts.Service asked answered) = same_outline (sch request) (sch asked) && same_outline (sch response) (sch answered)
 
--- Versions clash, of the same full name and major number: where the minor numbers are equal, and, where the major
--- number isn't 0, where the kinds, an extent or a sealing differ.
+-- Versions clash, of the same full name and major number: where the minor numbers are equal, and,
+-- where the major number isn't 0, where the kinds, an extent or a sealing differ.
 abbrev pub versions_clash : Clash
 versions_clash a b =
     same_name a b
@@ -53,8 +54,8 @@ same_port (Some m) (Some n) = m == n
 same_port (Some m) None = false
 same_port None p = false
 
--- Ports clash, of the same kind and the same port: where the full names differ, and, where they are the same, where
--- the major numbers differ and neither is 0.
+-- Ports clash, of the same kind and the same port: where the full names differ, and, where they are
+-- the same, where the major numbers differ and neither is 0.
 abbrev pub ports_clash : Clash
 ports_clash a b =
     same_port a.port b.port
@@ -65,7 +66,8 @@ ports_clash a b =
 abbrev pub clashes_with : Clash → List Definition → Definition → Bool
 clashes_with clash before d = list_any (λ a. clash a d) before
 
--- the first of the definitions behind these that clashes with one before it, by its number, counted from 0
+-- the first of the definitions behind these that clashes with one before it, by its number, counted
+-- from 0
 abbrev pub first_clash_behind : Clash → List Definition → List Definition → Option ℕ
 first_clash_behind clash before [] = None
 first_clash_behind clash before (d ∷ ds) = if clashes_with clash before d then Some (length before) else first_clash_behind clash (before ++ d ∷ []) ds

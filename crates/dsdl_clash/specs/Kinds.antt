@@ -8,8 +8,8 @@ abbrev pub clash_of : By → Clash
 clash_of by.Version = versions_clash
 clash_of by.Port = ports_clash
 
--- A number before which no definition clashes with that of another number, by the number of the first definition of
--- each one's full name.
+-- A number before which no definition clashes with that of another number, by the number of the
+-- first definition of each one's full name.
 abbrev pub first_rival : By → List ℕ → ℕ → ℕ
 first_rival by.Version names at = min (slice_index_or names at 0) at
 first_rival by.Port names at = 0

@@ -1,5 +1,6 @@
 -- Full names as numbers, so that equal names are found by comparing numbers.
-use Rattle.std.specs.Prelude.{◌≡◌, ◌<◌, ℕ, Bool, false, List, map, length, take, Option, Some, unwrap_or}
+use Rattle.std.specs.Prelude.{◌≡◌, ◌<◌, ℕ, Bool, false, List, map, length, take, Option, Some}
+use Rattle.std.specs.Prelude.{unwrap_or}
 use Rattle.std.specs.BTreeMap.{BTreeMap, get}
 use Rattle.std.specs.List.{HoldsAt, list_any, position_from}
 use Rattle.std.specs.Ordering.{nat_cmp}
@@ -27,4 +28,5 @@ name_numbers ds = map (λ d. unwrap_or (first_of_name ds d.id.name) 0) ds
 -- A number is that of the first definition of its full name, and no name before place i is greater.
 pub record IsReached (ds : List Definition) (number i : ℕ) : Type 0 where
   pub first : number < length ds → HoldsAt (λ d. first_of_name ds d.id.name ≡ Some number) ds number
-  pub greatest : number < length ds → (name : List ℕ) → HoldsAt (λ d. slice_cmp nat_cmp d.id.name name ≡ Less → list_any (has_name name) (take i ds) ≡ false) ds number
+  pub greatest : number < length ds → (name : List ℕ)
+      → HoldsAt (λ d. slice_cmp nat_cmp d.id.name name ≡ Less → list_any (has_name name) (take i ds) ≡ false) ds number

@@ -4,7 +4,8 @@ use Rattle.cy_outside.specs.Outside.{Rose}
 use Rattle.cy_outside.specs.declared.tree.TreeError.{TreeError}
 use Rattle.cy_outside.specs.declared.tree.TreeError.TheVariants as tree
 use Rattle.dsdl_files.specs.declared.error.FolderError.{FolderError}
-use Rattle.dsdl_files.specs.declared.error.FolderError.TheVariants.{NotFolder, TooBig, Failed, NoMemory}
+use Rattle.dsdl_files.specs.declared.error.FolderError.TheVariants.{NotFolder, TooBig, Failed}
+use Rattle.dsdl_files.specs.declared.error.FolderError.TheVariants.{NoMemory}
 
 -- what a call of the tree failed for
 abbrev pub error_of : TreeError → FolderError

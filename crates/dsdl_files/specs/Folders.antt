@@ -1,5 +1,8 @@
 -- Which files of a folder are compiled, and when a folder is refused.
-use Rattle.std.specs.Prelude.{◌≡◌, ℕ, ◌==◌, ◌+◌, ◌-◌, ◌^◌, min, max, Bool, cond, ◌||◌, ◌&&◌, List, [], ◌∷◌, ◌++◌, length, map, filter, filter_map, flat_map, Option, Some, None, is_some, option_map, unwrap_or, Result, Ok, Err, codes, nat_lt, nat_eq, ⊤}
+use Rattle.std.specs.Prelude.{◌≡◌, ℕ, ◌==◌, ◌+◌, ◌-◌, ◌^◌, min, max, Bool, cond, ◌||◌, ◌&&◌, List}
+use Rattle.std.specs.Prelude.{[], ◌∷◌, ◌++◌, length, map, filter, filter_map, flat_map, Option}
+use Rattle.std.specs.Prelude.{Some, None, is_some, option_map, unwrap_or, Result, Ok, Err, codes}
+use Rattle.std.specs.Prelude.{nat_lt, nat_eq, ⊤}
 use Rattle.std.specs.List.{ends_with, sum_by}
 use Rattle.std.specs.Str.{bytes_eq}
 use Rattle.std.specs.Set.{distinct_count}
@@ -7,7 +10,8 @@ use Rattle.std.specs.FinMap as finite
 use Rattle.cy_outside.specs.Files.{Files, rest_in, is_folder, member_of, bytes_at, reads_of}
 use Rattle.dsdl_files.specs.declared.file.DsdlFile.{DsdlFile}
 use Rattle.dsdl_files.specs.declared.error.FolderError.{FolderError}
-use Rattle.dsdl_files.specs.declared.error.FolderError.TheVariants.{NotFolder, TooBig, Failed, NoMemory}
+use Rattle.dsdl_files.specs.declared.error.FolderError.TheVariants.{NotFolder, TooBig, Failed}
+use Rattle.dsdl_files.specs.declared.error.FolderError.TheVariants.{NoMemory}
 use Rattle.dsdl_files.specs.declared.limits.Limits.{Limits}
 use Rattle.dsdl_files.specs.Order.{ascending}
 
@@ -71,7 +75,8 @@ first_too_big count most [] = None
 first_too_big count most (file ∷ rest) = cond (count == 0 || nat_lt most (length file.text)) (Some file.path) (first_too_big (count - 1) most rest)
 
 -- refused at this place, and else the answer
-abbrev pub refused_or : Option (List ℕ) → Result (List DsdlFile) FolderError → Result (List DsdlFile) FolderError
+abbrev pub refused_or : Option (List ℕ) → Result (List DsdlFile) FolderError
+    → Result (List DsdlFile) FolderError
 refused_or (Some path) answer = Err (TooBig path)
 refused_or None answer = answer
 
@@ -87,7 +92,8 @@ abbrev pub files_of_folder : Files → List ℕ → Result (List DsdlFile) Folde
 files_of_folder files root = files_within (record { entries = 65536; files = 4096; bytes = 2 ^ 20 }) files root
 
 -- a result is this answer, or the tree failed or memory ran out
-abbrev pub IsAnswer : Result (List DsdlFile) FolderError → Result (List DsdlFile) FolderError → Type 0
+abbrev pub IsAnswer : Result (List DsdlFile) FolderError → Result (List DsdlFile) FolderError
+    → Type 0
 IsAnswer answer (Ok files) = Ok files ≡ answer
 IsAnswer answer (Err NotFolder) = Err NotFolder ≡ answer
 IsAnswer answer (Err (TooBig path)) = Err (TooBig path) ≡ answer

@@ -1,14 +1,18 @@
 -- What each step of reading a folder does.
-use Rattle.std.specs.Prelude.{◌≡◌, ◌≢◌, ℕ, ◌<◌, Bool, true, false, not, ◌||◌, ◌&&◌, List, [], ◌∷◌, ◌++◌, length, map, filter, take, Option, Some, None, Result, Ok, Err, ⊤}
+use Rattle.std.specs.Prelude.{◌≡◌, ◌≢◌, ℕ, ◌<◌, Bool, true, false, not, ◌||◌, ◌&&◌, List, [], ◌∷◌}
+use Rattle.std.specs.Prelude.{◌++◌, length, map, filter, take, Option, Some, None, Result, Ok, Err}
+use Rattle.std.specs.Prelude.{⊤}
 use Rattle.std.specs.List.{list_any, AllPairs}
 use Rattle.std.specs.Str.{bytes_eq}
 use Rattle.cy_outside.specs.Files.{Files, is_folder, bytes_at, ListsMembers}
 use Rattle.cy_outside.specs.declared.tree.Entry.{Entry}
 use Rattle.dsdl_files.specs.declared.file.DsdlFile.{DsdlFile}
 use Rattle.dsdl_files.specs.declared.error.FolderError.{FolderError}
-use Rattle.dsdl_files.specs.declared.error.FolderError.TheVariants.{NotFolder, TooBig, Failed, NoMemory}
+use Rattle.dsdl_files.specs.declared.error.FolderError.TheVariants.{NotFolder, TooBig, Failed}
+use Rattle.dsdl_files.specs.declared.error.FolderError.TheVariants.{NoMemory}
 use Rattle.dsdl_files.specs.declared.limits.Limits.{Limits}
-use Rattle.dsdl_files.specs.Folders.{is_dsdl, name_below, dsdl_paths, dsdl_file, folders, counted, first_past, first_too_big}
+use Rattle.dsdl_files.specs.Folders.{is_dsdl, name_below, dsdl_paths, dsdl_file, folders, counted}
+use Rattle.dsdl_files.specs.Folders.{first_past, first_too_big}
 
 -- no name stands twice
 abbrev pub NamesDiffer : List Entry → Type 0
@@ -58,7 +62,8 @@ ReadsAt None path most text = ⊤
 ReadsAt (Some files) path most text = text ≡ take most (bytes_at files path)
 
 -- the files at these paths, within the limits on files
-abbrev pub ReadsAll : Files → List ℕ → Limits → List (List ℕ) → Result (List DsdlFile) FolderError → Type 0
+abbrev pub ReadsAll : Files → List ℕ → Limits → List (List ℕ) → Result (List DsdlFile) FolderError
+    → Type 0
 ReadsAll files root limits paths (Ok read) = (first_too_big limits.files limits.bytes (map (dsdl_file files root) paths) ≡ None) × (read ≡ map (dsdl_file files root) paths)
 ReadsAll files root limits paths (Err NotFolder) = ⊥
 ReadsAll files root limits paths (Err (TooBig path)) = first_too_big limits.files limits.bytes (map (dsdl_file files root) paths) ≡ Some path

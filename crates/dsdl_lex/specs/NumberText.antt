@@ -1,5 +1,6 @@
 -- The texts that are numbers.
-use Rattle.std.specs.Prelude.{ℕ, Bool, true, false, ◌&&◌, ◌||◌, if◌then◌else◌, ◌==◌, nat_le, List, [], ◌∷◌}
+use Rattle.std.specs.Prelude.{ℕ, Bool, true, false, ◌&&◌, ◌||◌, if◌then◌else◌, ◌==◌, nat_le, List}
+use Rattle.std.specs.Prelude.{[], ◌∷◌}
 use Rattle.dsdl_lex.specs.Bytes.{is_digit, is_plus_minus, is_exponent_letter}
 
 abbrev pub is_binary : ℕ → Bool
@@ -15,7 +16,8 @@ abbrev pub is_nothing : List ℕ → Bool
 is_nothing [] = true
 is_nothing (b ∷ bs) = false
 
--- more digits or none, a single `_` before each that has one, and what `behind` takes; `begun` behind a digit
+-- more digits or none, a single `_` before each that has one, and what `behind` takes; `begun`
+-- behind a digit
 abbrev pub digits_from : Bool → (ℕ → Bool) → (List ℕ → Bool) → List ℕ → Bool
 digits_from true digit behind [] = behind []
 digits_from true digit behind (b ∷ bs) = if digit b then digits_from true digit behind bs else if b == 95 then digits_from false digit behind bs else behind (b ∷ bs)
@@ -36,7 +38,8 @@ abbrev pub is_exponent : List ℕ → Bool
 is_exponent [] = true
 is_exponent (b ∷ bs) = is_exponent_letter b && is_signed bs
 
--- what stands behind a point that has digits in front of it: digits with an exponent or none, or nothing
+-- what stands behind a point that has digits in front of it: digits with an exponent or none, or
+-- nothing
 abbrev pub is_fraction : List ℕ → Bool
 is_fraction [] = true
 is_fraction (b ∷ bs) = digits_then is_digit is_exponent (b ∷ bs)
@@ -51,7 +54,8 @@ abbrev pub is_based : (ℕ → Bool) → List ℕ → Bool
 is_based digit [] = false
 is_based digit (b ∷ bs) = if b == 95 then digits_then digit is_nothing bs else digits_then digit is_nothing (b ∷ bs)
 
--- what stands behind a first 0: the letter of a base and its digits, or what is behind a decimal digit
+-- what stands behind a first 0: the letter of a base and its digits, or what is behind a decimal
+-- digit
 abbrev pub is_zero_end : List ℕ → Bool
 is_zero_end [] = true
 is_zero_end (b ∷ bs) =
@@ -60,7 +64,8 @@ is_zero_end (b ∷ bs) =
     if b == 120 || b == 88 then is_based is_hexadecimal bs else
     digits_from true is_digit is_whole_end (b ∷ bs)
 
--- `0b`, `0o` or `0x` and digits of the base; or `1`, `1.`, `1.5` or `.5`, all but `1.` with an exponent or none
+-- `0b`, `0o` or `0x` and digits of the base; or `1`, `1.`, `1.5` or `.5`, all but `1.` with an
+-- exponent or none
 abbrev pub is_number : List ℕ → Bool
 is_number [] = false
 is_number (b ∷ bs) =

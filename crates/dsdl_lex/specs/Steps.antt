@@ -1,10 +1,12 @@
 -- What a byte makes of a token so far.
-use Rattle.std.specs.Prelude.{ℕ, Bool, true, false, if◌then◌else◌, ◌==◌, List, [], ◌∷◌, Option, Some, None, codes}
+use Rattle.std.specs.Prelude.{ℕ, Bool, true, false, if◌then◌else◌, ◌==◌, List, [], ◌∷◌, Option}
+use Rattle.std.specs.Prelude.{Some, None, codes}
 use Rattle.std.specs.List.{list_any}
 use Rattle.dsdl_lex.specs.declared.token.TokenKind.{TokenKind}
 use Rattle.dsdl_lex.specs.declared.token.TokenKind.TheVariants as k
 use Rattle.dsdl_lex.specs.declared.state.State.{State}
-use Rattle.dsdl_lex.specs.declared.state.State.TheVariants.{Start, Plain, Dead, Word, Number, Inside, Closed, Point, Sign, Pair}
+use Rattle.dsdl_lex.specs.declared.state.State.TheVariants.{Start, Plain, Dead, Word, Number}
+use Rattle.dsdl_lex.specs.declared.state.State.TheVariants.{Inside, Closed, Point, Sign, Pair}
 use Rattle.dsdl_lex.specs.declared.word.WordState.{WordState}
 use Rattle.dsdl_lex.specs.declared.word.WordState.TheVariants as w
 use Rattle.dsdl_lex.specs.declared.number.NumberState.{NumberState}

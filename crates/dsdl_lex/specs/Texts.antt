@@ -1,5 +1,7 @@
 -- The texts that are names, references, strings and signs.
-use Rattle.std.specs.Prelude.{◌≡◌, ℕ, ◌+◌, ◌-◌, ◌*◌, ◌<◌, Bool, true, false, not, ◌&&◌, ◌||◌, if◌then◌else◌, ◌==◌, nat_le, nat_lt, List, [], ◌∷◌, ◌++◌, length, codes}
+use Rattle.std.specs.Prelude.{◌≡◌, ℕ, ◌+◌, ◌-◌, ◌*◌, ◌<◌, Bool, true, false, not, ◌&&◌, ◌||◌}
+use Rattle.std.specs.Prelude.{if◌then◌else◌, ◌==◌, nat_le, nat_lt, List, [], ◌∷◌, ◌++◌, length}
+use Rattle.std.specs.Prelude.{codes}
 use Rattle.std.specs.List.{list_all}
 use Rattle.std.specs.Str.{bytes_eq}
 use Rattle.dsdl_lex.specs.Bytes.{is_letter, is_digit, is_word, is_quote, is_inside}
@@ -59,7 +61,8 @@ is_version (b ∷ bs) = (list_all is_digit (b ∷ bs) && (not (b == 48) || is_no
 -- names with a point between them
 pub data IsPath : List ℕ → Type 0 where
   one : (name : List ℕ) → is_name name ≡ true → IsPath name
-  more : {text : List ℕ} (name path : List ℕ) → is_name name ≡ true → IsPath path → text ≡ name ++ 46 ∷ path → IsPath text
+  more : {text : List ℕ} (name path : List ℕ) → is_name name ≡ true → IsPath path
+      → text ≡ name ++ 46 ∷ path → IsPath text
 
 -- names, a major and a minor version, points between them all; not version 0.0
 pub record IsReference (text : List ℕ) : Type 0 where

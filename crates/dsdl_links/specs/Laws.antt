@@ -22,9 +22,12 @@ HaveCycle links = (file : ℕ) × IsCycle links file
 -- Files have one list of links, or one first reference that means no file: exactly one of the two.
 pub record HaveOneMeaning : Type 0 where
   pub either : (files : List Source) → HaveLinks files ⊎ HaveUnresolved files
-  pub one_links : (files : List Source) (a b : List (List ℕ)) → AreLinks files a → AreLinks files b → a ≡ b
-  pub not_both : (files : List Source) (links : List (List ℕ)) → AreLinks files links → HaveUnresolved files → ⊥
-  pub one_unresolved : (files : List Source) (i j m n : ℕ) (a b : TypeId) → IsUnresolved files i m a → IsUnresolved files j n b → (i ≡ j) × (m ≡ n) × (a ≡ b)
+  pub one_links : (files : List Source) (a b : List (List ℕ)) → AreLinks files a → AreLinks files b
+      → a ≡ b
+  pub not_both : (files : List Source) (links : List (List ℕ)) → AreLinks files links
+      → HaveUnresolved files → ⊥
+  pub one_unresolved : (files : List Source) (i j m n : ℕ) (a b : TypeId) → IsUnresolved files i m a
+      → IsUnresolved files j n b → (i ≡ j) × (m ≡ n) × (a ≡ b)
 
 -- Links give one order, or one first file that reaches itself: exactly one of the two.
 pub record HaveOneOrder : Type 0 where

@@ -1,5 +1,6 @@
 -- Which file a reference means, and the first reference that means none.
-use Rattle.std.specs.Prelude.{◌≡◌, ◌==◌, ◌&&◌, ℕ, Bool, List, ◌∷◌, ◌++◌, length, map, Option, Some, None, is_none, unwrap_or, All}
+use Rattle.std.specs.Prelude.{◌≡◌, ◌==◌, ◌&&◌, ℕ, Bool, List, ◌∷◌, ◌++◌, length, map, Option, Some}
+use Rattle.std.specs.Prelude.{None, is_none, unwrap_or, All}
 use Rattle.std.specs.List.{AllZip, find, position_from}
 use Rattle.std.specs.Str.{bytes_eq}
 use Rattle.dsdl_names.specs.declared.TypeId.{TypeId}
@@ -10,7 +11,8 @@ use Rattle.dsdl_links.specs.declared.source.Source.{Source}
 abbrev pub defines : TypeId → Source → Bool
 defines id file = bytes_eq file.id.name id.name && ((file.id.major == id.major) && (file.id.minor == id.minor))
 
--- the file that a type means: the first one in path order that defines it, by its number, counted from 0
+-- the file that a type means: the first one in path order that defines it, by its number, counted
+-- from 0
 abbrev pub file_of : List Source → TypeId → Option ℕ
 file_of files id = position_from (defines id) 0 files
 
@@ -38,7 +40,8 @@ is_missing files m = is_none (file_of files m.id)
 abbrev pub missing_in : List Source → Source → Option Mention
 missing_in files file = find (is_missing files) file.mentions
 
--- Unresolved: the first file in path order with a mention that means no file, and the first such mention in its text.
+-- Unresolved: the first file in path order with a mention that means no file, and the first such
+-- mention in its text.
 pub record IsUnresolved (files : List Source) (file line : ℕ) (id : TypeId) : Type 0 where
   pub before : List Source
   pub at : Source

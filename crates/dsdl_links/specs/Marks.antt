@@ -1,5 +1,6 @@
 -- Marked files, by their numbers.
-use Rattle.std.specs.Prelude.{◌≡◌, ◌⊎◌, ◌+◌, ◌<◌, ◌≤◌, ◌&&◌, ℕ, suc, Bool, true, false, not, List, [], ◌∷◌, take, length, slice_index, slice_index_or}
+use Rattle.std.specs.Prelude.{◌≡◌, ◌⊎◌, ◌+◌, ◌<◌, ◌≤◌, ◌&&◌, ℕ, suc, Bool, true, false, not, List}
+use Rattle.std.specs.Prelude.{[], ◌∷◌, take, length, slice_index, slice_index_or}
 use Rattle.std.specs.List.{list_all}
 use Rattle.dsdl_links.specs.Order.{is_among, links_at}
 
@@ -34,7 +35,9 @@ unmarked (false ∷ marks) = suc (unmarked marks)
 pub record Marks (files : List ℕ) (old new : List Bool) (waited waits : List ℕ) : Type 0 where
   pub all : are_marked new files ≡ true
   pub kept : (k : ℕ) → is_marked old k ≡ true → is_marked new k ≡ true
-  pub no_more : (k : ℕ) → is_marked new k ≡ true → (is_marked old k ≡ true) ⊎ ((is_among files k ≡ true) × (is_among waits k ≡ true))
+  pub no_more : (k : ℕ) → is_marked new k ≡ true
+      → (is_marked old k ≡ true) ⊎ ((is_among files k ≡ true) × (is_among waits k ≡ true))
   pub still : (k : ℕ) → is_among waited k ≡ true → is_among waits k ≡ true
-  pub waiting : (k : ℕ) → is_among waits k ≡ true → (is_among waited k ≡ true) ⊎ (is_among files k ≡ true)
+  pub waiting : (k : ℕ) → is_among waits k ≡ true
+      → (is_among waited k ≡ true) ⊎ (is_among files k ≡ true)
   pub count : unmarked new + length waits ≡ unmarked old + length waited

@@ -18,7 +18,8 @@ abbrev pub beside : Option (List ℕ × List ℕ) → List ℕ → List ℕ
 beside (Some p) short = p.0 ++ 46 ∷ short
 beside None short = short
 
--- the full name that names mean in the definition of a type: a short name alone is one of the type's own namespace
+-- the full name that names mean in the definition of a type: a short name alone is one of the
+-- type's own namespace
 abbrev pub full_name : List ℕ → List (List ℕ) → List ℕ
 full_name own (short ∷ []) = beside (cut_last 46 own) short
 full_name own names = dotted names
@@ -69,6 +70,7 @@ abbrev pub mentions_from : ℕ → List ℕ → List Statement → List Mention
 mentions_from n own [] = []
 mentions_from n own (s ∷ ss) = noted own n (references_in s) ++ mentions_from (n + 1) own ss
 
--- the types that the statements of a definition refer to, in the order of the text, with their lines, counted from 1
+-- the types that the statements of a definition refer to, in the order of the text, with their
+-- lines, counted from 1
 abbrev pub mentions : List ℕ → List Statement → List Mention
 mentions own ss = mentions_from 1 own ss

@@ -1,5 +1,7 @@
--- The order in which files are valued, and the first file that reaches itself. Files are numbered in path order, from 0.
-use Rattle.std.specs.Prelude.{◌≡◌, ◌==◌, ◌&&◌, ◌<◌, ℕ, Bool, true, false, not, List, [], ◌∷◌, ◌++◌, length, slice_index_or}
+-- The order in which files are valued, and the first file that reaches itself. Files are numbered
+-- in path order, from 0.
+use Rattle.std.specs.Prelude.{◌≡◌, ◌==◌, ◌&&◌, ◌<◌, ℕ, Bool, true, false, not, List, [], ◌∷◌, ◌++◌}
+use Rattle.std.specs.Prelude.{length, slice_index_or}
 use Rattle.std.specs.List.{list_any, list_all}
 
 -- a number is one of these
@@ -27,7 +29,8 @@ pub record IsNext (links : List (List ℕ)) (valued : List ℕ) (i : ℕ) : Type
 -- the files that are valued, in the order in which they were
 pub data Valued (links : List (List ℕ)) : List ℕ → Type 0 where
   begin : Valued links []
-  next : {valued : List ℕ} {i : ℕ} → Valued links valued → IsNext links valued i → Valued links (valued ++ i ∷ [])
+  next : {valued : List ℕ} {i : ℕ} → Valued links valued → IsNext links valued i
+      → Valued links (valued ++ i ∷ [])
 
 -- the order of all files
 pub record IsOrder (links : List (List ℕ)) (order : List ℕ) : Type 0 where
@@ -37,7 +40,8 @@ pub record IsOrder (links : List (List ℕ)) (order : List ℕ) : Type 0 where
 -- one file reaches another through references
 pub data Reaches (links : List (List ℕ)) : ℕ → ℕ → Type 0 where
   refers : {i j : ℕ} → is_among (links_at links i) j ≡ true → Reaches links i j
-  through : {i k j : ℕ} → is_among (links_at links i) k ≡ true → Reaches links k j → Reaches links i j
+  through : {i k j : ℕ} → is_among (links_at links i) k ≡ true → Reaches links k j
+      → Reaches links i j
 
 -- Cycle: the first file in path order that reaches itself.
 pub record IsCycle (links : List (List ℕ)) (i : ℕ) : Type 0 where

@@ -1,5 +1,6 @@
 -- The names of types and of their files, with each refusal where it is the first that holds.
-use Rattle.std.specs.Prelude.{ℕ, List, [], ◌∷◌, ◌++◌, ◌==◌, ◌&&◌, length, nat_lt, Option, Some, None, Result, Ok, Err, if◌then◌else◌, codes}
+use Rattle.std.specs.Prelude.{ℕ, List, [], ◌∷◌, ◌++◌, ◌==◌, ◌&&◌, length, nat_lt, Option, Some}
+use Rattle.std.specs.Prelude.{None, Result, Ok, Err, if◌then◌else◌, codes}
 use Rattle.std.specs.List.{list_all, list_any}
 use Rattle.std.specs.Str.{bytes_eq}
 use Rattle.dsdl_names.specs.Parts.{parts_of, dotted, cut_last}
@@ -35,14 +36,16 @@ with_version name (Some version) None = Err error.BadPort
 with_version name (Some version) (Some port) = with_name name version port
 
 -- all names, with what the texts of a version and of a port are
-abbrev pub type_file : List (List ℕ) → Option (ℕ × ℕ) → Option (Option ℕ) → Result FileName NameError
+abbrev pub type_file : List (List ℕ) → Option (ℕ × ℕ) → Option (Option ℕ)
+    → Result FileName NameError
 type_file names version port =
     if list_all is_name names
     then (if list_any is_reserved names then Err error.Reserved else with_version (dotted names) version port)
     else Err error.BadName
 
 -- the same, where the file's name ends in `end`
-abbrev pub ended : List (List ℕ) → Option (ℕ × ℕ) → Option (Option ℕ) → List ℕ → Result FileName NameError
+abbrev pub ended : List (List ℕ) → Option (ℕ × ℕ) → Option (Option ℕ) → List ℕ
+    → Result FileName NameError
 ended names version port end = if bytes_eq end (codes "dsdl") then type_file names version port else Err error.BadName
 
 -- `Short.major.minor.dsdl` or `port.Short.major.minor.dsdl`, in folders

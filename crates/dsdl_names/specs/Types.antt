@@ -12,7 +12,8 @@ use Rattle.dsdl_names.specs.declared.TypeId.{TypeId}
 abbrev pub type_order : TypeId → TypeId → Ordering
 type_order a b = ordering_then (slice_cmp nat_cmp a.name b.name) (ordering_then (nat_cmp a.major b.major) (nat_cmp a.minor b.minor))
 
--- names with points between them, none of them kept for the language, at most 255 bytes; not version 0.0
+-- names with points between them, none of them kept for the language, at most 255 bytes; not
+-- version 0.0
 pub record IsType (id : TypeId) : Type 0 where
   pub are_names : list_all is_name (names_of id.name) ≡ true
   pub none_reserved : list_any is_reserved (names_of id.name) ≡ false

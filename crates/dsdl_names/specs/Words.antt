@@ -1,7 +1,9 @@
 -- Names and numbers in texts.
-use Rattle.std.specs.Prelude.{ℕ, Bool, true, false, List, [], ◌∷◌, ◌+◌, ◌*◌, ◌-◌, ◌==◌, ◌||◌, ◌&&◌, Option, Some, None, if◌then◌else◌, nat_lt, nat_eq, codes}
+use Rattle.std.specs.Prelude.{ℕ, Bool, true, false, List, [], ◌∷◌, ◌+◌, ◌*◌, ◌-◌, ◌==◌, ◌||◌, ◌&&◌}
+use Rattle.std.specs.Prelude.{Option, Some, None, if◌then◌else◌, nat_lt, nat_eq, codes}
 use Rattle.std.specs.List.{list_all, list_any, starts_with, ends_with}
-use Rattle.std.specs.Char.{is_ascii_alphabetic, is_ascii_alphanumeric, is_ascii_digit, to_ascii_lowercase}
+use Rattle.std.specs.Char.{is_ascii_alphabetic, is_ascii_alphanumeric, is_ascii_digit}
+use Rattle.std.specs.Char.{to_ascii_lowercase}
 
 -- a letter, a digit or `_`
 abbrev pub is_name_byte : ℕ → Bool
@@ -30,7 +32,8 @@ is_numbered [] (b ∷ s) = list_all is_ascii_digit (b ∷ s)
 is_numbered (w ∷ word) [] = false
 is_numbered (w ∷ word) (b ∷ s) = (to_ascii_lowercase b == w) && is_numbered word s
 
--- a name that is kept for the language: a word of it, a numbered one, or one that begins and ends with `_`
+-- a name that is kept for the language: a word of it, a numbered one, or one that begins and ends
+-- with `_`
 abbrev pub is_reserved : List ℕ → Bool
 is_reserved name =
     list_any (λ word. is_word word name) (codes "truncated" ∷ codes "saturated" ∷ codes "true" ∷ codes "false" ∷ codes "bool" ∷ codes "void" ∷ codes "byte" ∷ codes "utf8" ∷ [])

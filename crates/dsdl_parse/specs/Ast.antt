@@ -31,9 +31,11 @@ pub record FirstBad (text : List ℕ) (n : ℕ) : Type 0 where
   pub good : (ss : List Statement) × AreStatements before ss
   pub no_line : (s : Statement) → IsLine bad s → ⊥
 
--- a line has one statement at most; a text has either one list of statements or one first line that is none
+-- a line has one statement at most; a text has either one list of statements or one first line that
+-- is none
 pub record IsParsedOneWay : Type 0 where
-  pub either : (text : List ℕ) → ((ss : List Statement) × IsAst text ss) ⊎ ((n : ℕ) × FirstBad text n)
+  pub either : (text : List ℕ)
+      → ((ss : List Statement) × IsAst text ss) ⊎ ((n : ℕ) × FirstBad text n)
   pub one_statement : (line : List ℕ) (s t : Statement) → IsLine line s → IsLine line t → s ≡ t
   pub one_list : (text : List ℕ) (ss ts : List Statement) → IsAst text ss → IsAst text ts → ss ≡ ts
   pub one_place : (text : List ℕ) (m n : ℕ) → FirstBad text m → FirstBad text n → m ≡ n

@@ -1,9 +1,10 @@
--- The grammar of expressions: which lists of words are the text of which tree. What nests is parentheses,
--- set literals, `!`, signs and the right sides of `**`.
+-- The grammar of expressions: which lists of words are the text of which tree. What nests is
+-- parentheses, set literals, `!`, signs and the right sides of `**`.
 use Rattle.std.specs.Prelude.{◌≡◌, ℕ, zero, suc, Bool, true, false, List, [], ◌∷◌, ◌++◌, codes}
 use Rattle.dsdl_lex.specs.declared.token.TokenKind.TheVariants as k
 use Rattle.dsdl_parse.specs.declared.expr.Expr.{Expr}
-use Rattle.dsdl_parse.specs.Words.{Word, Signs, is_in, just, logics, orders, bit_signs, plus_minus, times}
+use Rattle.dsdl_parse.specs.Words.{Word, Signs, is_in, just, logics, orders, bit_signs, plus_minus}
+use Rattle.dsdl_parse.specs.Words.{times}
 use Rattle.dsdl_parse.specs.Trees.{binary, unary, member, set_of}
 use Rattle.dsdl_parse.specs.Leaves.{IsLeaf}
 
@@ -41,7 +42,8 @@ pub data Listed (Item : Rule) : List Word → List Expr → Type 0 where
   another : {ws front back : List Word} {x : Expr} {xs : List Expr} (w : Word) →
       Item front x → is_in (just (codes ",")) w ≡ true → Listed Item back xs → ws ≡ front ++ w ∷ back → Listed Item ws (x ∷ xs)
 
--- "(" inner ")" | "{" [inner ("," inner)*] "}" | a leaf; a set, an empty one too, needs room for one more level of nesting
+-- "(" inner ")" | "{" [inner ("," inner)*] "}" | a leaf; a set, an empty one too, needs room for
+-- one more level of nesting
 pub data Atom (room : Bool) (Inner : Rule) : List Word → Expr → Type 0 where
   parens : {ws inside : List Word} {x : Expr} (o c : Word) →
       is_in (just (codes "(")) o ≡ true → Inner inside x → is_in (just (codes ")")) c ≡ true → ws ≡ o ∷ (inside ++ c ∷ []) → Atom room Inner ws x
@@ -61,7 +63,8 @@ pub record Inner : Type 1 where
   pub power : Rule
 
 module _ (inner : Inner) where
-  -- atom = "(" expression ")" | "{" [expression ("," expression)*] "}" | number | string | "true" | "false" | reference | name
+  -- atom = "(" expression ")" | "{" [expression ("," expression)*] "}" | number | string | "true" |
+  -- "false" | reference | name
   abbrev pub AtomOf : Rule
   AtomOf = Atom inner.room inner.expression
 

@@ -1,5 +1,6 @@
 -- Reading the tree of a single token.
-use Rattle.std.specs.Prelude.{ℕ, ◌+◌, ◌-◌, Bool, ◌&&◌, ◌==◌, nat_lt, if◌then◌else◌, List, [], ◌∷◌, length, take, drop, Option, Some, None}
+use Rattle.std.specs.Prelude.{ℕ, ◌+◌, ◌-◌, Bool, ◌&&◌, ◌==◌, nat_lt, if◌then◌else◌, List, [], ◌∷◌}
+use Rattle.std.specs.Prelude.{length, take, drop, Option, Some, None}
 use Rattle.std.specs.List.{list_all, slice_split}
 use Rattle.dsdl_lex.specs.declared.token.TokenKind.{TokenKind}
 use Rattle.dsdl_lex.specs.declared.token.TokenKind.TheVariants as k

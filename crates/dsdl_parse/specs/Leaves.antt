@@ -1,5 +1,6 @@
 -- The trees of single tokens.
-use Rattle.std.specs.Prelude.{◌≡◌, ℕ, ◌+◌, ◌-◌, ◌<◌, true, false, if◌then◌else◌, List, [], ◌∷◌, ◌++◌, length, codes}
+use Rattle.std.specs.Prelude.{◌≡◌, ℕ, ◌+◌, ◌-◌, ◌<◌, true, false, if◌then◌else◌, List, [], ◌∷◌}
+use Rattle.std.specs.Prelude.{◌++◌, length, codes}
 use Rattle.std.specs.List.{list_all, slice_range, join_with_byte}
 use Rattle.std.specs.Str.{bytes_eq}
 use Rattle.dsdl_lex.specs.declared.token.TokenKind.{TokenKind}

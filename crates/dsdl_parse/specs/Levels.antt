@@ -4,7 +4,8 @@ use Rattle.dsdl_parse.specs.declared.expr.Expr.{Expr}
 use Rattle.dsdl_parse.specs.declared.level.Level.{Level}
 use Rattle.dsdl_parse.specs.declared.level.Level.TheVariants as l
 use Rattle.dsdl_parse.specs.Words.{Signs, logics, orders, bit_signs, plus_minus, times}
-use Rattle.dsdl_parse.specs.Reading.{Reader, Readers, not_of, bits_of, sum_of, product_of, sign_of, read_chain}
+use Rattle.dsdl_parse.specs.Reading.{Reader, Readers, not_of, bits_of, sum_of, product_of, sign_of}
+use Rattle.dsdl_parse.specs.Reading.{read_chain}
 
 -- one level of nesting less, where there is one
 abbrev pub Deeper : ℕ → Option ℕ → Type 0

@@ -1,5 +1,6 @@
 -- The lines of a text.
-use Rattle.std.specs.Prelude.{◌≡◌, ◌≢◌, ℕ, ◌<◌, ◌≤◌, List, [], ◌∷◌, ◌++◌, length, All, if◌then◌else◌, ◌==◌}
+use Rattle.std.specs.Prelude.{◌≡◌, ◌≢◌, ℕ, ◌<◌, ◌≤◌, List, [], ◌∷◌, ◌++◌, length, All}
+use Rattle.std.specs.Prelude.{if◌then◌else◌, ◌==◌}
 
 -- no byte is a newline
 abbrev pub NoNewline : List ℕ → Type 0
@@ -11,8 +12,8 @@ without_return [] = []
 without_return (b ∷ []) = if b == 13 then [] else b ∷ []
 without_return (b ∷ c ∷ bytes) = b ∷ without_return (c ∷ bytes)
 
--- the lines of a text: each ends with a newline, and one `\r` in front of it isn't part of the line;
--- behind the last newline nothing stands, or one more line
+-- the lines of a text: each ends with a newline, and one `\r` in front of it isn't part of the
+-- line; behind the last newline nothing stands, or one more line
 pub data AreLines : List ℕ → List (List ℕ) → Type 0 where
   none : AreLines [] []
   last : {line : List ℕ} → 0 < length line → NoNewline line → AreLines line (line ∷ [])

@@ -1,9 +1,11 @@
 -- Reading the front of a list of words.
-use Rattle.std.specs.Prelude.{ℕ, zero, suc, Bool, true, false, if◌then◌else◌, List, [], ◌∷◌, ◌++◌, length, Option, Some, None, codes}
+use Rattle.std.specs.Prelude.{ℕ, zero, suc, Bool, true, false, if◌then◌else◌, List, [], ◌∷◌, ◌++◌}
+use Rattle.std.specs.Prelude.{length, Option, Some, None, codes}
 use Rattle.dsdl_lex.specs.declared.token.TokenKind.{TokenKind}
 use Rattle.dsdl_lex.specs.declared.token.TokenKind.TheVariants as k
 use Rattle.dsdl_parse.specs.declared.expr.Expr.{Expr}
-use Rattle.dsdl_parse.specs.Words.{Word, Signs, is_in, just, logics, orders, bit_signs, plus_minus, times}
+use Rattle.dsdl_parse.specs.Words.{Word, Signs, is_in, just, logics, orders, bit_signs, plus_minus}
+use Rattle.dsdl_parse.specs.Words.{times}
 use Rattle.dsdl_parse.specs.Trees.{binary, unary, member, set_of}
 use Rattle.dsdl_parse.specs.LeafReading.{read_leaf}
 

@@ -10,13 +10,15 @@ use Rattle.dsdl_parse.specs.Ast.{IsLine, IsAst}
 use Rattle.dsdl_parse.specs.Leaves.{IsReferenceTo}
 use Rattle.dsdl_parse.specs.Statement.{are_digits, IsPrimitive}
 
--- a primitive is `bool`, or `uint`, `int` or `float` with digits; a reference has names and a version; a void has digits
+-- a primitive is `bool`, or `uint`, `int` or `float` with digits; a reference has names and a
+-- version; a void has digits
 abbrev pub IsSpelled : Scalar → Type 0
 IsSpelled (scalar.Primitive cast name) = IsPrimitive name
 IsSpelled (scalar.Reference r) = (text : List ℕ) × IsReferenceTo text r
 IsSpelled (scalar.Void digits) = are_digits digits ≡ true
 
--- the name of an attribute or a directive is a name, and the type of an attribute is spelled as the grammar says
+-- the name of an attribute or a directive is a name, and the type of an attribute is spelled as the
+-- grammar says
 abbrev pub WellSpelled : Statement → Type 0
 WellSpelled statement.Empty = Unit {0}
 WellSpelled statement.Split = Unit {0}

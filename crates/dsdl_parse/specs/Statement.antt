@@ -1,5 +1,6 @@
 -- The grammar of a line: which lists of words are the text of which statement.
-use Rattle.std.specs.Prelude.{◌≡◌, ℕ, true, List, [], ◌∷◌, ◌++◌, Option, Some, None, codes, ◌&&◌, Bool, length, nat_lt}
+use Rattle.std.specs.Prelude.{◌≡◌, ℕ, true, List, [], ◌∷◌, ◌++◌, Option, Some, None, codes, ◌&&◌}
+use Rattle.std.specs.Prelude.{Bool, length, nat_lt}
 use Rattle.std.specs.Char.{is_ascii_digit}
 use Rattle.std.specs.List.{list_all}
 use Rattle.dsdl_lex.specs.declared.token.TokenKind.TheVariants as k
@@ -38,8 +39,10 @@ pub data IsPrimitive (name : List ℕ) : Type 0 where
 -- ["saturated" | "truncated"]
 pub data IsPrefix (ws : List Word) : Option Prefix → Type 0 where
   none : ws ≡ [] → IsPrefix ws None
-  saturated : (w : Word) → w.kind ≡ k.Name → w.text ≡ codes "saturated" → ws ≡ w ∷ [] → IsPrefix ws (Some prefix.Saturated)
-  truncated : (w : Word) → w.kind ≡ k.Name → w.text ≡ codes "truncated" → ws ≡ w ∷ [] → IsPrefix ws (Some prefix.Truncated)
+  saturated : (w : Word) → w.kind ≡ k.Name → w.text ≡ codes "saturated" → ws ≡ w ∷ []
+      → IsPrefix ws (Some prefix.Saturated)
+  truncated : (w : Word) → w.kind ≡ k.Name → w.text ≡ codes "truncated" → ws ≡ w ∷ []
+      → IsPrefix ws (Some prefix.Truncated)
 
 -- "void" digits
 pub record IsVoid (ws : List Word) (digits : List ℕ) : Type 0 where
@@ -52,13 +55,15 @@ pub record IsVoid (ws : List Word) (digits : List ℕ) : Type 0 where
 pub data IsScalar (ws : List Word) : Scalar → Type 0 where
   primitive : {front : List Word} {p : Option Prefix} (w : Word) →
       IsPrefix front p → w.kind ≡ k.Name → IsPrimitive w.text → ws ≡ front ++ w ∷ [] → IsScalar ws (scalar.Primitive p w.text)
-  reference : {r : Reference} (w : Word) → w.kind ≡ k.Reference → IsReferenceTo w.text r → ws ≡ w ∷ [] → IsScalar ws (scalar.Reference r)
+  reference : {r : Reference} (w : Word) → w.kind ≡ k.Reference → IsReferenceTo w.text r
+      → ws ≡ w ∷ [] → IsScalar ws (scalar.Reference r)
   void : {digits : List ℕ} → IsVoid ws digits → IsScalar ws (scalar.Void digits)
 
 -- ["<=" | "<"]
 pub data IsBoundSign (ws : List Word) : BoundSign → Type 0 where
   exact : ws ≡ [] → IsBoundSign ws sign.Exact
-  at_most : (w : Word) → is_in (just (codes "<=")) w ≡ true → ws ≡ w ∷ [] → IsBoundSign ws sign.AtMost
+  at_most : (w : Word) → is_in (just (codes "<=")) w ≡ true → ws ≡ w ∷ []
+      → IsBoundSign ws sign.AtMost
   below : (w : Word) → is_in (just (codes "<")) w ≡ true → ws ≡ w ∷ [] → IsBoundSign ws sign.Below
 
 -- "[" ["<=" | "<"] expression "]"
@@ -79,7 +84,8 @@ pub data IsStatement (ws : List Word) : Statement → Type 0 where
   split : (w : Word) → w.kind ≡ k.Split → ws ≡ w ∷ [] → IsStatement ws statement.Split
   directive : (at name : Word) → is_in (just (codes "@")) at ≡ true → name.kind ≡ k.Name →
       ws ≡ at ∷ name ∷ [] → IsStatement ws (statement.Directive name.text None)
-  directive_of : {back : List Word} {x : Expr} (at name : Word) → is_in (just (codes "@")) at ≡ true → name.kind ≡ k.Name → IsExpression 64 back x →
+  directive_of : {back : List Word} {x : Expr} (at name : Word) → is_in (just (codes "@")) at ≡ true
+      → name.kind ≡ k.Name → IsExpression 64 back x →
       ws ≡ at ∷ name ∷ back → IsStatement ws (statement.Directive name.text (Some x))
   constant : {front back : List Word} {f : Form} {x : Expr} (name equals : Word) →
       IsForm front f → name.kind ≡ k.Name → is_in (just (codes "=")) equals ≡ true → IsExpression 64 back x →

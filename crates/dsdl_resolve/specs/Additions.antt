@@ -1,5 +1,6 @@
 -- What a statement adds to its section.
-use Rattle.std.specs.Prelude.{◌≡◌, ℕ, suc, ◌^◌, nat_lt, Bool, if◌then◌else◌, ◌++◌, false, true, List, [], ◌∷◌, Option, Some, None, is_some}
+use Rattle.std.specs.Prelude.{◌≡◌, ℕ, suc, ◌^◌, nat_lt, Bool, if◌then◌else◌, ◌++◌, false, true}
+use Rattle.std.specs.Prelude.{List, [], ◌∷◌, Option, Some, None, is_some}
 use Rattle.std.specs.List.{filter_map}
 use Rattle.dsdl_parse.specs.declared.statement.Statement.{Statement}
 use Rattle.dsdl_parse.specs.declared.statement.Statement.TheVariants as statement
@@ -50,7 +51,8 @@ name_of (Some name) = name
 -- what is known before a statement at a place, in a section that has said this
 pub record IsBefore (before : Before) (p : Place) (said : Said) : Type 0 where
   pub standing : Stands before.standing p.file p.before
-  pub names : (name : List ℕ) → is_used before.names name ≡ is_used (filter_map attribute_of p.before) name
+  pub names : (name : List ℕ)
+      → is_used before.names name ≡ is_used (filter_map attribute_of p.before) name
   pub totals : AreTotals before.totals said.union (flds said.fields)
   pub empty : before.standing.entry ≡ false → said.fields ≡ []
 
@@ -60,13 +62,15 @@ AreValuesOf (statement.Directive name x) vs = is_some vs.value ≡ is_some x
 AreValuesOf s vs = Unit {0}
 
 -- a statement isn't refused, and this is what it adds
-pub record IsJudged (scope : Scope) (p : Place) (said : Said) (vs : Values) (j : Judged) : Type 0 where
+pub record IsJudged (scope : Scope) (p : Place) (said : Said) (vs : Values)
+    (j : Judged) : Type 0 where
   pub allowed : refusal_valued scope p said vs ≡ None
   pub adds : with_addition said (name_of (attribute_of p.at)) j.addition ≡ added scope said p.at vs
   pub totals : AreTotals j.totals (added scope said p.at vs).union (flds (added scope said p.at vs).fields)
   pub within : AreWithin j.totals
 
--- at every place at which such a statement stands behind what is known it isn't refused, and adds this
+-- at every place at which such a statement stands behind what is known it isn't refused, and adds
+-- this
 abbrev pub Judges : Scope → Before → Statement → Values → Judged → Type 0
 Judges scope before s vs j = (p : Place) (said : Said) → p.at ≡ s → IsBefore before p said → IsJudged scope p said vs j
 

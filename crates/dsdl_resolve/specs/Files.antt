@@ -23,13 +23,15 @@ IsRequest scope front (Some half) = (list_any is_split front ≡ true)
     × (half.schema ≡ composite_of (said_by scope (before_first is_split front))) × (half.types ≡ (said_by scope (before_first is_split front)).types)
 
 -- a file whose section has these constants, behind some of its statements and before the others
-pub record IsFile (file : OpenFile) (constants : List NamedConst) (scope : Scope) (front back : List Statement) : Type 0 where
+pub record IsFile (file : OpenFile) (constants : List NamedConst) (scope : Scope)
+    (front back : List Statement) : Type 0 where
   pub section : IsOpen file.section constants scope front back
   pub kept : AreConstants constants
   pub request : IsRequest scope front file.request
 
 -- a statement isn't refused, and the file has it and what it prints
-pub record IsStepped (old new : OpenFile) (constants : List NamedConst) (scope : Scope) (path : List ℕ) (front : List Statement) (s : Statement) (back : List Statement) : Type 0 where
+pub record IsStepped (old new : OpenFile) (constants : List NamedConst) (scope : Scope)
+    (path : List ℕ) (front : List Statement) (s : Statement) (back : List Statement) : Type 0 where
   pub allowed : refusal_at scope (place front s back) ≡ None
   pub file : IsFile new constants scope (front ++ s ∷ []) back
   pub prints : new.prints ≡ old.prints ++ prints_at scope path front s

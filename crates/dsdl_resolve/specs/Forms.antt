@@ -1,5 +1,7 @@
 -- Which types are written.
-use Rattle.std.specs.Prelude.{◌≡◌, ◌≤◌, ℕ, ◌-◌, ◌^◌, ◌++◌, ◌&&◌, nat_lt, nat_le, nat_eq, Bool, true, false, ℤ, pos, negsuc, List, drop, Option, Some, None, if◌then◌else◌, codes, decimal}
+use Rattle.std.specs.Prelude.{◌≡◌, ◌≤◌, ℕ, ◌-◌, ◌^◌, ◌++◌, ◌&&◌, nat_lt, nat_le, nat_eq, Bool, true}
+use Rattle.std.specs.Prelude.{false, ℤ, pos, negsuc, List, drop, Option, Some, None, if◌then◌else◌}
+use Rattle.std.specs.Prelude.{codes, decimal}
 use Rattle.std.specs.List.{starts_with}
 use Rattle.std.specs.Option.{option_map, option_and_then}
 use Rattle.std.specs.Str.{bytes_eq}

@@ -1,5 +1,6 @@
 -- What a file is refused for, and what it defines.
-use Rattle.std.specs.Prelude.{ℕ, ◌+◌, ◌++◌, ◌^◌, nat_lt, min, Bool, true, false, List, [], ◌∷◌, length, Option, Some, None, Result, Ok, Err, if◌then◌else◌, codes}
+use Rattle.std.specs.Prelude.{ℕ, ◌+◌, ◌++◌, ◌^◌, nat_lt, min, Bool, true, false, List, [], ◌∷◌}
+use Rattle.std.specs.Prelude.{length, Option, Some, None, Result, Ok, Err, if◌then◌else◌, codes}
 use Rattle.std.specs.List.{list_any, before_first}
 use Rattle.std.specs.Option.{option_map, option_or}
 use Rattle.std.specs.Str.{bytes_eq}
@@ -69,7 +70,8 @@ abbrev pub assert_at : Values → Statement → Option DsdlWhy
 assert_at vs (statement.Directive name x) = if bytes_eq name (codes "assert") then if_false vs.value else None
 assert_at vs _ = None
 
--- what a statement with these values is refused for: the least rule that it breaks, then Assert, then Long
+-- what a statement with these values is refused for: the least rule that it breaks, then Assert,
+-- then Long
 abbrev pub refusal_valued : Scope → Place → Said → Values → Option DsdlWhy
 refusal_valued scope p said vs = option_or (option_map (λ n. why.Rule n) (least (rules_at scope p said vs))) (option_or (assert_at vs p.at) (long_at scope said vs p.at))
 
@@ -96,7 +98,8 @@ abbrev pub on_line : ℕ → Option DsdlWhy → Option Refused
 on_line n None = None
 on_line n (Some cause) = Some (record { line = n; why = cause })
 
--- The first refusal among statements behind some of their file, or at the file's end, which has the line of the last statement.
+-- The first refusal among statements behind some of their file, or at the file's end, which has the
+-- line of the last statement.
 abbrev pub refusal_from : Scope → Option ℕ → List Statement → List Statement → Option Refused
 refusal_from scope port front [] = on_line (length front) (refusal_at_end port front)
 refusal_from scope port front (s ∷ back) = option_or (on_line (length front + 1) (refusal_at scope (place front s back))) (refusal_from scope port (front ++ s ∷ []) back)
@@ -170,7 +173,8 @@ unless_refused None done = Ok done
 abbrev pub in_file : Scope → FileName → Scope
 in_file scope name = record scope { own = name.id.name }
 
--- What a file by its path, its name and its lines defines, or its first refusal; the scope has the types that it refers to.
+-- What a file by its path, its name and its lines defines, or its first refusal; the scope has the
+-- types that it refers to.
 abbrev pub outcome : Scope → List ℕ → FileName → List Statement → Result Outcome Refused
 outcome scope path name lines =
     unless_refused (refusal_from (in_file scope name) name.port [] lines) (finished (in_file scope name) name lines (prints_from (in_file scope name) path [] lines))

@@ -16,6 +16,8 @@ HasRefusal files = (path : List ℕ) × (line : ℕ) × (why : DsdlWhy) × First
 -- Files are compiled to one namespace, or they have one first refusal: exactly one of the two.
 pub record HaveOneAnswer : Type 0 where
   pub either : (files : List DsdlFile) → HasNamespace files ⊎ HasRefusal files
-  pub one_namespace : (files : List DsdlFile) (a b : Namespace) → Compiled files a → Compiled files b → a ≡ b
+  pub one_namespace : (files : List DsdlFile) (a b : Namespace) → Compiled files a
+      → Compiled files b → a ≡ b
   pub not_both : (files : List DsdlFile) → HasNamespace files → HasRefusal files → ⊥
-  pub one_refusal : (files : List DsdlFile) (p q : List ℕ) (m n : ℕ) (v w : DsdlWhy) → FirstRefusal files p m v → FirstRefusal files q n w → (p ≡ q) × (m ≡ n) × (v ≡ w)
+  pub one_refusal : (files : List DsdlFile) (p q : List ℕ) (m n : ℕ) (v w : DsdlWhy)
+      → FirstRefusal files p m v → FirstRefusal files q n w → (p ≡ q) × (m ≡ n) × (v ≡ w)

@@ -1,5 +1,6 @@
 -- What is known of a section that isn't at its end.
-use Rattle.std.specs.Prelude.{◌≡◌, ℕ, ◌≤◌, ◌∷◌, ◌++◌, ◌&&◌, ◌||◌, nat_lt, true, false, Bool, List, [], length, take, Option, Some, None, Result, Ok, Err, if◌then◌else◌}
+use Rattle.std.specs.Prelude.{◌≡◌, ℕ, ◌≤◌, ◌∷◌, ◌++◌, ◌&&◌, ◌||◌, nat_lt, true, false, Bool, List}
+use Rattle.std.specs.Prelude.{[], length, take, Option, Some, None, Result, Ok, Err, if◌then◌else◌}
 use Rattle.std.specs.List.{filter_map, count_by, before_first}
 use Rattle.dsdl_parse.specs.declared.statement.Statement.{Statement}
 use Rattle.dsdl_types.specs.Views.{flds}
@@ -63,10 +64,12 @@ pub record IsReady (section : OpenSection) : Type 0 where
   pub offsets : AreOffsets section.before.totals.union section.fields section.offsets
 
 -- a section with these constants behind some statements of a file and before the others
-pub record IsOpen (section : OpenSection) (constants : List NamedConst) (scope : Scope) (front back : List Statement) : Type 0 where
+pub record IsOpen (section : OpenSection) (constants : List NamedConst) (scope : Scope)
+    (front back : List Statement) : Type 0 where
   pub ready : IsReady section
   pub standing : Stands section.before.standing front (last_section front)
-  pub names : (name : List ℕ) → is_used section.before.names name ≡ is_used (filter_map attribute_of (last_section front)) name
+  pub names : (name : List ℕ)
+      → is_used section.before.names name ≡ is_used (filter_map attribute_of (last_section front)) name
   pub says : said_by scope (last_section front) ≡ said_of section constants
   pub whole_union : section.whole.union ≡ is_union_section (last_section front ++ before_first is_split back)
   pub whole_fields : section.whole.fields ≡ count_by is_field (last_section front ++ before_first is_split back)
@@ -96,7 +99,8 @@ value_refusal scope section s =
     else of_values (values (with_offset scope section s) s)
 
 -- a statement isn't refused at its place and is worth these values, and the section has it
-pub record IsTaken (scope : Scope) (front back : List Statement) (s : Statement) (vs : Values) (section : OpenSection) (constants : List NamedConst) : Type 0 where
+pub record IsTaken (scope : Scope) (front back : List Statement) (s : Statement) (vs : Values)
+    (section : OpenSection) (constants : List NamedConst) : Type 0 where
   pub allowed : refusal_at scope (place front s back) ≡ None
   pub worth : values (scope_at scope (said_by scope (last_section front)) s) s ≡ Ok vs
   pub next : IsOpen section constants scope (front ++ s ∷ []) back

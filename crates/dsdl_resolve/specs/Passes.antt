@@ -1,5 +1,6 @@
 -- The passes over the files, and the first refusal of all.
-use Rattle.std.specs.Prelude.{◌≡◌, ℕ, List, ◌∷◌, ◌++◌, ◌^◌, map, length, slice_get, Option, Some, None, Ok, Err}
+use Rattle.std.specs.Prelude.{◌≡◌, ℕ, List, ◌∷◌, ◌++◌, ◌^◌, map, length, slice_get, Option, Some}
+use Rattle.std.specs.Prelude.{None, Ok, Err}
 use Rattle.std.specs.List.{All}
 use Rattle.dsdl_clash.specs.Clashes.{Clash, first_clash, ports_clash, versions_clash}
 use Rattle.dsdl_files.specs.Folders.{first_too_big}
@@ -27,7 +28,8 @@ abbrev pub AreWithinLimits : List DsdlFile → Type 0
 AreWithinLimits files = first_past_limit files ≡ None
 
 -- TooBig: the first file that passes a limit. No line is named.
-pub record IsTooBig (files : List DsdlFile) (path : List ℕ) (line : ℕ) (why : DsdlWhy) : Type 0 where
+pub record IsTooBig (files : List DsdlFile) (path : List ℕ) (line : ℕ)
+    (why : DsdlWhy) : Type 0 where
   pub first : first_past_limit files ≡ Some path
   pub no_line : line ≡ 0
   pub is : why ≡ cause.TooBig
@@ -49,7 +51,8 @@ abbrev pub Passes : Pass → DsdlFile → Type 0
 Passes refuses file = (line : ℕ) (why : DsdlWhy) → refuses file line why → ⊥
 
 -- The first file that a pass refuses, with its line and the cause.
-pub record IsFirst (refuses : Pass) (files : List DsdlFile) (path : List ℕ) (line : ℕ) (why : DsdlWhy) : Type 0 where
+pub record IsFirst (refuses : Pass) (files : List DsdlFile) (path : List ℕ) (line : ℕ)
+    (why : DsdlWhy) : Type 0 where
   pub before : List DsdlFile
   pub file : DsdlFile
   pub behind : List DsdlFile
@@ -68,7 +71,8 @@ pub record ArePassed (files : List DsdlFile) (reads : List Read) : Type 0 where
   pub read : AreRead files reads
 
 -- Unresolved: the first reference to a type that no file defines, with its line.
-pub record IsUnresolvedAt (files : List DsdlFile) (sources : List Source) (path : List ℕ) (line : ℕ) (why : DsdlWhy) : Type 0 where
+pub record IsUnresolvedAt (files : List DsdlFile) (sources : List Source) (path : List ℕ) (line : ℕ)
+    (why : DsdlWhy) : Type 0 where
   pub file : ℕ
   pub id : TypeId
   pub first : IsUnresolved sources file line id
@@ -76,12 +80,14 @@ pub record IsUnresolvedAt (files : List DsdlFile) (sources : List Source) (path 
   pub is : why ≡ cause.Unresolved id
 
 -- each reference means a file
-pub record AreLinked (files : List DsdlFile) (reads : List Read) (links : List (List ℕ)) : Type 0 where
+pub record AreLinked (files : List DsdlFile) (reads : List Read)
+    (links : List (List ℕ)) : Type 0 where
   pub passed : ArePassed files reads
   pub linked : AreLinks (sources_of reads) links
 
 -- Cycle: the first file that reaches itself through references. No line is named.
-pub record IsCycleAt (files : List DsdlFile) (links : List (List ℕ)) (path : List ℕ) (line : ℕ) (why : DsdlWhy) : Type 0 where
+pub record IsCycleAt (files : List DsdlFile) (links : List (List ℕ)) (path : List ℕ) (line : ℕ)
+    (why : DsdlWhy) : Type 0 where
   pub file : ℕ
   pub first : IsCycle links file
   pub named : path_at files file ≡ Some path
@@ -95,7 +101,8 @@ pub record AreOrdered (files : List DsdlFile) (reads : List Read) (order : List 
   pub ordered : IsOrder links order
 
 -- Valuing: the first file in that order that is refused, with its line and the cause.
-pub record StopsAt (files : List DsdlFile) (reads : List Read) (order : List ℕ) (path : List ℕ) (line : ℕ) (why : DsdlWhy) : Type 0 where
+pub record StopsAt (files : List DsdlFile) (reads : List Read) (order : List ℕ) (path : List ℕ)
+    (line : ℕ) (why : DsdlWhy) : Type 0 where
   pub file : ℕ
   pub stopped : valued reads order ≡ Err (record { number = file; refused = record { line = line; why = why } })
   pub named : path_at files file ≡ Some path
@@ -107,8 +114,10 @@ pub record AreValued (files : List DsdlFile) (done : List Done) : Type 0 where
   pub ordered : AreOrdered files reads order
   pub valued_all : valued reads order ≡ Ok done
 
--- VersionClash, PortClash: the first file in path order that clashes with one before it. No line is named.
-pub record ClashesAt (clash : Clash) (because : DsdlWhy) (files : List DsdlFile) (ds : List Definition) (path : List ℕ) (line : ℕ) (why : DsdlWhy) : Type 0 where
+-- VersionClash, PortClash: the first file in path order that clashes with one before it. No line is
+-- named.
+pub record ClashesAt (clash : Clash) (because : DsdlWhy) (files : List DsdlFile)
+    (ds : List Definition) (path : List ℕ) (line : ℕ) (why : DsdlWhy) : Type 0 where
   pub file : ℕ
   pub first : first_clash clash ds ≡ Some file
   pub named : path_at files file ≡ Some path
@@ -122,17 +131,25 @@ definitions_of files done = in_path_order (length files) done
 -- The first refusal: that of a pass, where the passes before it refuse nothing.
 pub data FirstRefusal (files : List DsdlFile) (path : List ℕ) (line : ℕ) (why : DsdlWhy) : Type 0 where
   too_big : IsTooBig files path line why → FirstRefusal files path line why
-  name : AreWithinLimits files → IsFirst NameRefuses files path line why → FirstRefusal files path line why
-  syntax : AreWithinLimits files → All (Passes NameRefuses) files → IsFirst SyntaxRefuses files path line why → FirstRefusal files path line why
-  unresolved : (reads : List Read) → ArePassed files reads → IsUnresolvedAt files (sources_of reads) path line why → FirstRefusal files path line why
-  cycle : (reads : List Read) (links : List (List ℕ)) → AreLinked files reads links → IsCycleAt files links path line why → FirstRefusal files path line why
-  valuing : (reads : List Read) (order : List ℕ) → AreOrdered files reads order → StopsAt files reads order path line why → FirstRefusal files path line why
-  version : (done : List Done) → AreValued files done → ClashesAt versions_clash cause.VersionClash files (definitions_of files done) path line why → FirstRefusal files path line why
-  port : (done : List Done) → AreValued files done → first_clash versions_clash (definitions_of files done) ≡ None →
+  name : AreWithinLimits files → IsFirst NameRefuses files path line why
+      → FirstRefusal files path line why
+  syntax : AreWithinLimits files → All (Passes NameRefuses) files
+      → IsFirst SyntaxRefuses files path line why → FirstRefusal files path line why
+  unresolved : (reads : List Read) → ArePassed files reads
+      → IsUnresolvedAt files (sources_of reads) path line why → FirstRefusal files path line why
+  cycle : (reads : List Read) (links : List (List ℕ)) → AreLinked files reads links
+      → IsCycleAt files links path line why → FirstRefusal files path line why
+  valuing : (reads : List Read) (order : List ℕ) → AreOrdered files reads order
+      → StopsAt files reads order path line why → FirstRefusal files path line why
+  version : (done : List Done) → AreValued files done
+      → ClashesAt versions_clash cause.VersionClash files (definitions_of files done) path line why
+      → FirstRefusal files path line why
+  port : (done : List Done) → AreValued files done
+      → first_clash versions_clash (definitions_of files done) ≡ None →
       ClashesAt ports_clash cause.PortClash files (definitions_of files done) path line why → FirstRefusal files path line why
 
--- No file is refused: the namespace has the definition of each file, in path order, and what `@print` wrote, in the
--- order of valuing.
+-- No file is refused: the namespace has the definition of each file, in path order, and what
+-- `@print` wrote, in the order of valuing.
 pub record Compiled (files : List DsdlFile) (names : Namespace) : Type 0 where
   pub done : List Done
   pub valued_all : AreValued files done

@@ -12,4 +12,5 @@ pub record AreNumbered (done : List Done) (ns : List ℕ) (ds : List Definition)
 -- the types of these files are put at their places, and the other places are as they were
 pub record Places (done : List Done) (old new : List (Option Definition)) : Type 0 where
   pub count : length new ≡ length old
-  pub each : (n : ℕ) → n < length old → slice_index_or new n None ≡ option_or (definition_at done n) (slice_index_or old n None)
+  pub each : (n : ℕ) → n < length old
+      → slice_index_or new n None ≡ option_or (definition_at done n) (slice_index_or old n None)

@@ -29,11 +29,13 @@ pub record Holds (sources : List Source) (done : List Done) (p : Progress) : Typ
   pub prints : p.prints ≡ prints_of done
 
 -- one type more that references mean, and nothing else; its message is so large
-pub record WithType (old new : Progress) (number : ℕ) (d : Definition) (constants : List NamedConst) (counts : Counts) : Type 0 where
+pub record WithType (old new : Progress) (number : ℕ) (d : Definition) (constants : List NamedConst)
+    (counts : Counts) : Type 0 where
   pub definitions : new.scope.namespace.definitions ≡ old.scope.namespace.definitions ++ d ∷ []
   pub members : new.scope.members ≡ old.scope.members ++ record { id = d.id; constants = constants } ∷ []
   pub no_prints : new.scope.namespace.prints ≡ old.scope.namespace.prints
-  pub places : AreCountsIn counts d.parts → ArePlacesIn old.scope old.places → ArePlacesIn new.scope new.places
+  pub places : AreCountsIn counts d.parts → ArePlacesIn old.scope old.places
+      → ArePlacesIn new.scope new.places
   pub numbers : new.numbers.items ≡ old.numbers.items ++ number ∷ []
   pub doubles : new.doubles.items ≡ old.doubles.items
   pub double_numbers : new.double_numbers.items ≡ old.double_numbers.items
@@ -48,7 +50,8 @@ pub record WithDouble (old new : Progress) (number : ℕ) (d : Definition) : Typ
   pub double_numbers : new.double_numbers.items ≡ old.double_numbers.items ++ number ∷ []
   pub prints : new.prints ≡ old.prints
 
--- all types keep the rules of the language, the members of sets among the constants ascend, and each type has its place
+-- all types keep the rules of the language, the members of sets among the constants ascend, and
+-- each type has its place
 pub record IsSound (p : Progress) : Type 0 where
   pub definitions : All IsDefinition p.scope.namespace.definitions
   pub members : All (λ t. AreConstants t.constants) p.scope.members

@@ -1,5 +1,8 @@
--- The rules of the language as tests of a statement at its place. Each kind of statement has those that it can break.
-use Rattle.std.specs.Prelude.{ℕ, ◌-◌, ◌*◌, ◌^◌, ◌==◌, ◌&&◌, ◌||◌, ◌%◌, nat_lt, nat_le, nat_eq, Bool, true, false, not, ℤ, pos, negsuc, List, [], ◌∷◌, length, Option, Some, None, is_some, is_none, if◌then◌else◌, codes}
+-- The rules of the language as tests of a statement at its place. Each kind of statement has those
+-- that it can break.
+use Rattle.std.specs.Prelude.{ℕ, ◌-◌, ◌*◌, ◌^◌, ◌==◌, ◌&&◌, ◌||◌, ◌%◌, nat_lt, nat_le, nat_eq, Bool}
+use Rattle.std.specs.Prelude.{true, false, not, ℤ, pos, negsuc, List, [], ◌∷◌, length, Option, Some}
+use Rattle.std.specs.Prelude.{None, is_some, is_none, if◌then◌else◌, codes}
 use Rattle.std.specs.List.{list_any, filter_map, count_by, starts_with}
 use Rattle.std.specs.Str.{bytes_eq}
 use Rattle.dsdl_names.specs.Words.{is_reserved}
@@ -15,11 +18,20 @@ use Rattle.const_expr.specs.declared.scope.Scope.{Scope}
 use Rattle.const_expr.specs.Constants.{Layer, whole_of}
 use Rattle.dsdl_resolve.specs.declared.typed.Typed.{Typed}
 use Rattle.dsdl_resolve.specs.declared.values.Values.{Values}
-use Rattle.dsdl_resolve.specs.Forms.{referred, primitive_of, width_in, is_truncated, bounded, type_of}
+use Rattle.dsdl_resolve.specs.Forms.{referred, primitive_of, width_in, is_truncated, bounded}
+use Rattle.dsdl_resolve.specs.Forms.{type_of}
 use Rattle.dsdl_resolve.specs.Place.{Place, is_union_at}
-use Rattle.dsdl_resolve.specs.RuleNumbers.{second_split, no_ending, second_ending, extent_too_small, behind_extent, late_union, too_few_variants, padding_in_union, name_taken, name_reserved, wrong_width, wrong_cast_mode, wrong_capacity, not_a_message, constant_not_primitive, constant_out_of_range, unknown_directive, misplaced_expression, late_deprecated, assert_not_truth, service_port_too_great, nested_too_deep, too_many_nodes}
+use Rattle.dsdl_resolve.specs.RuleNumbers.{second_split, no_ending, second_ending, extent_too_small}
+use Rattle.dsdl_resolve.specs.RuleNumbers.{behind_extent, late_union, too_few_variants}
+use Rattle.dsdl_resolve.specs.RuleNumbers.{padding_in_union, name_taken, name_reserved, wrong_width}
+use Rattle.dsdl_resolve.specs.RuleNumbers.{wrong_cast_mode, wrong_capacity, not_a_message}
+use Rattle.dsdl_resolve.specs.RuleNumbers.{constant_not_primitive, constant_out_of_range}
+use Rattle.dsdl_resolve.specs.RuleNumbers.{unknown_directive, misplaced_expression, late_deprecated}
+use Rattle.dsdl_resolve.specs.RuleNumbers.{assert_not_truth, service_port_too_great}
+use Rattle.dsdl_resolve.specs.RuleNumbers.{nested_too_deep, too_many_nodes}
 use Rattle.dsdl_resolve.specs.Said.{Said, greatest, node_count, depth}
-use Rattle.dsdl_resolve.specs.Says.{is_split, is_union, is_deprecated, is_extent, is_sealing, is_field, is_entry, attribute_of, names_offset}
+use Rattle.dsdl_resolve.specs.Says.{is_split, is_union, is_deprecated, is_extent, is_sealing}
+use Rattle.dsdl_resolve.specs.Says.{is_field, is_entry, attribute_of, names_offset}
 use Rattle.dsdl_resolve.specs.Values.{with_field, natural_of}
 use Rattle.dsdl_resolve.specs.declared.primitive.Primitive.{Primitive}
 use Rattle.dsdl_resolve.specs.declared.primitive.Primitive.TheVariants as primitive
@@ -90,8 +102,8 @@ abbrev pub has_wrong_capacity : Option Bound → Option Const → Bool
 has_wrong_capacity None u = false
 has_wrong_capacity (Some b) u = is_none (bounded b.sign u)
 
--- A type that is no message, as a service; `void`, which has a name or is an item here. Without an array a
--- constant of another type breaks `constant_not_primitive` alone.
+-- A type that is no message, as a service; `void`, which has a name or is an item here. Without an
+-- array a constant of another type breaks `constant_not_primitive` alone.
 abbrev pub is_no_message : Scope → Bool → Scalar → Bool
 is_no_message scope typed (scalar.Primitive word name) = false
 is_no_message scope typed (scalar.Reference r) = typed && is_none (referred scope r)
@@ -119,8 +131,8 @@ abbrev pub is_half : ℤ → ℕ → Bool
 is_half (pos n) den = nat_le n (65504 * den)
 is_half (negsuc n) den = nat_lt n (65504 * den)
 
--- a value that a type holds: a truth value; a whole number in range, or for uint8 a string of one character; a
--- number, of which float16 alone doesn't hold all
+-- a value that a type holds: a truth value; a whole number in range, or for uint8 a string of one
+-- character; a number, of which float16 alone doesn't hold all
 abbrev pub fits : Primitive → Layer → Bool
 fits primitive.Bool (o.Truth b) = true
 fits (primitive.Uint w cast) (o.Number x) = unsigned_fits w (whole_of x)
@@ -158,7 +170,8 @@ abbrev pub is_port_too_great : Option ℕ → List Statement → Bool
 is_port_too_great None file = false
 is_port_too_great (Some port) file = nat_lt 511 port && list_any is_split file
 
--- `_offset_` in a union that has fewer than two variants so far, or has one at or behind this place.
+-- `_offset_` in a union that has fewer than two variants so far, or has one at or behind this
+-- place.
 abbrev pub is_offset_too_early : Place → Bool
 is_offset_too_early p =
     names_offset p.at

@@ -1,5 +1,6 @@
 -- What a section says, and how large it is.
-use Rattle.std.specs.Prelude.{ℕ, zero, suc, ◌+◌, ◌-◌, ◌^◌, ◌==◌, ◌&&◌, Bool, true, false, List, Option}
+use Rattle.std.specs.Prelude.{ℕ, zero, suc, ◌+◌, ◌-◌, ◌^◌, ◌==◌, ◌&&◌, Bool, true, false, List}
+use Rattle.std.specs.Prelude.{Option}
 use Rattle.bit_length.specs.Runs.{numbers_below}
 use Rattle.const_expr.specs.Sizes.{some_to, ends_at, is_variant}
 use Rattle.const_expr.specs.declared.scope.NamedConst.{NamedConst}
@@ -9,8 +10,9 @@ use Rattle.dsdl_types.specs.Schemas.{Flds, tag_bits, variants}
 use Rattle.dsdl_types.specs.Views.{flds}
 use Rattle.dsdl_types.specs.declared.schema.Field.{Field}
 
--- What the statements of a section say: whether it is a union; its fields or variants, padding among them; the texts
--- of the types of those that aren't padding; its constants; the extent, where `@extent` stands.
+-- What the statements of a section say: whether it is a union; its fields or variants, padding
+-- among them; the texts of the types of those that aren't padding; its constants; the extent, where
+-- `@extent` stands.
 pub record Said : Type 0 where
   pub union : Bool
   pub fields : List Field

@@ -1,5 +1,6 @@
 -- What the sections of a file keep whose statements are not refused.
-use Rattle.std.specs.Prelude.{◌≡◌, ℕ, ◌^◌, ◌≤◌, ◌%◌, true, false, Bool, List, [], length, Some, None}
+use Rattle.std.specs.Prelude.{◌≡◌, ℕ, ◌^◌, ◌≤◌, ◌%◌, true, false, Bool, List, [], length, Some}
+use Rattle.std.specs.Prelude.{None}
 use Rattle.std.specs.List.{list_any, filter_map, count_by, before_first}
 use Rattle.dsdl_parse.specs.declared.statement.Statement.{Statement}
 use Rattle.dsdl_types.specs.Definitions.{IsType, typed_count}
@@ -50,4 +51,5 @@ IsFinished said = IsType (composite_of said) × (length said.types ≡ typed_cou
 pub record KeepsRules (scope : Scope) (front : List Statement) : Type 0 where
   pub last : IsSound (last_section front) (said_by scope (last_section front))
   pub whole : list_any is_split front ≡ false → last_section front ≡ front
-  pub half : list_any is_split front ≡ true → IsFinished (said_by scope (before_first is_split front))
+  pub half : list_any is_split front ≡ true
+      → IsFinished (said_by scope (before_first is_split front))

@@ -19,7 +19,8 @@ pub record IsSource (file : DsdlFile) (name : FileName) (source : Source) : Type
   pub is : source ≡ source_of read
 
 -- what files of these names define and refer to
-pub record AreSources (files : List DsdlFile) (names : List FileName) (sources : List Source) : Type 0 where
+pub record AreSources (files : List DsdlFile) (names : List FileName)
+    (sources : List Source) : Type 0 where
   pub reads : List Read
   pub are_read : AreRead files reads
   pub named : map (λ r. r.name) reads ≡ names

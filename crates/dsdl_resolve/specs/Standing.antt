@@ -3,7 +3,8 @@ use Rattle.std.specs.Prelude.{◌≡◌, List}
 use Rattle.std.specs.List.{list_any, count_by}
 use Rattle.dsdl_parse.specs.declared.statement.Statement.{Statement}
 use Rattle.dsdl_resolve.specs.declared.standing.Standing.{Standing}
-use Rattle.dsdl_resolve.specs.Says.{is_split, is_union, is_extent, is_deprecated, is_sealing, is_field, is_entry}
+use Rattle.dsdl_resolve.specs.Says.{is_split, is_union, is_extent, is_deprecated, is_sealing}
+use Rattle.dsdl_resolve.specs.Says.{is_field, is_entry}
 
 -- which statements stand in a file and in its last section
 pub record Stands (standing : Standing) (file section : List Statement) : Type 0 where

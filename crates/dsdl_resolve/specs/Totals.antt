@@ -2,7 +2,8 @@
 use Rattle.std.specs.Prelude.{◌≡◌, ℕ, ◌+◌, ◌^◌, ◌≤◌, max, Bool, true, false}
 use Rattle.dsdl_types.specs.Greatest.{from_lead, longest, longest_fields, longest_variant, as_part}
 use Rattle.dsdl_types.specs.Rules.{IsSchema, IsItem, nodes, nodes_of, nesting, nesting_of}
-use Rattle.dsdl_types.specs.Schemas.{Sch, Flds, Fixed, Var, is_aligned, is_delimited, extent_of, variants}
+use Rattle.dsdl_types.specs.Schemas.{Sch, Flds, Fixed, Var, is_aligned, is_delimited, extent_of}
+use Rattle.dsdl_types.specs.Schemas.{variants}
 use Rattle.dsdl_resolve.specs.declared.counts.Counts.{Counts}
 use Rattle.dsdl_resolve.specs.declared.measure.Measure.{Measure}
 use Rattle.dsdl_resolve.specs.declared.totals.Totals.{Totals}

@@ -1,5 +1,7 @@
--- What the expressions of a statement are worth, and what a statement adds to what its section says.
-use Rattle.std.specs.Prelude.{ℕ, ◌++◌, Bool, true, false, ℤ, pos, negsuc, List, [], ◌∷◌, fold, Option, Some, None, Result, Ok, Err, if◌then◌else◌, codes}
+-- What the expressions of a statement are worth, and what a statement adds to what its section
+-- says.
+use Rattle.std.specs.Prelude.{ℕ, ◌++◌, Bool, true, false, ℤ, pos, negsuc, List, [], ◌∷◌, fold}
+use Rattle.std.specs.Prelude.{Option, Some, None, Result, Ok, Err, if◌then◌else◌, codes}
 use Rattle.std.specs.Str.{bytes_eq}
 use Rattle.dsdl_parse.specs.declared.expr.Expr.{Expr, out-Expr}
 use Rattle.dsdl_parse.specs.declared.statement.Bound.{Bound}

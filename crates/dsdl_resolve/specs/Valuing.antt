@@ -1,5 +1,7 @@
 -- The files are valued one after the other, each with what those before it define.
-use Rattle.std.specs.Prelude.{◌==◌, ℕ, Bool, false, List, [], ◌∷◌, ◌++◌, map, filter, flat_map, filter_map, find, slice_get, Option, Some, None, option_map, option_and_then, Result, Ok, Err}
+use Rattle.std.specs.Prelude.{◌==◌, ℕ, Bool, false, List, [], ◌∷◌, ◌++◌, map, filter, flat_map}
+use Rattle.std.specs.Prelude.{filter_map, find, slice_get, Option, Some, None, option_map}
+use Rattle.std.specs.Prelude.{option_and_then, Result, Ok, Err}
 use Rattle.std.specs.List.{range_with_len}
 use Rattle.const_expr.specs.declared.scope.Scope.{Scope}
 use Rattle.const_expr.specs.declared.scope.TypeConsts.{TypeConsts}
@@ -27,7 +29,8 @@ abbrev pub is_number : ℕ → Option ℕ → Bool
 is_number n None = false
 is_number n (Some m) = m == n
 
--- the file of this number is the first one in path order that defines its type: references mean this one
+-- the file of this number is the first one in path order that defines its type: references mean
+-- this one
 abbrev pub is_first : List Source → ℕ → Bool
 is_first sources n = is_number n (option_and_then (λ file. file_of sources file.id) (slice_get sources n))
 
@@ -64,11 +67,13 @@ abbrev pub with_done : List Done → ℕ → Outcome → List Done
 with_done done n o = done ++ record { number = n; outcome = o } ∷ []
 
 -- what follows a file that is valued; a refusal ends it
-abbrev pub with_outcome : (List Done → Result (List Done) Stop) → List Done → ℕ → Result Outcome Refused → Result (List Done) Stop
+abbrev pub with_outcome : (List Done → Result (List Done) Stop) → List Done → ℕ
+    → Result Outcome Refused → Result (List Done) Stop
 with_outcome next done n (Ok o) = next (with_done done n o)
 with_outcome next done n (Err refused) = Err (record { number = n; refused = refused })
 
-abbrev pub with_file : (List Done → Result (List Done) Stop) → List Source → List Done → ℕ → Option Read → Result (List Done) Stop
+abbrev pub with_file : (List Done → Result (List Done) Stop) → List Source → List Done → ℕ
+    → Option Read → Result (List Done) Stop
 with_file next sources done n None = next done
 with_file next sources done n (Some r) = with_outcome next done n (outcome_behind sources done r)
 

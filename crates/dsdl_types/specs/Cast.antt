@@ -1,7 +1,9 @@
 -- Values with each number brought into the range of its type, as it is when it is written.
 use Rattle.std.specs.Prelude.{ℕ, zero, suc, ◌-◌, ◌^◌, ◌%◌, min, Bool, true, false, ℤ, pos, negsuc}
-use Rattle.dsdl_types.specs.Schemas.{Prim, Sch, Flds, PBool, PUint, PInt, PFloat, Simple, Fixed, Var, Struct, Union, End, Pad, Field}
-use Rattle.dsdl_types.specs.Values.{Val, Vals, Num, Items, Parts, Tagged, Empty, More, items_of, parts_of, tag_of, inner_of, first, others, on_items}
+use Rattle.dsdl_types.specs.Schemas.{Prim, Sch, Flds, PBool, PUint, PInt, PFloat, Simple, Fixed}
+use Rattle.dsdl_types.specs.Schemas.{Var, Struct, Union, End, Pad, Field}
+use Rattle.dsdl_types.specs.Values.{Val, Vals, Num, Items, Parts, Tagged, Empty, More, items_of}
+use Rattle.dsdl_types.specs.Values.{parts_of, tag_of, inner_of, first, others, on_items}
 
 -- An unsigned number of w bits: saturated (true) the nearest end of the range from 0 to 2^w - 1,
 -- truncated (false) the low bits in two's complement. `negsuc n` is -(n + 1).

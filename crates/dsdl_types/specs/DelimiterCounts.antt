@@ -1,7 +1,10 @@
 -- Bytes in which no delimiter header counts more than the extent of its part.
-use Rattle.std.specs.Prelude.{ℕ, zero, suc, ◌+◌, ◌*◌, ◌-◌, ◌≤◌, Bool, true, false, List, length, take, drop}
+use Rattle.std.specs.Prelude.{ℕ, zero, suc, ◌+◌, ◌*◌, ◌-◌, ◌≤◌, Bool, true, false, List, length}
+use Rattle.std.specs.Prelude.{take, drop}
 use Rattle.cy_bits.specs.Bits.{number, gap}
-use Rattle.dsdl_types.specs.Schemas.{Prim, Sch, Flds, Simple, Fixed, Var, Struct, Union, End, Pad, Field, is_aligned, is_delimited, length_field_bits, tag_bits, variants, extent_of}
+use Rattle.dsdl_types.specs.Schemas.{Prim, Sch, Flds, Simple, Fixed, Var, Struct, Union, End, Pad}
+use Rattle.dsdl_types.specs.Schemas.{Field, is_aligned, is_delimited, length_field_bits, tag_bits}
+use Rattle.dsdl_types.specs.Schemas.{variants, extent_of}
 use Rattle.dsdl_types.specs.Values.{Val}
 use Rattle.dsdl_types.specs.Reading.{Read, Got, Bad, part, aligned}
 
@@ -22,12 +25,13 @@ abbrev pub at_aligned : Bool → (ℕ → List Bool → Type 0) → ℕ → List
 at_aligned false P p x = P p x
 at_aligned true P p x = P (p + gap p) (drop (gap p) x)
 
-abbrev pub row_fits : (ℕ → List Bool → Read Val) → (ℕ → List Bool → Type 0) → ℕ → ℕ → List Bool → Type 0
+abbrev pub row_fits : (ℕ → List Bool → Read Val) → (ℕ → List Bool → Type 0) → ℕ → ℕ → List Bool
+    → Type 0
 row_fits f P zero p x = Unit {0}
 row_fits f P (suc n) p x = P p x × on_got (f p x) (λ q y. row_fits f P n q y)
 
--- Reading from the place p meets no delimiter header that counts more than its part's extent, up to the
--- end or the first refusal.
+-- Reading from the place p meets no delimiter header that counts more than its part's extent, up to
+-- the end or the first refusal.
 abbrev mutual
   pub CountsFit : Sch → ℕ → List Bool → Type 0
   CountsFit (Simple t) p x = Unit {0}

@@ -1,12 +1,14 @@
 -- Where and why a type first fails to be newer than another.
-use Rattle.std.specs.Prelude.{◌≡◌, ℕ, ◌==◌, ◌&&◌, nat_lt, if◌then◌else◌, Bool, true, false, List, [], ◌∷◌, Option, Some}
+use Rattle.std.specs.Prelude.{◌≡◌, ℕ, ◌==◌, ◌&&◌, nat_lt, if◌then◌else◌, Bool, true, false, List}
+use Rattle.std.specs.Prelude.{[], ◌∷◌, Option, Some}
 use Rattle.std.specs.Prelude.{None, ◌↔◌}
-use Rattle.dsdl_types.specs.Schemas.{Prim, Sch, Flds, Outline, PBool, PUint, PInt, PFloat, Simple, Fixed, Var, Struct, Union, End, Pad, Field, field_count}
+use Rattle.dsdl_types.specs.Schemas.{Prim, Sch, Flds, Outline, PBool, PUint, PInt, PFloat, Simple}
+use Rattle.dsdl_types.specs.Schemas.{Fixed, Var, Struct, Union, End, Pad, Field, field_count}
 use Rattle.dsdl_types.specs.Newer.{Newer}
 
 -- Kind: the kinds, widths, casts or array lengths differ. Sealing: one alone is sealed. Extent: the
--- extents differ. Sealed: both are sealed and differ, names aside. Count: a structure has fewer fields
--- than the old one, or a union another number of variants.
+-- extents differ. Sealed: both are sealed and differ, names aside. Count: a structure has fewer
+-- fields than the old one, or a union another number of variants.
 pub data Cause : Type 0 where
   Kind : Cause
   Sealing : Cause
@@ -14,8 +16,8 @@ pub data Cause : Type 0 where
   Sealed : Cause
   Count : Cause
 
--- A step of the path: a field by its name in the new type (padding has the empty name), or the items of
--- an array.
+-- A step of the path: a field by its name in the new type (padding has the empty name), or the
+-- items of an array.
 pub data Turn : Type 0 where
   Named : List ℕ → Turn
   Item : Turn
@@ -72,8 +74,8 @@ abbrev pub or_else : Option Difference → Option Difference → Option Differen
 or_else None d = d
 or_else (Some c) d = Some c
 
--- Of two composites of one kind: their sealing, their extents, and then of sealed ones whether they are
--- equal, of delimited ones their fields.
+-- Of two composites of one kind: their sealing, their extents, and then of sealed ones whether they
+-- are equal, of delimited ones their fields.
 abbrev pub outlined : Outline → Outline → Bool → Option Difference → Option Difference
 outlined o p equal d = unless (same_bool o.sealed p.sealed) Sealing (unless (o.extent == p.extent) Extent (if o.sealed then unless equal Sealed None else d))
 

@@ -1,8 +1,13 @@
--- The serialized form of a value: a list of bits, least significant first (Cyphal Specification, section 3.7).
-use Rattle.std.specs.Prelude.{ℕ, zero, suc, ◌+◌, ◌-◌, ◌^◌, ◌/◌, Bool, true, false, List, [], ◌++◌, length, pos, negsuc}
+-- The serialized form of a value: a list of bits, least significant first (Cyphal Specification,
+-- section 3.7).
+use Rattle.std.specs.Prelude.{ℕ, zero, suc, ◌+◌, ◌-◌, ◌^◌, ◌/◌, Bool, true, false, List, [], ◌++◌}
+use Rattle.std.specs.Prelude.{length, pos, negsuc}
 use Rattle.cy_bits.specs.Bits.{bits_of, zeros, gap}
-use Rattle.dsdl_types.specs.Schemas.{Prim, Sch, Flds, Simple, Fixed, Var, Struct, Union, End, Pad, Field, is_aligned, is_delimited, length_field_bits, tag_bits, width, variants}
-use Rattle.dsdl_types.specs.Values.{Val, Vals, Truth, Num, Raw, Empty, More, count, items_of, parts_of, tag_of, inner_of, first, others}
+use Rattle.dsdl_types.specs.Schemas.{Prim, Sch, Flds, Simple, Fixed, Var, Struct, Union, End, Pad}
+use Rattle.dsdl_types.specs.Schemas.{Field, is_aligned, is_delimited, length_field_bits, tag_bits}
+use Rattle.dsdl_types.specs.Schemas.{width, variants}
+use Rattle.dsdl_types.specs.Values.{Val, Vals, Truth, Num, Raw, Empty, More, count, items_of}
+use Rattle.dsdl_types.specs.Values.{parts_of, tag_of, inner_of, first, others}
 use Rattle.dsdl_types.specs.Cast.{cast_simple}
 
 -- The raw bits of a value in the range of w bits, as a number. A negative number is in two's

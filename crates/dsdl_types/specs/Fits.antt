@@ -1,7 +1,9 @@
 -- Which values a schema has.
 use Rattle.std.specs.Prelude.{◌≡◌, ℕ, zero, suc, ◌^◌, ◌≤◌, ◌<◌, ℤ, pos, negsuc}
-use Rattle.dsdl_types.specs.Schemas.{Prim, Sch, Flds, PBool, PUint, PInt, PFloat, Simple, Fixed, Var, Struct, Union, End, Pad, Field}
-use Rattle.dsdl_types.specs.Values.{Val, Vals, Truth, Num, Raw, Items, Parts, Tagged, Empty, More, count}
+use Rattle.dsdl_types.specs.Schemas.{Prim, Sch, Flds, PBool, PUint, PInt, PFloat, Simple, Fixed}
+use Rattle.dsdl_types.specs.Schemas.{Var, Struct, Union, End, Pad, Field}
+use Rattle.dsdl_types.specs.Values.{Val, Vals, Truth, Num, Raw, Items, Parts, Tagged, Empty, More}
+use Rattle.dsdl_types.specs.Values.{count}
 
 -- a whole number from -2^63 to 2^64 - 1
 abbrev pub IsNumber : ℤ → Type 0
@@ -9,8 +11,8 @@ IsNumber (pos n) = n < 2 ^ 64
 IsNumber (negsuc n) = n < 2 ^ 63
 
 -- A bool has the truth values. An integer type has the whole numbers from -2^63 to 2^64 - 1, those
--- that its width doesn't hold among them (they are cast when they are written). A float type has the
--- raw bits of its width.
+-- that its width doesn't hold among them (they are cast when they are written). A float type has
+-- the raw bits of its width.
 abbrev pub FitsSimple : Prim → Val → Type 0
 FitsSimple PBool (Truth b) = Unit {0}
 FitsSimple (PUint w c) (Num z) = IsNumber z
@@ -43,9 +45,9 @@ abbrev pub IsEmpty : Vals → Type 0
 IsEmpty Empty = Unit {0}
 IsEmpty (More v vs) = ⊥
 
--- A fixed array has exactly its number of items, a variable one at most its capacity. A structure has
--- a value for each field that isn't padding. A union has a tag below its number of variants, and a
--- value of that variant.
+-- A fixed array has exactly its number of items, a variable one at most its capacity. A structure
+-- has a value for each field that isn't padding. A union has a tag below its number of variants,
+-- and a value of that variant.
 abbrev mutual
   pub Fits : Sch → Val → Type 0
   Fits (Simple t) v = FitsSimple t v

@@ -1,7 +1,9 @@
 -- The greatest length of a schema, in bits.
 use Rattle.std.specs.Prelude.{ℕ, ◌+◌, ◌*◌, ◌-◌, max, Bool, true, false}
 use Rattle.cy_bits.specs.Bits.{gap}
-use Rattle.dsdl_types.specs.Schemas.{Sch, Flds, Simple, Fixed, Var, Struct, Union, End, Pad, Field, is_aligned, is_delimited, extent_of, length_field_bits, tag_bits, width, variants}
+use Rattle.dsdl_types.specs.Schemas.{Sch, Flds, Simple, Fixed, Var, Struct, Union, End, Pad, Field}
+use Rattle.dsdl_types.specs.Schemas.{is_aligned, is_delimited, extent_of, length_field_bits}
+use Rattle.dsdl_types.specs.Schemas.{tag_bits, width, variants}
 
 -- as a part: of a delimited composite the delimiter header and the extent
 abbrev pub as_part : Bool → ℕ → ℕ → ℕ

@@ -1,6 +1,7 @@
--- The laws of the serialized form. They hold of each schema that is sound (`Sound.antt`), and so of each that
--- keeps the rules (`Rules.antt`).
-use Rattle.std.specs.Prelude.{◌≡◌, ℕ, ◌/◌, ◌≤◌, length, Bool, true, List, ◌++◌, ◌⊎◌, take, replicate}
+-- The laws of the serialized form. They hold of each schema that is sound (`Sound.antt`), and so of
+-- each that keeps the rules (`Rules.antt`).
+use Rattle.std.specs.Prelude.{◌≡◌, ℕ, ◌/◌, ◌≤◌, length, Bool, true, List, ◌++◌, ◌⊎◌, take}
+use Rattle.std.specs.Prelude.{replicate}
 use Rattle.cy_bits.specs.Bits.{bits, bytes}
 use Rattle.dsdl_types.specs.Schemas.{Sch, is_composite, extent_of}
 use Rattle.dsdl_types.specs.Values.{Val}
@@ -24,10 +25,13 @@ Unreadable s b path why = own s 0 (bits b) ≡ Bad path why
 -- exactly one of the two holds, for one value or for one path and cause
 pub record ReadsOnce (s : Sch) (b : List ℕ) : Type 0 where
   pub either : ((v : Val) × Reads s b v) ⊎ ((path : List Step) × (why : Why) × Unreadable s b path why)
-  pub not_both : (v : Val) (path : List Step) (why : Why) → Reads s b v → Unreadable s b path why → ⊥
+  pub not_both : (v : Val) (path : List Step) (why : Why) → Reads s b v → Unreadable s b path why
+      → ⊥
   pub one_value : (v w : Val) → Reads s b v → Reads s b w → v ≡ w
-  pub one_path : (path path' : List Step) (why why' : Why) → Unreadable s b path why → Unreadable s b path' why' → path ≡ path'
-  pub one_why : (path path' : List Step) (why why' : Why) → Unreadable s b path why → Unreadable s b path' why' → why ≡ why'
+  pub one_path : (path path' : List Step) (why why' : Why) → Unreadable s b path why
+      → Unreadable s b path' why' → path ≡ path'
+  pub one_why : (path path' : List Step) (why why' : Why) → Unreadable s b path why
+      → Unreadable s b path' why' → why ≡ why'
 
 -- the serialized form of a value, as bytes
 abbrev pub encoding : Sch → Val → List ℕ
@@ -50,17 +54,20 @@ pub record ZeroReads (s : Sch) : Type 0 where
   pub fits : Fits s (zero_of s)
   pub reads : (k : ℕ) → Reads s (replicate k 0) (zero_of s)
 
--- The bytes read as the value, also with zeros behind, and of a composite also cut to so many bytes.
+-- The bytes read as the value, also with zeros behind, and of a composite also cut to so many
+-- bytes.
 pub record ReadsPadded (s : Sch) (b : List ℕ) (v : Val) (cut : ℕ) : Type 0 where
   pub plain : Reads s b v
   pub zeros : (k : ℕ) → Reads s (with_zeros b k) v
   pub zeros_cut : is_composite s ≡ true → (k : ℕ) → Reads s (take cut (with_zeros b k)) v
 
--- The bytes of a newer value read as that value without what was added, and the bytes of an older value
--- with zeros in place of what was added.
+-- The bytes of a newer value read as that value without what was added, and the bytes of an older
+-- value with zeros in place of what was added.
 pub record Evolves (new old : Sch) : Type 0 where
-  pub to_old : (v : Val) → Fits new v → ReadsPadded old (encoding new v) (as_old new old (cast new v)) (extent_of new / 8)
-  pub to_new : (w : Val) → Fits old w → ReadsPadded new (encoding old w) (as_new new old (cast old w)) (extent_of new / 8)
+  pub to_old : (v : Val) → Fits new v
+      → ReadsPadded old (encoding new v) (as_old new old (cast new v)) (extent_of new / 8)
+  pub to_new : (w : Val) → Fits old w
+      → ReadsPadded new (encoding old w) (as_new new old (cast old w)) (extent_of new / 8)
 
 -- Values of a newer and an older version of a type read as one another, at any depth.
 abbrev pub Evolution : Type 0
@@ -75,13 +82,13 @@ pub record SameReading (s : Sch) (b c : List ℕ) : Type 0 where
   pub reads : (v : Val) → Reads s b v → Reads s c v
   pub refuses : (path : List Step) (why : Why) → Unreadable s b path why → Unreadable s c path why
 
--- Where no delimiter header counts more than its part's extent, bytes and the same cut to the extent read
--- as the same value, or are refused by the same path and cause.
+-- Where no delimiter header counts more than its part's extent, bytes and the same cut to the
+-- extent read as the same value, or are refused by the same path and cause.
 abbrev pub CutLaw : Sch → List ℕ → Type 0
 CutLaw s b = IsSound s → is_composite s ≡ true → CountsFit s 0 (bits b) → SameReading s b (take (extent_of s / 8) b)
 
--- Where no delimiter header counts more than its part's extent, a payload that can be read, the same with
--- zeros behind and that cut to the extent read as one value.
+-- Where no delimiter header counts more than its part's extent, a payload that can be read, the
+-- same with zeros behind and that cut to the extent read as one value.
 abbrev pub PaddedLaw : Sch → List ℕ → Type 0
 PaddedLaw s b = IsSound s → is_composite s ≡ true → CountsFit s 0 (bits b) → (v : Val) → Reads s b v → (k : ℕ) → Reads s (with_zeros b k) v × Reads s (take (extent_of s / 8) (with_zeros b k)) v
 
@@ -89,4 +96,5 @@ PaddedLaw s b = IsSound s → is_composite s ≡ true → CountsFit s 0 (bits b)
 pub record KeepsReadings (s : Sch) : Type 0 where
   pub cut : (b : List ℕ) → CountsFit s 0 (bits b) → SameReading s b (take (extent_of s / 8) b)
   pub zeros : (b : List ℕ) (v : Val) → Reads s b v → (k : ℕ) → Reads s (with_zeros b k) v
-  pub zeros_cut : (b : List ℕ) → CountsFit s 0 (bits b) → (v : Val) → Reads s b v → (k : ℕ) → Reads s (take (extent_of s / 8) (with_zeros b k)) v
+  pub zeros_cut : (b : List ℕ) → CountsFit s 0 (bits b) → (v : Val) → Reads s b v → (k : ℕ)
+      → Reads s (take (extent_of s / 8) (with_zeros b k)) v

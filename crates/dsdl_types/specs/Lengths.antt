@@ -1,10 +1,12 @@
 -- Which lengths in bits the serialized forms of a schema have, and where a field can stand.
 use Rattle.std.specs.Prelude.{◌≡◌, ℕ, zero, suc, ◌+◌, ◌*◌, ◌-◌, ◌≤◌, ◌⊎◌, Bool, true, false}
-use Rattle.dsdl_types.specs.Schemas.{Sch, Flds, Simple, Fixed, Var, Struct, Union, End, Pad, Field, is_aligned, is_delimited, extent_of, length_field_bits, tag_bits, width, variants}
+use Rattle.dsdl_types.specs.Schemas.{Sch, Flds, Simple, Fixed, Var, Struct, Union, End, Pad, Field}
+use Rattle.dsdl_types.specs.Schemas.{is_aligned, is_delimited, extent_of, length_field_bits}
+use Rattle.dsdl_types.specs.Schemas.{tag_bits, width, variants}
 use Rattle.dsdl_types.specs.Greatest.{up, from_lead}
 
--- As a part: of a delimited composite its delimiter header and any whole bytes up to its extent, since
--- another version of it may stand there.
+-- As a part: of a delimited composite its delimiter header and any whole bytes up to its extent,
+-- since another version of it may stand there.
 abbrev pub AsPart : Bool → ℕ → (ℕ → Type 0) → ℕ → Type 0
 AsPart false extent P n = P n
 AsPart true extent P n = (c : ℕ) × (8 * c ≤ extent) × (n ≡ 32 + 8 * c)

@@ -1,7 +1,10 @@
--- Newer versions of a type, and values of one version as values of the other (Cyphal Specification, section 3.8).
+-- Newer versions of a type, and values of one version as values of the other (Cyphal Specification,
+-- section 3.8).
 use Rattle.std.specs.Prelude.{◌≡◌, ℕ, zero, suc, true, false, List, []}
-use Rattle.dsdl_types.specs.Schemas.{Prim, Sch, Flds, Outline, Simple, Fixed, Var, Struct, Union, End, Pad, Field, field_count}
-use Rattle.dsdl_types.specs.Values.{Val, Vals, Items, Parts, Tagged, More, items_of, parts_of, tag_of, inner_of, first, others, on_items}
+use Rattle.dsdl_types.specs.Schemas.{Prim, Sch, Flds, Outline, Simple, Fixed, Var, Struct, Union}
+use Rattle.dsdl_types.specs.Schemas.{End, Pad, Field, field_count}
+use Rattle.dsdl_types.specs.Values.{Val, Vals, Items, Parts, Tagged, More, items_of, parts_of}
+use Rattle.dsdl_types.specs.Values.{tag_of, inner_of, first, others, on_items}
 use Rattle.dsdl_types.specs.Zero.{zero_fields}
 
 -- a schema without the names of its fields
@@ -18,25 +21,30 @@ abbrev mutual
   bare_fields (Pad n fs) = Pad n (bare_fields fs)
   bare_fields (Field name s fs) = Field [] (bare s) (bare_fields fs)
 
--- The first schema is newer than the second. Primitives and padding are equal. Arrays have the same kind
--- and length, and their items are newer. Composites have the same kind, sealing and extent. Sealed ones
--- are equal, names aside. A delimited structure has at least the fields of the second, and the first of
--- them are pairwise newer. A delimited union has as many variants, pairwise newer.
+-- The first schema is newer than the second. Primitives and padding are equal. Arrays have the same
+-- kind and length, and their items are newer. Composites have the same kind, sealing and extent.
+-- Sealed ones are equal, names aside. A delimited structure has at least the fields of the second,
+-- and the first of them are pairwise newer. A delimited union has as many variants, pairwise newer.
 mutual
   pub data Newer : Sch → Sch → Type 0 where
     newer_simple : {t : Prim} → Newer (Simple t) (Simple t)
     newer_fixed : {a b : Sch} {n : ℕ} → Newer a b → Newer (Fixed a n) (Fixed b n)
     newer_var : {a b : Sch} {n : ℕ} → Newer a b → Newer (Var a n) (Var b n)
-    sealed_struct : {fs gs : Flds} {o : Outline} → o.sealed ≡ true → bare_fields fs ≡ bare_fields gs → Newer (Struct fs o) (Struct gs o)
-    sealed_union : {fs gs : Flds} {o : Outline} → o.sealed ≡ true → bare_fields fs ≡ bare_fields gs → Newer (Union fs o) (Union gs o)
-    newer_struct : {fs gs : Flds} {o : Outline} → o.sealed ≡ false → NewerFields fs gs → Newer (Struct fs o) (Struct gs o)
-    newer_union : {fs gs : Flds} {o : Outline} → o.sealed ≡ false → field_count fs ≡ field_count gs → NewerFields fs gs → Newer (Union fs o) (Union gs o)
+    sealed_struct : {fs gs : Flds} {o : Outline} → o.sealed ≡ true → bare_fields fs ≡ bare_fields gs
+        → Newer (Struct fs o) (Struct gs o)
+    sealed_union : {fs gs : Flds} {o : Outline} → o.sealed ≡ true → bare_fields fs ≡ bare_fields gs
+        → Newer (Union fs o) (Union gs o)
+    newer_struct : {fs gs : Flds} {o : Outline} → o.sealed ≡ false → NewerFields fs gs
+        → Newer (Struct fs o) (Struct gs o)
+    newer_union : {fs gs : Flds} {o : Outline} → o.sealed ≡ false → field_count fs ≡ field_count gs
+        → NewerFields fs gs → Newer (Union fs o) (Union gs o)
 
   -- at least the fields of the second, and these are newer
   pub data NewerFields : Flds → Flds → Type 0 where
     added : {fs : Flds} → NewerFields fs End
     newer_pad : {fs gs : Flds} {n : ℕ} → NewerFields fs gs → NewerFields (Pad n fs) (Pad n gs)
-    newer_field : {name name' : List ℕ} {a b : Sch} {fs gs : Flds} → Newer a b → NewerFields fs gs → NewerFields (Field name a fs) (Field name' b gs)
+    newer_field : {name name' : List ℕ} {a b : Sch} {fs gs : Flds} → Newer a b → NewerFields fs gs
+        → NewerFields (Field name a fs) (Field name' b gs)
 
 -- A value of the first type as one of the second: of fields that only the first has it is dropped,
 -- and those that only the second has are filled with zero.

@@ -1,11 +1,14 @@
--- The rules of a schema can be kept in one way alone, so that a struct may keep them in a ghost field.
+-- The rules of a schema can be kept in one way alone, so that a struct may keep them in a ghost
+-- field.
 use Rattle.std.specs.Prelude.{ℕ, Bool, true, false, List}
 use Rattle.std.specs.Coded.{×_prop, Unit-prop, le_prop}
 use Rattle.std.proofs.Math.Nat.{ℕ_set}
 use Rattle.std.proofs.Math.Bool.{Bool-set}
-use Rattle.dsdl_types.specs.Schemas.{Prim, Sch, Flds, PBool, PUint, PInt, PFloat, Simple, Fixed, Var, Struct, Union, End, Pad, Field}
+use Rattle.dsdl_types.specs.Schemas.{Prim, Sch, Flds, PBool, PUint, PInt, PFloat, Simple, Fixed}
+use Rattle.dsdl_types.specs.Schemas.{Var, Struct, Union, End, Pad, Field}
 use Rattle.dsdl_types.specs.Names.{IsNew, AreNamed, HasNames, HaveNames}
-use Rattle.dsdl_types.specs.Rules.{IsPrim, IsExtent, IsItem, NoPadding, IsFormed, AreFormed, IsSchema}
+use Rattle.dsdl_types.specs.Rules.{IsPrim, IsExtent, IsItem, NoPadding, IsFormed, AreFormed}
+use Rattle.dsdl_types.specs.Rules.{IsSchema}
 
 none_prop : IsProp ⊥
 none_prop a b = absurd a

@@ -1,4 +1,5 @@
--- The text of the path to a part of a value: names with a point between, and the places of items in brackets.
+-- The text of the path to a part of a value: names with a point between, and the places of items in
+-- brackets.
 use Rattle.std.specs.Prelude.{ℕ, List, [], ◌∷◌, ◌++◌, codes, decimal}
 use Rattle.dsdl_types.specs.Reading.{Step, Name, Index}
 use Rattle.dsdl_types.specs.declared.path.Step.{Step as PathStep}

@@ -1,6 +1,8 @@
 -- How far past the end of its bits reading goes.
 use Rattle.std.specs.Prelude.{◌≡◌, ℕ, ◌+◌, ◌*◌, ◌-◌, ◌≤◌, max, Bool, true, false, List, length}
-use Rattle.dsdl_types.specs.Schemas.{Prim, Sch, Flds, Simple, Fixed, Var, Struct, Union, End, Pad, Field, is_delimited, length_field_bits, tag_bits, width, variants}
+use Rattle.dsdl_types.specs.Schemas.{Prim, Sch, Flds, Simple, Fixed, Var, Struct, Union, End, Pad}
+use Rattle.dsdl_types.specs.Schemas.{Field, is_delimited, length_field_bits, tag_bits, width}
+use Rattle.dsdl_types.specs.Schemas.{variants}
 use Rattle.dsdl_types.specs.Reading.{Read, Got}
 
 -- of a delimited part the header, since its window lies within the bits

@@ -1,8 +1,12 @@
--- What bits read as: a value, or the first place and cause that refuses them (Cyphal Specification, section
--- 3.7). Bits past the end are zeros, since `take` and `drop` give none there and the number of no bits is 0.
-use Rattle.std.specs.Prelude.{ℕ, zero, suc, ◌+◌, ◌*◌, ◌-◌, ◌^◌, ◌==◌, nat_lt, if◌then◌else◌, Bool, true, false, List, [], ◌∷◌, length, take, drop, pos, negsuc}
+-- What bits read as: a value, or the first place and cause that refuses them (Cyphal Specification,
+-- section 3.7). Bits past the end are zeros, since `take` and `drop` give none there and the number
+-- of no bits is 0.
+use Rattle.std.specs.Prelude.{ℕ, zero, suc, ◌+◌, ◌*◌, ◌-◌, ◌^◌, ◌==◌, nat_lt, if◌then◌else◌, Bool}
+use Rattle.std.specs.Prelude.{true, false, List, [], ◌∷◌, length, take, drop, pos, negsuc}
 use Rattle.cy_bits.specs.Bits.{number, gap}
-use Rattle.dsdl_types.specs.Schemas.{Prim, Sch, Flds, PBool, PUint, PInt, PFloat, Simple, Fixed, Var, Struct, Union, End, Pad, Field, is_aligned, is_delimited, length_field_bits, tag_bits, width, variants}
+use Rattle.dsdl_types.specs.Schemas.{Prim, Sch, Flds, PBool, PUint, PInt, PFloat, Simple, Fixed}
+use Rattle.dsdl_types.specs.Schemas.{Var, Struct, Union, End, Pad, Field, is_aligned, is_delimited}
+use Rattle.dsdl_types.specs.Schemas.{length_field_bits, tag_bits, width, variants}
 use Rattle.dsdl_types.specs.Values.{Val, Vals, Truth, Num, Raw, Items, Parts, Tagged, Empty, More}
 
 -- a step of the path to a part: a field or variant by its name, or an item by its place
@@ -10,8 +14,9 @@ pub data Step : Type 0 where
   Name : List ℕ → Step
   Index : ℕ → Step
 
--- Why bits are refused, with the number that was read: a tag of no variant, a length field above the
--- capacity, or a delimiter header that counts more bytes than are left in what stands around it.
+-- Why bits are refused, with the number that was read: a tag of no variant, a length field above
+-- the capacity, or a delimiter header that counts more bytes than are left in what stands around
+-- it.
 pub data Why : Type 0 where
   BadTag : ℕ → Why
   BadLength : ℕ → Why
@@ -51,8 +56,8 @@ abbrev pub within : {A : Type 0} → ℕ → List Bool → Read A → Read A
 within p rest (Got a q own) = Got a p rest
 within p rest (Bad path why) = Bad path why
 
--- A reader behind its delimiter header, if it has one. The bytes that the header counts are a window of
--- their own, which begins at the place 0; reading goes on behind it.
+-- A reader behind its delimiter header, if it has one. The bytes that the header counts are a
+-- window of their own, which begins at the place 0; reading goes on behind it.
 abbrev pub delimited : {A : Type 0} → Bool → (ℕ → List Bool → Read A) → ℕ → List Bool → Read A
 delimited false f p rest = f p rest
 delimited true f p rest =

@@ -1,6 +1,9 @@
--- The rules that a schema keeps (Cyphal Specification, sections 3.4 and 3.6), and the limits of this compiler.
-use Rattle.std.specs.Prelude.{◌≡◌, ℕ, suc, ◌+◌, ◌*◌, ◌-◌, ◌^◌, ◌%◌, ◌≤◌, ◌==◌, ◌||◌, max, Bool, true, false}
-use Rattle.dsdl_types.specs.Schemas.{Prim, Sch, Flds, Outline, PBool, PUint, PInt, PFloat, Simple, Fixed, Var, Struct, Union, End, Pad, Field, tag_bits, variants}
+-- The rules that a schema keeps (Cyphal Specification, sections 3.4 and 3.6), and the limits of
+-- this compiler.
+use Rattle.std.specs.Prelude.{◌≡◌, ℕ, suc, ◌+◌, ◌*◌, ◌-◌, ◌^◌, ◌%◌, ◌≤◌, ◌==◌, ◌||◌, max, Bool}
+use Rattle.std.specs.Prelude.{true, false}
+use Rattle.dsdl_types.specs.Schemas.{Prim, Sch, Flds, Outline, PBool, PUint, PInt, PFloat, Simple}
+use Rattle.dsdl_types.specs.Schemas.{Fixed, Var, Struct, Union, End, Pad, Field, tag_bits, variants}
 use Rattle.dsdl_types.specs.Greatest.{up, longest_fields, longest_variant}
 use Rattle.dsdl_types.specs.Names.{HasNames}
 
@@ -14,8 +17,8 @@ IsPrim (PUint w c) = (1 ≤ w) × (w ≤ 64)
 IsPrim (PInt w) = (2 ≤ w) × (w ≤ 64)
 IsPrim (PFloat w c) = is_float_width w ≡ true
 
--- The extent of a sealed composite is its greatest length. That of a delimited one is a multiple of 8
--- bits that isn't below it. As a limit, no extent is above 2^32 bits.
+-- The extent of a sealed composite is its greatest length. That of a delimited one is a multiple of
+-- 8 bits that isn't below it. As a limit, no extent is above 2^32 bits.
 abbrev pub IsExtent : Bool → ℕ → ℕ → Type 0
 IsExtent true greatest extent = extent ≡ greatest
 IsExtent false greatest extent = (greatest ≤ extent) × (extent % 8 ≡ 0)
@@ -35,8 +38,8 @@ NoPadding End = Unit {0}
 NoPadding (Pad n fs) = ⊥
 NoPadding (Field name s fs) = NoPadding fs
 
--- An array has 1 to 2^20 items, or a capacity of 1 to 2^20. A union has at least two variants. Padding has 1 to
--- 64 bits.
+-- An array has 1 to 2^20 items, or a capacity of 1 to 2^20. A union has at least two variants.
+-- Padding has 1 to 64 bits.
 abbrev mutual
   pub IsFormed : Sch → Type 0
   IsFormed (Simple t) = IsPrim t
@@ -64,8 +67,8 @@ abbrev mutual
   nesting_of (Pad n fs) = nesting_of fs
   nesting_of (Field name s fs) = max (nesting s) (nesting_of fs)
 
--- The nodes of a value at most: 1 for a primitive, 1 and those of all items for an array, 1 and those
--- of all fields or variants for a composite.
+-- The nodes of a value at most: 1 for a primitive, 1 and those of all items for an array, 1 and
+-- those of all fields or variants for a composite.
 abbrev mutual
   pub nodes : Sch → ℕ
   nodes (Simple t) = 1
@@ -79,7 +82,7 @@ abbrev mutual
   nodes_of (Pad n fs) = nodes_of fs
   nodes_of (Field name s fs) = nodes s + nodes_of fs
 
--- A schema is formed by the rules, and its fields and variants have names. As limits, its types nest at most
--- 32 deep, and a value has at most 2^20 nodes.
+-- A schema is formed by the rules, and its fields and variants have names. As limits, its types
+-- nest at most 32 deep, and a value has at most 2^20 nodes.
 abbrev pub IsSchema : Sch → Type 0
 IsSchema s = IsFormed s × (nesting s ≤ 32) × (nodes s ≤ 2 ^ 20) × HasNames s

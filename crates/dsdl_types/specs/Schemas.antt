@@ -1,4 +1,5 @@
--- Schemas: what a data type is once all of its names are resolved (Cyphal Specification, section 3.4).
+-- Schemas: what a data type is once all of its names are resolved (Cyphal Specification, section
+-- 3.4).
 use Rattle.std.specs.Prelude.{ℕ, suc, ◌-◌, nat_lt, if◌then◌else◌, Bool, true, false, not, List}
 
 -- A primitive type: a truth value, or a number of so many bits. An unsigned integer or a float is
@@ -9,13 +10,14 @@ pub data Prim : Type 0 where
   PInt : ℕ → Prim
   PFloat : ℕ → Bool → Prim
 
--- The outline of a composite: its extent in bits, and whether it is sealed. One that isn't is delimited.
+-- The outline of a composite: its extent in bits, and whether it is sealed. One that isn't is
+-- delimited.
 pub record Outline : Type 0 where
   pub extent : ℕ
   pub sealed : Bool
 
--- A schema: a primitive, an array of so many items, an array of at most so many items, a structure of
--- fields, or a union of variants. A structure and a union are composites.
+-- A schema: a primitive, an array of so many items, an array of at most so many items, a structure
+-- of fields, or a union of variants. A structure and a union are composites.
 mutual
   pub data Sch : Type 0 where
     Simple : Prim → Sch
@@ -58,7 +60,8 @@ is_composite (Var s n) = false
 is_composite (Struct fs o) = true
 is_composite (Union fs o) = true
 
--- A delimited composite inside another type stands behind its delimiter header, a count of its bytes.
+-- A delimited composite inside another type stands behind its delimiter header, a count of its
+-- bytes.
 abbrev pub is_delimited : Sch → Bool
 is_delimited (Simple t) = false
 is_delimited (Fixed s n) = false

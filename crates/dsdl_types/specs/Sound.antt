@@ -1,6 +1,7 @@
 -- What reading and writing rest on: the part of the rules of a schema that the laws need.
 use Rattle.std.specs.Prelude.{ℕ, ◌+◌, ◌-◌, ◌^◌, ◌≤◌}
-use Rattle.dsdl_types.specs.Schemas.{Prim, Sch, Flds, Outline, PBool, PUint, PInt, PFloat, Simple, Fixed, Var, Struct, Union, End, Pad, Field, tag_bits, variants}
+use Rattle.dsdl_types.specs.Schemas.{Prim, Sch, Flds, Outline, PBool, PUint, PInt, PFloat, Simple}
+use Rattle.dsdl_types.specs.Schemas.{Fixed, Var, Struct, Union, End, Pad, Field, tag_bits, variants}
 use Rattle.dsdl_types.specs.Greatest.{up, longest_fields, longest_variant}
 
 -- the extent is at least the greatest length

@@ -1,7 +1,9 @@
--- Values that a struct of the standard types holds: as those of a schema, with each number in the range of the
--- least integer of 8, 16, 32 or 64 bits that holds its type.
-use Rattle.std.specs.Prelude.{◌≡◌, ℕ, zero, suc, ◌-◌, ◌^◌, ◌≤◌, ◌<◌, nat_lt, if◌then◌else◌, ℤ, pos, negsuc}
-use Rattle.dsdl_types.specs.Schemas.{Prim, Sch, Flds, PBool, PUint, PInt, PFloat, Simple, Fixed, Var, Struct, Union, End, Pad, Field}
+-- Values that a struct of the standard types holds: as those of a schema, with each number in the
+-- range of the least integer of 8, 16, 32 or 64 bits that holds its type.
+use Rattle.std.specs.Prelude.{◌≡◌, ℕ, zero, suc, ◌-◌, ◌^◌, ◌≤◌, ◌<◌, nat_lt, if◌then◌else◌, ℤ, pos}
+use Rattle.std.specs.Prelude.{negsuc}
+use Rattle.dsdl_types.specs.Schemas.{Prim, Sch, Flds, PBool, PUint, PInt, PFloat, Simple, Fixed}
+use Rattle.dsdl_types.specs.Schemas.{Var, Struct, Union, End, Pad, Field}
 use Rattle.dsdl_types.specs.Values.{Val, Vals, Truth, Num, Raw}
 use Rattle.dsdl_types.specs.Fits.{AreItems, AreParts, IsTagged, IsFirst, IsEmpty}
 

@@ -1,8 +1,8 @@
 -- Values of data types.
 use Rattle.std.specs.Prelude.{ℕ, ℤ, zero, suc, Bool}
 
--- A value: a truth value, a whole number, the raw bits of a float as a number, the items of an array,
--- the values of a structure's fields that aren't padding, or a variant with its tag.
+-- A value: a truth value, a whole number, the raw bits of a float as a number, the items of an
+-- array, the values of a structure's fields that aren't padding, or a variant with its tag.
 mutual
   pub data Val : Type 0 where
     Truth : Bool → Val

@@ -1,6 +1,7 @@
 -- The schemas and values of the code as those of the definitions.
 use Rattle.std.specs.Prelude.{ℕ, Bool, true, false, List, [], ◌∷◌, map}
-use Rattle.dsdl_types.specs.Schemas.{Prim, PBool, PUint, PInt, PFloat, Sch, Flds, Outline, Simple, End, Pad}
+use Rattle.dsdl_types.specs.Schemas.{Prim, PBool, PUint, PInt, PFloat, Sch, Flds, Outline, Simple}
+use Rattle.dsdl_types.specs.Schemas.{End, Pad}
 use Rattle.dsdl_types.specs.Schemas as S
 use Rattle.dsdl_types.specs.Values.{Val, Vals, Empty, More, Truth, Num, Raw, Items, Parts, Tagged}
 use Rattle.dsdl_types.specs.declared.schema.Cast.{Cast}
@@ -46,8 +47,8 @@ abbrev pub is_saturated : Cast → Bool
 is_saturated Saturated = true
 is_saturated Truncated = false
 
--- One layer of a schema, with what its parts stand for in their places: an item or a field's schema as its
--- kind, a body as its fields and outline, a field with its name.
+-- One layer of a schema, with what its parts stand for in their places: an item or a field's schema
+-- as its kind, a body as its fields and outline, a field with its name.
 abbrev pub at_schema : open_schema.Schema-F Kind (Flds × Outline) (List ℕ × Kind) → Kind
 at_schema open_schema.Bool = Typed (Simple PBool)
 at_schema (open_schema.Uint bits cast) = Typed (Simple (PUint bits (is_saturated cast)))

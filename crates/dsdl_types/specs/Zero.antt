@@ -1,7 +1,9 @@
 -- The zero of a schema: what no bits read as.
 use Rattle.std.specs.Prelude.{false, pos}
-use Rattle.dsdl_types.specs.Schemas.{Prim, Sch, Flds, PBool, PUint, PInt, PFloat, Simple, Fixed, Var, Struct, Union, End, Pad, Field}
-use Rattle.dsdl_types.specs.Values.{Val, Vals, Truth, Num, Raw, Items, Parts, Tagged, Empty, More, same_items}
+use Rattle.dsdl_types.specs.Schemas.{Prim, Sch, Flds, PBool, PUint, PInt, PFloat, Simple, Fixed}
+use Rattle.dsdl_types.specs.Schemas.{Var, Struct, Union, End, Pad, Field}
+use Rattle.dsdl_types.specs.Values.{Val, Vals, Truth, Num, Raw, Items, Parts, Tagged, Empty, More}
+use Rattle.dsdl_types.specs.Values.{same_items}
 
 abbrev pub zero_simple : Prim → Val
 zero_simple PBool = Truth false
@@ -9,8 +11,8 @@ zero_simple (PUint w c) = Num (pos 0)
 zero_simple (PInt w) = Num (pos 0)
 zero_simple (PFloat w c) = Raw 0
 
--- false, 0, zeros of a fixed array, no items of a variable one, the zero of each field, and of a union
--- its variant 0 with that variant's zero
+-- false, 0, zeros of a fixed array, no items of a variable one, the zero of each field, and of a
+-- union its variant 0 with that variant's zero
 abbrev mutual
   pub zero_of : Sch → Val
   zero_of (Simple t) = zero_simple t

@@ -16,8 +16,8 @@ use Rattle.log_explain.specs.Sessions.{Session}
 use Rattle.explain_laws.specs.Delivered.{AreSentOnce, IsAmong, delivered_in}
 use Rattle.explain_laws.specs.Written.{logged}
 
--- `explain` tells a session of the input, and a sent list explains its records by identifier and data,
--- without a chance match
+-- `explain` tells a session of the input, and a sent list explains its records by identifier and
+-- data, without a chance match
 pub record IsExplainedBy (plan : Plan) (bytes : List ℕ) (s : Session) (sent : Sent)
     (origin : List Pair) : Type 0 where
   pub is_told : Contains (sessions (listens_by plan) (logged plan bytes)) s

@@ -1,7 +1,9 @@
 -- What a client that fetches a file does at each event. Lists of events have the newest first.
-use Rattle.std.specs.Prelude.{ℕ, ◌+◌, ◌-◌, ◌%◌, ◌==◌, ◌<◌, nat_lt, if◌then◌else◌, Bool, true, false, List, [], ◌∷◌, ◌++◌, length, Option, Some, None, ⊤}
+use Rattle.std.specs.Prelude.{ℕ, ◌+◌, ◌-◌, ◌%◌, ◌==◌, ◌<◌, nat_lt, if◌then◌else◌, Bool, true, false}
+use Rattle.std.specs.Prelude.{List, [], ◌∷◌, ◌++◌, length, Option, Some, None, ⊤}
 use Rattle.file_client.specs.declared.event.FetchOut.{FetchOut}
-use Rattle.file_client.specs.declared.event.FetchOut.TheVariants.{Ask, Wait, Done, Refused, GaveUp, TooLong}
+use Rattle.file_client.specs.declared.event.FetchOut.TheVariants.{Ask, Wait, Done, Refused, GaveUp}
+use Rattle.file_client.specs.declared.event.FetchOut.TheVariants.{TooLong}
 
 -- what comes: a reply of the server, or that the request that is out is late
 pub data Event : Type 0 where

@@ -1,11 +1,14 @@
--- What is fetched, over every list of events, and over those in which a server answers from one file.
-use Rattle.std.specs.Prelude.{◌≡◌, ◌≢◌, ⊤, ℕ, ◌+◌, ◌-◌, ◌%◌, ◌<◌, ◌≤◌, ◌==◌, if◌then◌else◌, List, [], ◌∷◌, length, take, drop, slice_index, Option, Some, None}
+-- What is fetched, over every list of events, and over those in which a server answers from one
+-- file.
+use Rattle.std.specs.Prelude.{◌≡◌, ◌≢◌, ⊤, ℕ, ◌+◌, ◌-◌, ◌%◌, ◌<◌, ◌≤◌, ◌==◌, if◌then◌else◌, List}
+use Rattle.std.specs.Prelude.{[], ◌∷◌, length, take, drop, slice_index, Option, Some, None}
 use Rattle.file_client.specs.Fetch.{Event, reply, late, State, tid_of, offset_of, fetched, answer}
 use Rattle.file_client.specs.declared.event.FetchOut.{FetchOut}
-use Rattle.file_client.specs.declared.event.FetchOut.TheVariants.{Ask, Wait, Done, Refused, GaveUp, TooLong}
+use Rattle.file_client.specs.declared.event.FetchOut.TheVariants.{Ask, Wait, Done, Refused, GaveUp}
+use Rattle.file_client.specs.declared.event.FetchOut.TheVariants.{TooLong}
 
--- a fair reply has code 0 and the bytes of the file at the offset of a request made before, and that request's
--- transfer-ID; `newer` requests, fewer than 32, were made after it
+-- a fair reply has code 0 and the bytes of the file at the offset of a request made before, and
+-- that request's transfer-ID; `newer` requests, fewer than 32, were made after it
 pub record IsFairReply (file : List ℕ) (s : State) (tid code : ℕ) (bytes : List ℕ) : Type 0 where
   pub newer : ℕ
   pub code_is : code ≡ 0
@@ -68,19 +71,33 @@ pub record FairToDone (file : List ℕ) (limit : ℕ) : Type 0 where
 
 pub record FetchLaws : Type 0 where
   -- of a fair list the bytes are a front of the file, and at Done the file
-  pub front : (file : List ℕ) (limit : ℕ) (past : List Event) → IsFair file limit past → (fetched limit past).file ≡ take (offset_after limit past) file
-  pub whole : (file : List ℕ) (limit : ℕ) (past : List Event) → IsFair file limit past → end_after limit past ≡ Some Done → (fetched limit past).file ≡ file
+  pub front : (file : List ℕ) (limit : ℕ) (past : List Event) → IsFair file limit past
+      → (fetched limit past).file ≡ take (offset_after limit past) file
+  pub whole : (file : List ℕ) (limit : ℕ) (past : List Event) → IsFair file limit past
+      → end_after limit past ≡ Some Done → (fetched limit past).file ≡ file
   -- every file within the limit can be fetched: some fair list ends with Done
   pub can_be_fetched : (file : List ℕ) (limit : ℕ) → length file ≤ limit → FairToDone file limit
   -- of a fair list nothing is refused, and only a file above the limit is too long
-  pub never_refused : (file : List ℕ) (limit : ℕ) (e : Event) (past : List Event) (code : ℕ) → IsFair file limit (e ∷ past) → answer limit e past ≢ Refused code
-  pub long_file : (file : List ℕ) (limit : ℕ) (e : Event) (past : List Event) (n : ℕ) → IsFair file limit (e ∷ past) → answer limit e past ≡ TooLong n → limit < length file
-  -- of any list, before an end: the client gives up exactly at the eighth Late since the offset changed
-  pub gave_up : (limit : ℕ) (e : Event) (past : List Event) (offset : ℕ) → end_after limit past ≡ None → answer limit e past ≡ GaveUp offset → (e ≡ late) × (lates_since limit (e ∷ past) ≡ 8) × (offset ≡ offset_after limit past)
-  pub gives_up : (limit : ℕ) (past : List Event) → end_after limit past ≡ None → lates_since limit (late ∷ past) ≡ 8 → answer limit late past ≡ GaveUp (offset_after limit past)
+  pub never_refused : (file : List ℕ) (limit : ℕ) (e : Event) (past : List Event) (code : ℕ)
+      → IsFair file limit (e ∷ past) → answer limit e past ≢ Refused code
+  pub long_file : (file : List ℕ) (limit : ℕ) (e : Event) (past : List Event) (n : ℕ)
+      → IsFair file limit (e ∷ past) → answer limit e past ≡ TooLong n → limit < length file
+  -- of any list, before an end: the client gives up exactly at the eighth Late since the offset
+  -- changed
+  pub gave_up : (limit : ℕ) (e : Event) (past : List Event) (offset : ℕ)
+      → end_after limit past ≡ None → answer limit e past ≡ GaveUp offset
+      → (e ≡ late) × (lates_since limit (e ∷ past) ≡ 8) × (offset ≡ offset_after limit past)
+  pub gives_up : (limit : ℕ) (past : List Event) → end_after limit past ≡ None
+      → lates_since limit (late ∷ past) ≡ 8
+      → answer limit late past ≡ GaveUp (offset_after limit past)
   -- and a file is too long exactly where the bytes of a reply pass the limit
-  pub was_too_long : (limit : ℕ) (e : Event) (past : List Event) (n : ℕ) → end_after limit past ≡ None → answer limit e past ≡ TooLong n → PassesLimit limit past e n
-  pub is_too_long : (limit : ℕ) (e : Event) (past : List Event) (n : ℕ) → end_after limit past ≡ None → PassesLimit limit past e n → answer limit e past ≡ TooLong n
+  pub was_too_long : (limit : ℕ) (e : Event) (past : List Event) (n : ℕ)
+      → end_after limit past ≡ None → answer limit e past ≡ TooLong n → PassesLimit limit past e n
+  pub is_too_long : (limit : ℕ) (e : Event) (past : List Event) (n : ℕ)
+      → end_after limit past ≡ None → PassesLimit limit past e n → answer limit e past ≡ TooLong n
   -- the end is read off each answer; after an end each event is answered by it, and nothing changes
-  pub end_is : (limit : ℕ) (e : Event) (past : List Event) → end_after limit (e ∷ past) ≡ end_of (answer limit e past)
-  pub stays : (limit : ℕ) (e : Event) (past : List Event) (out : FetchOut) → end_after limit past ≡ Some out → (answer limit e past ≡ out) × (fetched limit (e ∷ past) ≡ fetched limit past)
+  pub end_is : (limit : ℕ) (e : Event) (past : List Event)
+      → end_after limit (e ∷ past) ≡ end_of (answer limit e past)
+  pub stays : (limit : ℕ) (e : Event) (past : List Event) (out : FetchOut)
+      → end_after limit past ≡ Some out
+      → (answer limit e past ≡ out) × (fetched limit (e ∷ past) ≡ fetched limit past)

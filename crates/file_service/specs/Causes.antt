@@ -4,7 +4,8 @@ use Rattle.cy_outside.specs.Outside.{Rose}
 use Rattle.file_service.specs.declared.place.Place.{Place}
 use Rattle.file_service.specs.declared.place.Place.TheVariants.{Invalid, Root, At}
 
--- an answer tells that the tree failed only where its count of faults rose; every other answer leaves the count as it was
+-- an answer tells that the tree failed only where its count of faults rose; every other answer
+-- leaves the count as it was
 abbrev pub TellsFault : Bool → ℕ → ℕ → Type 0
 TellsFault failed old new = MatchBool failed (Rose old new) (new ≡ old)
 

@@ -1,5 +1,6 @@
 -- What a server of files replies.
-use Rattle.std.specs.Prelude.{◌≡◌, ◌⊎◌, ◌-◌, ◌^◌, if◌then◌else◌, ℕ, Bool, true, false, List, [], take, drop, length, min, Option}
+use Rattle.std.specs.Prelude.{◌≡◌, ◌⊎◌, ◌-◌, ◌^◌, if◌then◌else◌, ℕ, Bool, true, false, List, []}
+use Rattle.std.specs.Prelude.{take, drop, length, min, Option}
 use Rattle.std_types.specs.declared.file.InfoReply.{InfoReply}
 use Rattle.std_types.specs.declared.file.ReadReply.{ReadReply}
 use Rattle.cy_outside.specs.Files.{Files}
@@ -45,7 +46,8 @@ read_answer files failed (At path) offset = if failed then no_bytes io_error els
 abbrev pub read_of : ReadDone → List ℕ → ReadReply
 read_of done buf = record { error = record { value = done.code }; «data» = take done.count buf }
 
--- the reply to a read at a place, where the files are told or not: that of what stands there, or of a tree that failed
+-- the reply to a read at a place, where the files are told or not: that of what stands there, or of
+-- a tree that failed
 abbrev pub IsRead : Option Files → Place → ℕ → ReadReply → Type 0
 IsRead told Invalid offset reply = reply ≡ no_bytes invalid
 IsRead told Root offset reply = reply ≡ read_reply Folder offset
@@ -81,7 +83,8 @@ info_answer files failed Invalid = no_info invalid
 info_answer files failed Root = info_reply Folder
 info_answer files failed (At path) = if failed then no_info io_error else info_reply (standing files path)
 
--- the reply to a GetInfo of a place, where the files are told or not: that of what stands there, or of a tree that failed
+-- the reply to a GetInfo of a place, where the files are told or not: that of what stands there, or
+-- of a tree that failed
 abbrev pub IsInfo : Option Files → Place → InfoReply → Type 0
 IsInfo told Invalid reply = reply ≡ no_info invalid
 IsInfo told Root reply = reply ≡ info_reply Folder
@@ -107,7 +110,8 @@ list_answer files failed root Invalid index = no_name false
 list_answer files failed root Root index = folder_answer files failed root index
 list_answer files failed root (At path) index = folder_answer files failed path index
 
--- the answer to a listing of a folder, where the files are told or not: the name with a number, or that the tree failed
+-- the answer to a listing of a folder, where the files are told or not: the name with a number, or
+-- that the tree failed
 abbrev pub ListsFolder : Option Files → List ℕ → ℕ → ListDone → Type 0
 ListsFolder told folder index done = (done ≡ no_name true)
     ⊎ ((names : List (List ℕ)) × HasNames told folder names × (done ≡ list_reply names index))

@@ -2,7 +2,8 @@
 use Rattle.std.specs.Prelude.{◌==◌, not, ℕ, zero, suc, Bool, false, List, [], ◌∷◌, ◌++◌, take, drop}
 use Rattle.tail_frame.specs.Frames.{tail_byte}
 
--- the data bytes of n more frames, each with so many bytes before its tail as there are, and at most room
+-- the data bytes of n more frames, each with so many bytes before its tail as there are, and at
+-- most room
 abbrev pub cut : ℕ → ℕ → List ℕ → Bool → Bool → ℕ → List (List ℕ)
 cut room tid bytes start toggle zero = []
 cut room tid bytes start toggle (suc n) =

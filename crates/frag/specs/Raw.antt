@@ -1,4 +1,5 @@
--- Sent lists and the records of a log as they were received: by identifier and data. The records have the newest first.
+-- Sent lists and the records of a log as they were received: by identifier and data. The records
+-- have the newest first.
 use Rattle.std.specs.Prelude.{◌≡◌, ℕ, ◌+◌, ◌<◌, ◌≤◌, List, [], ◌∷◌, length, Some, ⊤}
 use Rattle.can_id.specs.Identifiers.{key_of, destination_of}
 use Rattle.can_id.specs.declared.key.Key.{Key}
@@ -6,7 +7,8 @@ use Rattle.tail_frame.specs.Chains.{KeyRecord}
 use Rattle.tail_frame.specs.Frames.{FrameOf, frame_of, key_record}
 use Rattle.tail_frame.specs.declared.logged.Record.{Record}
 use Rattle.frag.specs.Wire.{IsFrameSize}
-use Rattle.frag.specs.Sent.{IsUpTo, transfer_at, size_on, pair_at, IsSentList, IsWireFrame, IsFrame, Explained, NoChance}
+use Rattle.frag.specs.Sent.{IsUpTo, transfer_at, size_on, pair_at, IsSentList, IsWireFrame, IsFrame}
+use Rattle.frag.specs.Sent.{Explained, NoChance}
 use Rattle.frag.specs.declared.sent.Pair.{Pair}
 use Rattle.frag.specs.declared.sent.Sent.{Sent}
 use Rattle.frag.specs.declared.sent.Transfer.{Transfer}
@@ -16,25 +18,28 @@ abbrev pub EachRecord : (Record → List Record → Type 0) → List Record → 
 EachRecord P [] = ⊤
 EachRecord P (rec ∷ past) = P rec past × EachRecord P past
 
--- identifier and data are those of the frame that the pair names, received after it was sent and less than the
--- timeout later
+-- identifier and data are those of the frame that the pair names, received after it was sent and
+-- less than the timeout later
 pub record IsWireSent (timeout : ℕ) (sent : Sent) (o : Pair) (rec : Record) : Type 0 where
   pub known : o.j < length sent.transfers
   pub frame : IsWireFrame sent.key (transfer_at sent o.j) (size_on sent rec.bus) o.i rec
   pub since : (transfer_at sent o.j).moment ≤ rec.moment
   pub until : rec.moment < (transfer_at sent o.j).moment + timeout
 
--- origin names the pair of the record at each place; among the records of one bus the pairs never fall
-pub record IsWireExplainedAt (timeout : ℕ) (sent : Sent) (origin : ℕ → Pair) (rec : Record) (past : List Record) : Type 0 where
+-- origin names the pair of the record at each place; among the records of one bus the pairs never
+-- fall
+pub record IsWireExplainedAt (timeout : ℕ) (sent : Sent) (origin : ℕ → Pair) (rec : Record)
+    (past : List Record) : Type 0 where
   pub is_sent : IsWireSent timeout sent (origin (length past)) rec
   pub in_order : EachRecord (λ e older. e.bus ≡ rec.bus → IsUpTo (origin (length older)) (origin (length past))) past
 
 abbrev pub WireExplained : ℕ → Sent → (ℕ → Pair) → List Record → Type 0
 WireExplained timeout sent origin recs = EachRecord (IsWireExplainedAt timeout sent origin) recs
 
--- a sent list of a key with a pair for each of these records explains them, by identifier and data, and the same
--- records of the key have no chance match
-pub record WireExplainsOf (timeout : ℕ) (sent : Sent) (key : Key) (origin : List Pair) (recs : List Record) (records : List KeyRecord) : Type 0 where
+-- a sent list of a key with a pair for each of these records explains them, by identifier and data,
+-- and the same records of the key have no chance match
+pub record WireExplainsOf (timeout : ℕ) (sent : Sent) (key : Key) (origin : List Pair)
+    (recs : List Record) (records : List KeyRecord) : Type 0 where
   pub sent_list : IsSentList sent
   pub of_key : sent.key ≡ key
   pub one_each : length origin ≡ length recs
@@ -53,7 +58,8 @@ AreRecordsOf [] [] = ⊤
 AreRecordsOf (rec ∷ recs) (r ∷ records) = IsRecordOf rec r × AreRecordsOf recs records
 AreRecordsOf _ _ = ⊥
 
--- a frame of a transfer is seen: it isn't discarded, has the key and the destination, and is that frame by its fields
+-- a frame of a transfer is seen: it isn't discarded, has the key and the destination, and is that
+-- frame by its fields
 pub record IsSeen (key : Key) (x : Transfer) (m i : ℕ) (rec : Record) (f : FrameOf) : Type 0 where
   pub is_frame : frame_of rec ≡ Some f
   pub has_key : key_of f.ident ≡ key

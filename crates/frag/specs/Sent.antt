@@ -1,5 +1,6 @@
 -- Sent lists, and logs that they explain. The records of a key are a list with the newest first.
-use Rattle.std.specs.Prelude.{◌≡◌, ℕ, true, ◌==◌, ◌+◌, ◌<◌, ◌≤◌, ◌⊎◌, List, [], ◌∷◌, ◌++◌, length, get_or, None}
+use Rattle.std.specs.Prelude.{◌≡◌, ℕ, true, ◌==◌, ◌+◌, ◌<◌, ◌≤◌, ◌⊎◌, List, [], ◌∷◌, ◌++◌, length}
+use Rattle.std.specs.Prelude.{get_or, None}
 use Rattle.can_id.specs.Identifiers.{IsIdent, bits, key_of, priority_of, destination_of}
 use Rattle.can_id.specs.declared.ident.Ident.{Ident}
 use Rattle.can_id.specs.declared.key.Key.{Key}
@@ -41,8 +42,10 @@ data_on sent j bus = padded (size_on sent bus) (transfer_at sent j).payload
 -- frame sizes are 8 or 64, priorities 0 to 7, transfer-IDs 0 to 31, and moments never fall
 pub record IsSentList (sent : Sent) : Type 0 where
   pub sizes : (bus : ℕ) → IsFrameSize (size_on sent bus)
-  pub ranges : (j : ℕ) → j < length sent.transfers → ((transfer_at sent j).priority < 8) × ((transfer_at sent j).tid < 32)
-  pub moments : (a b : ℕ) → a ≤ b → b < length sent.transfers → (transfer_at sent a).moment ≤ (transfer_at sent b).moment
+  pub ranges : (j : ℕ) → j < length sent.transfers
+      → ((transfer_at sent j).priority < 8) × ((transfer_at sent j).tid < 32)
+  pub moments : (a b : ℕ) → a ≤ b → b < length sent.transfers
+      → (transfer_at sent a).moment ≤ (transfer_at sent b).moment
 
 -- the identifier has the key, the priority and the destination of a transfer of a key
 pub record IsIdentOf (key : Key) (x : Transfer) (ident : Ident) : Type 0 where
@@ -76,8 +79,10 @@ pub record IsSent (timeout : ℕ) (sent : Sent) (o : Pair) (r : KeyRecord) : Typ
   pub since : (transfer_at sent o.j).moment ≤ r.moment
   pub until : r.moment < (transfer_at sent o.j).moment + timeout
 
--- origin names the pair of the record at each place; among the records of one bus the pairs never fall
-pub record IsExplainedAt (timeout : ℕ) (sent : Sent) (origin : ℕ → Pair) (r : KeyRecord) (past : List KeyRecord) : Type 0 where
+-- origin names the pair of the record at each place; among the records of one bus the pairs never
+-- fall
+pub record IsExplainedAt (timeout : ℕ) (sent : Sent) (origin : ℕ → Pair) (r : KeyRecord)
+    (past : List KeyRecord) : Type 0 where
   pub is_sent : IsSent timeout sent (origin (length past)) r
   pub in_order : AtEach (λ e older. e.bus ≡ r.bus → IsUpTo (origin (length older)) (origin (length past))) past
 
@@ -93,8 +98,8 @@ InTime records = AtEach (λ r past. AtEach (λ e _. e.moment ≤ r.moment) past)
 abbrev pub IsClear : KeyRecord → List KeyRecord → Type 0
 IsClear a between = (tid : ℕ) × AtEach (λ e _. e.start ≡ true → e.bus ≡ a.bus → e.tid ≡ tid) between
 
--- no chance match: a clear chain that closes at q, and whose bytes have the CRC 0, has the data of the transfer of its
--- last record
+-- no chance match: a clear chain that closes at q, and whose bytes have the CRC 0, has the data of
+-- the transfer of its last record
 abbrev pub NoChanceAt : Sent → (ℕ → Pair) → KeyRecord → List KeyRecord → Type 0
 NoChanceAt sent origin q past =
     (a : KeyRecord) (between older : List KeyRecord) → past ≡ between ++ a ∷ older → a.start ≡ true → closes_at a between q ≡ true → IsClear a between

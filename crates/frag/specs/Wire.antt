@@ -1,5 +1,8 @@
--- The frames of a transfer: its payload cut into data bytes, with padding, CRC and tails. The frame size m is 8 or 64.
-use Rattle.std.specs.Prelude.{◌≡◌, ◌+◌, ◌-◌, ◌*◌, ◌/◌, ◌%◌, ◌==◌, ◌<◌, ◌⊎◌, ◌&&◌, ◌||◌, nat_le, not, ℕ, zero, suc, Bool, true, false, if◌then◌else◌, List, [], ◌∷◌, ◌++◌, length, take, drop, replicate}
+-- The frames of a transfer: its payload cut into data bytes, with padding, CRC and tails. The frame
+-- size m is 8 or 64.
+use Rattle.std.specs.Prelude.{◌≡◌, ◌+◌, ◌-◌, ◌*◌, ◌/◌, ◌%◌, ◌==◌, ◌<◌, ◌⊎◌, ◌&&◌, ◌||◌, nat_le, not}
+use Rattle.std.specs.Prelude.{ℕ, zero, suc, Bool, true, false, if◌then◌else◌, List, [], ◌∷◌, ◌++◌}
+use Rattle.std.specs.Prelude.{length, take, drop, replicate}
 use Rattle.tail_frame.specs.Frames.{tail_byte}
 use Rattle.tail_frame.specs.declared.tail.Tail.{Tail}
 use Rattle.transfer_crc.specs.Crc.{crc_bytes}
@@ -8,7 +11,8 @@ use Rattle.transfer_crc.specs.Crc.{crc_bytes}
 abbrev pub IsFrameSize : ℕ → Type 0
 IsFrameSize m = (m ≡ 8) ⊎ (m ≡ 64)
 
--- the least number of data bytes, not below n, that a frame can have: 0 to 8, 12, 16, 20, 24, 32, 48 or 64
+-- the least number of data bytes, not below n, that a frame can have: 0 to 8, 12, 16, 20, 24, 32,
+-- 48 or 64
 unfoldable pub fitting : ℕ → ℕ
 fitting n =
     if nat_le n 8 then n
@@ -24,8 +28,8 @@ fitting n =
 abbrev pub is_single : ℕ → ℕ → Bool
 is_single m size = nat_le size (m - 1)
 
--- the data bytes of the last frame of so long a payload, without padding: what is left for it, and its tail. A payload
--- of several frames has two bytes of CRC behind it
+-- the data bytes of the last frame of so long a payload, without padding: what is left for it, and
+-- its tail. A payload of several frames has two bytes of CRC behind it
 unfoldable pub last_size : ℕ → ℕ → ℕ
 last_size m size = if is_single m size then size + 1 else (size + 1) % (m - 1) + 2
 
@@ -46,7 +50,8 @@ pub record IsLeastPadding (m size zeros : ℕ) : Type 0 where
 abbrev pub padded : ℕ → List ℕ → List ℕ
 padded m payload = payload ++ replicate (padding m (length payload)) 0
 
--- all bytes before the tails: where there are several frames, the CRC of payload and padding stands behind them
+-- all bytes before the tails: where there are several frames, the CRC of payload and padding stands
+-- behind them
 abbrev pub stream : ℕ → List ℕ → List ℕ
 stream m payload = if is_single m (length payload) then padded m payload else padded m payload ++ crc_bytes (padded m payload)
 

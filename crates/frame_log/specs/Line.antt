@@ -1,8 +1,11 @@
 -- What a line of a log says.
-use Rattle.std.specs.Prelude.{ℕ, Bool, true, false, List, [], ◌∷◌, ◌++◌, ◌+◌, ◌-◌, ◌*◌, ◌==◌, ◌&&◌, ◌||◌, Option, Some, None, if◌then◌else◌, length, nat_le, nat_lt, take, drop, unwrap_or}
+use Rattle.std.specs.Prelude.{ℕ, Bool, true, false, List, [], ◌∷◌, ◌++◌, ◌+◌, ◌-◌, ◌*◌, ◌==◌, ◌&&◌}
+use Rattle.std.specs.Prelude.{◌||◌, Option, Some, None, if◌then◌else◌, length, nat_le, nat_lt, take}
+use Rattle.std.specs.Prelude.{drop, unwrap_or}
 use Rattle.std.specs.Str.{bytes_eq}
 
--- what a line says: it has no form, it is skipped, its bus isn't there, or it has a frame with its moment, bus, identifier and bytes
+-- what a line says: it has no form, it is skipped, its bus isn't there, or it has a frame with its
+-- moment, bus, identifier and bytes
 pub data Said : Type 0 where
   NoForm : Said
   Nothing : Said
@@ -149,7 +152,8 @@ abbrev pub frame_on : ℕ → ℕ → List ℕ → Option ℕ → Said
 frame_on moment ident bytes None = UnknownBus
 frame_on moment ident bytes (Some bus) = Frame moment bus ident bytes
 
--- what a frame says, whose identifier has 8 digits: it is skipped where the identifier is above 1FFFFFFF, or where it has no data
+-- what a frame says, whose identifier has 8 digits: it is skipped where the identifier is above
+-- 1FFFFFFF, or where it has no data
 abbrev pub frame_of : List (List ℕ) → ℕ → List ℕ → ℕ → Option (List ℕ) → Said
 frame_of buses moment name ident None = Nothing
 frame_of buses moment name ident (Some bytes) = if nat_lt 0x1FFF_FFFF ident then Nothing else frame_on moment ident bytes (bus_at buses name)

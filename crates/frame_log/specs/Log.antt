@@ -1,5 +1,6 @@
 -- The records of a log.
-use Rattle.std.specs.Prelude.{ℕ, List, [], ◌∷◌, ◌++◌, ◌+◌, ◌-◌, ◌^◌, ◌==◌, Option, Some, None, if◌then◌else◌, length, nat_lt, take}
+use Rattle.std.specs.Prelude.{ℕ, List, [], ◌∷◌, ◌++◌, ◌+◌, ◌-◌, ◌^◌, ◌==◌, Option, Some, None}
+use Rattle.std.specs.Prelude.{if◌then◌else◌, length, nat_lt, take}
 use Rattle.frame_log.specs.declared.error.LogError.{LogError}
 use Rattle.frame_log.specs.declared.error.LogError.TheVariants as error
 use Rattle.tail_frame.specs.declared.logged.Record.{Record}
@@ -18,7 +19,8 @@ ended refusal = record { records = []; refusal = refusal }
 abbrev pub with_record : Record → Log → Log
 with_record r log = record log { records = r ∷ log.records }
 
--- a place between two lines: the number of lines before it, and the moments of the first and the last record
+-- a place between two lines: the number of lines before it, and the moments of the first and the
+-- last record
 pub record Place : Type 0 where
   pub lines : ℕ
   pub first : Option ℕ
@@ -78,8 +80,8 @@ lines_of (b ∷ s) = if b == 10 then ([] ∷ (lines_of s).0, (lines_of s).1) els
 abbrev pub last_line : ℕ → List ℕ → List (List ℕ)
 last_line n rest = if nat_lt n (length rest) then rest ∷ [] else []
 
--- The log that these bytes hold, of which the first `room` count. Where there are more, what stands behind the
--- last newline counts only as a line that is too long.
+-- The log that these bytes hold, of which the first `room` count. Where there are more, what stands
+-- behind the last newline counts only as a line that is too long.
 abbrev pub log_from : List (List ℕ) → ℕ → List ℕ → Place → Log
 log_from buses room bytes at =
     let lines = lines_of (take room bytes) in

@@ -1,5 +1,6 @@
 -- What a reader gives.
-use Rattle.std.specs.Prelude.{◌≡◌, ◌≤◌, ◌+◌, ◌++◌, ◌⊎◌, ℕ, Bool, true, false, List, [], Option, Some, None, Result, Ok, Err, length, IfOk, IfSome}
+use Rattle.std.specs.Prelude.{◌≡◌, ◌≤◌, ◌+◌, ◌++◌, ◌⊎◌, ℕ, Bool, true, false, List, [], Option}
+use Rattle.std.specs.Prelude.{Some, None, Result, Ok, Err, length, IfOk, IfSome}
 use Rattle.tail_frame.specs.declared.logged.Record.{Record}
 use Rattle.frame_log.specs.declared.reader.LogReader.{LogReader}
 use Rattle.frame_log.specs.declared.error.LogError.{LogError}
@@ -50,15 +51,18 @@ IsNextKept before (Ok None) after = before ≡ after
 IsNextKept before (Ok (Some r)) after = before ≡ with_record r after
 IsNextKept before (Err e) after = before ≡ ended (Some e)
 
--- The answer is the next of what the log gives that is left: of the bytes that were kept, of those that came in the call,
--- and of any rest behind them; none comes behind the end.
-abbrev pub AnswersNext : (old new : LogReader) (before after : Option (List ℕ)) → Result (Option Record) LogError → Type 0
+-- The answer is the next of what the log gives that is left: of the bytes that were kept, of those
+-- that came in the call, and of any rest behind them; none comes behind the end.
+abbrev pub AnswersNext : (old new : LogReader) (before after : Option (List ℕ))
+    → Result (Option Record) LogError → Type 0
 AnswersNext old new before after answer =
     (came : List ℕ) × Took before after came
     × ((rest : List ℕ) → (saw_end new ≡ true → rest ≡ []) → IsNext (log_behind old (came ++ rest)) answer (log_behind new rest))
 
--- behind the end of the input the call takes nothing of it, and the answer is the next of what the bytes that were kept give
-abbrev pub AnswersAtEnd : {Input : Type 0} (old new : LogReader) (before after : Input) → Result (Option Record) LogError → Type 0
+-- behind the end of the input the call takes nothing of it, and the answer is the next of what the
+-- bytes that were kept give
+abbrev pub AnswersAtEnd : {Input : Type 0} (old new : LogReader) (before after : Input)
+    → Result (Option Record) LogError → Type 0
 AnswersAtEnd old new before after answer = (after ≡ before) × (saw_end new ≡ true) × IsNext (log_behind old []) answer (log_behind new [])
 
 -- the answer is the next of the lines that are kept, whatever comes behind them

@@ -1,6 +1,7 @@
 -- How the parts of a line are read, whatever stands behind them.
 use Rattle.std.specs.Prelude.{◌≡◌, ◌++◌, ℕ, List, Option, Some, None, take, slice_index}
-use Rattle.frame_log.specs.Line.{◌>>=◌, after, cut, pairs_of, with_front, seconds_of, bus_of, bus_at, data_of, unflagged}
+use Rattle.frame_log.specs.Line.{◌>>=◌, after, cut, pairs_of, with_front, seconds_of, bus_of}
+use Rattle.frame_log.specs.Line.{bus_at, data_of, unflagged}
 
 -- `(SECONDS` and the point
 abbrev pub front_of : List ℕ → Option (ℕ × List ℕ)

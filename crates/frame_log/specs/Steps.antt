@@ -1,5 +1,6 @@
 -- What the steps of a reader do.
-use Rattle.std.specs.Prelude.{◌≡◌, ◌<◌, ◌+◌, ◌++◌, ℕ, true, List, [], Option, Some, None, length, take, drop}
+use Rattle.std.specs.Prelude.{◌≡◌, ◌<◌, ◌+◌, ◌++◌, ℕ, true, List, [], Option, Some, None, length}
+use Rattle.std.specs.Prelude.{take, drop}
 use Rattle.tail_frame.specs.declared.logged.Record.{Record}
 use Rattle.frame_log.specs.declared.reader.LogReader.{LogReader}
 use Rattle.frame_log.specs.declared.reader.step.Step.{Step}
@@ -18,7 +19,8 @@ abbrev pub IsLine : List ℕ → ℕ → Type 0
 IsLine s i = (i < length s) × (cut 10 s ≡ Some (take i s, drop (i + 1) s))
 
 -- the first line of s has i bytes, and this was found in it, with its bytes
-pub record IsFound (buses : List (List ℕ)) (s : List ℕ) (i : ℕ) (found : Found) (bytes : List ℕ) : Type 0 where
+pub record IsFound (buses : List (List ℕ)) (s : List ℕ) (i : ℕ) (found : Found)
+    (bytes : List ℕ) : Type 0 where
   pub line : IsLine s i
   pub said : said_by found bytes ≡ said_of buses (take i s)
 
@@ -48,9 +50,10 @@ IsTurn before turn.Failed written after = before ≡ after
 abbrev pub IsAt : Record → Place → Type 0
 IsAt r at = (at.lines ≡ r.line) × (at.last ≡ r.moment)
 
--- The turn gives the next of what the log gives that is left: of the bytes that were kept, of those that came in the turn,
--- and of any rest behind them; none comes behind the end.
-abbrev pub TurnsNext : (old new : LogReader) (before after : Option (List ℕ)) → Turn → Record → Type 0
+-- The turn gives the next of what the log gives that is left: of the bytes that were kept, of those
+-- that came in the turn, and of any rest behind them; none comes behind the end.
+abbrev pub TurnsNext : (old new : LogReader) (before after : Option (List ℕ)) → Turn → Record
+    → Type 0
 TurnsNext old new before after turn written =
     (came : List ℕ) × Took before after came
     × ((rest : List ℕ) → (saw_end new ≡ true → rest ≡ [])

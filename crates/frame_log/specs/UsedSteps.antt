@@ -30,8 +30,10 @@ IsBeforeTurn turn.Failed written new at bytes = (at ≡ place_of new) × (bytes 
 IsBeforeTurn turn.Record written new at bytes = saw_end new ≡ false → Gives (buses_of new) at bytes written (place_of new) (kept_bytes_of new)
 IsBeforeTurn other written new at bytes = ⊤
 
--- the turn uses lines that give no record, of the bytes that were kept and of those that came in it, up to what it found
-abbrev pub TurnUses : (old new : LogReader) (before after : Option (List ℕ)) → Turn → Record → Type 0
+-- the turn uses lines that give no record, of the bytes that were kept and of those that came in
+-- it, up to what it found
+abbrev pub TurnUses : (old new : LogReader) (before after : Option (List ℕ)) → Turn → Record
+    → Type 0
 TurnUses old new before after turn written =
     (came : List ℕ) × Took before after came
     × Uses (buses_of old) (place_of old) (kept_bytes_of old ++ came) (IsBeforeTurn turn written new)

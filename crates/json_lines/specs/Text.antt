@@ -68,7 +68,8 @@ why_name (why.BadTag n) = codes "BadTag"
 why_name (why.BadLength n) = codes "BadLength"
 why_name (why.BadDelimiter n) = codes "BadDelimiter"
 
--- why a payload can't be read: the cause, the number that was read, and the path to the part that is refused
+-- why a payload can't be read: the cause, the number that was read, and the path to the part that
+-- is refused
 abbrev pub error_text : List ℕ → ReadWhy → List ℕ
 error_text path why =
     codes "{\"why\":" ++ (quoted (why_name why) ++ (more (codes "number") (decimal (read_why_number why)) ++ (more (codes "at") (quoted path) ++ codes "}")))

@@ -13,7 +13,8 @@ use Rattle.report_lines.specs.Lent.{owned}
 use Rattle.report_lines.specs.declared.line_ref.LineRef.{LineRef}
 use Rattle.report_lines.specs.declared.line_ref.LineRef.TheVariants as lent
 use Rattle.report_lines.specs.declared.line_ref.RxRef.{RxRef}
-use Rattle.json_lines.specs.Text.{begin, error_text, key_members, line_end, line_json, more, payload_member, place_members, transfer_members}
+use Rattle.json_lines.specs.Text.{begin, error_text, key_members, line_end, line_json, more}
+use Rattle.json_lines.specs.Text.{payload_member, place_members, transfer_members}
 use Rattle.json_lines.specs.declared.writer.JsonWriter.{JsonWriter}
 
 -- the buses whose names its lines have

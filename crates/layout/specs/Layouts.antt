@@ -1,8 +1,10 @@
--- What the layout of a composite says (Cyphal Specification, section 3.7): of each field or variant where it can stand
--- and which lengths it can have, and which lengths the whole can have.
-use Rattle.std.specs.Prelude.{◌≡◌, ℕ, suc, ◌↔◌, Bool, true, false, List, [], ◌∷◌, Option, Some, None}
+-- What the layout of a composite says (Cyphal Specification, section 3.7): of each field or variant
+-- where it can stand and which lengths it can have, and which lengths the whole can have.
+use Rattle.std.specs.Prelude.{◌≡◌, ℕ, suc, ◌↔◌, Bool, true, false, List, [], ◌∷◌, Option, Some}
+use Rattle.std.specs.Prelude.{None}
 use Rattle.bit_length.specs.Lengths.{Has}
-use Rattle.dsdl_types.specs.Schemas.{Prim, PBool, PUint, PInt, PFloat, Sch, Flds, Simple, Fixed, Var, Struct, Union, End, Pad, Field}
+use Rattle.dsdl_types.specs.Schemas.{Prim, PBool, PUint, PInt, PFloat, Sch, Flds, Simple, Fixed}
+use Rattle.dsdl_types.specs.Schemas.{Var, Struct, Union, End, Pad, Field}
 use Rattle.dsdl_types.specs.Lengths.{Length, Size, At}
 use Rattle.dsdl_types.specs.declared.schema.Cast.{Cast}
 use Rattle.dsdl_types.specs.declared.schema.Cast.TheVariants.{Saturated, Truncated}
@@ -24,8 +26,8 @@ abbrev pub cast_from : Bool → Cast
 cast_from true = Saturated
 cast_from false = Truncated
 
--- The cast of an unsigned integer or a float, or of the items of an array of such. A truth value, a signed integer
--- and a composite have none.
+-- The cast of an unsigned integer or a float, or of the items of an array of such. A truth value, a
+-- signed integer and a composite have none.
 abbrev pub cast_of : Sch → Option Cast
 cast_of (Simple PBool) = None
 cast_of (Simple (PUint w c)) = Some (cast_from c)
@@ -36,8 +38,8 @@ cast_of (Var s n) = cast_of s
 cast_of (Struct fs o) = None
 cast_of (Union fs o) = None
 
--- The row of field k of a composite, counted without padding: its name, exactly the places where it can stand,
--- exactly the lengths that it can have, and its cast.
+-- The row of field k of a composite, counted without padding: its name, exactly the places where it
+-- can stand, exactly the lengths that it can have, and its cast.
 pub record IsRow (s : Sch) (k : ℕ) (field : List ℕ × Sch) (row : Row) : Type 0 where
   pub name : row.name ≡ field.0
   pub offsets : (n : ℕ) → Has row.offsets n ↔ At s k n
@@ -51,8 +53,8 @@ AreRows s k [] (r ∷ rs) = ⊥
 AreRows s k (f ∷ fs) [] = ⊥
 AreRows s k (f ∷ fs) (r ∷ rs) = IsRow s k f r × AreRows s (suc k) fs rs
 
--- The rows are those of the fields in order, and the lengths exactly those of the composite by itself, without a
--- delimiter header.
+-- The rows are those of the fields in order, and the lengths exactly those of the composite by
+-- itself, without a delimiter header.
 pub record IsLayout (s : Sch) (rows : List Row) (lengths : List ℕ) : Type 0 where
   pub each : AreRows s 0 (fields_of s) rows
   pub whole : (n : ℕ) → Has lengths n ↔ Length s n

@@ -4,7 +4,8 @@ use Rattle.bit_length.specs.Lengths.{Numbers, Has}
 use Rattle.dsdl_types.specs.Schemas.{Sch, is_delimited, extent_of}
 use Rattle.dsdl_types.specs.Greatest.{from_lead, longest, as_part}
 
--- where a part begins that stands behind one of these places, and may have to begin at a multiple of 8
+-- where a part begins that stands behind one of these places, and may have to begin at a multiple
+-- of 8
 abbrev pub Leads : Bool → Numbers → Numbers
 Leads aligned S n = (p : ℕ) × S p × (n ≡ from_lead aligned p)
 

@@ -14,7 +14,8 @@ use Rattle.layout_text.specs.declared.head.Role.{Role}
 use Rattle.layout_text.specs.declared.head.Role.TheVariants.{Message, Request, Response}
 
 -- the first line of a composite, and those of its fields
-pub record IsTypeText (role : Role) (id : TypeId) (port : Option ℕ) (s : Sch) (types : List (List ℕ)) (text : List ℕ) : Type 0 where
+pub record IsTypeText (role : Role) (id : TypeId) (port : Option ℕ) (s : Sch)
+    (types : List (List ℕ)) (text : List ℕ) : Type 0 where
   pub line : List ℕ
   pub lines : List ℕ
   pub heads : IsTypeLine role id port s line

@@ -17,12 +17,14 @@ abbrev pub name_words : Bool → ℕ → List ℕ → List (List ℕ)
 name_words true tag name = codes "variant" ∷ name ∷ decimal tag ∷ []
 name_words false tag name = codes "field" ∷ name ∷ []
 
--- the line of a field or a variant, by its name, the text of its type, and those of where it stands and of its lengths
+-- the line of a field or a variant, by its name, the text of its type, and those of where it stands
+-- and of its lengths
 abbrev pub field_line : Bool → ℕ → List ℕ → List ℕ → List ℕ → List ℕ → List ℕ
 field_line union tag name type offsets sizes = spaced (name_words union tag name) ++ line_of (type ∷ codes "at" ∷ offsets ∷ codes "size" ∷ sizes ∷ [])
 
--- The line of field k of a composite, counted without padding, by its name and schema and the text of its type: with
--- the places where it can stand, and its lengths as a part. The tag of a variant is its place.
+-- The line of field k of a composite, counted without padding, by its name and schema and the text
+-- of its type: with the places where it can stand, and its lengths as a part. The tag of a variant
+-- is its place.
 pub record IsFieldLine (s : Sch) (k : ℕ) (field : List ℕ × Sch) (type line : List ℕ) : Type 0 where
   pub offsets : List ℕ
   pub sizes : List ℕ

@@ -1,5 +1,6 @@
 -- The first line of a composite.
-use Rattle.std.specs.Prelude.{◌≡◌, ℕ, Bool, true, false, List, [], ◌∷◌, ◌++◌, Option, Some, None, codes, decimal}
+use Rattle.std.specs.Prelude.{◌≡◌, ℕ, Bool, true, false, List, [], ◌∷◌, ◌++◌, Option, Some, None}
+use Rattle.std.specs.Prelude.{codes, decimal}
 use Rattle.dsdl_names.specs.declared.TypeId.{TypeId}
 use Rattle.dsdl_types.specs.Schemas.{Sch, is_delimited, extent_of}
 use Rattle.dsdl_types.specs.Lengths.{Length}
@@ -40,7 +41,8 @@ abbrev pub outline_words : Sch → List ℕ → List (List ℕ)
 outline_words s lengths = codes "extent" ∷ decimal (extent_of s) ∷ sealing_text (is_delimited s) ∷ codes "lengths" ∷ lengths ∷ []
 
 -- The first line of a composite. Its lengths are those without a delimiter header.
-pub record IsTypeLine (role : Role) (id : TypeId) (port : Option ℕ) (s : Sch) (line : List ℕ) : Type 0 where
+pub record IsTypeLine (role : Role) (id : TypeId) (port : Option ℕ) (s : Sch)
+    (line : List ℕ) : Type 0 where
   pub lengths : List ℕ
   pub whole : IsSetText (Length s) lengths
   pub is : line ≡ spaced (named_words role id port) ++ line_of (outline_words s lengths)

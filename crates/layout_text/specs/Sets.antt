@@ -1,5 +1,6 @@
 -- The text of a set of numbers.
-use Rattle.std.specs.Prelude.{◌≡◌, ℕ, nat_lt, Bool, if◌then◌else◌, List, [], ◌∷◌, ◌++◌, length, codes, decimal}
+use Rattle.std.specs.Prelude.{◌≡◌, ℕ, nat_lt, Bool, if◌then◌else◌, List, [], ◌∷◌, ◌++◌, length}
+use Rattle.std.specs.Prelude.{codes, decimal}
 use Rattle.bit_length.specs.Ascending.{Ascend}
 use Rattle.bit_length.specs.Lengths.{Numbers, Has, Same}
 

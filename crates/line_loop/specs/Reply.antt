@@ -1,5 +1,6 @@
 -- What a listener says to an input, line by line, and how it ends where nothing fails.
-use Rattle.std.specs.Prelude.{◌≡◌, ◌++◌, ◌+◌, ℕ, List, [], ◌∷◌, Result, Ok, Err, MatchBool, if◌then◌else◌, length, nat_lt, take}
+use Rattle.std.specs.Prelude.{◌≡◌, ◌++◌, ◌+◌, ℕ, List, [], ◌∷◌, Result, Ok, Err, MatchBool}
+use Rattle.std.specs.Prelude.{if◌then◌else◌, length, nat_lt, take}
 use mathlib.Core.List.{reverse_aux}
 use Rattle.line_loop.specs.Lines.{lines_of, with_last}
 use Rattle.line_loop.specs.declared.bounds.LineBounds.{LineBounds}
@@ -15,16 +16,19 @@ pub record Voice (R : Type 0) : Type 1 where
   pub long : ℕ → R
   pub bounds : LineBounds
 
-abbrev pub voice : {R : Type 0} → (List (List ℕ) → List ℕ → Result (List ℕ) R → Type 0) → (List (List ℕ) → List ℕ → Type 0) → (ℕ → R) → LineBounds → Voice R
+abbrev pub voice : {R : Type 0} → (List (List ℕ) → List ℕ → Result (List ℕ) R → Type 0)
+    → (List (List ℕ) → List ℕ → Type 0) → (ℕ → R) → LineBounds → Voice R
 voice answers last long bounds =
     record { answers = answers; last = last; long = long; bounds = bounds }
 
 -- the voice of a listener, by what it was at first
-abbrev pub voices : {S R : Type 0} → (S → List (List ℕ) → List ℕ → Result (List ℕ) R → Type 0) → (S → List (List ℕ) → List ℕ → Type 0) → (ℕ → R) → LineBounds → S → Voice R
+abbrev pub voices : {S R : Type 0} → (S → List (List ℕ) → List ℕ → Result (List ℕ) R → Type 0)
+    → (S → List (List ℕ) → List ℕ → Type 0) → (ℕ → R) → LineBounds → S → Voice R
 voices answers last long bounds first = voice (answers first) (last first) long bounds
 
 -- a line is answered by its number and its bytes alone
-abbrev pub by_number : {R : Type 0} → (ℕ → List ℕ → Result (List ℕ) R → Type 0) → List (List ℕ) → List ℕ → Result (List ℕ) R → Type 0
+abbrev pub by_number : {R : Type 0} → (ℕ → List ℕ → Result (List ℕ) R → Type 0) → List (List ℕ)
+    → List ℕ → Result (List ℕ) R → Type 0
 by_number answers past line answer = answers (length past + 1) line answer
 
 -- there are no last words
@@ -32,7 +36,8 @@ abbrev pub no_words : List (List ℕ) → List ℕ → Type 0
 no_words past words = words ≡ []
 
 -- one who answers each line by its number and its bytes alone, and has no last words
-abbrev pub line_voice : {R : Type 0} → (ℕ → List ℕ → Result (List ℕ) R → Type 0) → (ℕ → R) → LineBounds → Voice R
+abbrev pub line_voice : {R : Type 0} → (ℕ → List ℕ → Result (List ℕ) R → Type 0) → (ℕ → R)
+    → LineBounds → Voice R
 line_voice answers long bounds = voice (by_number answers) no_words long bounds
 
 -- this answers the line behind those before it: one of more bytes than the bound is refused
@@ -51,7 +56,8 @@ abbrev pub newest_first : List (List ℕ) → List (List ℕ)
 newest_first lines = reverse_aux lines []
 
 -- the answers to these lines, with the last words behind them
-pub record AreEnded {R : Type 0} (v : Voice R) (lines : List (List ℕ)) (text : List ℕ) : Type 0 where
+pub record AreEnded {R : Type 0} (v : Voice R) (lines : List (List ℕ))
+    (text : List ℕ) : Type 0 where
   pub answers : List ℕ
   pub words : List ℕ
   pub answered : AreAnswered v [] lines answers
@@ -59,7 +65,8 @@ pub record AreEnded {R : Type 0} (v : Voice R) (lines : List (List ℕ)) (text :
   pub parts : text ≡ answers ++ words
 
 -- one of these lines is refused, and this is said to those before it
-pub record IsRefusedIn {R : Type 0} (v : Voice R) (lines : List (List ℕ)) (text : List ℕ) (refusal : R) : Type 0 where
+pub record IsRefusedIn {R : Type 0} (v : Voice R) (lines : List (List ℕ)) (text : List ℕ)
+    (refusal : R) : Type 0 where
   pub before : List (List ℕ)
   pub line : List ℕ
   pub behind : List (List ℕ)

@@ -6,7 +6,8 @@ use Rattle.line_loop.specs.Lines.{lines_of}
 use Rattle.line_loop.specs.Reply.{Voice, AreAnswered}
 
 -- these lines are answered, the first of all, and the answers were written
-pub record HasAnswered {R : Type 0} (v : Voice R) (lines : List (List ℕ)) (before after : Option (List ℕ)) : Type 0 where
+pub record HasAnswered {R : Type 0} (v : Voice R) (lines : List (List ℕ))
+    (before after : Option (List ℕ)) : Type 0 where
   pub text : List ℕ
   pub more : List ℕ
   pub answered : AreAnswered v [] lines text
@@ -14,8 +15,10 @@ pub record HasAnswered {R : Type 0} (v : Voice R) (lines : List (List ℕ)) (bef
 
 -- However it ended: of each front of the bytes that were taken, behind which more than 65,536 bytes
 -- were taken, the whole lines are answered, and the answers are written.
-pub record IsStreamed {R : Type 0} (v : Voice R) (left new before after : Option (List ℕ)) : Type 0 where
+pub record IsStreamed {R : Type 0} (v : Voice R)
+    (left new before after : Option (List ℕ)) : Type 0 where
   pub taken : List ℕ
   pub rest : List ℕ
   pub told : IsTaken left new taken rest
-  pub written : (front more : List ℕ) → taken ≡ front ++ more → 65536 < length more → HasAnswered v (lines_of front).ended before after
+  pub written : (front more : List ℕ) → taken ≡ front ++ more → 65536 < length more
+      → HasAnswered v (lines_of front).ended before after

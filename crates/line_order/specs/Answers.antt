@@ -1,5 +1,6 @@
 -- What is said to the lines of a log that is brought into order.
-use Rattle.std.specs.Prelude.{◌≡◌, ◌+◌, ◌++◌, ◌^◌, ◌∷◌, ℕ, List, Option, Some, None, Result, Ok, Err, if◌then◌else◌, length, nat_lt}
+use Rattle.std.specs.Prelude.{◌≡◌, ◌+◌, ◌++◌, ◌^◌, ◌∷◌, ℕ, List, Option, Some, None, Result, Ok}
+use Rattle.std.specs.Prelude.{Err, if◌then◌else◌, length, nat_lt}
 use Rattle.frame_log.specs.declared.error.LogWhy.TheVariants as why
 use Rattle.line_loop.specs.Reply.{Voice, voice}
 use Rattle.line_loop.specs.declared.bounds.LineBounds.{LineBounds}

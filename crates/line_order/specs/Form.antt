@@ -1,6 +1,8 @@
 -- What a line of a log says where its moment alone counts.
-use Rattle.std.specs.Prelude.{ℕ, List, [], ◌∷◌, ◌++◌, ◌+◌, ◌*◌, ◌==◌, Option, Some, None, if◌then◌else◌, length, unwrap_or}
-use Rattle.frame_log.specs.Line.{◌>>=◌, after, bus_of, cut, decimal_from, seconds_of, without_return}
+use Rattle.std.specs.Prelude.{ℕ, List, [], ◌∷◌, ◌++◌, ◌+◌, ◌*◌, ◌==◌, Option, Some, None}
+use Rattle.std.specs.Prelude.{if◌then◌else◌, length, unwrap_or}
+use Rattle.frame_log.specs.Line.{◌>>=◌, after, bus_of, cut, decimal_from, seconds_of}
+use Rattle.frame_log.specs.Line.{without_return}
 
 -- what a line says: it has no form, it is empty, or it has a moment and a text
 pub data Said : Type 0 where

@@ -1,7 +1,9 @@
 -- What is held of the lines of a log.
-use Rattle.std.specs.Prelude.{◌≡◌, ◌<◌, ◌++◌, ◌+◌, ℕ, Bool, true, false, List, Option, Some, None, [], ◌∷◌, length, map, max, nat_le, ⊤}
+use Rattle.std.specs.Prelude.{◌≡◌, ◌<◌, ◌++◌, ◌+◌, ℕ, Bool, true, false, List, Option, Some, None}
+use Rattle.std.specs.Prelude.{[], ◌∷◌, length, map, max, nat_le, ⊤}
 use Rattle.line_order.specs.Moments.{AreBefore, AreUpTo, Rises, put_all}
-use Rattle.line_order.specs.Order.{Entry, entry, entries_of, greatest, ordered, put, due, is_due, texts}
+use Rattle.line_order.specs.Order.{Entry, entry, entries_of, greatest, ordered, put, due, is_due}
+use Rattle.line_order.specs.Order.{texts}
 use Rattle.line_order.specs.Queue.{queued}
 use Rattle.line_order.specs.Row.{Pops, first_moment}
 use Rattle.line_order.specs.declared.orderer.Orderer.{Orderer}
@@ -62,7 +64,8 @@ pub record LetsGo (old new : Window) (before after : List ℕ) (some : Bool) : T
   pub sound : IsSound new
 
 -- the first entries, which are due, were let go and gathered
-pub record Releases (window latest : ℕ) (old new : List Entry) (before after : List ℕ) : Type 0 where
+pub record Releases (window latest : ℕ) (old new : List Entry)
+    (before after : List ℕ) : Type 0 where
   pub gone : List Entry
   pub parts : old ≡ gone ++ new
   pub all_due : AreDue window latest gone

@@ -1,5 +1,6 @@
 -- The moments of entries, and the order in which they stand.
-use Rattle.std.specs.Prelude.{◌<◌, ◌≤◌, ℕ, Bool, true, false, List, Option, Some, None, [], ◌∷◌, nat_lt, ⊤}
+use Rattle.std.specs.Prelude.{◌<◌, ◌≤◌, ℕ, Bool, true, false, List, Option, Some, None, [], ◌∷◌}
+use Rattle.std.specs.Prelude.{nat_lt, ⊤}
 use Rattle.line_order.specs.Order.{Entry, put}
 use Rattle.line_order.specs.Row.{first_moment}
 

@@ -1,5 +1,6 @@
 -- Lines of a log in the order of their moments.
-use Rattle.std.specs.Prelude.{◌+◌, ℕ, Bool, List, [], ◌∷◌, ◌++◌, if◌then◌else◌, length, max, nat_le, nat_lt}
+use Rattle.std.specs.Prelude.{◌+◌, ℕ, Bool, List, [], ◌∷◌, ◌++◌, if◌then◌else◌, length, max, nat_le}
+use Rattle.std.specs.Prelude.{nat_lt}
 use Rattle.std.specs.List.{filter}
 use Rattle.line_order.specs.Form.{Said, NoForm, Nothing, Line, said_of}
 

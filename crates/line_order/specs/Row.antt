@@ -1,5 +1,6 @@
 -- Lines that stand in a row of bytes.
-use Rattle.std.specs.Prelude.{◌≡◌, ◌+◌, ◌++◌, ℕ, Bool, true, false, List, Option, Some, None, [], ◌∷◌, take, drop}
+use Rattle.std.specs.Prelude.{◌≡◌, ◌+◌, ◌++◌, ℕ, Bool, true, false, List, Option, Some, None, []}
+use Rattle.std.specs.Prelude.{◌∷◌, take, drop}
 use Rattle.line_order.specs.Order.{Entry, entry}
 use Rattle.line_order.specs.declared.queued.Queued.{Queued}
 

@@ -1,11 +1,13 @@
 -- What is counted of the lines of a session. Lines are a list with the newest first; `past` is what
 -- came before.
-use Rattle.std.specs.Prelude.{ℕ, Bool, true, false, not, ◌+◌, ◌%◌, ◌==◌, if◌then◌else◌, List, [], ◌∷◌, Option, Some, None, is_some}
+use Rattle.std.specs.Prelude.{ℕ, Bool, true, false, not, ◌+◌, ◌%◌, ◌==◌, if◌then◌else◌, List, []}
+use Rattle.std.specs.Prelude.{◌∷◌, Option, Some, None, is_some}
 use Rattle.rx_reason.specs.Laws.{is_badcrc}
 use Rattle.rx_reason.specs.Reasons.{no_change}
 use Rattle.rx_reason.specs.declared.reason.Change.{Change}
 use Rattle.rx_reason.specs.declared.reason.Reason.{Reason}
-use Rattle.rx_reason.specs.declared.reason.Reason.TheVariants.{Standby, Copy, Begun, Delivered, StrayNone, StrayTid, StrayToggle}
+use Rattle.rx_reason.specs.declared.reason.Reason.TheVariants.{Standby, Copy, Begun, Delivered}
+use Rattle.rx_reason.specs.declared.reason.Reason.TheVariants.{StrayNone, StrayTid, StrayToggle}
 use Rattle.log_explain.specs.declared.line.FrameLine.{FrameLine}
 use Rattle.log_explain.specs.declared.line.Transfer.{Transfer}
 use Rattle.log_explain.specs.declared.tally.Last.{Last}

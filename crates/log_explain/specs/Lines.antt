@@ -1,6 +1,7 @@
 -- The lines on a log of a node that listens. Records and lines are lists with the newest first;
 -- `past` is what came before.
-use Rattle.std.specs.Prelude.{ℕ, Bool, false, ◌&&◌, ◌==◌, if◌then◌else◌, List, [], ◌∷◌, ◌++◌, Option, Some, None}
+use Rattle.std.specs.Prelude.{ℕ, Bool, false, ◌&&◌, ◌==◌, if◌then◌else◌, List, [], ◌∷◌, ◌++◌}
+use Rattle.std.specs.Prelude.{Option, Some, None}
 use Rattle.can_id.specs.Identifiers.{key_of}
 use Rattle.redundancy.specs.Force.{force}
 use Rattle.tail_frame.specs.Frames.{FrameOf, frame_of}

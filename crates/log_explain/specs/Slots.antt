@@ -1,5 +1,6 @@
 -- What is counted of sessions, by their slots.
-use Rattle.std.specs.Prelude.{◌≡◌, ℕ, ◌<◌, ◌^◌, ◌&&◌, ◌==◌, List, ◌∷◌, length, position, set, slice_get, Option, Some, None, option_map, unwrap_or}
+use Rattle.std.specs.Prelude.{◌≡◌, ℕ, ◌<◌, ◌^◌, ◌&&◌, ◌==◌, List, ◌∷◌, length, position, set}
+use Rattle.std.specs.Prelude.{slice_get, Option, Some, None, option_map, unwrap_or}
 use Rattle.can_id.specs.declared.ident.Ident.{Ident}
 use Rattle.can_id.specs.declared.key.Key.{Key}
 use Rattle.rx_reason.specs.Reasons.{Listens, aside, of_frame}

@@ -1,5 +1,6 @@
 -- Words that lines have in common.
-use Rattle.std.specs.Prelude.{ℕ, zero, suc, ◌/◌, nat_lt, if◌then◌else◌, List, ◌∷◌, ◌++◌, [], codes, decimal}
+use Rattle.std.specs.Prelude.{ℕ, zero, suc, ◌/◌, nat_lt, if◌then◌else◌, List, ◌∷◌, ◌++◌, [], codes}
+use Rattle.std.specs.Prelude.{decimal}
 
 -- the front of a moment in the second that begins at this one
 abbrev pub second_text : ℕ → List ℕ

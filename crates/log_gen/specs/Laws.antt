@@ -1,4 +1,5 @@
--- What holds of every such log, whatever the payloads are and however each transfer stands on each bus.
+-- What holds of every such log, whatever the payloads are and however each transfer stands on each
+-- bus.
 use Rattle.std.specs.Prelude.{◌≡◌, ℕ, ◌+◌, ◌*◌, ◌<◌, ◌≤◌, List, length, reverse, All, None}
 use Rattle.can_id.specs.declared.key.Kind.TheVariants.{Message as message}
 use Rattle.tail_frame.specs.declared.logged.Record.{Record}
@@ -17,8 +18,8 @@ use Rattle.log_gen.specs.declared.way.Way.{Way}
 abbrev pub session_of : ℕ → SessionKey
 session_of s = record { kind = message; port = 100; source = s + 1 }
 
--- a source's sent list explains, with these pairs, what node 10 hears of it in a log, the newest record first; the
--- transfer-ID timeout is 2 seconds
+-- a source's sent list explains, with these pairs, what node 10 hears of it in a log, the newest
+-- record first; the transfer-ID timeout is 2 seconds
 abbrev pub ExplainsSource : Sent → ℕ → List Pair → List Record → Type 0
 ExplainsSource sent s origin recs =
     WireExplainsOf 2000000 sent (key_of s) origin
@@ -36,7 +37,8 @@ EachIsExplained =
 abbrev pub ArePayloads : (ℕ → List ℕ) → Type 0
 ArePayloads payload = (j : ℕ) → (length (payload j) ≤ 39) × All (λ b. b < 256) (payload j)
 
--- the text of up to 20,000 transfers reads as their records, the oldest first, and none of its lines is refused
+-- the text of up to 20,000 transfers reads as their records, the oldest first, and none of its
+-- lines is refused
 abbrev pub EachReads : Type 0
 EachReads =
     (payload : ℕ → List ℕ) (way : ℕ → ℕ → Way) (n : ℕ) → ArePayloads payload → n ≤ 20000

@@ -1,5 +1,7 @@
--- The frames of transfers as they stand in a log. Rows, and the records that they are, have the newest first.
-use Rattle.std.specs.Prelude.{ℕ, zero, suc, ◌+◌, ◌*◌, ◌/◌, ◌%◌, ◌==◌, if◌then◌else◌, List, [], ◌∷◌, ◌++◌, length, replicate, map, Some, None}
+-- The frames of transfers as they stand in a log. Rows, and the records that they are, have the
+-- newest first.
+use Rattle.std.specs.Prelude.{ℕ, zero, suc, ◌+◌, ◌*◌, ◌/◌, ◌%◌, ◌==◌, if◌then◌else◌, List, [], ◌∷◌}
+use Rattle.std.specs.Prelude.{◌++◌, length, replicate, map, Some, None}
 use Rattle.std.specs.List.{range_with_len}
 use Rattle.can_id.specs.Identifiers.{bits}
 use Rattle.can_id.specs.declared.ident.Ident.TheVariants.{Message}
@@ -48,8 +50,8 @@ tid_of j = place_of j % 32
 abbrev pub pair_of : Row → Pair
 pair_of r = record { j = place_of r.transfer; i = r.frame }
 
--- the record of a frame, on a line, with these bytes: a millisecond lies between two transfers, and 300 microseconds
--- between two buses
+-- the record of a frame, on a line, with these bytes: a millisecond lies between two transfers, and
+-- 300 microseconds between two buses
 abbrev pub record_with : Row → ℕ → List ℕ → Record
 record_with r line bytes = record {
   line = line;
@@ -100,7 +102,8 @@ module _ (payload : ℕ → List ℕ) where
     transfers = map (λ k. transfer (4 * k + s)) (range_with_len 0 n);
   }
 
--- the payload of each transfer, and how it stands on a bus: by its place among those of its source, and the bus
+-- the payload of each transfer, and how it stands on a bus: by its place among those of its source,
+-- and the bus
 module _ (payload : ℕ → List ℕ) (way : ℕ → ℕ → Way) where
   -- the frames of transfer j on the first n buses, behind what came before
   abbrev pub on_buses : ℕ → ℕ → List Row → List Row
@@ -113,7 +116,8 @@ module _ (payload : ℕ → List ℕ) (way : ℕ → ℕ → Way) where
   rows zero = []
   rows (suc j) = on_buses j 3 (rows j)
 
--- the pairs of a source's frames, in order: each frame by its transfer's place among those of its source
+-- the pairs of a source's frames, in order: each frame by its transfer's place among those of its
+-- source
 abbrev pub pairs_of : ℕ → List Row → List Pair
 pairs_of s [] = []
 pairs_of s (r ∷ past) =

@@ -11,15 +11,16 @@ use Rattle.log_loop.specs.declared.ended.Ended.TheVariants as end
 use Rattle.log_loop.specs.declared.next.Stop.{Stop}
 use Rattle.log_loop.specs.declared.next.Stop.TheVariants as stop
 
--- What holds of a listener that met these events: it heard them, has said its last words behind them, broke off on the
--- newest of them, or in its last words behind them.
+-- What holds of a listener that met these events: it heard them, has said its last words behind
+-- them, broke off on the newest of them, or in its last words behind them.
 pub record Stages (E : Type 0) : Type 1 where
   pub heard : List E → Type 0
   pub ended : List E → Type 0
   pub broke : List E → Type 0
   pub cut_short : List E → Type 0
 
-abbrev pub stages : {E : Type 0} → (List E → Type 0) → (List E → Type 0) → (List E → Type 0) → (List E → Type 0) → Stages E
+abbrev pub stages : {E : Type 0} → (List E → Type 0) → (List E → Type 0) → (List E → Type 0)
+    → (List E → Type 0) → Stages E
 stages heard ended broke cut_short =
     record { heard = heard; ended = ended; broke = broke; cut_short = cut_short }
 
@@ -58,17 +59,20 @@ pub record Begun {E : Type 0} (v : Voice E) (done : List E → Type 0) (events :
   pub is : done came
   pub written : Begins (whole_text v events refusal) before after
 
--- this holds of all events of a log that was read to its end, and a beginning of all that is said of it was written
+-- this holds of all events of a log that was read to its end, and a beginning of all that is said
+-- of it was written
 pub record BegunWhole {E : Type 0} (v : Voice E) (done : List E → Type 0) (events : List E) (refusal : Option LogError)
     (before after : Option (List ℕ)) : Type 0 where
   pub is : done events
   pub read : refusal ≡ None
   pub written : Begins (whole_text v events refusal) before after
 
--- What was done over a log with these events that ends so. At its end the listener has said its last words behind all of
--- them. Where the output failed, it heard the first of them, or has said its last words behind all of them. Where memory
--- was wanting, it broke off on the newest of the first of them, or in its last words behind all of them.
-abbrev pub Gone : {E : Type 0} → Voice E → Stages E → List E → Option LogError → Ended → Option (List ℕ) → Option (List ℕ) → Type 0
+-- What was done over a log with these events that ends so. At its end the listener has said its
+-- last words behind all of them. Where the output failed, it heard the first of them, or has said
+-- its last words behind all of them. Where memory was wanting, it broke off on the newest of the
+-- first of them, or in its last words behind all of them.
+abbrev pub Gone : {E : Type 0} → Voice E → Stages E → List E → Option LogError → Ended
+    → Option (List ℕ) → Option (List ℕ) → Type 0
 Gone v s events refusal end.Ok before after =
     (refusal ≡ None) × Settled v s.ended events refusal before after
 Gone v s events refusal (end.Log line why) before after =

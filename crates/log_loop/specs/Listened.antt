@@ -8,9 +8,10 @@ use Rattle.log_loop.specs.Voice.{Voice, AreEventsOf, newest_first}
 use Rattle.log_loop.specs.declared.ended.Ended.{Ended}
 use Rattle.log_loop.specs.declared.ended.Ended.TheVariants as end
 
--- There are events of the log of an input, which is the told one where the input tells its bytes: the loop went over them
--- until it ended so. Where the input failed, what is written is of the lines that were taken whole; and however it ended,
--- what is said was written before much more was taken.
+-- There are events of the log of an input, which is the told one where the input tells its bytes:
+-- the loop went over them until it ended so. Where the input failed, what is written is of the
+-- lines that were taken whole; and however it ended, what is said was written before much more was
+-- taken.
 pub record HasListened {E : Type 0} (names : List (List ℕ)) (v : Voice E) (s : Stages E)
     (told new : Option (List ℕ)) (how : Ended) (before after : Option (List ℕ)) : Type 0 where
   pub bytes : List ℕ

@@ -1,10 +1,12 @@
 -- What a call for the next record does to the reader, the input, and what is gathered and written.
-use Rattle.std.specs.Prelude.{◌≡◌, ◌<◌, ◌++◌, ◌⊎◌, ℕ, Bool, true, false, List, [], Option, Some, None, Result, Ok, Err, ⊤}
+use Rattle.std.specs.Prelude.{◌≡◌, ◌<◌, ◌++◌, ◌⊎◌, ℕ, Bool, true, false, List, [], Option, Some}
+use Rattle.std.specs.Prelude.{None, Result, Ok, Err, ⊤}
 use Rattle.tail_frame.specs.declared.logged.Record.{Record}
 use Rattle.cy_outside.specs.Outside.{Rose}
 use Rattle.cy_outside.specs.Written.{Begins}
 use Rattle.frame_log.specs.Input.{Took}
-use Rattle.frame_log.specs.Reader.{buses_of, place_of, kept_bytes_of, bytes_left, saw_end, settled_answer, log_behind, IsNext}
+use Rattle.frame_log.specs.Reader.{buses_of, place_of, kept_bytes_of, bytes_left, saw_end}
+use Rattle.frame_log.specs.Reader.{settled_answer, log_behind, IsNext}
 use Rattle.frame_log.specs.Used.{Uses, IsBefore}
 use Rattle.frame_log.specs.declared.error.LogError.{LogError}
 use Rattle.frame_log.specs.declared.error.LogError.TheVariants as error
@@ -20,20 +22,24 @@ handed written (Ok false) = Ok None
 handed written (Err stop) = Err stop
 
 -- some bytes came, and for every rest the log behind the reader goes on by this answer
-pub record Goes (old new : LogReader) (before after : Option (List ℕ)) (answer : Result (Option Record) LogError) : Type 0 where
+pub record Goes (old new : LogReader) (before after : Option (List ℕ))
+    (answer : Result (Option Record) LogError) : Type 0 where
   pub came : List ℕ
   pub took : Took before after came
   pub ended : saw_end old ≡ true → (came ≡ []) × (saw_end new ≡ true)
-  pub next : (rest : List ℕ) → (saw_end new ≡ true → rest ≡ []) → IsNext (log_behind old (came ++ rest)) answer (log_behind new rest)
+  pub next : (rest : List ℕ) → (saw_end new ≡ true → rest ≡ [])
+      → IsNext (log_behind old (came ++ rest)) answer (log_behind new rest)
 
 -- the log goes on
-abbrev pub GoesOn : LogReader → LogReader → Option (List ℕ) → Option (List ℕ) → Result (Option Record) Stop → Type 0
+abbrev pub GoesOn : LogReader → LogReader → Option (List ℕ) → Option (List ℕ)
+    → Result (Option Record) Stop → Type 0
 GoesOn old new before after (Ok answer) = Goes old new before after (Ok answer)
 GoesOn old new before after (Err (stop.Log error)) = Goes old new before after (Err error)
 GoesOn old new before after (Err stop.Write) = ⊤
 
 -- bytes came only where nothing was gathered any more, and all but the last 8,192 at most were used
-pub record Comes (old new : LogReader) (before after : Option (List ℕ)) (gathered : List ℕ) (answer : Result (Option Record) LogError) : Type 0 where
+pub record Comes (old new : LogReader) (before after : Option (List ℕ)) (gathered : List ℕ)
+    (answer : Result (Option Record) LogError) : Type 0 where
   pub came : List ℕ
   pub took : Took before after came
   pub ended : saw_end old ≡ true → came ≡ []
@@ -41,7 +47,8 @@ pub record Comes (old new : LogReader) (before after : Option (List ℕ)) (gathe
   pub used : saw_end old ≡ false → Uses (buses_of old) (place_of old) (kept_bytes_of old ++ came) (IsBefore answer new)
 
 -- the same; where the output failed, nothing came
-abbrev pub ComesBehind : LogReader → LogReader → Option (List ℕ) → Option (List ℕ) → List ℕ → Result (Option Record) Stop → Type 0
+abbrev pub ComesBehind : LogReader → LogReader → Option (List ℕ) → Option (List ℕ) → List ℕ
+    → Result (Option Record) Stop → Type 0
 ComesBehind old new before after gathered (Ok answer) = Comes old new before after gathered (Ok answer)
 ComesBehind old new before after gathered (Err (stop.Log error)) = Comes old new before after gathered (Err error)
 ComesBehind old new before after gathered (Err stop.Write) = after ≡ before
@@ -53,7 +60,8 @@ ReadsOn old new (Ok None) = ⊤
 ReadsOn old new (Err stop) = ⊤
 
 -- nothing stays gathered where the log has no further record
-abbrev pub Writes : List ℕ → List ℕ → Option (List ℕ) → Option (List ℕ) → Result (Option Record) Stop → Type 0
+abbrev pub Writes : List ℕ → List ℕ → Option (List ℕ) → Option (List ℕ)
+    → Result (Option Record) Stop → Type 0
 Writes old new before after (Ok (Some rec)) = Gathered old new before after
 Writes old new before after (Ok None) = Gathered old new before after × (new ≡ [])
 Writes old new before after (Err (stop.Log error)) = Gathered old new before after × (new ≡ [])

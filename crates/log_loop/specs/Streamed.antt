@@ -19,7 +19,8 @@ pub record HasSaid {E : Type 0} (names : List (List ℕ)) (v : Voice E) (events 
   pub are : AreOfBytes names v events bytes came
   pub written : HasWritten (said v came) before after
 
--- these events were heard, with some newer ones of all; behind them the last words may have been said
+-- these events were heard, with some newer ones of all; behind them the last words may have been
+-- said
 pub record IsHeard {E : Type 0} (s : Stages E) (events came : List E) : Type 0 where
   pub newer : List E
   pub first : FirstOf events (newer ++ came)
@@ -32,13 +33,14 @@ pub record HearsBytes {E : Type 0} (names : List (List ℕ)) (v : Voice E) (s : 
   pub are : AreOfBytes names v events bytes came
   pub hears : IsHeard s events came
 
--- However it ended: of each front of the bytes that were taken, behind which more than 8,192 bytes were taken, what is said
--- is written. Its events were heard too, unless memory was wanting.
+-- However it ended: of each front of the bytes that were taken, behind which more than 8,192 bytes
+-- were taken, what is said is written. Its events were heard too, unless memory was wanting.
 pub record IsStreamed {E : Type 0} (names : List (List ℕ)) (v : Voice E) (s : Stages E) (events : List E)
     (left new : Option (List ℕ)) (how : Ended) (before after : Option (List ℕ)) : Type 0 where
   pub taken : List ℕ
   pub took : Took left new taken
   pub written : (front more : List ℕ) → taken ≡ front ++ more → 8192 < length more
       → HasSaid names v events front before after
-  pub hears : (how ≡ end.NoMemory → ⊥) → (front more : List ℕ) → taken ≡ front ++ more → 8192 < length more
+  pub hears : (how ≡ end.NoMemory → ⊥) → (front more : List ℕ) → taken ≡ front ++ more
+      → 8192 < length more
       → HearsBytes names v s events front

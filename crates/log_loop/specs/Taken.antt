@@ -12,11 +12,13 @@ abbrev pub whole_records : List (List ℕ) → List ℕ → List Record
 whole_records names bytes = newest_first (log_of_lines names None (lines_of (take (2 ^ 28) bytes)).0 start)
 
 -- the first of these events are those of the lines that end among these bytes
-pub record AreOfBytes {E : Type 0} (names : List (List ℕ)) (v : Voice E) (events : List E) (bytes : List ℕ) (came : List E) : Type 0 where
+pub record AreOfBytes {E : Type 0} (names : List (List ℕ)) (v : Voice E) (events : List E)
+    (bytes : List ℕ) (came : List E) : Type 0 where
   pub first : FirstOf events came
   pub records_are : map v.record_of came ≡ whole_records names bytes
 
--- what was heard and what is written are the events of the lines that were taken, each of them whole, and no other
+-- what was heard and what is written are the events of the lines that were taken, each of them
+-- whole, and no other
 pub record IsOfTaken {E : Type 0} (names : List (List ℕ)) (v : Voice E) (heard : List E → Type 0) (events : List E)
     (left new before after : Option (List ℕ)) : Type 0 where
   pub taken : List ℕ

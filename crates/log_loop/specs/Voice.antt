@@ -5,9 +5,10 @@ use Rattle.tail_frame.specs.declared.logged.Record.{Record}
 use Rattle.frame_log.specs.Log.{Log}
 use Rattle.frame_log.specs.declared.error.LogError.{LogError}
 
--- A listener meets events: the records of a log, each with what came of it beside the log. Lists of events have the
--- newest first. The voice of a listener: the record of an event, whether an event may come behind others, what is said
--- on an event behind those before it, and what is said at the end.
+-- A listener meets events: the records of a log, each with what came of it beside the log. Lists of
+-- events have the newest first. The voice of a listener: the record of an event, whether an event
+-- may come behind others, what is said on an event behind those before it, and what is said at the
+-- end.
 pub record Voice (E : Type 0) : Type 1 where
   pub record_of : E → Record
   pub may_come : E → List E → Type 0
@@ -24,7 +25,8 @@ MayCome v [] = ⊤
 MayCome v (event ∷ past) = v.may_come event past × MayCome v past
 
 -- these events are those of these records, and may come
-pub record AreEventsOf {E : Type 0} (v : Voice E) (records : List Record) (events : List E) : Type 0 where
+pub record AreEventsOf {E : Type 0} (v : Voice E) (records : List Record)
+    (events : List E) : Type 0 where
   pub records_are : map v.record_of events ≡ records
   pub may : MayCome v events
 

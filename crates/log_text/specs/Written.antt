@@ -1,5 +1,7 @@
--- Records written as the lines of a log: `(SECONDS.MICROS) BUS IDENT#HEX`. Lists of records have the newest first.
-use Rattle.std.specs.Prelude.{◌≡◌, ◌≢◌, ◌<◌, ◌≤◌, ◌+◌, ◌*◌, ◌^◌, ℕ, List, [], ◌∷◌, ◌++◌, length, get_or, reverse, codes, All, Some, None, ⊤}
+-- Records written as the lines of a log: `(SECONDS.MICROS) BUS IDENT#HEX`. Lists of records have
+-- the newest first.
+use Rattle.std.specs.Prelude.{◌≡◌, ◌≢◌, ◌<◌, ◌≤◌, ◌+◌, ◌*◌, ◌^◌, ℕ, List, [], ◌∷◌, ◌++◌, length}
+use Rattle.std.specs.Prelude.{get_or, reverse, codes, All, Some, None, ⊤}
 use Rattle.hex.specs.Hex.{encode_upper}
 use Rattle.line_text.specs.Text.{moment_text, ident_text}
 use Rattle.tail_frame.specs.declared.logged.Record.{Record}
@@ -45,7 +47,8 @@ abbrev pub oldest_moment : ℕ → List Record → ℕ
 oldest_moment moment [] = moment
 oldest_moment moment (r ∷ past) = oldest_moment r.moment past
 
--- a record may come next: it has the next line, isn't before the newest one, and is at most 10^11 behind the oldest one
+-- a record may come next: it has the next line, isn't before the newest one, and is at most 10^11
+-- behind the oldest one
 pub record IsNext (names : List (List ℕ)) (r : Record) (past : List Record) : Type 0 where
   pub written : IsWritten names r
   pub line : r.line ≡ length past + 1

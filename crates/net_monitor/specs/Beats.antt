@@ -1,5 +1,6 @@
 -- Heartbeats, and how they tell a node is. Heartbeats are a list with the newest first.
-use Rattle.std.specs.Prelude.{ℕ, ◌+◌, ◌-◌, ◌^◌, ◌==◌, nat_lt, min, if◌then◌else◌, List, [], ◌∷◌, Option, Some, None}
+use Rattle.std.specs.Prelude.{ℕ, ◌+◌, ◌-◌, ◌^◌, ◌==◌, nat_lt, min, if◌then◌else◌, List, [], ◌∷◌}
+use Rattle.std.specs.Prelude.{Option, Some, None}
 use Rattle.std_types.specs.declared.node.Heartbeat.{Heartbeat}
 use Rattle.net_monitor.specs.declared.node_state.NodeState.{NodeState}
 

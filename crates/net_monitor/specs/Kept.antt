@@ -1,5 +1,6 @@
 -- What is kept of each node, and who is heard and online by it.
-use Rattle.std.specs.Prelude.{ℕ, ◌+◌, ◌-◌, ◌^◌, min, nat_le, nat_lt, if◌then◌else◌, List, Option, Some, None, slice_index_or}
+use Rattle.std.specs.Prelude.{ℕ, ◌+◌, ◌-◌, ◌^◌, min, nat_le, nat_lt, if◌then◌else◌, List, Option}
+use Rattle.std.specs.Prelude.{Some, None, slice_index_or}
 use Rattle.net_monitor.specs.declared.node_state.NodeState.{NodeState}
 
 -- the number of restarts once a heartbeat with this uptime follows

@@ -18,7 +18,8 @@ pub record IsOnline (m : ℕ) (past : List Beat) (s : ℕ) : Type 0 where
   pub of_it : b.node ≡ s
   pub recent : m ≤ b.moment + 3000000
 
--- a state says what its node's last heartbeat said and when that was, and has the restarts of all its heartbeats
+-- a state says what its node's last heartbeat said and when that was, and has the restarts of all
+-- its heartbeats
 pub record Tells (past : List Beat) (x : NodeState) : Type 0 where
   pub last : Beat
   pub older : List Beat
@@ -45,8 +46,11 @@ nodes_of (x ∷ xs) = x.node ∷ nodes_of xs
 -- past is any list of heartbeats, m a moment
 pub record MonitorLaws : Type 0 where
   -- heard are those nodes below 128 with a heartbeat, each once and ascending
-  pub heard_are : (past : List Beat) (s : ℕ) → Contains (heard past) s ↔ ((s < 128) × IsHeard past s)
+  pub heard_are : (past : List Beat) (s : ℕ)
+      → Contains (heard past) s ↔ ((s < 128) × IsHeard past s)
   pub heard_ascend : (past : List Beat) → Ascend (heard past)
-  -- online are those nodes below 128 with a heartbeat at most 3 seconds before, each once and ascending
-  pub online_are : (m : ℕ) (past : List Beat) (x : NodeState) → Contains (online m past) x ↔ ((x.node < 128) × IsOnline m past x.node × Tells past x)
+  -- online are those nodes below 128 with a heartbeat at most 3 seconds before, each once and
+  -- ascending
+  pub online_are : (m : ℕ) (past : List Beat) (x : NodeState)
+      → Contains (online m past) x ↔ ((x.node < 128) × IsOnline m past x.node × Tells past x)
   pub online_ascend : (m : ℕ) (past : List Beat) → Ascend (nodes_of (online m past))

@@ -9,7 +9,8 @@ use Rattle.file_service.specs.declared.done.ListDone.{ListDone}
 use Rattle.file_service.specs.declared.place.Place.{Place}
 use Rattle.file_service.specs.declared.place.Place.TheVariants as place
 use Rattle.node_plan.specs.declared.plan.Plan.{Plan}
-use Rattle.std_types.specs.Files.{FitsFileListReply, FitsInfoReply, FitsReadReply, file_list_reply_value, info_reply_value, read_reply_value}
+use Rattle.std_types.specs.Files.{FitsFileListReply, FitsInfoReply, FitsReadReply}
+use Rattle.std_types.specs.Files.{file_list_reply_value, info_reply_value, read_reply_value}
 use Rattle.std_types.specs.Schemas.{file_list_reply, info_reply, read_reply}
 use Rattle.std_types.specs.declared.file.FileListReply.{FileListReply}
 use Rattle.node_core.specs.declared.file_reply.FileReply.{FileReply}
@@ -62,8 +63,8 @@ abbrev pub TellsBytes : Option TreeFiles → Place → ℕ → FileReply → Typ
 TellsBytes told place offset (file.Bytes reply) = IsRead told place offset reply
 TellsBytes told place offset other = ⊥
 
--- What the tree may do for a question, where its files are told or not: it tells what its files say of the path below
--- the root, or fails. It is asked nothing where the question is of no file.
+-- What the tree may do for a question, where its files are told or not: it tells what its files say
+-- of the path below the root, or fails. It is asked nothing where the question is of no file.
 abbrev pub Tells : Option TreeFiles → List ℕ → Question → FileReply → Type 0
 Tells told root (asks.FileInfo request) reply = TellsInfo told (place_of root request.path) reply
 Tells told root (asks.FileName request) reply =
@@ -71,7 +72,8 @@ Tells told root (asks.FileName request) reply =
 Tells told root (asks.FileBytes request) reply = TellsBytes told (place_of root request.path) request.offset reply
 Tells told root other reply = reply ≡ file.NoFile
 
--- a question for which nothing is asked of the tree: it is of no file, its path is invalid, or it is known what stands there
+-- a question for which nothing is asked of the tree: it is of no file, its path is invalid, or it
+-- is known what stands there
 abbrev pub AsksNothing : List ℕ → Question → Type 0
 AsksNothing root (asks.FileInfo request) = IsKnown (place_of root request.path)
 AsksNothing root (asks.FileName request) = place_of root request.directory_path ≡ place.Invalid

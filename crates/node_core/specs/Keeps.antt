@@ -8,14 +8,16 @@ use Rattle.node_core.specs.Queues.{Queue, Sends, fulls, push_all}
 use Rattle.node_core.specs.Sending.{registers_after, registers_behind, reply_on}
 use Rattle.node_core.specs.Stands.{Stands}
 use Rattle.node_core.specs.Files.{IsServed, is_failed}
-use Rattle.node_core.specs.Steps.{IsServedAt, Step, Heard, Kept, empty_queue, node_lines, pushed, records}
+use Rattle.node_core.specs.Steps.{IsServedAt, Step, Heard, Kept, empty_queue, node_lines, pushed}
+use Rattle.node_core.specs.Steps.{records}
 use Rattle.node_core.specs.declared.file_reply.FileReply.{FileReply}
 use Rattle.report_lines.specs.declared.line.Line.{Line}
 use Rattle.node_core.specs.declared.node.Node.{Node}
 use Rattle.node_core.specs.declared.question.Question.{Question}
 use Rattle.node_core.specs.declared.request.Request.{Request}
 
--- the frames that wait on each bus, the transfer-ID of the next heartbeat, and what the registers hold
+-- the frames that wait on each bus, the transfer-ID of the next heartbeat, and what the registers
+-- hold
 abbrev pub keeps : Node → Kept
 keeps node = record {
   queues = map queue_of node.queues.buses.items;
@@ -35,7 +37,8 @@ HasQueues node = map emptied (keeps node).queues ≡ map (empty_queue node.plan.
 abbrev pub sent : Option Sends → Kept → Kept
 sent x k = record k { queues = push_all x k.queues }
 
--- the reply to a request, if there is one, by what is kept before it, and what the tree told of a file
+-- the reply to a request, if there is one, by what is kept before it, and what the tree told of a
+-- file
 abbrev pub reply_by : Plan → Option Request → FileReply → Kept → Option Sends
 reply_by plan request file k = reply_on plan k.registers file request
 
@@ -58,7 +61,8 @@ abbrev pub KeepsOf : Step → Node → Node → Type 0
 KeepsOf step old new = (past : List Step) → Stands old (records past)
     → keeps new ≡ pushed old.plan step past (keeps old)
 
--- the next step appends the lines that it gives, and those on the buses that have no room for what it sends
+-- the next step appends the lines that it gives, and those on the buses that have no room for what
+-- it sends
 abbrev pub Appends : Node → Step → List Line → List Line → Type 0
 Appends node step old new = (past : List Step) → Stands node (records past)
     → new ≡ old ++ node_lines node.plan step past (keeps node)
@@ -68,8 +72,8 @@ abbrev pub IsServedBy : Option TreeFiles → Node → Step → Type 0
 IsServedBy told node step = (past : List Step) → Stands node (records past)
     → IsServedAt told node.plan step past
 
--- A request was answered, if there is one, with what the tree told of a file: by that the node keeps what the answer
--- leaves, and the lines on full buses stand behind others.
+-- A request was answered, if there is one, with what the tree told of a file: by that the node
+-- keeps what the answer leaves, and the lines on full buses stand behind others.
 pub record DidAnswer (told : Option TreeFiles) (moment : ℕ) (request : Option Request) (old new : Node)
     (lines lines_new : List Line) (failed : Bool) : Type 0 where
   pub file : FileReply
@@ -79,8 +83,8 @@ pub record DidAnswer (told : Option TreeFiles) (moment : ℕ) (request : Option 
       ≡ lines ++ fulls moment (reply_by old.plan request file (keeps old)) (keeps old).queues
   pub failed_is : failed ≡ is_failed file
 
--- A record was taken, with what the tree told of a file: by that the node keeps what the step leaves, and the lines stand
--- behind others.
+-- A record was taken, with what the tree told of a file: by that the node keeps what the step
+-- leaves, and the lines stand behind others.
 pub record DidStep (told : Option TreeFiles) (rec : Record) (old new : Node)
     (lines lines_new : List Line) (failed : Bool) : Type 0 where
   pub file : FileReply

@@ -6,11 +6,14 @@ use Rattle.node_plan.specs.IsPlan.{IsPlan}
 use Rattle.node_plan.specs.Ports.{services}
 use Rattle.node_plan.specs.declared.plan.Plan.{Plan}
 use Rattle.register_service.specs.Kept.{AreKept}
-use Rattle.register_service.specs.RegisterMap.{Request as RegisterRequest, Access as RegisterAccess, Listing as RegisterListing, after}
+use Rattle.register_service.specs.RegisterMap.{Request as RegisterRequest, Access as RegisterAccess}
+use Rattle.register_service.specs.RegisterMap.{Listing as RegisterListing, after}
 use Rattle.node_core.specs.Files.{is_failed}
 use Rattle.node_core.specs.Queues.{Queue, drained, leaving, waiting}
 use Rattle.node_core.specs.Sending.{may_hold}
-use Rattle.node_core.specs.Steps.{AreServed, Heard, IsServedAt, Met, Step, all_lines, end_numbers, got, kept, lines, lines_behind, lines_on, met_records, numbers, records, request_at, steps, without_files}
+use Rattle.node_core.specs.Steps.{AreServed, Heard, IsServedAt, Met, Step, all_lines, end_numbers}
+use Rattle.node_core.specs.Steps.{got, kept, lines, lines_behind, lines_on, met_records, numbers}
+use Rattle.node_core.specs.Steps.{records, request_at, steps, without_files}
 use Rattle.node_core.specs.declared.file_reply.FileReply.{FileReply}
 use Rattle.node_core.specs.declared.question.Question.{Question}
 use Rattle.node_core.specs.declared.question.Question.TheVariants.{Access, Listing}
@@ -86,7 +89,8 @@ abbrev pub asked : Plan → List Step → List RegisterRequest
 asked plan [] = []
 asked plan (step ∷ past) = asked_by (request_at plan step past) ++ asked plan past
 
--- the registers hold what a map of the plan's registers holds after all that was asked, with the plan's limits
+-- the registers hold what a map of the plan's registers holds after all that was asked, with the
+-- plan's limits
 abbrev pub RegistersAre : Type 0
 RegistersAre = (plan : Plan) (all : List Step)
     → (kept plan all).registers ≡ after (may_hold plan) plan.registers (asked plan all)

@@ -2,11 +2,15 @@
 use Rattle.std.specs.Prelude.{ℕ, ◌==◌, if◌then◌else◌, List, Option, Some, None, option_map}
 use Rattle.dsdl_types.specs.Values.{Val}
 use Rattle.wire_values.specs.Payloads.{payload_value}
-use Rattle.std_types.specs.Files.{FitsFileListRequest, FitsInfoRequest, FitsReadRequest, file_list_request_of, info_request_of, read_request_of}
-use Rattle.std_types.specs.Registers.{FitsAccessRequest, FitsListRequest, access_request_of, list_request_of}
-use Rattle.std_types.specs.Schemas.{access_request, file_list_request, info_request, list_request, read_request}
+use Rattle.std_types.specs.Files.{FitsFileListRequest, FitsInfoRequest, FitsReadRequest}
+use Rattle.std_types.specs.Files.{file_list_request_of, info_request_of, read_request_of}
+use Rattle.std_types.specs.Registers.{FitsAccessRequest, FitsListRequest, access_request_of}
+use Rattle.std_types.specs.Registers.{list_request_of}
+use Rattle.std_types.specs.Schemas.{access_request, file_list_request, info_request, list_request}
+use Rattle.std_types.specs.Schemas.{read_request}
 use Rattle.node_core.specs.declared.question.Question.{Question}
-use Rattle.node_core.specs.declared.question.Question.TheVariants.{Info, Access, Listing, FileInfo, FileName, FileBytes, Unsupported}
+use Rattle.node_core.specs.declared.question.Question.TheVariants.{Info, Access, Listing, FileInfo}
+use Rattle.node_core.specs.declared.question.Question.TheVariants.{FileName, FileBytes, Unsupported}
 
 -- an access to a register, and a listing, by the value of the request
 abbrev pub access_of : Val → Question
@@ -35,8 +39,9 @@ file_question_in service payload =
     else (if service == 409 then Some Unsupported
     else None))))
 
--- what a request of a service asks, where the node answers it: information on the node, a register's value, the
--- name of a register, or something of a file; a request that can't be read asks nothing
+-- what a request of a service asks, where the node answers it: information on the node, a
+-- register's value, the name of a register, or something of a file; a request that can't be read
+-- asks nothing
 abbrev pub question_in : ℕ → List ℕ → Option Question
 question_in service payload =
     if service == 430 then Some Info

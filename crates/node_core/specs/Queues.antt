@@ -1,5 +1,7 @@
--- The frames that wait to leave on each bus of a node. Of all lists of frames the first is that of the plan's first bus.
-use Rattle.std.specs.Prelude.{ℕ, zero, suc, Bool, ◌==◌, ◌||◌, if◌then◌else◌, ◌+◌, nat_le, List, [], ◌∷◌, ◌++◌, length, map, Option, Some, None}
+-- The frames that wait to leave on each bus of a node. Of all lists of frames the first is that of
+-- the plan's first bus.
+use Rattle.std.specs.Prelude.{ℕ, zero, suc, Bool, ◌==◌, ◌||◌, if◌then◌else◌, ◌+◌, nat_le, List, []}
+use Rattle.std.specs.Prelude.{◌∷◌, ◌++◌, length, map, Option, Some, None}
 use Rattle.tx_queue.specs.Waiting.{free, least, needed, out_frames}
 use Rattle.tx_queue.specs.declared.frame.OutFrame.{OutFrame}
 use Rattle.report_lines.specs.declared.line.Line.{Line}
@@ -16,7 +18,8 @@ pub record Sends : Type 0 where
   pub port : ℕ
   pub payload : List ℕ
 
--- the list of a bus: the size of its frames, how many leave after a step at most, how many may wait, and those that do
+-- the list of a bus: the size of its frames, how many leave after a step at most, how many may
+-- wait, and those that do
 pub record Queue : Type 0 where
   pub mtu : ℕ
   pub rate : ℕ
@@ -62,7 +65,8 @@ abbrev pub fulls : ℕ → Option Sends → List Queue → List Line
 fulls moment None qs = []
 fulls moment (Some x) qs = fulls_from moment 0 x qs
 
--- the frames that leave of these, at most so many: each is the first of those with the least identifier
+-- the frames that leave of these, at most so many: each is the first of those with the least
+-- identifier
 abbrev pub leave : ℕ → List OutFrame → List OutFrame
 leave zero fs = []
 leave (suc n) [] = []

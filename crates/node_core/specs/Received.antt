@@ -1,5 +1,6 @@
 -- What the records of a log give on a node's ports.
-use Rattle.std.specs.Prelude.{ℕ, Bool, false, ◌&&◌, if◌then◌else◌, List, [], ◌∷◌, take, Option, Some, None}
+use Rattle.std.specs.Prelude.{ℕ, Bool, false, ◌&&◌, if◌then◌else◌, List, [], ◌∷◌, take, Option}
+use Rattle.std.specs.Prelude.{Some, None}
 use Rattle.can_id.specs.Identifiers.{key_of, priority_of}
 use Rattle.can_id.specs.declared.key.Key.{Key}
 use Rattle.tail_frame.specs.Chains.{KeyRecord}
@@ -55,7 +56,8 @@ anonymous_line plan extent f = Rx (record {
 abbrev pub refused_line : Key → KeyRecord → Line
 refused_line key rec = NoSession (record { moment = rec.moment; bus = rec.bus; key = key; line = rec.line })
 
--- what a frame with a source gives on a port, after these: what its session delivers, or that there is none for it
+-- what a frame with a source gives on a port, after these: what its session delivers, or that there
+-- is none for it
 abbrev pub of_session : Plan → Port → Key → KeyedFrame → List KeyedFrame → List Line
 of_session plan p key k log =
     if is_admitted p k log

@@ -1,5 +1,7 @@
--- What a node sends: its heartbeat each second, and the replies to requests (Cyphal Specification, section 5.3).
-use Rattle.std.specs.Prelude.{◌≢◌, ◌<◌, ℕ, Bool, true, false, List, [], ◌∷◌, Option, Some, None, option_map}
+-- What a node sends: its heartbeat each second, and the replies to requests (Cyphal Specification,
+-- section 5.3).
+use Rattle.std.specs.Prelude.{◌≢◌, ◌<◌, ℕ, Bool, true, false, List, [], ◌∷◌, Option, Some, None}
+use Rattle.std.specs.Prelude.{option_map}
 use Rattle.can_id.specs.Identifiers.{bits}
 use Rattle.can_id.specs.declared.ident.Ident.{Ident}
 use Rattle.can_id.specs.declared.ident.Ident.TheVariants.{Message, Anonymous, Service}
@@ -7,7 +9,8 @@ use Rattle.dsdl_types.specs.Laws.{encoding}
 use Rattle.tail_frame.specs.Frames.{FrameOf}
 use Rattle.node_plan.specs.declared.plan.Plan.{Plan}
 use Rattle.node_status.specs.Status.{heartbeat_payload, info_payload}
-use Rattle.register_service.specs.RegisterMap.{access_reply as accessed, after_access, list_reply as listed}
+use Rattle.register_service.specs.RegisterMap.{access_reply as accessed, after_access}
+use Rattle.register_service.specs.RegisterMap.{list_reply as listed}
 use Rattle.register_service.specs.Within.{is_allowed, limits_of}
 use Rattle.std_types.specs.Registers.{access_reply_value, list_reply_value}
 use Rattle.std_types.specs.Schemas.{access_reply, list_reply}
@@ -18,7 +21,8 @@ use Rattle.node_core.specs.Questions.{FitsQuestion, question_in}
 use Rattle.node_core.specs.Queues.{Sends}
 use Rattle.node_core.specs.declared.file_reply.FileReply.{FileReply}
 use Rattle.node_core.specs.declared.question.Question.{Question}
-use Rattle.node_core.specs.declared.question.Question.TheVariants.{Info, Access, Listing, FileInfo, FileName, FileBytes, Unsupported}
+use Rattle.node_core.specs.declared.question.Question.TheVariants.{Info, Access, Listing, FileInfo}
+use Rattle.node_core.specs.declared.question.Question.TheVariants.{FileName, FileBytes, Unsupported}
 use Rattle.node_core.specs.declared.request.Request.{Request}
 
 -- the heartbeat of a tick, with a transfer-ID
@@ -40,8 +44,8 @@ request_that service client priority tid question = record {
   question = question;
 }
 
--- the request that a frame with this transfer-ID and identifier ended, where this is the transfer's payload and the
--- node answers it
+-- the request that a frame with this transfer-ID and identifier ended, where this is the transfer's
+-- payload and the node answers it
 abbrev pub request_with : ℕ → Ident → List ℕ → Option Request
 request_with tid (Message priority subject source) payload = None
 request_with tid (Anonymous priority subject pseudo) payload = None
@@ -70,7 +74,8 @@ may_hold plan = is_allowed (limits_of plan.registers)
 abbrev pub unsupported : List ℕ
 unsupported = 38 ∷ 0 ∷ []
 
--- the payload of the answer to a question, by what the registers hold before it, and what the tree told of a file
+-- the payload of the answer to a question, by what the registers hold before it, and what the tree
+-- told of a file
 abbrev pub answer_to : Plan → List Register → FileReply → Question → List ℕ
 answer_to plan registers file Info = info_payload plan.info
 answer_to plan registers file (Access request) =

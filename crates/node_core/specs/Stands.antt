@@ -15,7 +15,8 @@ use Rattle.node_core.specs.Steps.{got, is_bad_at, on_port, bad_on_port, held_at}
 use Rattle.node_core.specs.Types.{HasTypes}
 use Rattle.report_lines.specs.declared.line.Line.{Line}
 
--- its sessions are those of its plan's ports after these frames, the newest first, and its ports have the plan's types
+-- its sessions are those of its plan's ports after these frames, the newest first, and its ports
+-- have the plan's types
 pub record StandsAt (node : Node) (log : List KeyedFrame) : Type 0 where
   pub timeout : node.table.timeout ≡ node.plan.timeout
   pub ports_are : ports_in (states shape_extent node.table.ports.items) ≡ ports_of node.plan
@@ -34,8 +35,8 @@ Takes rec old new = (past : List Record) → Stands old past → Stands new (rec
 abbrev pub StandsAsBefore : Node → Node → Type 0
 StandsAsBefore old new = (past : List Record) → Stands old past → Stands new past
 
--- it stands for the records that it stood for, or for this one too: so its ports, and the bound on the bytes of its
--- buffers, are as before
+-- it stands for the records that it stood for, or for this one too: so its ports, and the bound on
+-- the bytes of its buffers, are as before
 abbrev pub TakesOrNot : Record → Node → Node → Type 0
 TakesOrNot rec old new = (past : List Record) → Stands old past → Stands new past ⊎ Stands new (rec ∷ past)
 

@@ -1,5 +1,8 @@
--- The steps of a node: the records that it hears, each with what its tree told, its ticks, and the lines that each gives.
-use Rattle.std.specs.Prelude.{ℕ, zero, suc, Bool, true, false, ◌+◌, ◌-◌, ◌*◌, ◌/◌, ◌%◌, if◌then◌else◌, List, [], ◌∷◌, ◌++◌, length, map, count_by, Option, Some, None}
+-- The steps of a node: the records that it hears, each with what its tree told, its ticks, and the
+-- lines that each gives.
+use Rattle.std.specs.Prelude.{ℕ, zero, suc, Bool, true, false, ◌+◌, ◌-◌, ◌*◌, ◌/◌, ◌%◌}
+use Rattle.std.specs.Prelude.{if◌then◌else◌, List, [], ◌∷◌, ◌++◌, length, map, count_by, Option}
+use Rattle.std.specs.Prelude.{Some, None}
 use Rattle.std.specs.Option.{option_and_then}
 use Rattle.cy_outside.specs.Files.{Files as TreeFiles}
 use Rattle.tail_frame.specs.declared.logged.Record.{Record}
@@ -11,7 +14,9 @@ use Rattle.node_plan.specs.declared.plan.Plan.{Plan}
 use Rattle.node_core.specs.Files.{IsServed, is_failed}
 use Rattle.node_core.specs.Heard.{ports_of}
 use Rattle.node_core.specs.Queues.{Sends, Queue, push_all, fulls, leaving, drained, rounds, waiting}
-pub use Rattle.node_core.specs.Received.{rx_line, of_delivery, anonymous_line, refused_line, of_session, of_source, on_port, of_frame, got, bad_of_source, bad_on_port, bad_of_frame, is_bad_at}
+pub use Rattle.node_core.specs.Received.{rx_line, of_delivery, anonymous_line, refused_line}
+pub use Rattle.node_core.specs.Received.{of_session, of_source, on_port, of_frame, got}
+pub use Rattle.node_core.specs.Received.{bad_of_source, bad_on_port, bad_of_frame, is_bad_at}
 use Rattle.node_core.specs.Sending.{beat, registers_behind, reply_on, request_of}
 use Rattle.node_core.specs.declared.file_reply.FileReply.{FileReply}
 use Rattle.node_core.specs.declared.file_reply.FileReply.TheVariants.{NoFile}
@@ -21,7 +26,8 @@ use Rattle.report_lines.specs.declared.numbers.Numbers.{Numbers}
 use Rattle.node_core.specs.declared.request.Request.{Request}
 use Rattle.std_types.specs.declared.registers.Register.{Register}
 
--- a record that a node met, with what its tree told of the file that was asked for there, if any was
+-- a record that a node met, with what its tree told of the file that was asked for there, if any
+-- was
 pub record Met : Type 0 where
   pub rec : Record
   pub file : FileReply
@@ -37,7 +43,8 @@ met_records mets = map (λ m. m.rec) mets
 abbrev pub without_files : List Record → List Met
 without_files past = map (λ rec. met rec NoFile) past
 
--- a step of a node: a record, with what the tree told of a file, or a tick with its number and moment
+-- a step of a node: a record, with what the tree told of a file, or a tick with its number and
+-- moment
 pub data Step : Type 0 where
   Heard : Record → FileReply → Step
   Tick : ℕ → ℕ → Step
@@ -88,8 +95,8 @@ abbrev pub steps : Plan → List Met → List Step
 steps plan [] = []
 steps plan (m ∷ past) = new_steps plan m past ++ steps plan past
 
--- what a node keeps from step to step beside its sessions: the frames that wait, the next heartbeat's transfer-ID, and
--- what its registers hold
+-- what a node keeps from step to step beside its sessions: the frames that wait, the next
+-- heartbeat's transfer-ID, and what its registers hold
 pub record Kept : Type 0 where
   pub queues : List Queue
   pub tid : ℕ
@@ -139,7 +146,8 @@ abbrev pub next_tid : Step → ℕ → ℕ
 next_tid (Heard rec file) tid = tid
 next_tid (Tick number moment) tid = (tid + 1) % 32
 
--- what is kept once a step's transfer was pushed and the registers did what was asked, and then behind the step
+-- what is kept once a step's transfer was pushed and the registers did what was asked, and then
+-- behind the step
 abbrev pub pushed : Plan → Step → List Step → Kept → Kept
 pushed plan step past k = record {
   queues = push_all (sends plan step past k) k.queues;
@@ -175,7 +183,8 @@ received_at plan (Tick number moment) past = []
 abbrev pub node_lines : Plan → Step → List Step → Kept → List Line
 node_lines plan step past k = received_at plan step past ++ fulls (moment_of step) (sends plan step past k) k.queues
 
--- the lines of a step, where these came before it: behind the node's, those on the frames that leave
+-- the lines of a step, where these came before it: behind the node's, those on the frames that
+-- leave
 abbrev pub lines_at : Plan → Step → List Step → List Line
 lines_at plan step past =
     node_lines plan step past (kept plan past)

@@ -1,5 +1,7 @@
--- The types of a plan's ports, and of a table's, and the schemas by which their payloads are received.
-use Rattle.std.specs.Prelude.{◌≡◌, ℕ, ◌&&◌, ◌==◌, if◌then◌else◌, List, [], ◌∷◌, map, Option, Some, None}
+-- The types of a plan's ports, and of a table's, and the schemas by which their payloads are
+-- received.
+use Rattle.std.specs.Prelude.{◌≡◌, ℕ, ◌&&◌, ◌==◌, if◌then◌else◌, List, [], ◌∷◌, map, Option, Some}
+use Rattle.std.specs.Prelude.{None}
 use Rattle.std.specs.Option.{option_and_then}
 use Rattle.can_id.specs.declared.key.Key.{Key}
 use Rattle.can_id.specs.declared.key.Kind.{Kind}
@@ -26,7 +28,8 @@ type_on plan key = type_among key.kind key.port (ports plan)
 abbrev pub type_at : Table PortShape → Key → Option Sch
 type_at table key = option_and_then port_type (shape_at key.kind key.port table.ports.items)
 
--- the schema by which payloads of this extent and type are received: the type, or where there is none so many bytes
+-- the schema by which payloads of this extent and type are received: the type, or where there is
+-- none so many bytes
 abbrev pub schema_by : ℕ → Option Sch → Sch
 schema_by extent None = raw_schema extent
 schema_by extent (Some type) = type

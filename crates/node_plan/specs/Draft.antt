@@ -1,5 +1,7 @@
 -- The plan as far as its lines were read, and what a line makes of it.
-use Rattle.std.specs.Prelude.{ℕ, Bool, true, false, List, [], ◌∷◌, ◌++◌, ◌==◌, ◌&&◌, Option, None, Some, Result, Ok, Err, if◌then◌else◌, is_some, length, map, nat_le, nat_lt, set, slice_get, unwrap_or}
+use Rattle.std.specs.Prelude.{ℕ, Bool, true, false, List, [], ◌∷◌, ◌++◌, ◌==◌, ◌&&◌, Option, None}
+use Rattle.std.specs.Prelude.{Some, Result, Ok, Err, if◌then◌else◌, is_some, length, map, nat_le}
+use Rattle.std.specs.Prelude.{nat_lt, set, slice_get, unwrap_or}
 use Rattle.std.specs.List.{list_any, position}
 use Rattle.std.specs.Str.{bytes_eq}
 use Rattle.node_plan.specs.declared.draft.Draft.{Draft}

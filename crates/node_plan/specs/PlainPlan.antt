@@ -1,5 +1,6 @@
 -- The plan of a text without registers, worked out.
-use Rattle.std.specs.Prelude.{ℕ, List, [], ◌∷◌, ◌+◌, Result, Ok, Err, if◌then◌else◌, length, nat_lt, take}
+use Rattle.std.specs.Prelude.{ℕ, List, [], ◌∷◌, ◌+◌, Result, Ok, Err, if◌then◌else◌, length, nat_lt}
+use Rattle.std.specs.Prelude.{take}
 use Rattle.dsdl_types.specs.declared.namespace.Namespace.{Namespace}
 use Rattle.node_plan.specs.declared.draft.Draft.{Draft}
 use Rattle.node_plan.specs.declared.plan.PlanWhy.{PlanWhy}

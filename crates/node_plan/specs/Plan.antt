@@ -1,6 +1,7 @@
 -- The plan of a text. A value's text is what is printed of it, and no function reads one; so what a
 -- plan's text says is a relation.
-use Rattle.std.specs.Prelude.{◌≡◌, ℕ, Bool, true, false, List, [], ◌∷◌, ◌+◌, Option, None, Some, Result, Ok, Err, length, nat_lt, take}
+use Rattle.std.specs.Prelude.{◌≡◌, ℕ, Bool, true, false, List, [], ◌∷◌, ◌+◌, Option, None, Some}
+use Rattle.std.specs.Prelude.{Result, Ok, Err, length, nat_lt, take}
 use Rattle.dsdl_types.specs.declared.namespace.Namespace.{Namespace}
 use Rattle.node_plan.specs.declared.draft.Draft.{Draft}
 use Rattle.node_plan.specs.declared.line.Said.{Said}

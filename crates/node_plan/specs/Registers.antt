@@ -1,5 +1,6 @@
 -- Registers of a plan: their names, the texts of their values, and what limits keep numbers within.
-use Rattle.std.specs.Prelude.{◌≡◌, ◌≤◌, ℕ, Bool, true, ◌&&◌, List, Option, Some, None, IsTrue, length, nat_le}
+use Rattle.std.specs.Prelude.{◌≡◌, ◌≤◌, ℕ, Bool, true, ◌&&◌, List, Option, Some, None, IsTrue}
+use Rattle.std.specs.Prelude.{length, nat_le}
 use Rattle.std.specs.List.{list_all}
 use Rattle.std_types.specs.Limits.{is_whole, lie_within}
 use Rattle.std_types.specs.RegisterValues.{FitsRegisterValue, variant_value}

@@ -1,5 +1,6 @@
 -- Lines, words and numbers of a text.
-use Rattle.std.specs.Prelude.{◌≡◌, ◌⊎◌, ℕ, pos, neg_ℤ, ◌^◌, List, [], ◌∷◌, ◌++◌, ◌+◌, ◌*◌, ◌-◌, ◌≤◌, ◌==◌, ◌||◌, Option, Some, None, if◌then◌else◌, nat_lt}
+use Rattle.std.specs.Prelude.{◌≡◌, ◌⊎◌, ℕ, pos, neg_ℤ, ◌^◌, List, [], ◌∷◌, ◌++◌, ◌+◌, ◌*◌, ◌-◌, ◌≤◌}
+use Rattle.std.specs.Prelude.{◌==◌, ◌||◌, Option, Some, None, if◌then◌else◌, nat_lt}
 use Rattle.node_plan.specs.declared.words.Number.{Number}
 use Rattle.node_plan.specs.declared.words.Number.TheVariants as number
 use Rattle.node_plan.specs.declared.words.Whole.{Whole}

@@ -1,6 +1,7 @@
--- What `allocate` says of a log: who is given which node-ID, and the messages that tell so. Events and records are lists
--- with the newest first; `past` is what came before.
-use Rattle.std.specs.Prelude.{ℕ, ◌+◌, ◌%◌, ◌==◌, if◌then◌else◌, List, [], ◌∷◌, ◌++◌, length, codes, Option, Some, None}
+-- What `allocate` says of a log: who is given which node-ID, and the messages that tell so. Events
+-- and records are lists with the newest first; `past` is what came before.
+use Rattle.std.specs.Prelude.{ℕ, ◌+◌, ◌%◌, ◌==◌, if◌then◌else◌, List, [], ◌∷◌, ◌++◌, length, codes}
+use Rattle.std.specs.Prelude.{Option, Some, None}
 use Rattle.std.specs.Option.{option_and_then}
 use Rattle.can_id.specs.Identifiers.{bits, key_of}
 use Rattle.can_id.specs.declared.ident.Ident.TheVariants.{Message}

@@ -1,6 +1,7 @@
--- What `fetch` says of a log: the requests that are made, and what became of the file. Lists of records and events have
--- the newest first; `past` is what came before.
-use Rattle.std.specs.Prelude.{ℕ, zero, suc, ◌+◌, ◌^◌, ◌==◌, if◌then◌else◌, true, List, [], ◌∷◌, ◌++◌, codes, decimal, length, Option, Some, None, option_map}
+-- What `fetch` says of a log: the requests that are made, and what became of the file. Lists of
+-- records and events have the newest first; `past` is what came before.
+use Rattle.std.specs.Prelude.{ℕ, zero, suc, ◌+◌, ◌^◌, ◌==◌, if◌then◌else◌, true, List, [], ◌∷◌}
+use Rattle.std.specs.Prelude.{◌++◌, codes, decimal, length, Option, Some, None, option_map}
 use Rattle.std.specs.Option.{option_and_then}
 use Rattle.hex.specs.Hex.{encode_upper}
 use Rattle.can_id.specs.Identifiers.{bits}
@@ -9,7 +10,8 @@ use Rattle.can_id.specs.declared.key.Kind.TheVariants.{Response}
 use Rattle.dsdl_types.specs.Laws.{encoding}
 use Rattle.file_client.specs.Fetch.{Event, reply, late, offset_of, fetched, answer}
 use Rattle.file_client.specs.declared.event.FetchOut.{FetchOut}
-use Rattle.file_client.specs.declared.event.FetchOut.TheVariants.{Ask, Wait, Done, Refused, GaveUp, TooLong}
+use Rattle.file_client.specs.declared.event.FetchOut.TheVariants.{Ask, Wait, Done, Refused, GaveUp}
+use Rattle.file_client.specs.declared.event.FetchOut.TheVariants.{TooLong}
 use Rattle.frag.specs.Wire.{frames}
 use Rattle.line_text.specs.Text.{moment_text, line_of}
 use Rattle.log_loop.specs.Voice.{Voice, plain_voice}
@@ -17,7 +19,8 @@ use Rattle.wire_values.specs.Payloads.{payload_value}
 use Rattle.std_types.specs.Files.{read_request_value, read_reply_of}
 use Rattle.std_types.specs.Types.{schema_of}
 use Rattle.std_types.specs.declared.file.ReadReply.{ReadReply}
-use Rattle.std_types.specs.declared.std_name.StdName.TheVariants.{ReadRequest as read_request, ReadReply as read_reply}
+use Rattle.std_types.specs.declared.std_name.StdName.TheVariants.{ReadRequest as read_request}
+use Rattle.std_types.specs.declared.std_name.StdName.TheVariants.{ReadReply as read_reply}
 use Rattle.tail_frame.specs.declared.logged.Record.{Record}
 use Rattle.node_reach.specs.Buses.{bus_names}
 use Rattle.node_reach.specs.Lines.{tx_lines}
@@ -111,7 +114,8 @@ lates_text client first tick (suc n) past =
     lates_text client first tick n past
     ++ event_text client (tick_moment first (tick + n + 1)) late (lates n past)
 
--- what is said on the ticks before a record: Tick 0 is at the first record's moment, and request 0 is made
+-- what is said on the ticks before a record: Tick 0 is at the first record's moment, and request 0
+-- is made
 abbrev pub ticks_text : Client → Record → List Record → List ℕ
 ticks_text client rec [] = request_text client rec.moment 0 0
 ticks_text client rec (older ∷ past) =
@@ -136,7 +140,8 @@ bytes_text (byte ∷ bytes) = encode_upper (byte ∷ bytes)
 abbrev pub file_line : List ℕ → List ℕ
 file_line file = line_of (codes "file" ∷ decimal (length file) ∷ bytes_text file ∷ [])
 
--- what is said at the end: the file, why there is none, or that the request at an offset is still out
+-- what is said at the end: the file, why there is none, or that the request at an offset is still
+-- out
 abbrev pub end_text : ℕ → List ℕ → Option FetchOut → List ℕ
 end_text offset file (Some Done) = file_line file
 end_text offset file (Some (Refused code)) = line_of (codes "refused" ∷ decimal code ∷ [])

@@ -1,6 +1,7 @@
--- What `monitor` says of a log: who is online, and the network's time. Heartbeats, messages of time and records are lists
--- with the newest first; `past` is what came before.
-use Rattle.std.specs.Prelude.{ℕ, max, ◌==◌, if◌then◌else◌, List, [], ◌∷◌, ◌++◌, length, codes, Option, Some, None}
+-- What `monitor` says of a log: who is online, and the network's time. Heartbeats, messages of time
+-- and records are lists with the newest first; `past` is what came before.
+use Rattle.std.specs.Prelude.{ℕ, max, ◌==◌, if◌then◌else◌, List, [], ◌∷◌, ◌++◌, length, codes}
+use Rattle.std.specs.Prelude.{Option, Some, None}
 use Rattle.dsdl_types.specs.Values.{Val}
 use Rattle.log_loop.specs.Voice.{Voice, plain_voice}
 use Rattle.net_monitor.specs.Beats.{Beat}

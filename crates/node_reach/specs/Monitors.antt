@@ -10,7 +10,9 @@ use Rattle.tail_frame.specs.declared.logged.Record.{Record}
 use Rattle.time_sync.specs.Pairs.{Message}
 use Rattle.time_sync.specs.Stands.{Stands as StandsFor}
 use Rattle.node_reach.specs.Ears.{Hears}
-use Rattle.node_reach.specs.Monitored.{latest_beat, latest_message, add_beat, add_message, with_beat, with_message, last_moment, monitor_ears, beats, messages}
+use Rattle.node_reach.specs.Monitored.{latest_beat, latest_message, add_beat, add_message}
+use Rattle.node_reach.specs.Monitored.{with_beat, with_message, last_moment, monitor_ears, beats}
+use Rattle.node_reach.specs.Monitored.{messages}
 use Rattle.node_reach.specs.Transfers.{Transfer, HasBegun, HasBegunBy}
 use Rattle.node_reach.specs.declared.monitoring.Monitoring.{Monitoring}
 use Rattle.node_reach.specs.declared.network.Network.{Network}

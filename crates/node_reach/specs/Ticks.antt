@@ -1,4 +1,5 @@
--- The seconds of a log. Lists of records have the newest first; `past` is what came before a record.
+-- The seconds of a log. Lists of records have the newest first; `past` is what came before a
+-- record.
 use Rattle.std.specs.Prelude.{ℕ, ◌+◌, ◌-◌, ◌*◌, ◌/◌, List, [], ◌∷◌, Option, Some, None}
 use Rattle.tail_frame.specs.declared.logged.Record.{Record}
 
@@ -25,6 +26,7 @@ abbrev pub last_tick : List Record → ℕ
 last_tick [] = 0
 last_tick (rec ∷ past) = tick_at (first_moment rec past) rec.moment
 
--- how many ticks come between a record and those before it, Tick 0 aside; one at the record's own moment comes before it
+-- how many ticks come between a record and those before it, Tick 0 aside; one at the record's own
+-- moment comes before it
 abbrev pub ticks_before : Record → List Record → ℕ
 ticks_before rec past = last_tick (rec ∷ past) - last_tick past

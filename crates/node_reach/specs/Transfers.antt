@@ -1,5 +1,5 @@
--- The transfers that a node receives of a log, without a plan. Records are a list with the newest first; `past` is what
--- came before.
+-- The transfers that a node receives of a log, without a plan. Records are a list with the newest
+-- first; `past` is what came before.
 use Rattle.std.specs.Prelude.{ℕ, ◌<◌, ◌≤◌, if◌then◌else◌, List, take, Option, Some, None, ⊤}
 use Rattle.dsdl_types.specs.Schemas.{Sch}
 use Rattle.can_id.specs.declared.key.Kind.{Kind}
@@ -15,7 +15,8 @@ use Rattle.tail_frame.specs.Frames.{FrameOf}
 use Rattle.tail_frame.specs.declared.logged.Record.{Record}
 use Rattle.transfer_crc.specs.Crc.{crc_of}
 
--- a transfer of a source: its key, its transfer-ID, the moment of its first frame, and its payload, cut to the extent
+-- a transfer of a source: its key, its transfer-ID, the moment of its first frame, and its payload,
+-- cut to the extent
 pub record Transfer : Type 0 where
   pub key : SessionKey
   pub tid : ℕ
@@ -32,7 +33,8 @@ abbrev pub HasBegunBy : ℕ → Option Transfer → Type 0
 HasBegunBy moment None = ⊤
 HasBegunBy moment (Some t) = HasBegun moment t
 
--- what a node listens with: its own node-ID, the silence after which another bus takes over, and its ports
+-- what a node listens with: its own node-ID, the silence after which another bus takes over, and
+-- its ports
 pub record Ears : Type 0 where
   pub own : ℕ
   pub timeout : ℕ
@@ -61,7 +63,7 @@ abbrev pub of_frame : Ears → List KeyedFrame → Option FrameOf → Option Tra
 of_frame ears log None = None
 of_frame ears log (Some f) = on_port ears.timeout log (port_on ears.ports f) (keyed f)
 
--- the transfer that ends at a record, if one does: of a frame that isn't discarded, is on one of the ports, and is for
--- the node
+-- the transfer that ends at a record, if one does: of a frame that isn't discarded, is on one of
+-- the ports, and is for the node
 abbrev pub transfer_at : Ears → Record → List Record → Option Transfer
 transfer_at ears rec past = of_frame ears (frames ears.own past) (frame_for ears.own rec)

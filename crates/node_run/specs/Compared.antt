@@ -30,8 +30,8 @@ abbrev pub both : Verdict → Verdict → Verdict
 both Yes second = second
 both (No path cause) second = No path cause
 
--- whether new schemas are newer than old ones: of services the requests, and then the responses; a message and a service
--- are of other kinds
+-- whether new schemas are newer than old ones: of services the requests, and then the responses; a
+-- message and a service are of other kinds
 abbrev pub parts_verdict : Parts → Parts → Verdict
 parts_verdict (parts.Message new) (parts.Message old) = verdict_of (difference (sch new) (sch old))
 parts_verdict (parts.Service new newer) (parts.Service old older) =
@@ -75,7 +75,8 @@ abbrev pub newer_line : List ℕ
 newer_line = codes "newer\n"
 
 -- how a comparison ended, and what was written of it
-abbrev pub HasCompared : Namespace → List ℕ → List ℕ → Status → Option (List ℕ) → Option (List ℕ) → Type 0
+abbrev pub HasCompared : Namespace → List ℕ → List ℕ → Status → Option (List ℕ) → Option (List ℕ)
+    → Type 0
 HasCompared names new old status.Ok before after = (compared names new old ≡ status.Ok) × (after ≡ behind before newer_line)
 HasCompared names new old status.WriteFault before after = (compared names new old ≡ status.Ok) × Begins newer_line before after
 HasCompared names new old status.NoMemory before after = after ≡ before

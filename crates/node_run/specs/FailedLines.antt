@@ -12,7 +12,8 @@ use Rattle.node_run.specs.Ran.{Reported}
 use Rattle.node_run.specs.ValueLines.{Flow}
 use Rattle.node_run.specs.declared.status.Status.{Status}
 
--- a line is that of one of these records, the newest first, on which a request ended in which the tree failed
+-- a line is that of one of these records, the newest first, on which a request ended in which the
+-- tree failed
 pub record EndsFailed (plan : Plan) (mets : List Met) (line : ℕ) : Type 0 where
   pub newer : List Met
   pub last : Met
@@ -28,8 +29,8 @@ pub record NamesRequests (plan : Plan) (mets : List Met) (lines : List ℕ) : Ty
   pub rise : IsStrictlyIncreasing lines
   pub ended : All (EndsFailed plan mets) lines
 
--- a run that had named none before names such lines, and no more of them than the tree's count rose by, unless that
--- stands at its end
+-- a run that had named none before names such lines, and no more of them than the tree's count rose
+-- by, unless that stands at its end
 abbrev pub FailedAreNamed : Type 0
 FailedAreNamed =
     (plan : Plan) (files : Option Files) (flow : Flow) (stat : Status) (r : Reported)

@@ -6,8 +6,8 @@ use Rattle.report_lines.specs.LineSinks.{put_behind}
 use Rattle.node_core.specs.Steps.{Step, failed_at}
 use Rattle.node_core.specs.declared.file_reply.FileReply.{FileReply}
 
--- the lines of failed requests that a sink told before, those that it tells now, and the tree's counts of faults before
--- and now
+-- the lines of failed requests that a sink told before, those that it tells now, and the tree's
+-- counts of faults before and now
 pub record Failures : Type 0 where
   pub old : Option (List ℕ)
   pub new : Option (List ℕ)
@@ -22,7 +22,8 @@ failures old new faults faults_new =
 abbrev pub HasRisen : List ℕ → ℕ → ℕ → Type 0
 HasRisen lines old new = (length lines + old ≤ new) ⊎ (2 ^ 64 - 1 ≤ new)
 
--- on these lines requests ended in which the tree failed: they are told, and its count rose by as many
+-- on these lines requests ended in which the tree failed: they are told, and its count rose by as
+-- many
 pub record TellsFailures (lines : List ℕ) (f : Failures) : Type 0 where
   pub told : f.new ≡ put_behind f.old lines
   pub rose : HasRisen lines f.faults f.faults_new

@@ -1,5 +1,6 @@
 -- How a run goes on, step by step.
-use Rattle.std.specs.Prelude.{◌≡◌, ◌≤◌, ◌⊎◌, ◌+◌, ◌-◌, ◌*◌, ◌/◌, ◌^◌, nat_lt, ◌==◌, ◌++◌, ℕ, min, max, refl, List, [], Option, if◌then◌else◌, length}
+use Rattle.std.specs.Prelude.{◌≡◌, ◌≤◌, ◌⊎◌, ◌+◌, ◌-◌, ◌*◌, ◌/◌, ◌^◌, nat_lt, ◌==◌, ◌++◌, ℕ, min}
+use Rattle.std.specs.Prelude.{max, refl, List, [], Option, if◌then◌else◌, length}
 use Rattle.std.proofs.Common.{◌∙◌, ap, sym, append-nil}
 use Rattle.node_plan.specs.Bound.{bound_of}
 use Rattle.node_plan.specs.IsPlan.{IsPlan}
@@ -42,7 +43,8 @@ abbrev pub report_of : Option (List Line) → State → Reported
 report_of before s = reported before s.told s.numbers
 
 -- it is the run of a plan behind these steps, the newest first
-pub record Runs (plan : Plan) (before : Option (List Line)) (s : State) (all : List Step) : Type 0 where
+pub record Runs (plan : Plan) (before : Option (List Line)) (s : State)
+    (all : List Step) : Type 0 where
   pub is : IsPlan plan
   pub same : s.node.plan ≡ plan
   pub stands : Stands s.node (records all)

@@ -12,10 +12,12 @@ use Rattle.node_run.specs.ValueLines.{Flow}
 use Rattle.node_run.specs.declared.status.Status.{Status}
 use Rattle.node_run.specs.declared.status.Status.TheVariants as status
 
--- There are records of the log of an input, each with what the tree told of a file: by these, and by one list of their
--- steps, the run is reported and written, and told are the requests in which the tree failed. The log is that of the told
--- bytes, where the input tells them, and the tree told what its files say, where it tells these, or failed.
-pub record HasRun (plan : Plan) (files : Option Files) (flow : Flow) (stat : Status) (r : Reported) (f : Failures) : Type 0 where
+-- There are records of the log of an input, each with what the tree told of a file: by these, and
+-- by one list of their steps, the run is reported and written, and told are the requests in which
+-- the tree failed. The log is that of the told bytes, where the input tells them, and the tree told
+-- what its files say, where it tells these, or failed.
+pub record HasRun (plan : Plan) (files : Option Files) (flow : Flow) (stat : Status) (r : Reported)
+    (f : Failures) : Type 0 where
   pub bytes : List ℕ
   pub is : IfSome flow.left (λ (left : List ℕ). bytes ≡ left)
   pub mets : List Met

@@ -1,5 +1,6 @@
 -- What a node that runs has heard, and what it has reported.
-use Rattle.std.specs.Prelude.{◌≡◌, ◌≤◌, ◌+◌, ◌*◌, ◌-◌, ◌^◌, ◌++◌, ℕ, List, [], ◌∷◌, Option, None, count_by, length, if◌then◌else◌}
+use Rattle.std.specs.Prelude.{◌≡◌, ◌≤◌, ◌+◌, ◌*◌, ◌-◌, ◌^◌, ◌++◌, ℕ, List, [], ◌∷◌, Option, None}
+use Rattle.std.specs.Prelude.{count_by, length, if◌then◌else◌}
 use Rattle.cy_outside.specs.Files.{Files}
 use Rattle.tail_frame.specs.declared.logged.Record.{Record}
 use Rattle.log_loop.specs.Voice.{Voice}
@@ -8,7 +9,9 @@ use Rattle.node_plan.specs.declared.plan.Plan.{Plan}
 use Rattle.report_lines.specs.declared.line.Line.{Line}
 use Rattle.report_lines.specs.declared.numbers.Numbers.{Numbers}
 use Rattle.node_core.specs.Queues.{rounds, waiting}
-use Rattle.node_core.specs.Steps.{Heard, IsServedAt, Met, met_records, first_of, ticks_before, ticks_done, steps, kept, emptying, lines_on, all_lines, is_tx, end_numbers}
+use Rattle.node_core.specs.Steps.{Heard, IsServedAt, Met, met_records, first_of, ticks_before}
+use Rattle.node_core.specs.Steps.{ticks_done, steps, kept, emptying, lines_on, all_lines, is_tx}
+use Rattle.node_core.specs.Steps.{end_numbers}
 use Rattle.text_lines.specs.Text.{text, end_text}
 use Rattle.node_run.specs.declared.log.clock.Clock.{Clock}
 use Rattle.node_run.specs.declared.log.tally.Seen.{Seen}
@@ -34,7 +37,8 @@ pub record IsClock (plan : Plan) (past : List Met) (clock : Clock) : Type 0 wher
       rounds (waiting qs) clock.last qs ≡ emptying plan (steps plan past)
 
 -- a run is behind these records, the newest first
-pub record Hears (plan : Plan) (before : Option (List Line)) (s : State) (clock : Clock) (past : List Met) : Type 0 where
+pub record Hears (plan : Plan) (before : Option (List Line)) (s : State) (clock : Clock)
+    (past : List Met) : Type 0 where
   pub runs : Runs plan before s (steps plan past)
   pub clock_is : IsClock plan past clock
   pub few : length (steps plan past) ≤ s.numbers.records + clock.number

@@ -1,5 +1,6 @@
 -- The namespace that a root stands for.
-use Rattle.std.specs.Prelude.{◌≡◌, ◌⊎◌, ℕ, Bool, true, false, if◌then◌else◌, List, [], codes, Option, IfSome, Result, Ok, Err, ⊤}
+use Rattle.std.specs.Prelude.{◌≡◌, ◌⊎◌, ℕ, Bool, true, false, if◌then◌else◌, List, [], codes}
+use Rattle.std.specs.Prelude.{Option, IfSome, Result, Ok, Err, ⊤}
 use Rattle.std.specs.Str.{bytes_eq}
 use Rattle.cy_outside.specs.Files.{Files}
 use Rattle.cy_outside.specs.Outside.{Rose}
@@ -42,14 +43,16 @@ pub record IsMissing (root : List ℕ) (told : Option Files) (path : List ℕ) :
   pub missing : IfSome told (λ tree. files_of_folder tree root ≡ Err folder.NotFolder)
 
 -- reading the folder passes a limit at this place, for which no line is named
-pub record IsTooBig (root : List ℕ) (told : Option Files) (path : List ℕ) (line : ℕ) (cause : DsdlWhy) : Type 0 where
+pub record IsTooBig (root : List ℕ) (told : Option Files) (path : List ℕ) (line : ℕ)
+    (cause : DsdlWhy) : Type 0 where
   pub not_none : is_none root ≡ false
   pub limit : IfSome told (λ tree. files_of_folder tree root ≡ Err (folder.TooBig path))
   pub no_line : line ≡ 0
   pub is : cause ≡ why.TooBig
 
 -- the files of the root are refused, and this is the first refusal
-pub record AreRefused (root : List ℕ) (told : Option Files) (path : List ℕ) (line : ℕ) (cause : DsdlWhy) : Type 0 where
+pub record AreRefused (root : List ℕ) (told : Option Files) (path : List ℕ) (line : ℕ)
+    (cause : DsdlWhy) : Type 0 where
   pub files : List DsdlFile
   pub are : AreFilesOf root told files
   pub first : FirstRefusal files path line cause
@@ -74,7 +77,8 @@ abbrev pub not_resolved : DsdlError → Status
 not_resolved (dsdl.At path line cause) = status.Dsdl path line cause
 not_resolved dsdl.NoMemory = status.NoMemory
 
--- a read fault comes only where the tree's count rose; every other answer leaves the count as it was
+-- a read fault comes only where the tree's count rose; every other answer leaves the count as it
+-- was
 abbrev pub HasLoadCause : {T : Type 0} → ℕ → ℕ → Result T Status → Type 0
 HasLoadCause old new (Ok answer) = new ≡ old
 HasLoadCause old new (Err status.ReadFault) = Rose old new

@@ -1,5 +1,6 @@
 -- What a name stands for in a namespace.
-use Rattle.std.specs.Prelude.{ℕ, ◌==◌, ◌-◌, List, codes, length, take, Option, Some, None, option_map, Result, Ok, Err, if◌then◌else◌}
+use Rattle.std.specs.Prelude.{ℕ, ◌==◌, ◌-◌, List, codes, length, take, Option, Some, None}
+use Rattle.std.specs.Prelude.{option_map, Result, Ok, Err, if◌then◌else◌}
 use Rattle.std.specs.List.{ends_with}
 use Rattle.dsdl_names.specs.Names.{type_id_of}
 use Rattle.dsdl_names.specs.declared.TypeId.{TypeId}
@@ -41,8 +42,8 @@ named_by names name (Some service) other = requests_of (parts_at names (type_id_
 named_by names name None (Some service) = responses_of (parts_at names (type_id_of service))
 named_by names name None None = parts_at names (type_id_of name)
 
--- what a name stands for in a namespace: `a.b.Name.1.0` the type, with `.Request` or `.Response` behind it a half of
--- the service
+-- what a name stands for in a namespace: `a.b.Name.1.0` the type, with `.Request` or `.Response`
+-- behind it a half of the service
 abbrev pub named : Namespace → List ℕ → Option Parts
 named names name = named_by names name (without_end (codes ".Request") name) (without_end (codes ".Response") name)
 

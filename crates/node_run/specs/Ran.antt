@@ -12,7 +12,8 @@ pub use Rattle.log_loop.specs.Voice.{newest_first}
 use Rattle.report_lines.specs.declared.line.Line.{Line}
 use Rattle.report_lines.specs.declared.numbers.Numbers.{Numbers}
 use Rattle.report_lines.specs.LineSinks.{put_behind}
-use Rattle.node_core.specs.Steps.{Met, Step, steps, lines, lines_at, emptying, all_lines, numbers, end_numbers, failed_lines}
+use Rattle.node_core.specs.Steps.{Met, Step, steps, lines, lines_at, emptying, all_lines, numbers}
+use Rattle.node_core.specs.Steps.{end_numbers, failed_lines}
 use Rattle.text_lines.specs.Text.{text, end_text}
 use Rattle.log_loop.specs.declared.ended.Ended.{Ended}
 use Rattle.log_loop.specs.declared.ended.Ended.TheVariants as end

@@ -25,7 +25,8 @@ IsReported plan all r = At plan all r ⊎ (AtEnd plan all r ⊎ Emptied plan all
 
 -- the steps over the records whose line ends among these bytes are reported and counted, with those
 -- of some newer ones
-pub record ReportsBytes (plan : Plan) (mets : List Met) (r : Reported) (bytes : List ℕ) : Type 0 where
+pub record ReportsBytes (plan : Plan) (mets : List Met) (r : Reported)
+    (bytes : List ℕ) : Type 0 where
   pub came : List Met
   pub are : AreOfBytes plan mets bytes came
   pub newer : List Met
@@ -34,7 +35,8 @@ pub record ReportsBytes (plan : Plan) (mets : List Met) (r : Reported) (bytes : 
 
 -- However a run ended: of each front of the bytes that it took, behind which it took more than
 -- 8,192 bytes, the lines are written. They are reported and counted too, unless memory was wanting.
-pub record IsStreamed (plan : Plan) (mets : List Met) (flow : Flow) (stat : Status) (r : Reported) : Type 0 where
+pub record IsStreamed (plan : Plan) (mets : List Met) (flow : Flow) (stat : Status)
+    (r : Reported) : Type 0 where
   pub taken : List ℕ
   pub took : Took flow.left flow.new taken
   pub written : (front more : List ℕ) → taken ≡ front ++ more → 8192 < length more

@@ -11,13 +11,15 @@ use Rattle.node_run.specs.Ran.{Reported, Settled, names_of}
 use Rattle.node_run.specs.ValueLines.{Flow}
 
 -- the first of these records are those whose line ends among these bytes
-pub record AreOfBytes (plan : Plan) (mets : List Met) (bytes : List ℕ) (came : List Met) : Type 0 where
+pub record AreOfBytes (plan : Plan) (mets : List Met) (bytes : List ℕ)
+    (came : List Met) : Type 0 where
   pub first : FirstOf mets came
   pub records_are : met_records came ≡ whole_records (names_of plan) bytes
 
--- what is reported and written are the records whose line and newline were taken, each of them whole, and no other; of
--- these are the requests told in which the tree failed
-pub record IsOfTaken (plan : Plan) (mets : List Met) (flow : Flow) (r : Reported) (f : Failures) : Type 0 where
+-- what is reported and written are the records whose line and newline were taken, each of them
+-- whole, and no other; of these are the requests told in which the tree failed
+pub record IsOfTaken (plan : Plan) (mets : List Met) (flow : Flow) (r : Reported)
+    (f : Failures) : Type 0 where
   pub taken : List ℕ
   pub took : Took flow.left flow.new taken
   pub came : List Met

@@ -14,7 +14,8 @@ use Rattle.node_run.specs.declared.log.tally.Seen.{Seen}
 
 -- the text of these lines is gathered behind what was, and the sink has them behind those that it
 -- had
-pub record HasTold (buses : List BusPlan) (told : List Line) (before after : List ℕ) (old new : Option (List Line)) : Type 0 where
+pub record HasTold (buses : List BusPlan) (told : List Line) (before after : List ℕ)
+    (old new : Option (List Line)) : Type 0 where
   pub gathered : after ≡ before ++ text buses told
   pub put : new ≡ put_behind old told
 

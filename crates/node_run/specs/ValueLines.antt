@@ -42,7 +42,8 @@ lines_status end.ReadFault = status.ReadFault
 lines_status end.WriteFault = status.WriteFault
 lines_status end.NoMemory = status.NoMemory
 
--- what an input tells that it has left, and what is written on an output, before a call and after it
+-- what an input tells that it has left, and what is written on an output, before a call and after
+-- it
 pub record Flow : Type 0 where
   pub left : Option (List ℕ)
   pub new : Option (List ℕ)
@@ -70,13 +71,14 @@ pub record AnsweredUntil (answers : Answering) (message : Option Sch) (ended : L
 abbrev pub AreTaken : Answering → Option Sch → Flow → Type 0
 AreTaken answers message told = AnsweredUntil answers message end.ReadFault told
 
--- however it ended: of each front of the bytes that were taken, behind which more than 65,536 bytes were taken, the whole
--- lines are answered, and the answers are written
+-- however it ended: of each front of the bytes that were taken, behind which more than 65,536 bytes
+-- were taken, the whole lines are answered, and the answers are written
 abbrev pub AreStreamed : Answering → Option Sch → Flow → Type 0
 AreStreamed answers message told = (schema : Sch) → message ≡ Some schema
     → IsStreamed (values_voice answers schema) told.left told.new told.before told.after
 
--- what was done with the lines of an input, by the status: the message is what a name stands for, if anything
+-- what was done with the lines of an input, by the status: the message is what a name stands for,
+-- if anything
 abbrev pub HasAnsweredLines : Answering → Option Sch → List ℕ → Status → Flow → Type 0
 HasAnsweredLines answers message name status.Ok told = AnsweredUntil answers message end.Ok told
 HasAnsweredLines answers message name status.Usage told = ⊥
@@ -106,7 +108,8 @@ pub record EndsIn (v : Voice Refusal) (bytes : List ℕ) (stat : Status) : Type 
   pub reply : IsReply v bytes text ended
   pub is : stat ≡ lines_status ended
 
--- the status that answering an input comes to where nothing fails: a name that stands for no message is not found
+-- the status that answering an input comes to where nothing fails: a name that stands for no
+-- message is not found
 abbrev pub Ends : Answering → Option Sch → List ℕ → Option (List ℕ) → Status → Type 0
 Ends answers None name told stat = stat ≡ status.NoFile name
 Ends answers (Some schema) name told stat =

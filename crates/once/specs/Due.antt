@@ -15,12 +15,14 @@ Any P [] = ⊥
 Any P (d ∷ ds) = P d ⊎ Any P ds
 
 -- P of each record from the newest one of seg down to p, and of what came before it
-abbrev pub FromTo : (KeyRecord → List KeyRecord → Type 0) → List KeyRecord → KeyRecord → List KeyRecord → Type 0
+abbrev pub FromTo : (KeyRecord → List KeyRecord → Type 0) → List KeyRecord → KeyRecord
+    → List KeyRecord → Type 0
 FromTo P [] p older = P p older
 FromTo P (r ∷ seg) p older = P r (seg ++ p ∷ older) × FromTo P seg p older
 
 -- P of one of these
-abbrev pub SomeFromTo : (KeyRecord → List KeyRecord → Type 0) → List KeyRecord → KeyRecord → List KeyRecord → Type 0
+abbrev pub SomeFromTo : (KeyRecord → List KeyRecord → Type 0) → List KeyRecord → KeyRecord
+    → List KeyRecord → Type 0
 SomeFromTo P [] p older = P p older
 SomeFromTo P (r ∷ seg) p older = P r (seg ++ p ∷ older) ⊎ SomeFromTo P seg p older
 
@@ -29,7 +31,8 @@ abbrev pub Names : (ℕ → Pair) → ℕ → ℕ → ℕ → KeyRecord → List
 Names origin bus j i r before = (r.bus ≡ bus) × ((origin (length before)).j ≡ j) × ((origin (length before)).i ≡ i)
 
 -- transfer j is due from p to q, where older came before p and past before q
-pub record Due (timeout : ℕ) (sent : Sent) (origin : ℕ → Pair) (j : ℕ) (p : KeyRecord) (older : List KeyRecord) (q : KeyRecord) (past : List KeyRecord) : Type 0 where
+pub record Due (timeout : ℕ) (sent : Sent) (origin : ℕ → Pair) (j : ℕ) (p : KeyRecord)
+    (older : List KeyRecord) (q : KeyRecord) (past : List KeyRecord) : Type 0 where
   -- the records from p to q, without p
   pub seg : List KeyRecord
   pub between : q ∷ past ≡ seg ++ p ∷ older
@@ -41,7 +44,8 @@ pub record Due (timeout : ℕ) (sent : Sent) (origin : ℕ → Pair) (j : ℕ) (
   pub end_i : (origin (length past)).i ≡ last_on_bus sent j p.bus
   pub is_first : FromTo (λ r before. r.bus ≡ p.bus → (origin (length before)).j ≡ j → (origin (length before)).i ≡ last_on_bus sent j p.bus → length before ≡ length past) seg p older
   -- each frame of j stands on that bus from p to q
-  pub stands : (i : ℕ) → i ≤ last_on_bus sent j p.bus → SomeFromTo (Names origin p.bus j i) seg p older
+  pub stands : (i : ℕ) → i ≤ last_on_bus sent j p.bus
+      → SomeFromTo (Names origin p.bus j i) seg p older
   -- the bus is in force from p to q
   pub in_force : FromTo (λ r before. force timeout (r ∷ before) ≡ Some p.bus) seg p older
   -- the last delivery before p, if there is one, has another transfer-ID, or p is late

@@ -22,7 +22,8 @@ WireExplainsFields =
     → (timeout : ℕ) (sent : Sent) (key : SessionKey) (origin : List Pair) (past : List Record)
     → WireExplains keyed timeout sent key origin past → Explains timeout sent key origin (history key (frames_of keyed past))
 
--- a log and a sent list that meet these premises, where each record that is a frame is a frame of the key
+-- a log and a sent list that meet these premises, where each record that is a frame is a frame of
+-- the key
 abbrev pub all_of : SessionKey → Record → Option KeyedFrame
 all_of key rec = option_map (λ f. record { key = key; rec = key_record f }) (frame_of rec)
 

@@ -1,5 +1,7 @@
--- The same in the words of a report: its lines on a key in order, and lines of the log in place of places.
-use Rattle.std.specs.Prelude.{◌≡◌, ℕ, ◌==◌, ◌<◌, ◌⊎◌, if◌then◌else◌, List, [], ◌∷◌, ◌++◌, length, take, map, reverse, Some, ⊤}
+-- The same in the words of a report: its lines on a key in order, and lines of the log in place of
+-- places.
+use Rattle.std.specs.Prelude.{◌≡◌, ℕ, ◌==◌, ◌<◌, ◌⊎◌, if◌then◌else◌, List, [], ◌∷◌, ◌++◌, length}
+use Rattle.std.specs.Prelude.{take, map, reverse, Some, ⊤}
 use Rattle.tail_frame.specs.Chains.{KeyRecord}
 use Rattle.transfer_crc.specs.Crc.{crc_of}
 use Rattle.rx_table.specs.Received.{Delivery, received}
@@ -20,7 +22,8 @@ pub record Rx : Type 0 where
   pub last : ℕ
   pub payload : List ℕ
 
--- the moment is that of the first record, the priority that of the last; the payload is cut to the extent
+-- the moment is that of the first record, the priority that of the last; the payload is cut to the
+-- extent
 abbrev pub rx_of : ℕ → Delivery → Rx
 rx_of extent d = record {
   moment = d.first.moment;
@@ -61,20 +64,24 @@ abbrev pub AnyRx : (Rx → Type 0) → List Rx → Type 0
 AnyRx P [] = ⊥
 AnyRx P (rx ∷ rxs) = P rx ⊎ AnyRx P rxs
 
--- a line reports the transfer whose frame stands on its last line: priority, transfer-ID, and the first bytes of its
--- data, as many as the extent
-pub record IsSentRx (extent : ℕ) (sent : Sent) (origin : List Pair) (records : List KeyRecord) (rx : Rx) : Type 0 where
+-- a line reports the transfer whose frame stands on its last line: priority, transfer-ID, and the
+-- first bytes of its data, as many as the extent
+pub record IsSentRx (extent : ℕ) (sent : Sent) (origin : List Pair) (records : List KeyRecord)
+    (rx : Rx) : Type 0 where
   pub priority : rx.priority ≡ (transfer_at sent (pair_on origin records rx.last).j).priority
   pub tid : rx.tid ≡ (transfer_at sent (pair_on origin records rx.last).j).tid
   pub payload : rx.payload ≡ take extent (data_on sent (pair_on origin records rx.last).j rx.bus)
 
 -- each line reports a sent transfer, and the positions of these in the sent list rise strictly
-pub record SelectedRx (extent : ℕ) (sent : Sent) (origin : List Pair) (records : List KeyRecord) (rxs : List Rx) : Type 0 where
+pub record SelectedRx (extent : ℕ) (sent : Sent) (origin : List Pair) (records : List KeyRecord)
+    (rxs : List Rx) : Type 0 where
   pub sent_ones : EachRx (IsSentRx extent sent origin records) rxs
   pub in_order : Rise (map (λ rx. (pair_on origin records rx.last).j) rxs)
 
--- a sent list of a key with a pair for each of the key's records explains these, and there is no chance match
-pub record Explains (timeout : ℕ) (sent : Sent) (key : SessionKey) (origin : List Pair) (records : List KeyRecord) : Type 0 where
+-- a sent list of a key with a pair for each of the key's records explains these, and there is no
+-- chance match
+pub record Explains (timeout : ℕ) (sent : Sent) (key : SessionKey) (origin : List Pair)
+    (records : List KeyRecord) : Type 0 where
   pub sent_list : IsSentList sent
   pub of_key : sent.key ≡ record { kind = key.kind; port = key.port; source = Some key.source }
   pub one_each : length origin ≡ length records
@@ -82,7 +89,8 @@ pub record Explains (timeout : ℕ) (sent : Sent) (key : SessionKey) (origin : L
   pub no_chance : NoChance sent (pair_at origin) records
 
 -- a transfer is due that ends at q
-pub record IsDue (timeout : ℕ) (sent : Sent) (origin : List Pair) (records : List KeyRecord) (q : KeyRecord) : Type 0 where
+pub record IsDue (timeout : ℕ) (sent : Sent) (origin : List Pair) (records : List KeyRecord)
+    (q : KeyRecord) : Type 0 where
   pub j : ℕ
   pub p : KeyRecord
   pub older : List KeyRecord

@@ -1,4 +1,5 @@
--- The deliveries of a key are transfers of its sent list, in order, each at most once. Lists have the newest first.
+-- The deliveries of a key are transfers of its sent list, in order, each at most once. Lists have
+-- the newest first.
 use Rattle.std.specs.Prelude.{◌≡◌, ℕ, ◌<◌, List, [], ◌∷◌, ⊤}
 use Rattle.tail_frame.specs.Chains.{KeyRecord}
 use Rattle.transfer_crc.specs.Crc.{crc_of}
@@ -12,7 +13,8 @@ abbrev pub Each : (Delivery → Type 0) → List Delivery → Type 0
 Each P [] = ⊤
 Each P (d ∷ ds) = P d × Each P ds
 
--- a delivery has priority, transfer-ID and data of the transfer that origin names for its last record
+-- a delivery has priority, transfer-ID and data of the transfer that origin names for its last
+-- record
 pub record IsOfSent (sent : Sent) (origin : ℕ → Pair) (d : Delivery) : Type 0 where
   pub priority : d.last.priority ≡ (transfer_at sent (origin d.place).j).priority
   pub tid : d.first.tid ≡ (transfer_at sent (origin d.place).j).tid

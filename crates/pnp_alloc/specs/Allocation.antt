@@ -1,5 +1,7 @@
--- Who gets which node-ID. Events are a list with the newest first; `past` is what came before an event.
-use Rattle.std.specs.Prelude.{ℕ, zero, suc, Bool, false, not, ◌&&◌, ◌||◌, ◌==◌, if◌then◌else◌, List, [], ◌∷◌, ◌++◌, Option, Some, None}
+-- Who gets which node-ID. Events are a list with the newest first; `past` is what came before an
+-- event.
+use Rattle.std.specs.Prelude.{ℕ, zero, suc, Bool, false, not, ◌&&◌, ◌||◌, ◌==◌, if◌then◌else◌, List}
+use Rattle.std.specs.Prelude.{[], ◌∷◌, ◌++◌, Option, Some, None}
 use Rattle.pnp_alloc.specs.declared.event.AllocEvent.{AllocEvent}
 use Rattle.pnp_alloc.specs.declared.event.AllocEvent.TheVariants.{Seen, Wanted}
 use Rattle.pnp_alloc.specs.declared.event.AllocOut.{AllocOut}
@@ -22,7 +24,8 @@ abbrev pub has_node : List Owner → ℕ → Bool
 has_node [] n = false
 has_node (o ∷ os) n = (o.node == n) || has_node os n
 
--- whether the number n is free: it isn't the allocator's own, wasn't seen, and none of these owners has it
+-- whether the number n is free: it isn't the allocator's own, wasn't seen, and none of these owners
+-- has it
 abbrev pub is_free : ℕ → List AllocEvent → List Owner → ℕ → Bool
 is_free own past os n = not (own == n) && (not (is_seen past n) && not (has_node os n))
 
@@ -40,7 +43,8 @@ abbrev pub with_owner : ℕ → Option ℕ → List Owner → List Owner
 with_owner u None os = os
 with_owner u (Some n) os = os ++ record { uid = u; node = n } ∷ []
 
--- these owners after u wants a node-ID: one that has a node-ID changes nothing, any other gets the number
+-- these owners after u wants a node-ID: one that has a node-ID changes nothing, any other gets the
+-- number
 abbrev pub owners_with : ℕ → Option ℕ → Option ℕ → List Owner → List Owner
 owners_with u (Some n) number os = os
 owners_with u None number os = with_owner u number os

@@ -32,16 +32,28 @@ Owns u n (o ∷ os) = ((o.uid ≡ u) × (o.node ≡ n)) ⊎ Owns u n os
 -- past is any list of events, u a unique id and n a number
 pub record AllocLaws : Type 0 where
   -- who was given a node-ID is given it again
-  pub again : (own : ℕ) (past : List AllocEvent) (u n : ℕ) → WasGiven own u n past → answer own (Wanted u) past ≡ Given n
+  pub again : (own : ℕ) (past : List AllocEvent) (u n : ℕ) → WasGiven own u n past
+      → answer own (Wanted u) past ≡ Given n
   -- who wasn't is given the greatest free number, and Full exactly where none is free
-  pub first_free : (own : ℕ) (past : List AllocEvent) (u n : ℕ) → IsNew own u past → answer own (Wanted u) past ≡ Given n → IsFree own past n
-  pub first_greatest : (own : ℕ) (past : List AllocEvent) (u n m : ℕ) → IsNew own u past → answer own (Wanted u) past ≡ Given n → IsFree own past m → m ≤ n
-  pub full : (own : ℕ) (past : List AllocEvent) (u : ℕ) → (answer own (Wanted u) past ≡ Full) ↔ (IsNew own u past × ((m : ℕ) → IsFree own past m → ⊥))
-  -- the owners are those that were given a node-ID, in the order of their first Givens, and none leaves
-  pub first_owner : (own : ℕ) (past : List AllocEvent) (u n : ℕ) → IsNew own u past → answer own (Wanted u) past ≡ Given n → owners own (Wanted u ∷ past) ≡ owners own past ++ record { uid = u; node = n } ∷ []
-  pub again_owner : (own : ℕ) (past : List AllocEvent) (u n : ℕ) → WasGiven own u n past → owners own (Wanted u ∷ past) ≡ owners own past
-  pub owned : (own : ℕ) (past : List AllocEvent) (u n : ℕ) → WasGiven own u n past ↔ Owns u n (owners own past)
-  pub stays : (own : ℕ) (newer past : List AllocEvent) → (more : List Owner) × (owners own (newer ++ past) ≡ owners own past ++ more)
+  pub first_free : (own : ℕ) (past : List AllocEvent) (u n : ℕ) → IsNew own u past
+      → answer own (Wanted u) past ≡ Given n → IsFree own past n
+  pub first_greatest : (own : ℕ) (past : List AllocEvent) (u n m : ℕ) → IsNew own u past
+      → answer own (Wanted u) past ≡ Given n → IsFree own past m → m ≤ n
+  pub full : (own : ℕ) (past : List AllocEvent) (u : ℕ)
+      → (answer own (Wanted u) past ≡ Full) ↔ (IsNew own u past × ((m : ℕ) → IsFree own past m → ⊥))
+  -- the owners are those that were given a node-ID, in the order of their first Givens, and none
+  -- leaves
+  pub first_owner : (own : ℕ) (past : List AllocEvent) (u n : ℕ) → IsNew own u past
+      → answer own (Wanted u) past ≡ Given n
+      → owners own (Wanted u ∷ past) ≡ owners own past ++ record { uid = u; node = n } ∷ []
+  pub again_owner : (own : ℕ) (past : List AllocEvent) (u n : ℕ) → WasGiven own u n past
+      → owners own (Wanted u ∷ past) ≡ owners own past
+  pub owned : (own : ℕ) (past : List AllocEvent) (u n : ℕ)
+      → WasGiven own u n past ↔ Owns u n (owners own past)
+  pub stays : (own : ℕ) (newer past : List AllocEvent)
+      → (more : List Owner) × (owners own (newer ++ past) ≡ owners own past ++ more)
   -- no unique id has two node-IDs, and no node-ID two unique ids
-  pub one_node : (own : ℕ) (past : List AllocEvent) (u m n : ℕ) → WasGiven own u m past → WasGiven own u n past → m ≡ n
-  pub one_uid : (own : ℕ) (past : List AllocEvent) (u w n : ℕ) → WasGiven own u n past → WasGiven own w n past → u ≡ w
+  pub one_node : (own : ℕ) (past : List AllocEvent) (u m n : ℕ) → WasGiven own u m past
+      → WasGiven own u n past → m ≡ n
+  pub one_uid : (own : ℕ) (past : List AllocEvent) (u w n : ℕ) → WasGiven own u n past
+      → WasGiven own w n past → u ≡ w

@@ -1,6 +1,7 @@
 -- Which bus is in force for a key, which of its records are heard, and which are late.
 -- A key's records are a list with the newest first; `past` is what came before a record.
-use Rattle.std.specs.Prelude.{ℕ, Bool, false, not, ◌&&◌, ◌==◌, ◌+◌, nat_lt, if◌then◌else◌, List, [], ◌∷◌, Option, Some, None}
+use Rattle.std.specs.Prelude.{ℕ, Bool, false, not, ◌&&◌, ◌==◌, ◌+◌, nat_lt, if◌then◌else◌, List, []}
+use Rattle.std.specs.Prelude.{◌∷◌, Option, Some, None}
 use Rattle.tail_frame.specs.Chains.{KeyRecord}
 
 -- the moment of the last record on the bus c
@@ -13,7 +14,8 @@ abbrev pub is_long_after : ℕ → Option ℕ → ℕ → Bool
 is_long_after timeout None now = false
 is_long_after timeout (Some t) now = nat_lt (t + timeout) now
 
--- whether r is a handover, where the bus c is in force: a start frame on another bus, and c was silent for long
+-- whether r is a handover, where the bus c is in force: a start frame on another bus, and c was
+-- silent for long
 abbrev pub hands_over : ℕ → ℕ → KeyRecord → List KeyRecord → Bool
 hands_over timeout c r past = r.start && (not (r.bus == c) && is_long_after timeout (last_on c past) r.moment)
 

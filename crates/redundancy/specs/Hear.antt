@@ -1,12 +1,14 @@
 -- What a `Force` answers at one frame, and the records that it stands for.
-use Rattle.std.specs.Prelude.{◌≡◌, ℕ, Bool, true, false, ◌&&◌, ◌==◌, ◌+◌, nat_lt, unwrap_or, if◌then◌else◌, List, Option, Some, None}
+use Rattle.std.specs.Prelude.{◌≡◌, ℕ, Bool, true, false, ◌&&◌, ◌==◌, ◌+◌, nat_lt, unwrap_or}
+use Rattle.std.specs.Prelude.{if◌then◌else◌, List, Option, Some, None}
 use Rattle.tail_frame.specs.Chains.{KeyRecord}
 use Rattle.redundancy.specs.Force.{force, heard, last_heard, late}
 use Rattle.redundancy.specs.declared.force.Force.{Force}
 use Rattle.redundancy.specs.declared.force.Heard.{Heard}
 use Rattle.redundancy.specs.declared.force.Heard.TheVariants.{Elsewhere, Here}
 
--- None where a frame is elsewhere, else whether it is late; from the bus in force and the moment last heard
+-- None where a frame is elsewhere, else whether it is late; from the bus in force and the moment
+-- last heard
 abbrev pub hear : ℕ → Option ℕ → ℕ → ℕ → ℕ → Bool → Option Bool
 hear timeout None heard bus moment start = if start then Some false else None
 hear timeout (Some c) heard bus moment start =
@@ -27,7 +29,8 @@ force_then f bus moment (Some late) = record { bus = Some bus; heard = moment }
 abbrev pub answer_at : ℕ → KeyRecord → List KeyRecord → Option Bool
 answer_at timeout r past = if heard timeout r past then Some (late timeout r past) else None
 
--- what a `Force` keeps is what these records of a key give: the bus in force, and the moment last heard or 0
+-- what a `Force` keeps is what these records of a key give: the bus in force, and the moment last
+-- heard or 0
 pub record ForceStands (timeout : ℕ) (past : List KeyRecord) (f : Force) : Type 0 where
   pub bus : f.bus ≡ force timeout past
   pub heard : f.heard ≡ unwrap_or (last_heard timeout past) 0

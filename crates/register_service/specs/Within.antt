@@ -1,5 +1,6 @@
 -- The limits of registers.
-use Rattle.std.specs.Prelude.{ℕ, Bool, true, false, List, Option, Some, None, map, not, ◌≡◌, slice_get}
+use Rattle.std.specs.Prelude.{ℕ, Bool, true, false, List, Option, Some, None, map, not, ◌≡◌}
+use Rattle.std.specs.Prelude.{slice_get}
 use Rattle.std.specs.List.{position}
 use Rattle.std_types.specs.Limits.{lie_within}
 use Rattle.std_types.specs.declared.register_value.RegisterValue.{RegisterValue}
@@ -26,8 +27,8 @@ IsOutside E.NoMemory number = ⊥
 abbrev pub limits_of : List Register → List (Option Limits)
 limits_of registers = map (λ r. r.limits) registers
 
--- the answer of a guard that keeps registers within these limits: where there is a register of that number, and the
--- value is within its limits
+-- the answer of a guard that keeps registers within these limits: where there is a register of that
+-- number, and the value is within its limits
 abbrev pub is_allowed_by : Option (Option Limits) → RegisterValue → Bool
 is_allowed_by None v = false
 is_allowed_by (Some limits) v = is_within limits v

@@ -19,7 +19,8 @@ listens own timeout ports = record { own = own; timeout = timeout; ports = ports
 abbrev pub frame_on : Kind → ℕ → ℕ → KeyRecord → KeyedFrame
 frame_on kind port source r = record { key = key_of kind port source; rec = r }
 
--- if the source of a frame on a port has a session already, this is the line on which its last delivery ends
+-- if the source of a frame on a port has a session already, this is the line on which its last
+-- delivery ends
 abbrev pub IsLastOn : ℕ → Port → KeyedFrame → List KeyedFrame → ℕ → Type 0
 IsLastOn timeout p k log last =
     has k.key.source (admitted p.kind p.port p.sources log) ≡ true

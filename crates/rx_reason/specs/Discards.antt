@@ -6,11 +6,12 @@ use Rattle.tail_frame.specs.Frames.{is_anonymous, is_whole, last_byte, tail_of}
 use Rattle.tail_frame.specs.declared.logged.Record.{Record}
 use Rattle.tail_frame.specs.declared.tail.Tail.{Tail}
 use Rattle.rx_reason.specs.declared.discard.Discard.{Discard}
-use Rattle.rx_reason.specs.declared.discard.Discard.TheVariants.{Identifier, Empty, Toggle, Anonymous, Short, Bare}
+use Rattle.rx_reason.specs.declared.discard.Discard.TheVariants.{Identifier, Empty, Toggle}
+use Rattle.rx_reason.specs.declared.discard.Discard.TheVariants.{Anonymous, Short, Bare}
 
--- the first rule that a frame with so many bytes before the tail breaks, which breaks one: a start has toggle 1, an
--- anonymous frame is a whole transfer, each frame but the last has at least 7 bytes, and only a whole transfer may have
--- none
+-- the first rule that a frame with so many bytes before the tail breaks, which breaks one: a start
+-- has toggle 1, an anonymous frame is a whole transfer, each frame but the last has at least 7
+-- bytes, and only a whole transfer may have none
 abbrev pub of_frame : Ident → Tail → ℕ → Discard
 of_frame ident tail size =
     if tail.start && not tail.toggle then Toggle

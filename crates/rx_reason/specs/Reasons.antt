@@ -1,4 +1,5 @@
--- Why a record came to what it did. Records are a list with the newest first; `past` is what came before.
+-- Why a record came to what it did. Records are a list with the newest first; `past` is what came
+-- before.
 use Rattle.std.specs.Prelude.{ℕ, ◌-◌, ◌==◌, if◌then◌else◌, List, [], ◌∷◌, Option, Some, None}
 use Rattle.can_id.specs.declared.ident.Ident.{Ident}
 use Rattle.can_id.specs.declared.ident.Ident.TheVariants as ident
@@ -53,7 +54,8 @@ abbrev pub from : KeyRecord → List KeyRecord → Option ℕ → Option Silence
 from r past None = None
 from r past (Some bus) = if bus == r.bus then None else Some (silent r past bus)
 
--- the line on which the transfer begins that is running: the chain of the last begun start frame has not closed
+-- the line on which the transfer begins that is running: the chain of the last begun start frame
+-- has not closed
 abbrev pub running : Option Run → Option ℕ
 running None = None
 running (Some run) = if (tip run.first run.since).end then None else Some run.first.line
@@ -70,8 +72,8 @@ abbrev pub last_line : List Delivery → ℕ
 last_line [] = 0
 last_line (d ∷ ds) = d.last.line
 
--- r doesn't go on with the chain of a run: the chain has closed, or r has another transfer-ID, or the toggle of the
--- chain's last record
+-- r doesn't go on with the chain of a run: the chain has closed, or r has another transfer-ID, or
+-- the toggle of the chain's last record
 abbrev pub stray : KeyRecord → Run → Reason
 stray r run =
     if (tip run.first run.since).end then StrayNone
@@ -86,7 +88,8 @@ module _ (crc : List ℕ → ℕ) where
       then Delivered run.first.line no_change
       else BadCrc run.first.line
 
-  -- r is heard and isn't a start: it goes on with the chain of the last begun start frame, or it doesn't
+  -- r is heard and isn't a start: it goes on with the chain of the last begun start frame, or it
+  -- doesn't
   abbrev pub of_run : KeyRecord → Option Run → Reason
   of_run r None = StrayNone
   of_run r (Some run) =
@@ -110,7 +113,8 @@ module _ (crc : List ℕ → ℕ) (timeout : ℕ) where
       then of_heard r past (received crc timeout past)
       else unheard r past (force timeout past)
 
--- what a node listens with: its own node-ID, the silence after which another bus becomes active, and its ports
+-- what a node listens with: its own node-ID, the silence after which another bus becomes active,
+-- and its ports
 pub record Listens : Type 0 where
   pub own : ℕ
   pub timeout : ℕ

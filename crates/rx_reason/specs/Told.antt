@@ -1,5 +1,6 @@
 -- What a session's fields say of a record of its key.
-use Rattle.std.specs.Prelude.{ℕ, Bool, not, ◌-◌, ◌==◌, ◌&&◌, if◌then◌else◌, nat_lt, Option, Some, None, option_map}
+use Rattle.std.specs.Prelude.{ℕ, Bool, not, ◌-◌, ◌==◌, ◌&&◌, if◌then◌else◌, nat_lt, Option, Some}
+use Rattle.std.specs.Prelude.{None, option_map}
 use Rattle.redundancy.specs.Hear.{hear}
 use Rattle.rx_session.specs.Session.{Part, Session, is_last}
 use Rattle.tail_frame.specs.Chains.{KeyRecord, differs}
@@ -7,7 +8,9 @@ use Rattle.transfer_crc.specs.Crc.{crc_more}
 use Rattle.rx_reason.specs.Reasons.{begun_reason, no_change}
 use Rattle.rx_reason.specs.declared.reason.Change.{Change}
 use Rattle.rx_reason.specs.declared.reason.Reason.{Reason}
-use Rattle.rx_reason.specs.declared.reason.Reason.TheVariants.{Unknown, NoSession, Standby, Copy, Delivered, BadCrc, Taken, StrayNone, StrayTid, StrayToggle}
+use Rattle.rx_reason.specs.declared.reason.Reason.TheVariants.{Unknown, NoSession, Standby, Copy}
+use Rattle.rx_reason.specs.declared.reason.Reason.TheVariants.{Delivered, BadCrc, Taken, StrayNone}
+use Rattle.rx_reason.specs.declared.reason.Reason.TheVariants.{StrayTid, StrayToggle}
 use Rattle.rx_reason.specs.declared.reason.Silence.{Silence}
 
 -- for how long a bus has been silent that was last heard at a moment

@@ -17,7 +17,8 @@ pub record Agree (s t : Session) : Type 0 where
   pub size : length s.buffer ≡ length t.buffer
   pub front : FrontsAgree s.part s.buffer t.buffer
 
--- where one of two such sessions accepts a record, and the other advances by it, they are such again and answer the same
+-- where one of two such sessions accepts a record, and the other advances by it, they are such
+-- again and answer the same
 abbrev pub StepsAgree : Type 0
 StepsAgree =
     (crc_more : ℕ → List ℕ → ℕ) (crc_start timeout : ℕ) (s t : Session) (r : KeyRecord) → Agree s t

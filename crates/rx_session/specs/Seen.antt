@@ -1,5 +1,6 @@
 -- A session's fields and what it answers, as the definitions see them.
-use Rattle.std.specs.Prelude.{ℕ, Bool, true, false, List, length, replicate, take, Option, Some, None}
+use Rattle.std.specs.Prelude.{ℕ, Bool, true, false, List, length, replicate, take, Option, Some}
+use Rattle.std.specs.Prelude.{None}
 use Rattle.tail_frame.specs.Chains.{KeyRecord}
 use Rattle.tail_frame.specs.Frames.{seen, key_record}
 use Rattle.tail_frame.specs.declared.frame.Frame.{Frame}
@@ -47,7 +48,8 @@ outcome_answer Held = AnswerHeld
 outcome_answer BadCrc = AnswerBadCrc
 outcome_answer (Delivered d) = AnswerDelivered d.bus d.priority d.tid d.first d.last d.moment d.payload.now
 
--- what a step on a record says, with this payload of a whole transfer and this buffer of the session behind it
+-- what a step on a record says, with this payload of a whole transfer and this buffer of the
+-- session behind it
 abbrev pub step_told : List ℕ → List ℕ → KeyRecord → step.Step → Answer
 step_told whole buffer r step.TheVariants.Ignored = AnswerIgnored
 step_told whole buffer r step.TheVariants.Held = AnswerHeld
@@ -55,7 +57,8 @@ step_told whole buffer r step.TheVariants.BadCrc = AnswerBadCrc
 step_told whole buffer r step.TheVariants.Whole = AnswerDelivered r.bus r.priority r.tid r.line r.line r.moment whole
 step_told whole buffer r (step.TheVariants.Delivered b) = AnswerDelivered r.bus r.priority r.tid b.first r.line b.moment (take b.count buffer)
 
--- the same with the payload of a whole transfer lent from its frame: the body, cut to the length of the buffer
+-- the same with the payload of a whole transfer lent from its frame: the body, cut to the length of
+-- the buffer
 abbrev pub step_answer : List ℕ → KeyRecord → step.Step → Answer
 step_answer buffer r step = step_told (take (length buffer) r.body) buffer r step
 

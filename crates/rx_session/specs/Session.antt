@@ -1,11 +1,12 @@
 -- What one frame does to a session, as a function of the session's fields.
-use Rattle.std.specs.Prelude.{ℕ, Bool, false, not, ◌&&◌, ◌==◌, ◌+◌, ◌-◌, ◌^◌, min, if◌then◌else◌, List, length, take, Option, Some, None}
+use Rattle.std.specs.Prelude.{ℕ, Bool, false, not, ◌&&◌, ◌==◌, ◌+◌, ◌-◌, ◌^◌, min, if◌then◌else◌}
+use Rattle.std.specs.Prelude.{List, length, take, Option, Some, None}
 use Rattle.cy_bits.specs.Put.{put_at}
 use Rattle.tail_frame.specs.Chains.{KeyRecord, differs}
 use Rattle.redundancy.specs.Hear.{hear}
 
--- a running reassembly: its transfer-ID, the toggle that is expected next, the line and the moment of its first
--- frame, the number of bytes taken and their CRC
+-- a running reassembly: its transfer-ID, the toggle that is expected next, the line and the moment
+-- of its first frame, the number of bytes taken and their CRC
 pub record Part : Type 0 where
   pub tid : ℕ
   pub toggle : Bool
@@ -14,8 +15,8 @@ pub record Part : Type 0 where
   pub taken : ℕ
   pub crc : ℕ
 
--- a session: the bus in force and the moment last heard, the transfer-ID last delivered, the running reassembly,
--- and the buffer, whose length is the extent in bytes
+-- a session: the bus in force and the moment last heard, the transfer-ID last delivered, the
+-- running reassembly, and the buffer, whose length is the extent in bytes
 pub record Session : Type 0 where
   pub bus : Option ℕ
   pub heard : ℕ
@@ -23,8 +24,8 @@ pub record Session : Type 0 where
   pub part : Option Part
   pub buffer : List ℕ
 
--- what is answered; a delivery has the bus, transfer-ID, line and moment of its first frame, and the priority and
--- the line of its last one
+-- what is answered; a delivery has the bus, transfer-ID, line and moment of its first frame, and
+-- the priority and the line of its last one
 pub data Outcome : Type 0 where
   Ignored : Outcome
   Held : Outcome
@@ -40,7 +41,8 @@ abbrev pub is_last : Option ℕ → ℕ → Bool
 is_last None tid = false
 is_last (Some t) tid = t == tid
 
--- whether a record that came to this outcome is a whole transfer, which its one frame begins and ends
+-- whether a record that came to this outcome is a whole transfer, which its one frame begins and
+-- ends
 abbrev pub is_whole : KeyRecord → Outcome → Bool
 is_whole r Ignored = false
 is_whole r Held = false
@@ -69,7 +71,8 @@ put_idle (Some part) buffer bytes = buffer
 abbrev pub with_body : Session → KeyRecord → Session
 with_body s r = record { bus = s.bus; heard = s.heard; last = s.last; part = s.part; buffer = put_idle s.part s.buffer r.body }
 
--- `crc_more sum bytes` is the CRC of more bytes after those with this CRC, and `crc_start` that of no bytes
+-- `crc_more sum bytes` is the CRC of more bytes after those with this CRC, and `crc_start` that of
+-- no bytes
 module _ (crc_more : ℕ → List ℕ → ℕ) (crc_start timeout : ℕ) where
   -- a start frame begins reassembly anew; one that is also an end is delivered at once
   abbrev pub begin : Session → KeyRecord → Session × Outcome
@@ -91,8 +94,8 @@ module _ (crc_more : ℕ → List ℕ → ℕ) (crc_start timeout : ℕ) where
         Held,
       )
 
-  -- the end of a running reassembly: the CRC over all bytes decides. A payload is the bytes without the last two,
-  -- as far as the buffer reaches
+  -- the end of a running reassembly: the CRC over all bytes decides. A payload is the bytes without
+  -- the last two, as far as the buffer reaches
   abbrev pub finish : Session → Part → KeyRecord → Session × Outcome
   finish s p r =
       let put = put_at s.buffer p.taken r.body in
@@ -119,12 +122,14 @@ module _ (crc_more : ℕ → List ℕ → ℕ) (crc_start timeout : ℕ) where
         Held,
       )
 
-  -- a frame that isn't a start: taken exactly where its transfer-ID and its toggle are those expected
+  -- a frame that isn't a start: taken exactly where its transfer-ID and its toggle are those
+  -- expected
   abbrev pub go_on : Session → Option Part → KeyRecord → Session × Outcome
   go_on s None r = (s, Ignored)
   go_on s (Some p) r = if (r.tid == p.tid) && not (differs r.toggle p.toggle) then take_in s p r else (s, Ignored)
 
-  -- a frame that is heard: a start frame that isn't late and has the transfer-ID last delivered is ignored
+  -- a frame that is heard: a start frame that isn't late and has the transfer-ID last delivered is
+  -- ignored
   abbrev pub on_heard : Session → Bool → KeyRecord → Session × Outcome
   on_heard s late r =
       if r.start

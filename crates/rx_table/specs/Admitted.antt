@@ -1,5 +1,6 @@
 -- The sources that have a session: the first ones with a start frame, as many as the port takes.
-use Rattle.std.specs.Prelude.{ℕ, Bool, false, not, ◌&&◌, ◌||◌, ◌==◌, if◌then◌else◌, List, [], ◌∷◌, ◌++◌, take}
+use Rattle.std.specs.Prelude.{ℕ, Bool, false, not, ◌&&◌, ◌||◌, ◌==◌, if◌then◌else◌, List, [], ◌∷◌}
+use Rattle.std.specs.Prelude.{◌++◌, take}
 use Rattle.can_id.specs.declared.key.Kind.{Kind}
 use Rattle.rx_table.specs.Keys.{SessionKey, KeyedFrame, same_kind}
 
@@ -12,7 +13,8 @@ has s (x ∷ xs) = (x == s) || has s xs
 abbrev pub is_on : Kind → ℕ → KeyedFrame → Bool
 is_on kind port f = same_kind f.key.kind kind && (f.key.port == port)
 
--- the distinct sources with a start frame on a port, in the order of their first ones; the log has the newest first
+-- the distinct sources with a start frame on a port, in the order of their first ones; the log has
+-- the newest first
 abbrev pub sources : Kind → ℕ → List KeyedFrame → List ℕ
 sources kind port [] = []
 sources kind port (f ∷ log) =

@@ -1,5 +1,7 @@
--- The frames that a node hears, and the records of a session among those of a log, the newest first.
-use Rattle.std.specs.Prelude.{ℕ, Bool, true, false, not, ◌&&◌, ◌==◌, if◌then◌else◌, List, [], ◌∷◌, Option, Some, None, option_and_then}
+-- The frames that a node hears, and the records of a session among those of a log, the newest
+-- first.
+use Rattle.std.specs.Prelude.{ℕ, Bool, true, false, not, ◌&&◌, ◌==◌, if◌then◌else◌, List, [], ◌∷◌}
+use Rattle.std.specs.Prelude.{Option, Some, None, option_and_then}
 use Rattle.can_id.specs.declared.ident.Ident.{Ident}
 use Rattle.can_id.specs.declared.ident.Ident.TheVariants.{Message, Anonymous, Service}
 use Rattle.tail_frame.specs.Frames.{FrameOf, frame_of}
@@ -7,7 +9,8 @@ use Rattle.tail_frame.specs.declared.logged.Record.{Record}
 use Rattle.rx_table.specs.Keys.{SessionKey, KeyedFrame, bears_on}
 use Rattle.rx_table.specs.Table.{logged, keyed as keyed_frame}
 
--- whether a frame is for the node: it isn't the node's own, and where it is of a service it is sent to the node
+-- whether a frame is for the node: it isn't the node's own, and where it is of a service it is sent
+-- to the node
 abbrev pub is_for : ℕ → Ident → Bool
 is_for node (Message priority subject source) = not (source == node)
 is_for node (Anonymous priority subject pseudo) = true
@@ -31,8 +34,8 @@ abbrev pub frames : ℕ → List Record → List KeyedFrame
 frames node [] = []
 frames node (rec ∷ past) = with_frame (frame_for node rec) (frames node past)
 
--- the frame of a session that a record is, to the node: discarded frames, anonymous ones, the node's own and those of
--- services for other nodes are none
+-- the frame of a session that a record is, to the node: discarded frames, anonymous ones, the
+-- node's own and those of services for other nodes are none
 abbrev pub heard_as : ℕ → Record → Option KeyedFrame
 heard_as node rec = option_and_then keyed_frame (frame_for node rec)
 

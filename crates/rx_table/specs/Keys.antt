@@ -1,5 +1,6 @@
 -- A log as a table of sessions sees it, and the records of one key in it.
-use Rattle.std.specs.Prelude.{ℕ, Bool, true, false, ◌&&◌, ◌==◌, ◌<◌, ◌≤◌, if◌then◌else◌, List, [], ◌∷◌, ⊤}
+use Rattle.std.specs.Prelude.{ℕ, Bool, true, false, ◌&&◌, ◌==◌, ◌<◌, ◌≤◌, if◌then◌else◌, List, []}
+use Rattle.std.specs.Prelude.{◌∷◌, ⊤}
 use Rattle.can_id.specs.declared.key.Kind.{Kind}
 use Rattle.can_id.specs.declared.key.Kind.TheVariants.{Message, Request, Response}
 use Rattle.tail_frame.specs.Chains.{KeyRecord}

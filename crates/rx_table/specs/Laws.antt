@@ -1,22 +1,28 @@
--- The laws of reception: sessions and tables answer what the records say, and hold no more than the bound.
-use Rattle.std.specs.Prelude.{◌≡◌, ℕ, true, false, ◌+◌, ◌<◌, ◌≤◌, ◌^◌, List, [], ◌∷◌, ◌++◌, length, take, Option, Some, None, ⊤}
+-- The laws of reception: sessions and tables answer what the records say, and hold no more than the
+-- bound.
+use Rattle.std.specs.Prelude.{◌≡◌, ℕ, true, false, ◌+◌, ◌<◌, ◌≤◌, ◌^◌, List, [], ◌∷◌, ◌++◌, length}
+use Rattle.std.specs.Prelude.{take, Option, Some, None, ⊤}
 use Rattle.can_id.specs.declared.key.Kind.{Kind}
 use Rattle.tail_frame.specs.Chains.{KeyRecord}
-use Rattle.rx_session.specs.Session.{Session, Outcome, Ignored, Held, BadCrc, Delivered, accept, advance}
+use Rattle.rx_session.specs.Session.{Session, Outcome, Ignored, Held, BadCrc, Delivered, accept}
+use Rattle.rx_session.specs.Session.{advance}
 use Rattle.rx_table.specs.Received.{Delivery, received}
 use Rattle.rx_table.specs.Steps.{add, delivery_at}
 use Rattle.rx_table.specs.Keys.{SessionKey, KeyedFrame, history, EachFrame}
 use Rattle.rx_table.specs.Admitted.{has, is_on, sources, admitted, key_of}
 use Rattle.rx_table.specs.Stands.{Stands, OutcomeIs}
-use Rattle.rx_table.specs.Ports.{Port, Entry, PortState, ports_of, port_at, IsPortList, feed_port, answer_port, feed_table, answer_table, PortStands, TableStands, AnswerIs, AnswerAt, held_of, held, bound}
+use Rattle.rx_table.specs.Ports.{Port, Entry, PortState, ports_of, port_at, IsPortList, feed_port}
+use Rattle.rx_table.specs.Ports.{answer_port, feed_table, answer_table, PortStands, TableStands}
+use Rattle.rx_table.specs.Ports.{AnswerIs, AnswerAt, held_of, held, bound}
 
 -- the CRC of bytes in a row is worked out one part after the other
 abbrev pub CrcOfParts : (ℕ → List ℕ → ℕ) → Type 0
 CrcOfParts crc_more = (sum : ℕ) (a b : List ℕ) → crc_more sum (a ++ b) ≡ crc_more (crc_more sum a) b
 
--- a form of a session's step keeps what the session stands for and the length of its buffer, and answers what the
--- records say
-abbrev pub SimulatesBy : ((ℕ → List ℕ → ℕ) → ℕ → ℕ → Session → KeyRecord → Session × Outcome) → Type 0
+-- a form of a session's step keeps what the session stands for and the length of its buffer, and
+-- answers what the records say
+abbrev pub SimulatesBy : ((ℕ → List ℕ → ℕ) → ℕ → ℕ → Session → KeyRecord → Session × Outcome)
+    → Type 0
 SimulatesBy form =
     (crc_more : ℕ → List ℕ → ℕ) (crc_start timeout : ℕ) → CrcOfParts crc_more
     → (past : List KeyRecord) (r : KeyRecord) (s : Session) → length s.buffer + 2 < 2 ^ 64 → Stands (crc_more crc_start) timeout past s
@@ -24,7 +30,8 @@ SimulatesBy form =
     × (length (form crc_more crc_start timeout s r).0.buffer ≡ length s.buffer)
     × OutcomeIs (crc_more crc_start) timeout (length s.buffer) r past (form crc_more crc_start timeout s r).1
 
--- both do so: the one that puts each body into the buffer, and the one that leaves a whole transfer in its frame
+-- both do so: the one that puts each body into the buffer, and the one that leaves a whole transfer
+-- in its frame
 abbrev pub Simulates : Type 0
 Simulates = SimulatesBy accept
 
@@ -95,13 +102,21 @@ FeedsNone =
 abbrev pub Quiet : Type 0
 Quiet = (crc : List ℕ → ℕ) (timeout : ℕ) (kind : Kind) (port source : ℕ) (log : List KeyedFrame) → has source (sources kind port log) ≡ false → (received crc timeout (history (key_of kind port source) log)).delivered ≡ []
 
--- an admitted source stays admitted, and one that sent a start frame and isn't admitted stays without a session
+-- an admitted source stays admitted, and one that sent a start frame and isn't admitted stays
+-- without a session
 pub record AdmittedLasts : Type 0 where
-  pub stays : (kind : Kind) (port count source : ℕ) (newer log : List KeyedFrame) → has source (admitted kind port count log) ≡ true → has source (admitted kind port count (newer ++ log)) ≡ true
-  pub stays_out : (kind : Kind) (port count source : ℕ) (newer log : List KeyedFrame) → has source (sources kind port log) ≡ true → has source (admitted kind port count log) ≡ false → has source (admitted kind port count (newer ++ log)) ≡ false
+  pub stays : (kind : Kind) (port count source : ℕ) (newer log : List KeyedFrame)
+      → has source (admitted kind port count log) ≡ true
+      → has source (admitted kind port count (newer ++ log)) ≡ true
+  pub stays_out : (kind : Kind) (port count source : ℕ) (newer log : List KeyedFrame)
+      → has source (sources kind port log) ≡ true
+      → has source (admitted kind port count log) ≡ false
+      → has source (admitted kind port count (newer ++ log)) ≡ false
 
 -- the buffers of a table have the length that its log says, which is at most the bound
 pub record HeldWithin : Type 0 where
-  pub admitted_few : (kind : Kind) (port count : ℕ) (log : List KeyedFrame) → length (admitted kind port count log) ≤ count
-  pub held_is : (crc : List ℕ → ℕ) (timeout : ℕ) (log : List KeyedFrame) (ps : List PortState) → TableStands crc timeout log ps → held_of ps ≡ held (ports_of ps) log
+  pub admitted_few : (kind : Kind) (port count : ℕ) (log : List KeyedFrame)
+      → length (admitted kind port count log) ≤ count
+  pub held_is : (crc : List ℕ → ℕ) (timeout : ℕ) (log : List KeyedFrame) (ps : List PortState)
+      → TableStands crc timeout log ps → held_of ps ≡ held (ports_of ps) log
   pub within : (ports : List Port) (log : List KeyedFrame) → held ports log ≤ bound ports

@@ -5,7 +5,8 @@ use Rattle.rx_table.specs.Received.{Delivery, begins, received}
 use Rattle.rx_table.specs.Steps.{is_bad}
 
 -- P of each record after p, and of what came before it
-abbrev pub Since : (KeyRecord → List KeyRecord → Type 0) → List KeyRecord → KeyRecord → List KeyRecord → Type 0
+abbrev pub Since : (KeyRecord → List KeyRecord → Type 0) → List KeyRecord → KeyRecord
+    → List KeyRecord → Type 0
 Since P [] p older = ⊤
 Since P (r ∷ since) p older = P r (since ++ p ∷ older) × Since P since p older
 
@@ -33,8 +34,8 @@ module _ (crc : List ℕ → ℕ) (timeout : ℕ) where
     pub last : d.last ≡ q
     pub place : d.place ≡ length past
 
-  -- a begun start frame whose chain closes at q, with no begun record after it and up to q, and whose bytes have
-  -- another CRC than 0
+  -- a begun start frame whose chain closes at q, with no begun record after it and up to q, and
+  -- whose bytes have another CRC than 0
   pub record IsBadCrc (q : KeyRecord) (past : List KeyRecord) : Type 0 where
     pub first : KeyRecord
     pub since : List KeyRecord

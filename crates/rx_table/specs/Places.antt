@@ -1,11 +1,13 @@
 -- What one session of a port does, by its place among the port's sources.
-use Rattle.std.specs.Prelude.{◌≡◌, ℕ, zero, suc, true, false, ◌<◌, nat_lt, ◌&&◌, List, [], ◌∷◌, ◌++◌, length, take, if◌then◌else◌, Option, Some, None}
+use Rattle.std.specs.Prelude.{◌≡◌, ℕ, zero, suc, true, false, ◌<◌, nat_lt, ◌&&◌, List, [], ◌∷◌}
+use Rattle.std.specs.Prelude.{◌++◌, length, take, if◌then◌else◌, Option, Some, None}
 use Rattle.tail_frame.specs.Chains.{KeyRecord}
 use Rattle.transfer_crc.specs.Crc.{crc_more}
 use Rattle.rx_session.specs.Session.{Outcome, Ignored, Delivered, advance, with_body}
 use Rattle.rx_session.specs.Seen.{says_whole, step_answer}
 use Rattle.rx_table.specs.Admitted.{has}
-use Rattle.rx_table.specs.Ports.{Port, Entry, PortState, Answer, NoPort, NoSession, OfSession, Anonymous, sources_of, open_session, advance_at, outcome_at}
+use Rattle.rx_table.specs.Ports.{Port, Entry, PortState, Answer, NoPort, NoSession, OfSession}
+use Rattle.rx_table.specs.Ports.{Anonymous, sources_of, open_session, advance_at, outcome_at}
 use Rattle.rx_table.specs.declared.fed.Met as code_met
 use Rattle.rx_table.specs.declared.fed.PortMet as code_port_met
 
@@ -50,7 +52,8 @@ pub record Adds (p : Port) (es : List Entry) (source : ℕ) (r : KeyRecord) : Ty
   pub start : r.start ≡ true
   pub room : length es < p.sources
 
--- the ports after a record of a source on the one at a place, what is answered, and whether that opens a session
+-- the ports after a record of a source on the one at a place, what is answered, and whether that
+-- opens a session
 abbrev pub feed_nth : ℕ → List PortState → ℕ → ℕ → KeyRecord → List PortState
 feed_nth timeout [] i source r = []
 feed_nth timeout (p ∷ ps) zero source r = record { port = p.port; entries = fed_entries timeout p.port p.entries source r } ∷ ps

@@ -1,5 +1,7 @@
 -- The sessions of a table's ports, and the log that they stand for.
-use Rattle.std.specs.Prelude.{◌≡◌, ℕ, Bool, true, false, ◌&&◌, ◌==◌, ◌+◌, ◌*◌, nat_lt, if◌then◌else◌, List, [], ◌∷◌, ◌++◌, length, replicate, Option, Some, None, ⊤}
+use Rattle.std.specs.Prelude.{◌≡◌, ℕ, Bool, true, false, ◌&&◌, ◌==◌, ◌+◌, ◌*◌, nat_lt}
+use Rattle.std.specs.Prelude.{if◌then◌else◌, List, [], ◌∷◌, ◌++◌, length, replicate, Option, Some}
+use Rattle.std.specs.Prelude.{None, ⊤}
 use Rattle.can_id.specs.declared.key.Kind.{Kind}
 use Rattle.tail_frame.specs.Chains.{KeyRecord}
 use Rattle.rx_session.specs.Session.{Session, Outcome, Ignored, advance}
@@ -7,7 +9,8 @@ use Rattle.rx_table.specs.Keys.{KeyedFrame, same_kind, history}
 use Rattle.rx_table.specs.Admitted.{has, is_on, admitted, key_of}
 use Rattle.rx_table.specs.Stands.{Stands, OutcomeIs}
 
--- a subscription: a kind, the number of a subject or a service, how many sources it takes, and the extent in bytes
+-- a subscription: a kind, the number of a subject or a service, how many sources it takes, and the
+-- extent in bytes
 pub record Port : Type 0 where
   pub kind : Kind
   pub port : ℕ
@@ -24,8 +27,8 @@ pub record PortState : Type 0 where
   pub port : Port
   pub entries : List Entry
 
--- what a table answers at a frame: its port isn't subscribed, its source gets no session, what its session does, or
--- what an anonymous frame delivers
+-- what a table answers at a frame: its port isn't subscribed, its source gets no session, what its
+-- session does, or what an anonymous frame delivers
 pub data Answer : Type 0 where
   NoPort : Answer
   NoSession : Answer
@@ -117,10 +120,12 @@ module _ (crc : List ℕ → ℕ) (timeout : ℕ) where
   TableStands log [] = ⊤
   TableStands log (p ∷ ps) = PortStands p.port log p.entries × TableStands log ps
 
-  -- what is answered at a frame on a port: an admitted source's outcome says what ends there, and of the others a
-  -- start frame is refused and any other frame ignored
-  pub record AnswerIs (p : Port) (f : KeyedFrame) (log : List KeyedFrame) (answer : Answer) : Type 0 where
-    pub session : is_admitted p f log ≡ true → (o : Outcome) × (answer ≡ OfSession o) × OutcomeIs crc timeout p.extent f.rec (history f.key log) o
+  -- what is answered at a frame on a port: an admitted source's outcome says what ends there, and
+  -- of the others a start frame is refused and any other frame ignored
+  pub record AnswerIs (p : Port) (f : KeyedFrame) (log : List KeyedFrame)
+      (answer : Answer) : Type 0 where
+    pub session : is_admitted p f log ≡ true
+        → (o : Outcome) × (answer ≡ OfSession o) × OutcomeIs crc timeout p.extent f.rec (history f.key log) o
     pub refused : is_admitted p f log ≡ false → f.rec.start ≡ true → answer ≡ NoSession
     pub ignored : is_admitted p f log ≡ false → f.rec.start ≡ false → answer ≡ OfSession Ignored
 

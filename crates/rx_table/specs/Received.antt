@@ -1,10 +1,12 @@
--- The deliveries of one key, from its records alone: a list with the newest first. `past` is what came before a
--- record, and the record's place is the length of that list.
-use Rattle.std.specs.Prelude.{ℕ, Bool, true, not, ◌&&◌, ◌||◌, ◌==◌, if◌then◌else◌, List, [], ◌∷◌, length, Option, Some, None}
+-- The deliveries of one key, from its records alone: a list with the newest first. `past` is what
+-- came before a record, and the record's place is the length of that list.
+use Rattle.std.specs.Prelude.{ℕ, Bool, true, not, ◌&&◌, ◌||◌, ◌==◌, if◌then◌else◌, List, [], ◌∷◌}
+use Rattle.std.specs.Prelude.{length, Option, Some, None}
 use Rattle.tail_frame.specs.Chains.{KeyRecord, chain_bytes, closes_at, without_crc}
 use Rattle.redundancy.specs.Force.{heard, late}
 
--- a delivery: the records that it begins and ends with, the place of the last one, and the payload before any cut
+-- a delivery: the records that it begins and ends with, the place of the last one, and the payload
+-- before any cut
 pub record Delivery : Type 0 where
   pub first : KeyRecord
   pub last : KeyRecord
@@ -26,7 +28,8 @@ abbrev pub is_fresh : ℕ → List Delivery → Bool
 is_fresh tid [] = true
 is_fresh tid (d ∷ ds) = not (d.first.tid == tid)
 
--- whether r is begun, after these deliveries: a start frame that is heard, and is late or has a fresh transfer-ID
+-- whether r is begun, after these deliveries: a start frame that is heard, and is late or has a
+-- fresh transfer-ID
 abbrev pub begins : ℕ → KeyRecord → List KeyRecord → List Delivery → Bool
 begins timeout r past ds = r.start && (heard timeout r past && (late timeout r past || is_fresh r.tid ds))
 
@@ -35,7 +38,8 @@ module _ (crc : List ℕ → ℕ) (timeout : ℕ) where
   abbrev pub alone : KeyRecord → List KeyRecord → List Delivery → List Delivery
   alone r past ds = if r.end then record { first = r; last = r; place = length past; content = r.body } ∷ ds else ds
 
-  -- what is delivered at r since a run began: the run's chain, if it closes at r and its bytes have the CRC 0
+  -- what is delivered at r since a run began: the run's chain, if it closes at r and its bytes have
+  -- the CRC 0
   abbrev pub completed : KeyRecord → List KeyRecord → Run → List Delivery → List Delivery
   completed r past run ds =
       if closes_at run.first run.since r && (crc (chain_bytes run.first (r ∷ run.since)) == 0)

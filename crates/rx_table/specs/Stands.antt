@@ -1,8 +1,11 @@
--- The records of a key that a session stands for. All its fields but the buffer are functions of them.
-use Rattle.std.specs.Prelude.{◌≡◌, ℕ, true, false, not, unwrap_or, List, [], ◌∷◌, length, take, Option, Some, None}
+-- The records of a key that a session stands for. All its fields but the buffer are functions of
+-- them.
+use Rattle.std.specs.Prelude.{◌≡◌, ℕ, true, false, not, unwrap_or, List, [], ◌∷◌, length, take}
+use Rattle.std.specs.Prelude.{Option, Some, None}
 use Rattle.tail_frame.specs.Chains.{KeyRecord, tip, chain_bytes}
 use Rattle.redundancy.specs.Force.{force, last_heard}
-use Rattle.rx_session.specs.Session.{Part, Session, Outcome, Ignored, Held, BadCrc, Delivered, capped}
+use Rattle.rx_session.specs.Session.{Part, Session, Outcome, Ignored, Held, BadCrc, Delivered}
+use Rattle.rx_session.specs.Session.{capped}
 use Rattle.rx_table.specs.Received.{Delivery, Run, Got, received}
 use Rattle.rx_table.specs.Steps.{is_bad, is_held}
 
@@ -16,7 +19,8 @@ abbrev pub Holds : List ℕ → List ℕ → Type 0
 Holds buffer bytes = take (length buffer) bytes ≡ take (length bytes) buffer
 
 module _ (crc : List ℕ → ℕ) where
-  -- the reassembly of a run whose chain hasn't closed: the toggle expected is the other one than the last record's
+  -- the reassembly of a run whose chain hasn't closed: the toggle expected is the other one than
+  -- the last record's
   abbrev pub part_of : Run → Part
   part_of run = record {
     tid = run.first.tid;
@@ -27,10 +31,12 @@ module _ (crc : List ℕ → ℕ) where
     crc = crc (chain_bytes run.first run.since);
   }
 
-  -- it is there exactly where the chain of the last begun start frame hasn't closed, and its bytes stand in the buffer
+  -- it is there exactly where the chain of the last begun start frame hasn't closed, and its bytes
+  -- stand in the buffer
   pub record PartOf (part : Option Part) (buffer : List ℕ) (run : Run) : Type 0 where
     pub closed : (tip run.first run.since).end ≡ true → part ≡ None
-    pub runs : (tip run.first run.since).end ≡ false → (part ≡ Some (part_of run)) × Holds buffer (chain_bytes run.first run.since)
+    pub runs : (tip run.first run.since).end ≡ false
+        → (part ≡ Some (part_of run)) × Holds buffer (chain_bytes run.first run.since)
 
   abbrev pub PartIs : Option Part → List ℕ → Option Run → Type 0
   PartIs part buffer None = part ≡ None
@@ -50,8 +56,8 @@ module _ (crc : List ℕ → ℕ) where
   abbrev pub EndsNone : ℕ → KeyRecord → List KeyRecord → Type 0
   EndsNone timeout r past = (received crc timeout (r ∷ past)).delivered ≡ (received crc timeout past).delivered
 
-  -- an outcome at r says exactly what ends there, and whether a transfer began or went on without an end; the payload
-  -- is cut to the extent
+  -- an outcome at r says exactly what ends there, and whether a transfer began or went on without
+  -- an end; the payload is cut to the extent
   abbrev pub OutcomeIs : ℕ → ℕ → KeyRecord → List KeyRecord → Outcome → Type 0
   OutcomeIs timeout extent r past Ignored = EndsNone timeout r past × (is_bad crc timeout r past ≡ false) × (is_held crc timeout r past ≡ false)
   OutcomeIs timeout extent r past Held = EndsNone timeout r past × (is_bad crc timeout r past ≡ false) × (is_held crc timeout r past ≡ true)

@@ -1,5 +1,6 @@
 -- The places of subscriptions, and a table of those of subjects.
-use Rattle.std.specs.Prelude.{◌≡◌, ℕ, suc, ◌<◌, ◌==◌, ◌&&◌, nat_lt, set, if◌then◌else◌, List, [], ◌∷◌, length, get_or, Option, Some, None, option_map}
+use Rattle.std.specs.Prelude.{◌≡◌, ℕ, suc, ◌<◌, ◌==◌, ◌&&◌, nat_lt, set, if◌then◌else◌, List, []}
+use Rattle.std.specs.Prelude.{◌∷◌, length, get_or, Option, Some, None, option_map}
 use Rattle.std.specs.Coded.{Π_prop, Coded-set, coded_ℕ}
 use Rattle.can_id.specs.declared.key.Kind.{Kind}
 use Rattle.can_id.specs.declared.key.Kind.TheVariants.{Message}
@@ -22,12 +23,14 @@ abbrev pub ArePlaces : {S : Type 0} → List ℕ → List (Port S) → Type 0
 ArePlaces places ports =
     (subject : ℕ) → subject < length places → get_or places subject 0 ≡ place_code (place_of Message subject ports)
 
--- a table with the code of a subscription's place written, if it is for a subject that the table has
+-- a table with the code of a subscription's place written, if it is for a subject that the table
+-- has
 abbrev pub with_code : List ℕ → Kind → ℕ → ℕ → List ℕ
 with_code places kind port code =
     if same_kind Message kind && nat_lt port (length places) then set places port code else places
 
 -- the places can be those of subscriptions in one way alone
-pub ArePlaces-prop : {S : Type 0} (places : List ℕ) (ports : List (Port S)) → IsProp (ArePlaces places ports)
+pub ArePlaces-prop : {S : Type 0} (places : List ℕ) (ports : List (Port S))
+    → IsProp (ArePlaces places ports)
 ArePlaces-prop places ports =
     Π_prop (λ subject. Π_prop (λ _. Coded-set coded_ℕ (get_or places subject 0) (place_code (place_of Message subject ports))))

@@ -1,5 +1,7 @@
--- A table of sessions as the definitions see it, the log that it stands for, and what it tells of a frame.
-use Rattle.std.specs.Prelude.{◌≡◌, ℕ, true, false, ◌≤◌, ◌+◌, ◌^◌, ◌==◌, ◌&&◌, if◌then◌else◌, List, [], ◌∷◌, length, take, Option, Some, None, ⊤}
+-- A table of sessions as the definitions see it, the log that it stands for, and what it tells of a
+-- frame.
+use Rattle.std.specs.Prelude.{◌≡◌, ℕ, true, false, ◌≤◌, ◌+◌, ◌^◌, ◌==◌, ◌&&◌, if◌then◌else◌, List}
+use Rattle.std.specs.Prelude.{[], ◌∷◌, length, take, Option, Some, None, ⊤}
 use Rattle.can_id.specs.Identifiers.{key_of as key_of_ident, priority_of}
 use Rattle.can_id.specs.declared.key.Kind.{Kind}
 use Rattle.tail_frame.specs.Frames.{FrameOf, key_record}
@@ -9,7 +11,9 @@ use Rattle.rx_session.specs.Session.{Outcome, Delivered}
 use Rattle.rx_session.specs.Seen.{kept, outcome_answer}
 use Rattle.rx_table.specs.Keys.{KeyedFrame, same_kind, EachFrame}
 use Rattle.rx_table.specs.Admitted.{has, admitted, key_of}
-use Rattle.rx_table.specs.Ports.{Port, Entry, PortState, Answer, NoPort, NoSession, OfSession, Anonymous, ports_of, port_at, IsPortList, is_admitted, TableStands, AnswerAt, buffered}
+use Rattle.rx_table.specs.Ports.{Port, Entry, PortState, Answer, NoPort, NoSession, OfSession}
+use Rattle.rx_table.specs.Ports.{Anonymous, ports_of, port_at, IsPortList, is_admitted, TableStands}
+use Rattle.rx_table.specs.Ports.{AnswerAt, buffered}
 use Rattle.rx_table.specs.Laws.{EachPort}
 use Rattle.rx_table.specs.declared.port.Port as code_port
 use Rattle.rx_table.specs.declared.fed.Fed as code_fed
@@ -98,7 +102,8 @@ alone f None = NoPort
 alone f (Some p) = Anonymous (whole f p.extent)
 
 -- what is told of a frame is what the log says
-abbrev pub ToldAt : ℕ → Option Port → FrameOf → Option KeyedFrame → List KeyedFrame → Answer → Type 0
+abbrev pub ToldAt : ℕ → Option Port → FrameOf → Option KeyedFrame → List KeyedFrame → Answer
+    → Type 0
 ToldAt timeout port f None log answer = answer ≡ alone f port
 ToldAt timeout port f (Some k) log answer = AnswerAt crc_of timeout port k log answer
 

@@ -1,5 +1,6 @@
 -- A table of the code as the definitions see it, and what a frame does to it.
-use Rattle.std.specs.Prelude.{◌≡◌, ◌≤◌, ◌&&◌, ◌==◌, ℕ, false, List, Option, map, Result, IfOk, OnOk, OnErr}
+use Rattle.std.specs.Prelude.{◌≡◌, ◌≤◌, ◌&&◌, ◌==◌, ℕ, false, List, Option, map, Result, IfOk, OnOk}
+use Rattle.std.specs.Prelude.{OnErr}
 use Rattle.std.specs.List.{position}
 use Rattle.can_id.specs.declared.key.Kind.{Kind}
 use Rattle.dsdl_types.specs.Schemas.{Sch}
@@ -40,8 +41,8 @@ module _ {S : Type 0} (shape : S → Sch) where
   abbrev pub told_by : Table S → Frame → code_met.Met → Answer
   told_by t frame met = table_answer (states_of t) (record_of frame) met
 
-  -- its subscriptions after a frame of a source on the one at a place, what is answered, and whether that opens a
-  -- session
+  -- its subscriptions after a frame of a source on the one at a place, what is answered, and
+  -- whether that opens a session
   abbrev pub states_after : Table S → ℕ → ℕ → Frame → List PortState
   states_after t place source frame = feed_nth t.timeout (states_of t) place source (record_of frame)
 
@@ -79,8 +80,8 @@ module _ {S : Type 0} (shape : S → Sch) where
   abbrev pub IsIdleAt : Answer → Table S → Table S → Type 0
   IsIdleAt answer old new = is_of_session answer ≡ false → KeepsSessions old new
 
-  -- what is fed to a table: it keeps its subscriptions, has heard the frame, and stands for the log with it; at want of
-  -- memory the sessions stay
+  -- what is fed to a table: it keeps its subscriptions, has heard the frame, and stands for the log
+  -- with it; at want of memory the sessions stay
   abbrev pub IsFed : {E : Type 0} → Frame → Table S → Result code_fed.Fed E → Table S → Type 0
   IsFed frame old result new =
       Keeps old new

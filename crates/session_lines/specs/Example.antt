@@ -1,4 +1,5 @@
--- The premises of values and due values can be met, where the sender's type is newer than the port's.
+-- The premises of values and due values can be met, where the sender's type is newer than the
+-- port's.
 use Rattle.std.specs.Prelude.{◌≡◌, ◌≢◌, List}
 use Rattle.dsdl_types.specs.Fits.{Fits}
 use Rattle.dsdl_types.specs.Laws.{encoding}
@@ -18,7 +19,8 @@ use Rattle.node_core.specs.Steps.{Step, records}
 use Rattle.session_lines.specs.Reported.{of_key}
 use Rattle.session_lines.specs.Values.{IsSentTo}
 
--- a plan, a log and a sent list, with a due transfer that was sent as a value of a newer type than the port's
+-- a plan, a log and a sent list, with a due transfer that was sent as a value of a newer type than
+-- the port's
 pub record ValuesExample : Type 0 where
   pub plan : Plan
   pub key : SessionKey

@@ -25,8 +25,8 @@ pub record IsKey (key : Key) : Type 0 where
   pub port : key.port < 2 ^ 16
   pub source : ForSome key.source (λ s. s < 256)
 
--- a transfer on a bus of the plan, with numbers of the widths that its fields have; what it says is the reading of its
--- payload by the type of its port
+-- a transfer on a bus of the plan, with numbers of the widths that its fields have; what it says is
+-- the reading of its payload by the type of its port
 pub record IsReceived (plan : Plan) (rx : Received) : Type 0 where
   pub moment : rx.moment < 2 ^ 64
   pub bus : rx.bus < length plan.buses

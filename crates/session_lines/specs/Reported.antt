@@ -1,5 +1,6 @@
 -- What a report says of one session.
-use Rattle.std.specs.Prelude.{◌≡◌, ℕ, Bool, true, false, ◌&&◌, ◌==◌, if◌then◌else◌, List, [], ◌∷◌, ◌++◌, Option, Some, None}
+use Rattle.std.specs.Prelude.{◌≡◌, ℕ, Bool, true, false, ◌&&◌, ◌==◌, if◌then◌else◌, List, [], ◌∷◌}
+use Rattle.std.specs.Prelude.{◌++◌, Option, Some, None}
 use Rattle.can_id.specs.declared.key.Key.{Key}
 use Rattle.tail_frame.specs.Chains.{KeyRecord}
 use Rattle.tail_frame.specs.declared.logged.Record.{Record}

@@ -1,5 +1,5 @@
--- Value to value: what is sent as a value is reported as that value, also where the sender has a newer or an older
--- version of the type (Cyphal Specification, sections 3.7 and 3.8).
+-- Value to value: what is sent as a value is reported as that value, also where the sender has a
+-- newer or an older version of the type (Cyphal Specification, sections 3.7 and 3.8).
 use Rattle.std.specs.Prelude.{◌≡◌, ℕ, true, List, ◌++◌, Option, Some, Contains}
 use Rattle.dsdl_types.specs.Cast.{cast}
 use Rattle.dsdl_types.specs.Fits.{Fits}
@@ -37,8 +37,9 @@ pub data AreVersions (sender port : Sch) : Type 0 where
   newer : Newer sender port → AreVersions sender port
   older : Newer port sender → AreVersions sender port
 
--- A sender's value as one of the port's type, with each number in the range of its type: the value itself; where the
--- sender's type is newer, without what only that type has; where it is older, with zero for what only the port's type has.
+-- A sender's value as one of the port's type, with each number in the range of its type: the value
+-- itself; where the sender's type is newer, without what only that type has; where it is older,
+-- with zero for what only the port's type has.
 abbrev pub as_received : (sender port : Sch) → AreVersions sender port → Val → Val
 as_received sender port (same is) v = cast port v
 as_received sender port (newer is) v = as_old sender port (cast sender v)
@@ -48,8 +49,8 @@ as_received sender port (older is) v = as_new port sender (cast sender v)
 abbrev pub value_reading : Sch → Val → Reading
 value_reading s v = Good (value_of v) (value_text s v)
 
--- Where this payload is the serialized form of a value of the port's type, or of a newer or an older version of it, the
--- reading is this value, as one of the port's type.
+-- Where this payload is the serialized form of a value of the port's type, or of a newer or an
+-- older version of it, the reading is this value, as one of the port's type.
 abbrev pub SaysValue : Sch → List ℕ → Reading → Type 0
 SaysValue port payload reading =
     (sender : Sch) (v : Val) (versions : AreVersions sender port)
@@ -76,15 +77,19 @@ SayValues key port sent origin records lines =
     (rx : Received) → IsLineOf key lines rx
     → SaysValue port (sent_on sent origin records rx.last).payload rx.reading
 
--- a due transfer that ends at q is on a line of its own session, which says the value that it was sent as
-pub record SaysDueValue (key : SessionKey) (port : Sch) (payload : List ℕ) (q : KeyRecord) (lines : List Line) : Type 0 where
+-- a due transfer that ends at q is on a line of its own session, which says the value that it was
+-- sent as
+pub record SaysDueValue (key : SessionKey) (port : Sch) (payload : List ℕ) (q : KeyRecord)
+    (lines : List Line) : Type 0 where
   pub rx : Received
   pub line : IsLineOf key lines rx
   pub last : rx.last ≡ q.line
   pub says : SaysValue port payload rx.reading
 
--- of a plan whose types keep the rules, a session on a port of this type, whose records a sent list explains
-pub record IsSentTo (plan : Plan) (key : SessionKey) (past : List Record) (p : Port) (port : Sch) (sent : Sent) (origin : List Pair) : Type 0 where
+-- of a plan whose types keep the rules, a session on a port of this type, whose records a sent list
+-- explains
+pub record IsSentTo (plan : Plan) (key : SessionKey) (past : List Record) (p : Port) (port : Sch)
+    (sent : Sent) (origin : List Pair) : Type 0 where
   pub rules : TypesKeepRules plan
   pub session : IsSession plan key past p
   pub typed : type_of plan key ≡ Some port

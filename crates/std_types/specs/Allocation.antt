@@ -1,4 +1,5 @@
--- The values of the standard types by which nodes get node-IDs, and what the structs hold of values.
+-- The values of the standard types by which nodes get node-IDs, and what the structs hold of
+-- values.
 use Rattle.std.specs.Prelude.{List, length, ◌≤◌, ◌^◌, ◌<◌, [], ◌∷◌}
 use Rattle.std.specs.List.{All}
 use Rattle.dsdl_types.specs.Values.{Items, Parts, Val, items_of}

@@ -2,7 +2,9 @@
 use Rattle.std.specs.Prelude.{◌≤◌, [], ◌∷◌, length}
 use Rattle.dsdl_types.specs.Values.{Parts, Val}
 use Rattle.dsdl_types.specs.Views.{in_row}
-use Rattle.std_types.specs.Held.{HoldsBytes, HoldsIntegers, HoldsNaturals, floats_of, floats_value, integers_of, integers_value, naturals_of, naturals_value, part, truths_of, truths_value}
+use Rattle.std_types.specs.Held.{HoldsBytes, HoldsIntegers, HoldsNaturals, floats_of, floats_value}
+use Rattle.std_types.specs.Held.{integers_of, integers_value, naturals_of, naturals_value, part}
+use Rattle.std_types.specs.Held.{truths_of, truths_value}
 use Rattle.std_types.specs.declared.array.Empty.{Empty}
 use Rattle.std_types.specs.declared.array.PrimitiveString.{PrimitiveString}
 use Rattle.std_types.specs.declared.array.Unstructured.{Unstructured}

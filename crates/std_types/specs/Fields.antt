@@ -1,5 +1,7 @@
--- What the fields of structs hold of values, and the values of what they hold, determine each other.
-use Rattle.std.specs.Prelude.{◌≡◌, ℕ, suc, ◌-◌, ◌^◌, ◌<◌, ◌≤◌, Bool, true, false, List, [], ◌∷◌, ℤ, pos, negsuc, min, length, refl, ◌+◌, ◌++◌, take, drop, replicate}
+-- What the fields of structs hold of values, and the values of what they hold, determine each
+-- other.
+use Rattle.std.specs.Prelude.{◌≡◌, ℕ, suc, ◌-◌, ◌^◌, ◌<◌, ◌≤◌, Bool, true, false, List, [], ◌∷◌, ℤ}
+use Rattle.std.specs.Prelude.{pos, negsuc, min, length, refl, ◌+◌, ◌++◌, take, drop, replicate}
 use Rattle.std.specs.List.{All}
 use Rattle.std.proofs.Common.{sym, ap, ◌∙◌, subst}
 use Rattle.std.proofs.Math.Nat.{min-eq_left}
@@ -9,12 +11,18 @@ use Rattle.cy_bits.specs.Put.{put_at}
 use Rattle.std.proofs.Math.Pow.{le_ones}
 use Rattle.std.proofs.lemmas.Bool.{false≢true}
 use Rattle.std.proofs.lemmas.List.Elements.{All-nil, All-cons, All-head, All-tail}
-use Rattle.dsdl_types.specs.Schemas.{Sch, Flds, PBool, PUint, PInt, PFloat, Simple, Fixed, Var, Struct, Union, End, Pad, Field}
-use Rattle.dsdl_types.specs.Values.{Val, Vals, Truth, Num, Raw, Items, Parts, Empty, More, count, items_of}
+use Rattle.dsdl_types.specs.Schemas.{Sch, Flds, PBool, PUint, PInt, PFloat, Simple, Fixed, Var}
+use Rattle.dsdl_types.specs.Schemas.{Struct, Union, End, Pad, Field}
+use Rattle.dsdl_types.specs.Values.{Val, Vals, Truth, Num, Raw, Items, Parts, Empty, More, count}
+use Rattle.dsdl_types.specs.Values.{items_of}
 use Rattle.dsdl_types.specs.Fits.{AllOf, AreItems}
 use Rattle.dsdl_types.specs.Stored.{IsStored, AreStored, IsSigned, stored_width}
 use Rattle.dsdl_types.specs.Views.{in_row}
-use Rattle.std_types.specs.Held.{natural, natural_value, integer, float_bits, truth_of, part, part_or, row_of, list_of, naturals_value, naturals_of, integers_value, integers_of, floats_value, floats_of, truths_value, truths_of, HoldsNaturals, HoldsIntegers, HoldsBytes, alone, unique_id_of, IsUniqueId}
+use Rattle.std_types.specs.Held.{natural, natural_value, integer, float_bits, truth_of, part}
+use Rattle.std_types.specs.Held.{part_or, row_of, list_of, naturals_value, naturals_of}
+use Rattle.std_types.specs.Held.{integers_value, integers_of, floats_value, floats_of, truths_value}
+use Rattle.std_types.specs.Held.{truths_of, HoldsNaturals, HoldsIntegers, HoldsBytes, alone}
+use Rattle.std_types.specs.Held.{unique_id_of, IsUniqueId}
 use Rattle.std_types.specs.Schemas.{uint, sint, float, bool, bytes, sealed}
 
 below_min : (w n : ℕ) → n < 2 ^ w → min n (2 ^ w - 1) ≡ n
@@ -107,17 +115,21 @@ items_forth N P Q f g each _ h = absurd h
 abbrev AtMost : ℕ → ℕ → Type 0
 AtMost cap n = n ≤ cap
 
-natural_each : (w : ℕ) → stored_width w ≡ w → (n : ℕ) → n < 2 ^ w → IsStored (uint w) (natural_value n) × (natural w (natural_value n) ≡ n)
+natural_each : (w : ℕ) → stored_width w ≡ w → (n : ℕ) → n < 2 ^ w
+    → IsStored (uint w) (natural_value n) × (natural w (natural_value n) ≡ n)
 natural_each w e n h = (subst (λ k. n < 2 ^ k) (sym e) h, natural_back w n h)
 
-natural_of_each : (w : ℕ) → stored_width w ≡ w → (v : Val) → IsStored (uint w) v → (natural w v < 2 ^ w) × (natural_value (natural w v) ≡ v)
+natural_of_each : (w : ℕ) → stored_width w ≡ w → (v : Val) → IsStored (uint w) v
+    → (natural w v < 2 ^ w) × (natural_value (natural w v) ≡ v)
 natural_of_each w e v h = subst (λ k. (natural k v < 2 ^ k) × (natural_value (natural k v) ≡ v)) e (natural_forth w true v h)
 
-pub naturals_back : (w : ℕ) → stored_width w ≡ w → (cap : ℕ) (xs : List ℕ) → HoldsNaturals w cap xs →
+pub naturals_back : (w : ℕ) → stored_width w ≡ w → (cap : ℕ) (xs : List ℕ)
+    → HoldsNaturals w cap xs →
     IsStored (Var (uint w) cap) (naturals_value xs) × (naturals_of w (naturals_value xs) ≡ xs)
 naturals_back w e cap = items_back (AtMost cap) (λ n. n < 2 ^ w) (IsStored (uint w)) natural_value (natural w) (natural_each w e)
 
-pub naturals_forth : (w : ℕ) → stored_width w ≡ w → (cap : ℕ) (v : Val) → IsStored (Var (uint w) cap) v →
+pub naturals_forth : (w : ℕ) → stored_width w ≡ w → (cap : ℕ) (v : Val)
+    → IsStored (Var (uint w) cap) v →
     HoldsNaturals w cap (naturals_of w v) × (naturals_value (naturals_of w v) ≡ v)
 naturals_forth w e cap = items_forth (AtMost cap) (λ n. n < 2 ^ w) (IsStored (uint w)) natural_value (natural w) (natural_of_each w e)
 
@@ -131,28 +143,34 @@ put_whole xs e =
     ∙ append-nil (take 16 xs)
     ∙ subst (λ n. take n xs ≡ xs) e (take-length xs)
 
-pub unique_id_back : (xs : List ℕ) → IsUniqueId xs → IsStored (Fixed (uint 8) 16) (naturals_value xs) × (unique_id_of (naturals_value xs) ≡ xs)
+pub unique_id_back : (xs : List ℕ) → IsUniqueId xs
+    → IsStored (Fixed (uint 8) 16) (naturals_value xs) × (unique_id_of (naturals_value xs) ≡ xs)
 unique_id_back xs h =
     let r = items_back (λ n. n ≡ 16) (λ n. n < 2 ^ 8) (IsStored (uint 8)) natural_value (natural 8) (natural_each 8 refl) xs h in
     (r.0, ap (λ l. put_at (zeros 16) 0 l) r.1 ∙ put_whole xs h.0)
 
-pub unique_id_forth : (v : Val) → IsStored (Fixed (uint 8) 16) v → IsUniqueId (unique_id_of v) × (naturals_value (unique_id_of v) ≡ v)
+pub unique_id_forth : (v : Val) → IsStored (Fixed (uint 8) 16) v
+    → IsUniqueId (unique_id_of v) × (naturals_value (unique_id_of v) ≡ v)
 unique_id_forth v h =
     let r = items_forth (λ n. n ≡ 16) (λ n. n < 2 ^ 8) (IsStored (uint 8)) natural_value (natural 8) (natural_of_each 8 refl) v h in
     let same = put_whole (naturals_of 8 v) r.0.0 in
     (subst IsUniqueId (sym same) r.0, ap naturals_value same ∙ r.1)
 
-integer_each : (w : ℕ) → stored_width w ≡ w → (z : ℤ) → IsSigned w z → IsStored (sint w) (Num z) × (integer w (Num z) ≡ z)
+integer_each : (w : ℕ) → stored_width w ≡ w → (z : ℤ) → IsSigned w z
+    → IsStored (sint w) (Num z) × (integer w (Num z) ≡ z)
 integer_each w e z h = (subst (λ k. IsSigned k z) (sym e) h, integer_back w z h)
 
-integer_of_each : (w : ℕ) → stored_width w ≡ w → (v : Val) → IsStored (sint w) v → IsSigned w (integer w v) × (Num (integer w v) ≡ v)
+integer_of_each : (w : ℕ) → stored_width w ≡ w → (v : Val) → IsStored (sint w) v
+    → IsSigned w (integer w v) × (Num (integer w v) ≡ v)
 integer_of_each w e v h = subst (λ k. IsSigned k (integer k v) × (Num (integer k v) ≡ v)) e (integer_forth w v h)
 
-pub integers_back : (w : ℕ) → stored_width w ≡ w → (cap : ℕ) (xs : List ℤ) → HoldsIntegers w cap xs →
+pub integers_back : (w : ℕ) → stored_width w ≡ w → (cap : ℕ) (xs : List ℤ)
+    → HoldsIntegers w cap xs →
     IsStored (Var (sint w) cap) (integers_value xs) × (integers_of w (integers_value xs) ≡ xs)
 integers_back w e cap = items_back (AtMost cap) (λ z. IsSigned w z) (IsStored (sint w)) Num (integer w) (integer_each w e)
 
-pub integers_forth : (w : ℕ) → stored_width w ≡ w → (cap : ℕ) (v : Val) → IsStored (Var (sint w) cap) v →
+pub integers_forth : (w : ℕ) → stored_width w ≡ w → (cap : ℕ) (v : Val)
+    → IsStored (Var (sint w) cap) v →
     HoldsIntegers w cap (integers_of w v) × (integers_value (integers_of w v) ≡ v)
 integers_forth w e cap = items_forth (AtMost cap) (λ z. IsSigned w z) (IsStored (sint w)) Num (integer w) (integer_of_each w e)
 
@@ -167,10 +185,12 @@ pub floats_forth : (w cap : ℕ) (v : Val) → IsStored (Var (float w) cap) v �
     HoldsNaturals w cap (floats_of w v) × (floats_value (floats_of w v) ≡ v)
 floats_forth w cap = items_forth (AtMost cap) (λ n. n < 2 ^ w) (IsStored (float w)) Raw (float_bits w) (float_forth w true)
 
-pub truths_back : (cap : ℕ) (xs : List Bool) → length xs ≤ cap → IsStored (Var bool cap) (truths_value xs) × (truths_of (truths_value xs) ≡ xs)
+pub truths_back : (cap : ℕ) (xs : List Bool) → length xs ≤ cap
+    → IsStored (Var bool cap) (truths_value xs) × (truths_of (truths_value xs) ≡ xs)
 truths_back cap xs h = items_back (AtMost cap) (λ b. Unit {0}) (IsStored bool) Truth truth_of (λ b u. (tt, refl)) xs (h, λ k d l. tt)
 
-pub truths_forth : (cap : ℕ) (v : Val) → IsStored (Var bool cap) v → (length (truths_of v) ≤ cap) × (truths_value (truths_of v) ≡ v)
+pub truths_forth : (cap : ℕ) (v : Val) → IsStored (Var bool cap) v
+    → (length (truths_of v) ≤ cap) × (truths_value (truths_of v) ≡ v)
 truths_forth cap v h =
     let r = items_forth (AtMost cap) (λ b. Unit {0}) (IsStored bool) Truth truth_of (λ w k. (tt, truth_forth w k)) v h in
     (r.0.0, r.1)
@@ -222,7 +242,8 @@ parts_are (Var s n) e v h = absurd (false≢true e)
 parts_are (Union fs o) e v h = absurd (false≢true e)
 
 -- a structure of one field, and its value
-pub alone_is : (name : List ℕ) (s : Sch) (v : Val) → IsStored (sealed (Field name s End)) v → (v ≡ alone (part 0 v)) × IsStored s (part 0 v)
+pub alone_is : (name : List ℕ) (s : Sch) (v : Val) → IsStored (sealed (Field name s End)) v
+    → (v ≡ alone (part 0 v)) × IsStored s (part 0 v)
 alone_is name s v h = let p = parts_are (sealed (Field name s End)) refl v h in (p.0, p.1.0)
 
 pub alone_forth : {A : Type 0} (name : List ℕ) (s : Sch) (F : A → Type 0) (value : A → Val) (of : Val → A) →
@@ -237,6 +258,7 @@ pub byte_array_back : (name : List ℕ) (cap : ℕ) (xs : List ℕ) → HoldsByt
     IsStored (sealed (Field name (bytes cap) End)) (alone (naturals_value xs)) × (naturals_of 8 (part 0 (alone (naturals_value xs))) ≡ xs)
 byte_array_back name cap xs h = let r = naturals_back 8 refl cap xs h in ((r.0, tt), r.1)
 
-pub byte_array_forth : (name : List ℕ) (cap : ℕ) (v : Val) → IsStored (sealed (Field name (bytes cap) End)) v →
+pub byte_array_forth : (name : List ℕ) (cap : ℕ) (v : Val)
+    → IsStored (sealed (Field name (bytes cap) End)) v →
     HoldsBytes cap (naturals_of 8 (part 0 v)) × (alone (naturals_value (naturals_of 8 (part 0 v))) ≡ v)
 byte_array_forth name cap = alone_forth name (bytes cap) (HoldsBytes cap) naturals_value (naturals_of 8) (naturals_forth 8 refl cap)

@@ -2,7 +2,8 @@
 use Rattle.std.specs.Prelude.{◌^◌, ◌<◌, [], ◌∷◌}
 use Rattle.dsdl_types.specs.Values.{Parts, Truth, Val}
 use Rattle.dsdl_types.specs.Views.{in_row}
-use Rattle.std_types.specs.Held.{HoldsBytes, alone, natural, natural_value, naturals_of, naturals_value, part, truth_of}
+use Rattle.std_types.specs.Held.{HoldsBytes, alone, natural, natural_value, naturals_of}
+use Rattle.std_types.specs.Held.{naturals_value, part, truth_of}
 use Rattle.std_types.specs.declared.file.Path.{Path}
 use Rattle.std_types.specs.declared.file.FileError.{FileError}
 use Rattle.std_types.specs.declared.file.InfoRequest.{InfoRequest}

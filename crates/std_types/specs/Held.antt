@@ -1,9 +1,11 @@
--- What a struct's field holds of a value, and the value of what it holds. A value of another kind is seen as 0,
--- false, or no items.
-use Rattle.std.specs.Prelude.{ℕ, zero, suc, ◌-◌, ◌^◌, ◌<◌, ◌≤◌, min, Bool, true, false, ℤ, pos, List, [], ◌∷◌, length, replicate, ◌≡◌}
+-- What a struct's field holds of a value, and the value of what it holds. A value of another kind
+-- is seen as 0, false, or no items.
+use Rattle.std.specs.Prelude.{ℕ, zero, suc, ◌-◌, ◌^◌, ◌<◌, ◌≤◌, min, Bool, true, false, ℤ, pos}
+use Rattle.std.specs.Prelude.{List, [], ◌∷◌, length, replicate, ◌≡◌}
 use Rattle.std.specs.List.{All}
 use Rattle.cy_bits.specs.Put.{put_at}
-use Rattle.dsdl_types.specs.Values.{Val, Vals, Truth, Num, Raw, Items, Parts, Empty, More, items_of, parts_of}
+use Rattle.dsdl_types.specs.Values.{Val, Vals, Truth, Num, Raw, Items, Parts, Empty, More, items_of}
+use Rattle.dsdl_types.specs.Values.{parts_of}
 use Rattle.dsdl_types.specs.Stored.{IsSigned}
 use Rattle.dsdl_types.specs.Views.{in_row}
 use Rattle.dsdl_types.specs.Cast.{cast_uint, cast_int}
@@ -34,7 +36,8 @@ integer bits v = cast_int bits (number_of v)
 abbrev pub float_bits : ℕ → Val → ℕ
 float_bits bits v = min (raw_of v) (2 ^ bits - 1)
 
--- the value of a structure's field by its number among those that aren't padding, or what there is in its place
+-- the value of a structure's field by its number among those that aren't padding, or what there is
+-- in its place
 abbrev pub part_or : Val → Vals → ℕ → Val
 part_or v Empty k = v
 part_or v (More w ws) zero = w
@@ -52,7 +55,8 @@ abbrev pub list_of : {A : Type 0} → (Val → A) → Vals → List A
 list_of g Empty = []
 list_of g (More v vs) = g v ∷ list_of g vs
 
--- an array of unsigned integers, of bytes, of signed integers, of raw bits of floats, of truth values
+-- an array of unsigned integers, of bytes, of signed integers, of raw bits of floats, of truth
+-- values
 abbrev pub naturals_value : List ℕ → Val
 naturals_value xs = Items (row_of natural_value xs)
 

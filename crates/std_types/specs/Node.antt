@@ -2,7 +2,8 @@
 use Rattle.std.specs.Prelude.{◌^◌, ◌<◌, [], ◌∷◌}
 use Rattle.dsdl_types.specs.Values.{Parts, Val}
 use Rattle.dsdl_types.specs.Views.{in_row}
-use Rattle.std_types.specs.Held.{HoldsBytes, HoldsNaturals, IsUniqueId, natural, natural_value, naturals_of, naturals_value, part, unique_id_of}
+use Rattle.std_types.specs.Held.{HoldsBytes, HoldsNaturals, IsUniqueId, natural, natural_value}
+use Rattle.std_types.specs.Held.{naturals_of, naturals_value, part, unique_id_of}
 use Rattle.std_types.specs.declared.node.Health.{Health}
 use Rattle.std_types.specs.declared.node.Mode.{Mode}
 use Rattle.std_types.specs.declared.node.Version.{Version}

@@ -4,9 +4,14 @@ use Rattle.std.proofs.Common.{sym, ◌∙◌}
 use Rattle.dsdl_types.specs.Stored.{IsStored}
 use Rattle.dsdl_types.specs.Values.{Val, Parts}
 use Rattle.dsdl_types.specs.Views.{in_row}
-use Rattle.std_types.specs.Fields.{natural_back, natural_forth, naturals_back, naturals_forth, parts_are, unique_id_back, unique_id_forth}
+use Rattle.std_types.specs.Fields.{natural_back, natural_forth, naturals_back, naturals_forth}
+use Rattle.std_types.specs.Fields.{parts_are, unique_id_back, unique_id_forth}
 use Rattle.std_types.specs.Held.{part}
-use Rattle.std_types.specs.Node.{health_value, health_of, FitsHealth, mode_value, mode_of, FitsMode, version_value, version_of, FitsVersion, heartbeat_value, heartbeat_of, FitsHeartbeat, node_info_request_value, node_info_request_of, FitsNodeInfoRequest, node_info_value, node_info_of, FitsNodeInfo}
+use Rattle.std_types.specs.Node.{health_value, health_of, FitsHealth, mode_value, mode_of, FitsMode}
+use Rattle.std_types.specs.Node.{version_value, version_of, FitsVersion, heartbeat_value}
+use Rattle.std_types.specs.Node.{heartbeat_of, FitsHeartbeat, node_info_request_value}
+use Rattle.std_types.specs.Node.{node_info_request_of, FitsNodeInfoRequest, node_info_value}
+use Rattle.std_types.specs.Node.{node_info_of, FitsNodeInfo}
 use Rattle.std_types.specs.Schemas.{health, mode, version, heartbeat, node_info_request, node_info}
 use Rattle.std_types.specs.declared.node.Health.{Health}
 use Rattle.std_types.specs.declared.node.Mode.{Mode}
@@ -15,16 +20,19 @@ use Rattle.std_types.specs.declared.node.Heartbeat.{Heartbeat}
 use Rattle.std_types.specs.declared.node.NodeInfoRequest.{NodeInfoRequest}
 use Rattle.std_types.specs.declared.node.NodeInfo.{NodeInfo}
 
-pub health_back : (x : Health) → FitsHealth x → IsStored health (health_value x) × (health_of (health_value x) ≡ x)
+pub health_back : (x : Health) → FitsHealth x
+    → IsStored health (health_value x) × (health_of (health_value x) ≡ x)
 health_back x f = ((f, tt), λ i. record { value = natural_back 8 x.value f i })
 
-pub health_forth : (v : Val) → IsStored health v → FitsHealth (health_of v) × (health_value (health_of v) ≡ v)
+pub health_forth : (v : Val) → IsStored health v
+    → FitsHealth (health_of v) × (health_value (health_of v) ≡ v)
 health_forth v h =
     let fields = parts_are health refl v h in
     let value_held = natural_forth 2 true (part 0 v) fields.1.0 in
     (value_held.0, (λ i. Parts (in_row (value_held.1 i ∷ []))) ∙ sym fields.0)
 
-pub mode_back : (x : Mode) → FitsMode x → IsStored mode (mode_value x) × (mode_of (mode_value x) ≡ x)
+pub mode_back : (x : Mode) → FitsMode x
+    → IsStored mode (mode_value x) × (mode_of (mode_value x) ≡ x)
 mode_back x f = ((f, tt), λ i. record { value = natural_back 8 x.value f i })
 
 pub mode_forth : (v : Val) → IsStored mode v → FitsMode (mode_of v) × (mode_value (mode_of v) ≡ v)
@@ -33,7 +41,8 @@ mode_forth v h =
     let value_held = natural_forth 3 true (part 0 v) fields.1.0 in
     (value_held.0, (λ i. Parts (in_row (value_held.1 i ∷ []))) ∙ sym fields.0)
 
-pub version_back : (x : Version) → FitsVersion x → IsStored version (version_value x) × (version_of (version_value x) ≡ x)
+pub version_back : (x : Version) → FitsVersion x
+    → IsStored version (version_value x) × (version_of (version_value x) ≡ x)
 version_back x f = (
   (f.0, (f.1, tt)),
   λ i. record {
@@ -42,14 +51,16 @@ version_back x f = (
   },
 )
 
-pub version_forth : (v : Val) → IsStored version v → FitsVersion (version_of v) × (version_value (version_of v) ≡ v)
+pub version_forth : (v : Val) → IsStored version v
+    → FitsVersion (version_of v) × (version_value (version_of v) ≡ v)
 version_forth v h =
     let fields = parts_are version refl v h in
     let major_held = natural_forth 8 true (part 0 v) fields.1.0 in
     let minor_held = natural_forth 8 true (part 1 v) fields.1.1.0 in
     ((major_held.0, minor_held.0), (λ i. Parts (in_row (major_held.1 i ∷ minor_held.1 i ∷ []))) ∙ sym fields.0)
 
-pub heartbeat_back : (x : Heartbeat) → FitsHeartbeat x → IsStored heartbeat (heartbeat_value x) × (heartbeat_of (heartbeat_value x) ≡ x)
+pub heartbeat_back : (x : Heartbeat) → FitsHeartbeat x
+    → IsStored heartbeat (heartbeat_value x) × (heartbeat_of (heartbeat_value x) ≡ x)
 heartbeat_back x f =
     let health_kept = health_back x.health f.1 in
     let mode_kept = mode_back x.mode f.2 in (
@@ -62,7 +73,8 @@ heartbeat_back x f =
       },
     )
 
-pub heartbeat_forth : (v : Val) → IsStored heartbeat v → FitsHeartbeat (heartbeat_of v) × (heartbeat_value (heartbeat_of v) ≡ v)
+pub heartbeat_forth : (v : Val) → IsStored heartbeat v
+    → FitsHeartbeat (heartbeat_of v) × (heartbeat_value (heartbeat_of v) ≡ v)
 heartbeat_forth v h =
     let fields = parts_are heartbeat refl v h in
     let uptime_held = natural_forth 32 true (part 0 v) fields.1.0 in
@@ -71,15 +83,18 @@ heartbeat_forth v h =
     let vendor_specific_status_code_held = natural_forth 8 true (part 3 v) fields.1.1.1.1.0 in
     ((uptime_held.0, health_held.0, mode_held.0, vendor_specific_status_code_held.0), (λ i. Parts (in_row (uptime_held.1 i ∷ health_held.1 i ∷ mode_held.1 i ∷ vendor_specific_status_code_held.1 i ∷ []))) ∙ sym fields.0)
 
-pub node_info_request_back : (x : NodeInfoRequest) → FitsNodeInfoRequest x → IsStored node_info_request (node_info_request_value x) × (node_info_request_of (node_info_request_value x) ≡ x)
+pub node_info_request_back : (x : NodeInfoRequest) → FitsNodeInfoRequest x
+    → IsStored node_info_request (node_info_request_value x) × (node_info_request_of (node_info_request_value x) ≡ x)
 node_info_request_back x f = (tt, λ i. x)
 
-pub node_info_request_forth : (v : Val) → IsStored node_info_request v → FitsNodeInfoRequest (node_info_request_of v) × (node_info_request_value (node_info_request_of v) ≡ v)
+pub node_info_request_forth : (v : Val) → IsStored node_info_request v
+    → FitsNodeInfoRequest (node_info_request_of v) × (node_info_request_value (node_info_request_of v) ≡ v)
 node_info_request_forth v h =
     let fields = parts_are node_info_request refl v h in
     (tt, (λ i. Parts (in_row ([]))) ∙ sym fields.0)
 
-pub node_info_back : (x : NodeInfo) → FitsNodeInfo x → IsStored node_info (node_info_value x) × (node_info_of (node_info_value x) ≡ x)
+pub node_info_back : (x : NodeInfo) → FitsNodeInfo x
+    → IsStored node_info (node_info_value x) × (node_info_of (node_info_value x) ≡ x)
 node_info_back x f =
     let protocol_version_kept = version_back x.protocol_version f.0 in
     let hardware_version_kept = version_back x.hardware_version f.1 in
@@ -101,7 +116,8 @@ node_info_back x f =
       },
     )
 
-pub node_info_forth : (v : Val) → IsStored node_info v → FitsNodeInfo (node_info_of v) × (node_info_value (node_info_of v) ≡ v)
+pub node_info_forth : (v : Val) → IsStored node_info v
+    → FitsNodeInfo (node_info_of v) × (node_info_value (node_info_of v) ≡ v)
 node_info_forth v h =
     let fields = parts_are node_info refl v h in
     let protocol_version_held = version_forth (part 0 v) fields.1.0 in

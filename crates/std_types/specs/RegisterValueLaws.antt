@@ -4,14 +4,20 @@ use Rattle.std.proofs.Common.{sym, ap}
 use Rattle.dsdl_types.specs.Schemas.{Sch, Flds, Union, End, Var}
 use Rattle.dsdl_types.specs.Stored.{IsStored, IsStoredVariant}
 use Rattle.dsdl_types.specs.Values.{Val, Tagged}
-use Rattle.std_types.specs.Fields.{alone_forth, floats_back, floats_forth, integers_back, integers_forth, naturals_back, naturals_forth, parts_are, truths_back, truths_forth}
-use Rattle.std_types.specs.Held.{HoldsBytes, HoldsIntegers, HoldsNaturals, floats_of, floats_value, integers_of, integers_value, naturals_of, naturals_value, truths_of, truths_value}
-use Rattle.std_types.specs.RegisterValues.{FitsRegisterValue, made_at, makers, variant_of, variant_value}
+use Rattle.std_types.specs.Fields.{alone_forth, floats_back, floats_forth, integers_back}
+use Rattle.std_types.specs.Fields.{integers_forth, naturals_back, naturals_forth, parts_are}
+use Rattle.std_types.specs.Fields.{truths_back, truths_forth}
+use Rattle.std_types.specs.Held.{HoldsBytes, HoldsIntegers, HoldsNaturals, floats_of, floats_value}
+use Rattle.std_types.specs.Held.{integers_of, integers_value, naturals_of, naturals_value}
+use Rattle.std_types.specs.Held.{truths_of, truths_value}
+use Rattle.std_types.specs.RegisterValues.{FitsRegisterValue, made_at, makers, variant_of}
+use Rattle.std_types.specs.RegisterValues.{variant_value}
 use Rattle.std_types.specs.Schemas.{bool, empty, float, register_value, sint, uint}
 use Rattle.std_types.specs.declared.register_value.RegisterValue.{RegisterValue}
 use Rattle.std_types.specs.declared.register_value.RegisterValue.TheVariants as V
 
-pub variant_back : (x : RegisterValue) → FitsRegisterValue x → IsStored register_value (variant_value x) × (variant_of (variant_value x) ≡ x)
+pub variant_back : (x : RegisterValue) → FitsRegisterValue x
+    → IsStored register_value (variant_value x) × (variant_of (variant_value x) ≡ x)
 variant_back V.Empty f = (tt, refl)
 variant_back (V.String xs) f = let kept = naturals_back 8 refl 256 xs f in ((kept.0, tt), ap V.String kept.1)
 variant_back (V.Unstructured xs) f = let kept = naturals_back 8 refl 256 xs f in ((kept.0, tt), ap V.Unstructured kept.1)
@@ -79,6 +85,7 @@ tagged_forth (suc (suc (suc (suc (suc (suc (suc (suc (suc (suc (suc (suc (suc (s
     (held.0, ap (λ w. Tagged 14 w) held.1)
 tagged_forth (suc (suc (suc (suc (suc (suc (suc (suc (suc (suc (suc (suc (suc (suc (suc tag))))))))))))))) v h = absurd h
 
-pub variant_forth : (v : Val) → IsStored register_value v → FitsRegisterValue (variant_of v) × (variant_value (variant_of v) ≡ v)
+pub variant_forth : (v : Val) → IsStored register_value v
+    → FitsRegisterValue (variant_of v) × (variant_value (variant_of v) ≡ v)
 variant_forth (Tagged tag v) h = tagged_forth tag v h
 variant_forth _ h = absurd h

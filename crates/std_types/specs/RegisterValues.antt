@@ -1,7 +1,10 @@
--- The value of a register, of one of 15 variants, each the value of a structure of one array; the first has nothing.
+-- The value of a register, of one of 15 variants, each the value of a structure of one array; the
+-- first has nothing.
 use Rattle.std.specs.Prelude.{ℕ, zero, suc, List, [], ◌∷◌, ◌≤◌, length}
 use Rattle.dsdl_types.specs.Values.{Val, Parts, Tagged, Empty, tag_of, inner_of}
-use Rattle.std_types.specs.Held.{HoldsBytes, HoldsIntegers, HoldsNaturals, alone, floats_of, floats_value, integers_of, integers_value, naturals_of, naturals_value, part, truths_of, truths_value}
+use Rattle.std_types.specs.Held.{HoldsBytes, HoldsIntegers, HoldsNaturals, alone, floats_of}
+use Rattle.std_types.specs.Held.{floats_value, integers_of, integers_value, naturals_of}
+use Rattle.std_types.specs.Held.{naturals_value, part, truths_of, truths_value}
 use Rattle.std_types.specs.declared.register_value.RegisterValue.{RegisterValue}
 use Rattle.std_types.specs.declared.register_value.RegisterValue.TheVariants as V
 

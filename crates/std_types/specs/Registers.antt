@@ -2,9 +2,11 @@
 use Rattle.std.specs.Prelude.{◌^◌, ◌<◌, [], ◌∷◌}
 use Rattle.dsdl_types.specs.Values.{Parts, Truth, Val}
 use Rattle.dsdl_types.specs.Views.{in_row}
-use Rattle.std_types.specs.Held.{HoldsBytes, alone, natural, natural_value, naturals_of, naturals_value, part, truth_of}
+use Rattle.std_types.specs.Held.{HoldsBytes, alone, natural, natural_value, naturals_of}
+use Rattle.std_types.specs.Held.{naturals_value, part, truth_of}
 use Rattle.std_types.specs.RegisterValues.{FitsRegisterValue, variant_of, variant_value}
-use Rattle.std_types.specs.Times.{FitsSynchronizedTimestamp, synchronized_timestamp_of, synchronized_timestamp_value}
+use Rattle.std_types.specs.Times.{FitsSynchronizedTimestamp, synchronized_timestamp_of}
+use Rattle.std_types.specs.Times.{synchronized_timestamp_value}
 use Rattle.std_types.specs.declared.register.Name.{Name}
 use Rattle.std_types.specs.declared.register.AccessRequest.{AccessRequest}
 use Rattle.std_types.specs.declared.register.AccessReply.{AccessReply}

@@ -1,6 +1,8 @@
--- The schemas of the standard data types, by their definitions. The names of types begin with `uavcan.`.
+-- The schemas of the standard data types, by their definitions. The names of types begin with
+-- `uavcan.`.
 use Rattle.std.specs.Prelude.{ℕ, ◌+◌, ◌-◌, true, false, codes}
-use Rattle.dsdl_types.specs.Schemas.{Prim, PBool, PUint, PInt, PFloat, Sch, Flds, Simple, Fixed, Var, Struct, Union, End, Pad, Field, tag_bits, variants}
+use Rattle.dsdl_types.specs.Schemas.{Prim, PBool, PUint, PInt, PFloat, Sch, Flds, Simple, Fixed}
+use Rattle.dsdl_types.specs.Schemas.{Var, Struct, Union, End, Pad, Field, tag_bits, variants}
 use Rattle.dsdl_types.specs.Greatest.{up, longest_fields, longest_variant}
 
 -- `uintN`, `truncated uintN`, `intN`, `floatN`, `bool`, `uint8[<=N]`

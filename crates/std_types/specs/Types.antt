@@ -1,6 +1,13 @@
 -- The schema of each standard type, by its name.
 use Rattle.dsdl_types.specs.Schemas.{Sch}
-use Rattle.std_types.specs.Schemas.{health, mode, version, heartbeat, node_info_request, node_info, node_id, node_id_allocation, synchronized_timestamp, synchronization, empty, string, unstructured, bit, integer64, integer32, integer16, integer8, natural64, natural32, natural16, natural8, real64, real32, real16, register_name, register_value, access_request, access_reply, list_request, list_reply, path, file_error, info_request, info_reply, file_list_request, file_list_reply, read_request, read_reply}
+use Rattle.std_types.specs.Schemas.{health, mode, version, heartbeat, node_info_request, node_info}
+use Rattle.std_types.specs.Schemas.{node_id, node_id_allocation, synchronized_timestamp}
+use Rattle.std_types.specs.Schemas.{synchronization, empty, string, unstructured, bit, integer64}
+use Rattle.std_types.specs.Schemas.{integer32, integer16, integer8, natural64, natural32, natural16}
+use Rattle.std_types.specs.Schemas.{natural8, real64, real32, real16, register_name, register_value}
+use Rattle.std_types.specs.Schemas.{access_request, access_reply, list_request, list_reply, path}
+use Rattle.std_types.specs.Schemas.{file_error, info_request, info_reply, file_list_request}
+use Rattle.std_types.specs.Schemas.{file_list_reply, read_request, read_reply}
 use Rattle.std_types.specs.declared.std_name.StdName.{StdName}
 use Rattle.std_types.specs.declared.std_name.StdName.TheVariants as N
 

@@ -1,8 +1,9 @@
 -- The records of one key, and the chains that they make.
-use Rattle.std.specs.Prelude.{ℕ, Bool, cond, not, ◌&&◌, ◌==◌, ◌-◌, if◌then◌else◌, List, [], ◌∷◌, ◌++◌, length, take, ⊤}
+use Rattle.std.specs.Prelude.{ℕ, Bool, cond, not, ◌&&◌, ◌==◌, ◌-◌, if◌then◌else◌, List, [], ◌∷◌}
+use Rattle.std.specs.Prelude.{◌++◌, length, take, ⊤}
 
--- A record of one key, its frame taken apart. What came before it is a list of such records with the newest first,
--- and its place is the length of that list.
+-- A record of one key, its frame taken apart. What came before it is a list of such records with
+-- the newest first, and its place is the length of that list.
 pub record KeyRecord : Type 0 where
   pub line : ℕ
   pub moment : ℕ

@@ -1,5 +1,6 @@
 -- The frames that records are.
-use Rattle.std.specs.Prelude.{◌+◌, ◌-◌, ◌*◌, ◌^◌, ◌==◌, ◌&&◌, ◌||◌, not, nat_lt, ℕ, Bool, true, false, if◌then◌else◌, Option, Some, None}
+use Rattle.std.specs.Prelude.{◌+◌, ◌-◌, ◌*◌, ◌^◌, ◌==◌, ◌&&◌, ◌||◌, not, nat_lt, ℕ, Bool, true}
+use Rattle.std.specs.Prelude.{false, if◌then◌else◌, Option, Some, None}
 use Rattle.std.specs.Prelude.{List, length, take, slice_get}
 use Rattle.std.specs.Option.{option_and_then}
 use Rattle.can_id.specs.Identifiers.{field, flag, is_set, ident_of, priority_of}
@@ -41,8 +42,9 @@ is_anonymous (Service priority is_request service destination source) = false
 abbrev pub is_whole : Tail → Bool
 is_whole tail = tail.start && tail.end
 
--- whether a frame with so many bytes before the tail is discarded: a start has toggle 1, an anonymous frame is a
--- whole transfer, each frame but the last has at least 7 bytes, and only a whole transfer may have none
+-- whether a frame with so many bytes before the tail is discarded: a start has toggle 1, an
+-- anonymous frame is a whole transfer, each frame but the last has at least 7 bytes, and only a
+-- whole transfer may have none
 abbrev pub is_discarded : Ident → Tail → ℕ → Bool
 is_discarded ident tail size =
     (tail.start && not tail.toggle)
@@ -66,7 +68,8 @@ framed rec ident byte = let size = length rec.bytes - 1 in
 abbrev pub last_byte : List ℕ → Option ℕ
 last_byte bytes = slice_get bytes (length bytes - 1)
 
--- the frame that a record is: none where its identifier says nothing, it has no data, or it is discarded
+-- the frame that a record is: none where its identifier says nothing, it has no data, or it is
+-- discarded
 abbrev pub frame_of : Record → Option FrameOf
 frame_of rec = option_and_then (λ ident. option_and_then (framed rec ident) (last_byte rec.bytes)) (ident_of rec.ident)
 

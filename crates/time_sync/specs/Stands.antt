@@ -14,7 +14,8 @@ abbrev pub AreInOrder : List Message → Type 0
 AreInOrder [] = ⊤
 AreInOrder (e ∷ past) = AllUpTo e.moment past × AreInOrder past
 
--- what is kept of one source is what its messages give: nothing, or the last message and the offset of the last pair
+-- what is kept of one source is what its messages give: nothing, or the last message and the offset
+-- of the last pair
 abbrev pub IsKept : Option Last → List Message → Type 0
 IsKept None [] = ⊤
 IsKept None (b ∷ older) = ⊥

@@ -1,5 +1,6 @@
 -- Who tells the time, and the estimate.
-use Rattle.std.specs.Prelude.{ℕ, ℤ, zero, suc, ◌+◌, ◌==◌, nat_le, Bool, false, ◌&&◌, ◌||◌, if◌then◌else◌, List, [], ◌∷◌, Option, Some, None, slice_index_or}
+use Rattle.std.specs.Prelude.{ℕ, ℤ, zero, suc, ◌+◌, ◌==◌, nat_le, Bool, false, ◌&&◌, ◌||◌}
+use Rattle.std.specs.Prelude.{if◌then◌else◌, List, [], ◌∷◌, Option, Some, None, slice_index_or}
 use Rattle.time_sync.specs.declared.sync.Estimate.{Estimate}
 use Rattle.time_sync.specs.declared.last.Last.{Last}
 use Rattle.time_sync.specs.Pairs.{Message, of_source, last_offset}

@@ -2,7 +2,8 @@
 use Rattle.std.specs.Prelude.{ℕ, zero, suc, ◌==◌, ◌*◌, ◌/◌, ◌%◌, ◌^◌, if◌then◌else◌, List, [], ◌∷◌}
 use Rattle.std.specs.Int.RustNames.{bit_xor}
 
--- the register after one more bit: shifted, and with the polynomial where its highest bit differs from that bit
+-- the register after one more bit: shifted, and with the polynomial where its highest bit differs
+-- from that bit
 abbrev pub crc_bit : ℕ → ℕ → ℕ
 crc_bit r b = if r / 32768 % 2 == b then 2 * r % 65536 else bit_xor (2 * r % 65536) 0x1021
 

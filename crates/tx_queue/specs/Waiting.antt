@@ -1,5 +1,6 @@
 -- The frames that wait to be sent: a list in the order of pushing.
-use Rattle.std.specs.Prelude.{◌≡◌, ℕ, ◌-◌, ◌<◌, ◌≤◌, nat_lt, Bool, if◌then◌else◌, List, [], ◌∷◌, ◌++◌, length, map, All, Option, Some, None}
+use Rattle.std.specs.Prelude.{◌≡◌, ℕ, ◌-◌, ◌<◌, ◌≤◌, nat_lt, Bool, if◌then◌else◌, List, [], ◌∷◌}
+use Rattle.std.specs.Prelude.{◌++◌, length, map, All, Option, Some, None}
 use Rattle.frag.specs.Wire.{frames}
 use Rattle.tx_queue.specs.declared.frame.OutFrame.{OutFrame}
 
@@ -7,7 +8,8 @@ use Rattle.tx_queue.specs.declared.frame.OutFrame.{OutFrame}
 abbrev pub out_frame : ℕ → List ℕ → OutFrame
 out_frame ident bytes = record { ident = ident; bytes = bytes }
 
--- the frames of a transfer: the data bytes of each in its wire form, in frames of size m, with the identifier
+-- the frames of a transfer: the data bytes of each in its wire form, in frames of size m, with the
+-- identifier
 abbrev pub out_frames : ℕ → ℕ → List ℕ → ℕ → List OutFrame
 out_frames ident m payload tid = map (out_frame ident) (frames m payload tid)
 
@@ -42,9 +44,10 @@ abbrev pub staying : List OutFrame → List OutFrame
 staying [] = []
 staying (f ∷ fs) = (least f fs).1
 
--- one of these frames has the least identifier, and is the first with it: those before it have greater identifiers,
--- and those behind it no less ones. The others stay in their order
-pub record IsLeast (waiting : List OutFrame) (first : OutFrame) (others : List OutFrame) : Type 0 where
+-- one of these frames has the least identifier, and is the first with it: those before it have
+-- greater identifiers, and those behind it no less ones. The others stay in their order
+pub record IsLeast (waiting : List OutFrame) (first : OutFrame)
+    (others : List OutFrame) : Type 0 where
   pub before : List OutFrame
   pub behind : List OutFrame
   pub waiting_is : waiting ≡ before ++ first ∷ behind

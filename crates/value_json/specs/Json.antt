@@ -1,9 +1,12 @@
 -- The JSON text of a value.
-use Rattle.std.specs.Prelude.{ℕ, zero, suc, ◌^◌, ◌<◌, ◌&&◌, Bool, true, false, if◌then◌else◌, List, [], ◌∷◌, codes, pos}
+use Rattle.std.specs.Prelude.{ℕ, zero, suc, ◌^◌, ◌<◌, ◌&&◌, Bool, true, false, if◌then◌else◌, List}
+use Rattle.std.specs.Prelude.{[], ◌∷◌, codes, pos}
 use Rattle.std.specs.Float.{Float, nan, inf, fin}
 use Rattle.std.specs.Fmt.{signed_decimal}
-use Rattle.dsdl_types.specs.Schemas.{Sch, Flds, Simple, Fixed, Var, Struct, Union, End, Pad, Field, width}
-use Rattle.dsdl_types.specs.Values.{Val, Vals, Truth, Num, Raw, Empty, More, items_of, parts_of, tag_of, inner_of, first, others}
+use Rattle.dsdl_types.specs.Schemas.{Sch, Flds, Simple, Fixed, Var, Struct, Union, End, Pad, Field}
+use Rattle.dsdl_types.specs.Schemas.{width}
+use Rattle.dsdl_types.specs.Values.{Val, Vals, Truth, Num, Raw, Empty, More, items_of, parts_of}
+use Rattle.dsdl_types.specs.Values.{tag_of, inner_of, first, others}
 use Rattle.value_text.specs.Texts.{are_bytes, is_uint8, truth_text}
 use Rattle.value_json.specs.Floats.{float_of}
 use Rattle.value_json.specs.Pieces.{Piece, Number, exact}
@@ -51,8 +54,8 @@ abbrev pub texts : (Val → List Piece) → Vals → List (List Piece)
 texts f Empty = []
 texts f (More v vs) = f v ∷ texts f vs
 
--- An array of bytes is an object of their hex and, where they are printable, their text. An array of the type of bytes
--- with an item that is none, and any other array, is an array.
+-- An array of bytes is an object of their hex and, where they are printable, their text. An array
+-- of the type of bytes with an item that is none, and any other array, is an array.
 abbrev pub array_json : Bool → (Val → List Piece) → Vals → List Piece
 array_json bytes f vs = if bytes && are_bytes vs then exact (bytes_json (bytes_of vs)) else in_brackets (separated (texts f vs))
 

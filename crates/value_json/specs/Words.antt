@@ -1,5 +1,6 @@
 -- What JSON texts are made of (RFC 8259), without blanks.
-use Rattle.std.specs.Prelude.{ℕ, ◌==◌, ◌||◌, ◌&&◌, nat_le, Bool, true, false, if◌then◌else◌, List, [], ◌∷◌, ◌++◌, codes}
+use Rattle.std.specs.Prelude.{ℕ, ◌==◌, ◌||◌, ◌&&◌, nat_le, Bool, true, false, if◌then◌else◌, List}
+use Rattle.std.specs.Prelude.{[], ◌∷◌, ◌++◌, codes}
 use Rattle.hex.specs.Hex.{encode_upper}
 use Rattle.value_json.specs.Pieces.{Piece, Exact, exact}
 

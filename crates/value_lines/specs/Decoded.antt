@@ -1,5 +1,5 @@
--- What decoding a line gives: the text of the value that the bytes read as whose hex the line is (Cyphal
--- Specification, section 3.7).
+-- What decoding a line gives: the text of the value that the bytes read as whose hex the line is
+-- (Cyphal Specification, section 3.7).
 use Rattle.std.specs.Prelude.{◌≡◌, ℕ, if◌then◌else◌, List, [], ◌∷◌, ◌++◌, Result, Ok, Err}
 use Rattle.cy_bits.specs.Bits.{bits}
 use Rattle.hex.specs.Hex.{decode_of}
@@ -18,8 +18,8 @@ use Rattle.value_lines.specs.declared.refusal.Refusal.TheVariants as refusal
 abbrev pub value_line : Sch → Val → List ℕ
 value_line s v = value_text s v ++ 10 ∷ []
 
--- the answer to a line whose bytes read so: the value's line, or the first path and cause, in reading order, that
--- refuse them
+-- the answer to a line whose bytes read so: the value's line, or the first path and cause, in
+-- reading order, that refuse them
 abbrev pub read_answer : Sch → ℕ → Read Val → Result (List ℕ) Refusal
 read_answer s n (Got v p rest) = Ok (value_line s v)
 read_answer s n (Bad path cause) = Err (refusal.Unreadable n (path_text path) (read_why cause))

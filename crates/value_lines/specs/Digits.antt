@@ -1,5 +1,6 @@
 -- Hex digits, and the bytes of pairs of them.
-use Rattle.std.specs.Prelude.{◌≡◌, ◌≤◌, ◌<◌, ◌+◌, ◌*◌, ◌%◌, ◌++◌, ℕ, List, [], ◌∷◌, length, take, bit_or, Option, Some, None, Ok}
+use Rattle.std.specs.Prelude.{◌≡◌, ◌≤◌, ◌<◌, ◌+◌, ◌*◌, ◌%◌, ◌++◌, ℕ, List, [], ◌∷◌, length, take}
+use Rattle.std.specs.Prelude.{bit_or, Option, Some, None, Ok}
 use Rattle.hex.specs.Hex.{decode_of, hex_digit_value}
 
 abbrev pub or_sixteen : Option ℕ → ℕ

@@ -1,5 +1,5 @@
--- What encoding a line gives: the hex of the serialized form of the value that the line is the text of (Cyphal
--- Specification, section 3.7).
+-- What encoding a line gives: the hex of the serialized form of the value that the line is the text
+-- of (Cyphal Specification, section 3.7).
 use Rattle.std.specs.Prelude.{◌≡◌, ℕ, List, [], ◌∷◌, ◌++◌, Result, Ok, Err, MatchBool}
 use Rattle.hex.specs.Hex.{encode_upper}
 use Rattle.dsdl_types.specs.Fits.{Fits}

@@ -1,11 +1,13 @@
--- What is told of each kind of type, and of what is left of one (Cyphal Specification, section 3.7).
+-- What is told of each kind of type, and of what is left of one (Cyphal Specification, section
+-- 3.7).
 use Rattle.std.specs.Prelude.{◌≡◌, ℕ, suc, ◌==◌, Bool, true, false, List}
 use Rattle.dsdl_types.specs.Reading.{fields, own, part, row, variant}
 use Rattle.dsdl_types.specs.Schemas.{Flds, Sch, Simple}
 use Rattle.dsdl_types.specs.declared.schema.Field.{Field}
 use Rattle.line_text.specs.declared.text_buffer.TextBuffer.{TextBuffer}
 use Rattle.wire_values.specs.Reads.{in_front, window_read}
-use Rattle.value_text.specs.Texts.{array_text, field_texts, is_uint8, texts, value_text, variant_text}
+use Rattle.value_text.specs.Texts.{array_text, field_texts, is_uint8, texts, value_text}
+use Rattle.value_text.specs.Texts.{variant_text}
 use Rattle.value_text.specs.Words.{separated, following}
 use Rattle.value_put.specs.Told.{Told, told, told_at}
 use Rattle.value_put.specs.declared.bits.Bits.{Bits}

@@ -1,6 +1,7 @@
 -- The schemas of the tests.
 use Rattle.std.specs.Prelude.{ℕ, true, false, List, codes}
-use Rattle.dsdl_types.specs.Schemas.{PBool, PFloat, PInt, PUint, Sch, Flds, Outline, Simple, Fixed, Var, Struct, Union, End, Pad, Field}
+use Rattle.dsdl_types.specs.Schemas.{PBool, PFloat, PInt, PUint, Sch, Flds, Outline, Simple, Fixed}
+use Rattle.dsdl_types.specs.Schemas.{Var, Struct, Union, End, Pad, Field}
 
 abbrev pub uint : ℕ → Sch
 uint bits = Simple (PUint bits true)

@@ -25,6 +25,7 @@ abbrev pub top : List ℕ → ℕ
 top [] = 0
 top (c ∷ cs) = c
 
--- Where a line goes on with the text of one of these and an end behind it, that one is read, up to the end.
+-- Where a line goes on with the text of one of these and an end behind it, that one is read, up to
+-- the end.
 abbrev pub Reads : {A : Type 0} → (A → Type 0) → (A → List ℕ) → List ℕ → List ℕ → A → Type 0
 Reads {A} F f before after v = (w : A) → F w → (rest : List ℕ) → Halts stop rest → before ≡ f w ++ rest → (v ≡ w) × (after ≡ rest)

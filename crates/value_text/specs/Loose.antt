@@ -7,7 +7,8 @@ use Rattle.dsdl_types.specs.Schemas.{Sch, Flds}
 use Rattle.dsdl_types.specs.Sound.{IsSound, AreSound}
 use Rattle.dsdl_types.specs.Values.{Val, Vals, count, tag_of, inner_of}
 use Rattle.value_text.specs.Ends.{Reads}
-use Rattle.value_text.specs.Texts.{value_text, array_text, field_texts, variant_text, is_uint8, texts, in_a_row, byte_text, are_bytes}
+use Rattle.value_text.specs.Texts.{value_text, array_text, field_texts, variant_text, is_uint8}
+use Rattle.value_text.specs.Texts.{texts, in_a_row, byte_text, are_bytes}
 use Rattle.value_text.specs.Words.{entry, in_braces, separated}
 
 -- the rules that values are read by
@@ -29,7 +30,8 @@ HasItems s exact n vs = Counts exact n (count vs) × AllOf (λ x. Fits s x) vs
 abbrev pub HasBytes : Bool → ℕ → Vals → Type 0
 HasBytes exact n vs = Counts exact n (count vs) × (are_bytes vs ≡ true)
 
--- One of these is read; where the text of one stands with an end behind it, that one, up to the end.
+-- One of these is read; where the text of one stands with an end behind it, that one, up to the
+-- end.
 abbrev pub Gives : {A : Type 0} → (A → Type 0) → (A → List ℕ) → List ℕ → List ℕ → A → Type 0
 Gives {A} F f before after v = F v × Reads F f before after v
 

@@ -1,16 +1,19 @@
 -- The one text of a value.
-use Rattle.std.specs.Prelude.{ℕ, zero, suc, ◌/◌, ◌==◌, ◌&&◌, nat_lt, Bool, true, false, if◌then◌else◌, List, [], ◌∷◌, ◌++◌, codes, pos}
+use Rattle.std.specs.Prelude.{ℕ, zero, suc, ◌/◌, ◌==◌, ◌&&◌, nat_lt, Bool, true, false}
+use Rattle.std.specs.Prelude.{if◌then◌else◌, List, [], ◌∷◌, ◌++◌, codes, pos}
 use Rattle.std.specs.Fmt.{signed_decimal}
-use Rattle.dsdl_types.specs.Schemas.{Sch, Flds, PUint, Simple, Fixed, Var, Struct, Union, End, Pad, Field, width}
-use Rattle.dsdl_types.specs.Values.{Val, Vals, Truth, Num, Raw, Empty, More, items_of, parts_of, tag_of, inner_of, first, others}
+use Rattle.dsdl_types.specs.Schemas.{Sch, Flds, PUint, Simple, Fixed, Var, Struct, Union, End, Pad}
+use Rattle.dsdl_types.specs.Schemas.{Field, width}
+use Rattle.dsdl_types.specs.Values.{Val, Vals, Truth, Num, Raw, Empty, More, items_of, parts_of}
+use Rattle.dsdl_types.specs.Values.{tag_of, inner_of, first, others}
 use Rattle.value_text.specs.Words.{separated, in_braces, in_brackets, entry, hex_digits}
 
 abbrev pub truth_text : Bool → List ℕ
 truth_text true = codes "true"
 truth_text false = codes "false"
 
--- A truth value is `true` or `false`, a number is decimal, and the raw bits of a float are all hex digits of
--- the width w behind `0x`.
+-- A truth value is `true` or `false`, a number is decimal, and the raw bits of a float are all hex
+-- digits of the width w behind `0x`.
 abbrev pub simple_text : ℕ → Val → List ℕ
 simple_text w (Truth b) = truth_text b
 simple_text w (Num z) = signed_decimal z
@@ -46,12 +49,13 @@ abbrev pub in_a_row : (Val → List ℕ) → Vals → List ℕ
 in_a_row f Empty = []
 in_a_row f (More v vs) = f v ++ in_a_row f vs
 
--- An array of bytes is `#` and hex. An array of the type of bytes with an item that is none, and any other array, is
--- its items in brackets.
+-- An array of bytes is `#` and hex. An array of the type of bytes with an item that is none, and
+-- any other array, is its items in brackets.
 abbrev pub array_text : Bool → (Val → List ℕ) → Vals → List ℕ
 array_text bytes f vs = if bytes && are_bytes vs then codes "#" ++ in_a_row byte_text vs else in_brackets (separated (texts f vs))
 
--- A structure is its fields that aren't padding, and a union its variant, each behind its name, in braces.
+-- A structure is its fields that aren't padding, and a union its variant, each behind its name, in
+-- braces.
 abbrev mutual
   pub value_text : Sch → Val → List ℕ
   value_text (Simple t) v = simple_text (width t) v

@@ -1,5 +1,6 @@
 -- The parts that texts of values are made of.
-use Rattle.std.specs.Prelude.{ℕ, zero, suc, Bool, true, false, ◌*◌, ◌^◌, ◌/◌, ◌%◌, List, [], ◌∷◌, ◌++◌, codes, slice_index}
+use Rattle.std.specs.Prelude.{ℕ, zero, suc, Bool, true, false, ◌*◌, ◌^◌, ◌/◌, ◌%◌, List, [], ◌∷◌}
+use Rattle.std.specs.Prelude.{◌++◌, codes, slice_index}
 use Rattle.hex.specs.Hex.{upper_digits}
 
 -- texts with a comma and a space in front of each

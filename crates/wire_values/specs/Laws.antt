@@ -22,9 +22,9 @@ WrittenReads writer reader v w = (n : ℕ) (out : List ℕ) → IsWritten writer
 abbrev pub RoundTrip : Type 0
 RoundTrip = (s : Sch) → IsSchema s → (v : Val) → WrittenReads s s v (cast s v)
 
--- What a newer version wrote, an older one reads without what was added, and what an older one wrote, a newer one
--- reads with zeros in place of what was added. No serialized form is longer than the extent, which both share, so the
--- same holds of what is cut to it.
+-- What a newer version wrote, an older one reads without what was added, and what an older one
+-- wrote, a newer one reads with zeros in place of what was added. No serialized form is longer than
+-- the extent, which both share, so the same holds of what is cut to it.
 pub record VersionsRead (new old : Sch) : Type 0 where
   pub to_old : (v : Val) → WrittenReads new old v (as_old new old (cast new v))
   pub to_new : (w : Val) → WrittenReads old new w (as_new new old (cast old w))

@@ -1,7 +1,10 @@
 -- The first part of a value, in writing order, that isn't one of its schema.
-use Rattle.std.specs.Prelude.{ℕ, zero, suc, ◌^◌, ◌==◌, ◌&&◌, nat_lt, nat_le, Bool, true, false, List, [], ◌∷◌, Option, Some, None, ℤ, pos, negsuc}
-use Rattle.dsdl_types.specs.Schemas.{Prim, Sch, Flds, PBool, PUint, PInt, PFloat, Simple, Fixed, Var, Struct, Union, End, Pad, Field, variants}
-use Rattle.dsdl_types.specs.Values.{Val, Vals, Truth, Num, Raw, Items, Parts, Tagged, Empty, More, count, first, others}
+use Rattle.std.specs.Prelude.{ℕ, zero, suc, ◌^◌, ◌==◌, ◌&&◌, nat_lt, nat_le, Bool, true, false}
+use Rattle.std.specs.Prelude.{List, [], ◌∷◌, Option, Some, None, ℤ, pos, negsuc}
+use Rattle.dsdl_types.specs.Schemas.{Prim, Sch, Flds, PBool, PUint, PInt, PFloat, Simple, Fixed}
+use Rattle.dsdl_types.specs.Schemas.{Var, Struct, Union, End, Pad, Field, variants}
+use Rattle.dsdl_types.specs.Values.{Val, Vals, Truth, Num, Raw, Items, Parts, Tagged, Empty, More}
+use Rattle.dsdl_types.specs.Values.{count, first, others}
 use Rattle.dsdl_types.specs.Reading.{Step, Name, Index}
 
 -- whether a whole number is from -2^63 to 2^64 - 1
@@ -51,8 +54,9 @@ abbrev pub in_variant : (ℕ → Val → Option (List Step)) → Val → Option 
 in_variant f (Tagged t v) = f t v
 in_variant f _ = Some []
 
--- The path to the first part that doesn't fit, or nothing. A value of another kind, and an array or a structure with
--- another number of items or fields, doesn't fit as a whole; nor does a union whose tag is that of no variant.
+-- The path to the first part that doesn't fit, or nothing. A value of another kind, and an array or
+-- a structure with another number of items or fields, doesn't fit as a whole; nor does a union
+-- whose tag is that of no variant.
 abbrev mutual
   pub misfit : Sch → Val → Option (List Step)
   misfit (Simple t) v = unless (is_simple t v) None

@@ -1,10 +1,13 @@
 -- What a reader of the code answers.
-use Rattle.std.specs.Prelude.{◌≡◌, ℕ, suc, ◌+◌, ◌-◌, ◌*◌, ◌%◌, ◌^◌, ◌≤◌, OnOk, nat_lt, if◌then◌else◌, Bool, true, false, List, [], map, reverse, take, drop, length, Result, Ok, Err, ℤ, pos, negsuc}
+use Rattle.std.specs.Prelude.{◌≡◌, ℕ, suc, ◌+◌, ◌-◌, ◌*◌, ◌%◌, ◌^◌, ◌≤◌, OnOk, nat_lt}
+use Rattle.std.specs.Prelude.{if◌then◌else◌, Bool, true, false, List, [], map, reverse, take, drop}
+use Rattle.std.specs.Prelude.{length, Result, Ok, Err, ℤ, pos, negsuc}
 use Rattle.cy_bits.specs.Bits.{bits, gap}
 use Rattle.cy_bits.specs.declared.bit_reader.BitReader.{BitReader}
 use Rattle.dsdl_types.specs.Paths.{step_of}
 use Rattle.dsdl_types.specs.Reach.{header_or, reach}
-use Rattle.dsdl_types.specs.Reading.{Read, Got, Bad, BadDelimiter, Name, and_then, fields, own, part, row, under, within}
+use Rattle.dsdl_types.specs.Reading.{Read, Got, Bad, BadDelimiter, Name, and_then, fields, own}
+use Rattle.dsdl_types.specs.Reading.{part, row, under, within}
 use Rattle.dsdl_types.specs.Schemas.{Sch, Flds, End, is_delimited}
 use Rattle.dsdl_types.specs.Values.{Val, Vals, join}
 use Rattle.dsdl_types.specs.Views.{named, val, vals, why_of, with_field}
@@ -64,8 +67,10 @@ skipped false p = 0
 
 -- ---- the clauses of readers, of where they are before and after
 
--- What is read by a definition from where the reader was is what was answered, and the reader is behind it.
-abbrev pub Answers : {X A : Type 0} → (ℕ → List Bool → Read A) → (X → A) → Result X Stop → BitReader → BitReader → Type 0
+-- What is read by a definition from where the reader was is what was answered, and the reader is
+-- behind it.
+abbrev pub Answers : {X A : Type 0} → (ℕ → List Bool → Read A) → (X → A) → Result X Stop → BitReader
+    → BitReader → Type 0
 Answers f view res old new = Gives view res new.bytes.now new.place (f old.place (behind old.bytes.now old.place))
 
 abbrev pub IsNear : BitReader → ℕ → Type 0
@@ -87,7 +92,8 @@ abbrev pub part_reach : Sch → ℕ
 part_reach s = header_or (is_delimited s) (reach s)
 
 -- One item more was read: the others are left.
-abbrev pub ReadsItem : {X : Type 0} → Sch → ℕ → Result X Stop → List Value → BitReader → List Value → BitReader → Type 0
+abbrev pub ReadsItem : {X : Type 0} → Sch → ℕ → Result X Stop → List Value → BitReader → List Value
+    → BitReader → Type 0
 ReadsItem s i res values old more new =
     (n : ℕ) → Goes res
     (with_front (vals values) (row (part s) (suc n) i old.place (behind old.bytes.now old.place)))
@@ -101,7 +107,8 @@ abbrev pub alone : Field → Flds
 alone field = in_front field End
 
 -- One field more was read: the others are left.
-abbrev pub ReadsField : {X : Type 0} → Field → Result X Stop → List Value → BitReader → List Value → BitReader → Type 0
+abbrev pub ReadsField : {X : Type 0} → Field → Result X Stop → List Value → BitReader → List Value
+    → BitReader → Type 0
 ReadsField field res values old more new =
     (fs : Flds) → Goes res
     (with_front (vals values) (fields (in_front field fs) old.place (behind old.bytes.now old.place)))

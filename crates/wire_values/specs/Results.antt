@@ -17,7 +17,8 @@ use Rattle.wire_values.specs.declared.error.ReadError.TheVariants.{Bad}
 use Rattle.wire_values.specs.declared.error.WriteError.{WriteError}
 use Rattle.wire_values.specs.declared.error.WriteError.TheVariants.{Misfit}
 
--- the value is one of the schema, and its serialized form of n bytes stands in front of the buffer, with zeros behind
+-- the value is one of the schema, and its serialized form of n bytes stands in front of the buffer,
+-- with zeros behind
 pub record IsWritten (s : Sch) (v : Val) (n : ℕ) (out : List ℕ) : Type 0 where
   pub fits : Fits s v
   pub size : n ≡ length (encoding s v)

@@ -1,4 +1,5 @@
--- `survey BUSES`: what each of these buses and each flow on them carries, over the log of the input.
+-- `survey BUSES`: what each of these buses and each flow on them carries, over the log of the
+-- input.
 use Rattle.std.specs.Prelude.{ℕ, List}
 use Rattle.bus_survey.specs.Surveyed.{survey_voice}
 use Rattle.cyphal.specs.Job.{Job}
