@@ -3,7 +3,6 @@ ghost use Rattle.bit_length.specs.Ascending.{Ascend};
 ghost use Rattle.bit_length.specs.Lengths.{Has, Same, Only, Delimited, Sums, Joins, Repeats, UpTo, Pads, SomeLeaves, IsWithin, IsLongBeyond, IsGreatest, IsLeast, IsNext};
 ghost use Rattle.bit_length.specs.Residues.{residues_of};
 ghost use Rattle.bit_length.specs.Runs.{IsRun, InRun, InSome, AreRunsOf, HasClass, IsReach};
-ghost use Rattle.bit_length.specs.Members.{lesser_of};
 
 use crate::coarse::coarse_runs;
 use crate::listed::listed;
@@ -12,7 +11,7 @@ use crate::parts::{MOST_PARTS, classes, parts_of, push_parts};
 use crate::residues::{residues, unmarked};
 use crate::run::{Run, are_same};
 use crate::search::run_with;
-use crate::steps::{common_divisor, common_multiple};
+use crate::steps::{common_divisor, common_multiple, lesser};
 use crate::sums::{moved, pads, sums, wide_sums};
 use crate::{LONGEST, LengthError};
 use cy_bits::{List, NoMemory, TryCopy};
@@ -793,15 +792,4 @@ fn cheaper(a: &LengthSet, b: &LengthSet, x: u64, y: u64) -> u64
     let at_x = a.cost(x).saturating_mul(b.cost(x));
     let at_y = a.cost(y).saturating_mul(b.cost(y));
     if at_y < at_x { y } else { x }
-}
-
-/// The lesser of two numbers that may be absent.
-fn lesser(a: Option<u64>, b: Option<u64>) -> Option<u64>
-    ensures { result ≡ lesser_of a b }
-{
-    match (a, b) {
-        (Some(x), Some(y)) => Some(x.min(y)),
-        (Some(x), None) => Some(x),
-        (None, b) => b,
-    }
 }

@@ -1,4 +1,5 @@
 ghost use Rattle.std.specs.Prelude.{◌≡◌, ℕ, ◌%◌, ◌<◌, IfSome};
+ghost use Rattle.bit_length.specs.Members.{lesser_of};
 
 use crate::LONGEST;
 
@@ -30,4 +31,15 @@ pub fn common_multiple(a: u64, b: u64) -> Option<u64>
         return None;
     }
     Some(multiple)
+}
+
+/// The lesser of two numbers that may be absent.
+pub fn lesser(a: Option<u64>, b: Option<u64>) -> Option<u64>
+    ensures { result ≡ lesser_of a b }
+{
+    match (a, b) {
+        (Some(x), Some(y)) => Some(x.min(y)),
+        (Some(x), None) => Some(x),
+        (None, b) => b,
+    }
 }
