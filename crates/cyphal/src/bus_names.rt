@@ -75,34 +75,3 @@ impl<'a> BusNames<'a> {
         names
     }
 }
-
-#[cfg(test)]
-mod tests {
-    use super::BusNames;
-
-    const BUSES: [&str; 4] = ["a", "can0,can1", "_,B,7", "a23456789012345"];
-
-    const NO_BUSES: [&str; 11] = [
-        "",
-        "can0,",
-        ",can0",
-        "a,,b",
-        "a,a",
-        "a,b,a",
-        "a,b,b",
-        "a,b,c,d",
-        "a,b,c,",
-        "can-0",
-        "a234567890123456",
-    ];
-
-    #[test]
-    fn a_word_has_one_to_three_names_that_differ(rt: HostRuntime) {
-        for word in BUSES.as_slice() {
-            assert_eq!(rt; BusNames::new(word).is_some(), true);
-        }
-        for word in NO_BUSES.as_slice() {
-            assert_eq!(rt; BusNames::new(word).is_some(), false);
-        }
-    }
-}

@@ -7,8 +7,6 @@ ghost use Rattle.cyphal.specs.ErrorLine.{code_of};
 mod arguments;
 mod bus_names;
 mod bus_word;
-#[cfg(test)]
-mod calls;
 mod counted;
 mod dsdl_line;
 mod error_line;
@@ -22,8 +20,6 @@ mod plan_file;
 mod program;
 mod remote_file;
 mod run_words;
-#[cfg(test)]
-mod tests;
 mod top;
 mod words;
 mod work;

@@ -21,15 +21,3 @@ fn is_visible(byte: u8) -> bool
 {
     32 <= byte && byte <= 126
 }
-
-#[cfg(test)]
-mod tests {
-    use super::is_path;
-
-    #[test]
-    fn a_path_has_at_most_255_bytes(rt: HostRuntime) {
-        let path = [b'a'; 256];
-        assert_eq!(rt; is_path(&path[..255]), true);
-        assert_eq!(rt; is_path(&path), false);
-    }
-}

@@ -36,21 +36,3 @@ pub fn bound_plan<T: Tree, O: Sink>(
     };
     bound(alloc, &plan, out)
 }
-
-#[cfg(test)]
-mod tests {
-    use crate::calls::{CALL, Call, PLANS, come_to};
-    use std::test::Fail;
-
-    const BOUNDS: [Call; 1] = [Call {
-        words: &["bound", "types", "plan"],
-        written: b"port msg 7509 sources 4 extent 12 bytes 48\nbound 48\n",
-        files: PLANS,
-        ..CALL
-    }];
-
-    #[test]
-    fn a_plan_has_a_bound_with_the_types_of_its_root(rt: HostRuntime) -> Result<(), Fail> {
-        come_to(&rt, rt.alloc(), &BOUNDS)
-    }
-}

@@ -37,37 +37,3 @@ pub fn fetch_file<L: Source, O: Sink>(
     let path = file.path.as_bytes();
     status_of(fetch(alloc, file.own.number, file.server.number, path, input, out))
 }
-
-#[cfg(test)]
-mod tests {
-    use crate::calls::{CALL, Call, come_to};
-    use std::test::Fail;
-
-    /// A command that is given no file; each call of the tree would fail.
-    const HEAR: Call = Call { tree: &[0], ..CALL };
-
-    const FETCHED: [Call; 2] = [
-        Call {
-            words: &["fetch", "123", "42", "a"],
-            text: b"(5.000000) can0 12663DAA#00000300616263E0\n",
-            written: b"ask 5.000000 0 0\n\
-                  tx 5.000000 can0 1366157B 00000000000161E0\n\
-                  tx 5.000000 can1 1366157B 00000000000161E0\n\
-                  tx 5.000000 can2 1366157B 00000000000161E0\n\
-                  file 3 616263\n",
-            ..HEAR
-        },
-        Call {
-            words: &["fetch", "123", "42", "a"],
-            out: &[0],
-            code: 9,
-            line: b"cyphal: write fault\n",
-            ..HEAR
-        },
-    ];
-
-    #[test]
-    fn a_file_is_fetched(rt: HostRuntime) -> Result<(), Fail> {
-        come_to(&rt, rt.alloc(), &FETCHED)
-    }
-}

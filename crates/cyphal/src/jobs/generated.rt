@@ -18,36 +18,3 @@ pub fn generated<O: Sink>(alloc: Global, number: u32, out: &mut O) -> Status
 {
     run_gen(alloc, number, out)
 }
-
-#[cfg(test)]
-mod tests {
-    use crate::calls::{CALL, Call, USAGE, end_with};
-    use std::test::Fail;
-
-    #[test]
-    fn a_large_log_is_run_by_its_number(rt: HostRuntime) -> Result<(), Fail> {
-        let calls = [
-            Call {
-                words: &["gen", "2"],
-                tree: &[0],
-                input: &[0],
-                written: b"gen 2 transfers 20000 delivered 14404 badcrc 0 nosession 0 \
-                      held 256 bound 256\n",
-                ..CALL
-            },
-            Call {
-                words: &["gen", "-1"],
-                ..USAGE
-            },
-            Call {
-                words: &["gen", "4294967296"],
-                ..USAGE
-            },
-            Call {
-                words: &["gen", "02"],
-                ..USAGE
-            },
-        ];
-        end_with(&rt, rt.alloc(), &calls)
-    }
-}

@@ -9,9 +9,6 @@ ghost use Rattle.cyphal.specs.Job.{outcome, told_by, CallsAtMost};
 ghost use Rattle.cyphal.specs.Plans.{plan_calls};
 ghost use Rattle.cyphal.specs.jobs.Run.{run_job};
 
-#[cfg(test)]
-mod tests;
-
 use crate::counted::{Counted, no_numbers};
 use crate::plan_file::plan_at;
 use cy_outside::{Sink, Source, Tree};
