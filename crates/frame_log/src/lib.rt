@@ -12,8 +12,6 @@ mod line;
 mod quick;
 mod reader;
 mod sixteen;
-#[cfg(test)]
-mod tests;
 
 pub use error::{LogError, LogWhy};
 pub use laws::{hex_pairs, ordered};

@@ -5,8 +5,6 @@ ghost use Rattle.std.specs.Prelude.{◌≡◌, ℕ, List, ◌++◌, length};
 ghost use Rattle.transfer_crc.specs.Crc.{crc_bits, crc_more, crc_of, crc_bytes};
 
 mod table;
-#[cfg(test)]
-mod tests;
 
 use std::marker::Model;
 

@@ -1,12 +1,11 @@
+//! The records of a log, and its refusals.
 ghost use Rattle.std.specs.Prelude.{Some};
 
-use crate::{LogError, LogReader};
 use cy_bits::{BusName, NoMemory, ShortList};
 use cy_outside::{Failed, MemSource, Source};
+use frame_log::{LogError, LogReader};
 use std::alloc::{AllocError, Global};
 use tail_frame::Record;
-
-mod quick;
 
 /// Bytes that come one a read.
 #[derive(Drop)]
@@ -71,7 +70,7 @@ fn put_answer(
 
 /// The records that the input gives, and twice what is answered behind them. Where `kept` says so, some
 /// are asked for without the input first.
-fn text_of<L: Source>(alloc: Global, input: &mut L, kept: bool) -> Result<String, AllocError> {
+pub fn text_of<L: Source>(alloc: Global, input: &mut L, kept: bool) -> Result<String, AllocError> {
     let mut text = String::new(alloc);
     let Ok(mut log) = reader(alloc) else {
         text.push_str("no memory")?;

@@ -1,4 +1,5 @@
-use crate::Crc;
+//! The CRC of a transfer of several frames.
+use transfer_crc::Crc;
 
 /// The published check value and two short texts.
 #[test]
