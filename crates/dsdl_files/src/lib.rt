@@ -11,10 +11,8 @@ mod limits;
 mod listing;
 mod paths;
 mod places;
-#[cfg(test)]
-mod tests;
 
 pub use error::FolderError;
 pub use file::DsdlFile;
-pub use folder::read_folder;
-pub use limits::{MAX_ENTRIES, MAX_FILE, MAX_FILES};
+pub use folder::{read_folder, read_within};
+pub use limits::{LIMITS, Limits, MAX_ENTRIES, MAX_FILE, MAX_FILES};

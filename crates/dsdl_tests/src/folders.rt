@@ -1,8 +1,7 @@
-use crate::folder::read_within;
-use crate::limits::{LIMITS, Limits};
-use crate::{DsdlFile, FolderError, read_folder};
+//! Which files of a folder are compiled, and how a folder is refused.
 use cy_bits::{List, Text};
 use cy_outside::{Entry, File, Got, Listing, MemTree, Size, Tree, TreeError};
+use dsdl_files::{DsdlFile, FolderError, LIMITS, Limits, read_folder, read_within};
 use std::alloc::Global;
 use std::test::Fail;
 
