@@ -9,6 +9,3 @@ pub mod laws;
 pub use event::{FetchEvent, FetchOut};
 pub use fetch::Fetch;
 pub use laws::fetch_laws;
-
-#[cfg(test)]
-mod tests;

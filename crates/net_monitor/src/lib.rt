@@ -5,8 +5,6 @@
 pub mod laws;
 pub mod monitor;
 pub mod node_state;
-#[cfg(test)]
-mod tests;
 
 pub use laws::monitor_laws;
 pub use monitor::Monitor;

@@ -5,8 +5,6 @@
 pub mod allocator;
 pub mod event;
 pub mod laws;
-#[cfg(test)]
-mod tests;
 
 pub use allocator::Allocator;
 pub use event::{AllocEvent, AllocOut, Owner};

@@ -5,8 +5,6 @@
 pub mod last;
 pub mod laws;
 pub mod sync;
-#[cfg(test)]
-mod tests;
 
 pub use last::Last;
 pub use laws::sync_laws;

@@ -1,5 +1,6 @@
-use crate::{Fetch, FetchEvent, FetchOut};
+//! A file that is fetched piece by piece.
 use cy_bits::NoMemory;
+use file_client::{Fetch, FetchEvent, FetchOut};
 use std::process::Abort;
 
 static FULL: [u8; 256] = [7; 256];

@@ -1,7 +1,8 @@
+//! Who is given which node-ID.
 ghost use Rattle.std.specs.Prelude.{◌≡◌, true};
 ghost use Rattle.pnp_alloc.specs.Stands.{IsFit};
 
-use crate::{AllocEvent, AllocOut, Allocator, Owner};
+use pnp_alloc::{AllocEvent, AllocOut, Allocator, Owner};
 
 /// The event that a node was seen.
 const fn seen(node: u8) -> AllocEvent {

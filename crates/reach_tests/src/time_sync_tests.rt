@@ -1,4 +1,5 @@
-use crate::{Estimate, Sync};
+//! The network's time.
+use time_sync::{Estimate, Sync};
 
 /// A message as (moment, source, transfer-ID, stamp).
 type Message = (u64, u8, u8, u64);

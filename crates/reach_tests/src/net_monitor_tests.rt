@@ -1,4 +1,5 @@
-use crate::{Monitor, NodeState};
+//! Who is online.
+use net_monitor::{Monitor, NodeState};
 use std_types::node::{Health, Heartbeat, Mode};
 
 /// A heartbeat of a node that has run for so many seconds.
