@@ -11,8 +11,6 @@ mod lines;
 mod sources;
 mod starts;
 mod surveying;
-#[cfg(test)]
-mod tests;
 mod waits;
 mod whole_log;
 

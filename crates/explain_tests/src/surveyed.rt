@@ -1,4 +1,5 @@
-use crate::{Ended, survey};
+//! A log of which each bus and each flow is told.
+use bus_survey::{Ended, survey};
 use cy_bits::{BusName, ShortList};
 use cy_outside::{MemSink, MemSource};
 
