@@ -8,8 +8,6 @@ pub mod laws;
 mod listed;
 pub mod place;
 pub mod served;
-#[cfg(test)]
-mod tests;
 
 pub use done::{ListDone, ReadDone};
 pub use laws::file_laws;

@@ -4,8 +4,6 @@
 
 mod heartbeat;
 mod info;
-#[cfg(test)]
-mod tests;
 
 pub use heartbeat::{heartbeat_at, heartbeat_payload};
 pub use info::{info_payload, info_reply};

@@ -5,6 +5,8 @@
 #[cfg(test)]
 mod core_tests;
 #[cfg(test)]
+mod file_service_tests;
+#[cfg(test)]
 mod file_tests;
 #[cfg(test)]
 mod generator_tests;
@@ -13,7 +15,11 @@ mod loop_tests;
 #[cfg(test)]
 mod node_log;
 #[cfg(test)]
+mod node_status_tests;
+#[cfg(test)]
 mod queue_tests;
+#[cfg(test)]
+mod register_service_tests;
 #[cfg(test)]
 mod sending_tests;
 #[cfg(test)]

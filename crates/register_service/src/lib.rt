@@ -8,8 +8,6 @@ pub mod limits;
 pub mod open_error;
 pub mod register_list;
 pub mod service;
-#[cfg(test)]
-mod tests;
 mod values;
 
 pub use laws::register_laws;

@@ -1,5 +1,6 @@
-use crate::{heartbeat_at, heartbeat_payload, info_payload, info_reply};
+//! What a node says of itself.
 use cy_bits::{Bytes, List};
+use node_status::{heartbeat_at, heartbeat_payload, info_payload, info_reply};
 use std::test::Fail;
 use std_types::node::{NodeInfo, Version};
 

@@ -3,7 +3,7 @@ use Rattle.std.proofs.lemmas.Grind.{common_steps}
 use Rattle.std.specs.Int.{w16}
 use Rattle.dsdl_types.specs.Stored.{IsSigned}
 use Rattle.std_types.specs.Held.{HoldsIntegers}
-use Rattle.register_service.proofs.tests.integer.Goals as goal
+use Rattle.node_tests.proofs.register_service_tests.integer.Goals as goal
 
 signed : (z : ℤ) → FitsSigned w16 z → IsSigned 16 z
 signed (pos n) h = search (rules, common_steps)

@@ -1,10 +1,11 @@
+//! Registers that are read, listed and written.
 ghost use Rattle.std.specs.Prelude.{◌≡◌, ◌≤◌, length, IfOk, false};
 ghost use Rattle.std_types.specs.RegisterValues.{FitsRegisterValue};
 ghost use Rattle.register_service.specs.Kept.{AreGuarded, AreRegisters};
 ghost use Rattle.register_service.specs.Within.{is_allowed};
 
-use crate::{Limited, OpenError, Registers, is_allowed, limits_of};
 use cy_bits::{Bytes, List, NoMemory, Text};
+use register_service::{Limited, OpenError, Registers, is_allowed, limits_of};
 use std::alloc::Global;
 use std::process::Abort;
 use std::test::Fail;
@@ -233,7 +234,7 @@ fn lists(rt: &impl Abort, registers: &Limited) {
 }
 
 /// Opens one register within its limits, and goes through a row.
-#[tactic(auto, using(crate::proofs::Told::by_limits))]
+#[tactic(auto, using(register_service::proofs::Told::by_limits))]
 fn goes(rt: &impl Abort, alloc: Global, row: (bool, Short, Steps)) -> Result<(), Fail> {
     let (mutable, held, steps) = row;
     let list = one(alloc, mutable, value_of(rt, alloc, held)?)?;

@@ -1,6 +1,7 @@
-use crate::{ReadDone, Served};
+//! The files below a folder of a tree: what is replied of them.
 use cy_bits::{Bytes, List, NoMemory, Text};
 use cy_outside::{Entry, File, Got, Listing, MemTree, Size, Tree, TreeError};
+use file_service::{ReadDone, Served};
 use std::alloc::Global;
 use std::test::Fail;
 
