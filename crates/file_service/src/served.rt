@@ -32,7 +32,7 @@ impl Served<'_> {
     /// 2 where there is nothing, 21 where there is a folder, else 0.
     ///
     /// The buffer stays as it was for an invalid path, for the root and at want of memory; where
-    /// the tree failed it may hold anything. Takes the memory of the joined path alone.
+    /// the tree failed it may hold anything. Takes memory for the joined path.
     pub fn read<T: Tree>(
         &self,
         alloc: Global,
@@ -100,7 +100,7 @@ impl Served<'_> {
     /// that holds: 22 for an invalid path, 5 where the tree failed, 2 where there is nothing, else
     /// 0.
     ///
-    /// Takes the memory of the joined path alone.
+    /// Takes memory for the joined path.
     pub fn info<T: Tree>(
         &self,
         alloc: Global,

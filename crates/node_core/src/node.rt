@@ -209,7 +209,7 @@ impl Node {
     }
 
     /// The request that the record ended, where this was told of it and the node answers it. Takes
-    /// memory for what is asked of registers alone.
+    /// memory for what is asked of registers and files alone.
     #[inline(always)]
     pub fn request(
         &self,

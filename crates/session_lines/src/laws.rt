@@ -57,7 +57,7 @@ pub fn example()
     ensures { ValuesExample }
 {}
 
-/// No two lists of lines have one text.
+/// No two lists of lines of one plan have one text.
 pub fn text_tells_lines()
     ensures { TextTellsLines }
 {}

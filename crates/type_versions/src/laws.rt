@@ -9,7 +9,7 @@ ghost use Rattle.type_versions.specs.Laws.{HasPair, IsVersionBefore};
 ghost use Rattle.type_versions.specs.Lines.{AreVersions};
 ghost use Rattle.type_versions.specs.Pairs.{version_pairs};
 
-/// A namespace has one answer on its versions.
+/// A namespace has at most one answer on its versions.
 pub fn one_answer()
     ensures { (names : Namespace) (a b : List ℕ) (v w : Verdict) → AreVersions names a v
         → AreVersions names b w → (a ≡ b) × (v ≡ w) }
