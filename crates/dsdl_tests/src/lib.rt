@@ -1,6 +1,6 @@
 //! Tests of whole DSDL definitions: which files a folder has, which file refers to which, what
-//! expressions are worth, what lines and files are refused for, and what files are resolved to. They
-//! stand in a crate of their own, since a crate with tests is proved twice.
+//! expressions are worth, what lines and files are refused for, and what files are resolved to.
+//! They stand in a crate of their own, since a crate with tests is proved twice.
 #![tactic(auto)]
 
 #[cfg(test)]

@@ -1,5 +1,5 @@
-//! Tests of logs that are explained or surveyed. They stand in a crate of their own, since a crate with
-//! tests is proved twice.
+//! Tests of logs that are explained or surveyed. They stand in a crate of their own, since a crate
+//! with tests is proved twice.
 #![tactic(auto)]
 
 #[cfg(test)]

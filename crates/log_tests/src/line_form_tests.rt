@@ -141,7 +141,8 @@ fn a_broken_line_says_the_same_behind_any_seconds(rt: HostRuntime) -> Result<(),
                 let changed = with_byte(alloc, line, i, byte)?;
                 assert!(rt; is_same(alloc, changed.as_slice())?, "{i} {byte}");
             }
-            assert!(rt; is_same(alloc, &line[..i])?, "{i}");
+            let front = &line[..i.min(line.len())];
+            assert!(rt; is_same(alloc, front)?, "{i}");
         }
     }
     Ok(())

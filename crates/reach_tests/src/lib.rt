@@ -1,5 +1,5 @@
-//! Tests of the commands over a log that need no plan, and of what they are made of. They stand in a
-//! crate of their own, since a crate with tests is proved twice.
+//! Tests of the commands over a log that need no plan, and of what they are made of. They stand in
+//! a crate of their own, since a crate with tests is proved twice.
 #![tactic(auto)]
 
 #[cfg(test)]
