@@ -18,6 +18,7 @@ pub fn flush<O: Sink>(out: &mut O, gathered: &mut TextBuffer) -> Result<(), Fail
     ensures begins { OnErr result
         (Begins (text_of gathered.old) (O.written out.old) (O.written out.new)) }
     ensures fault { OnErr result (Rose (O.faults out.old) (O.faults out.new)) }
+    ensures err { OnErr result (text_of gathered.new ≡ text_of gathered.old) }
     ensures kept { OnOk result (O.faults out.new ≡ O.faults out.old) }
 {
     put_all(out, gathered.as_slice())?;
@@ -35,6 +36,7 @@ pub fn flush_much<O: Sink>(out: &mut O, gathered: &mut TextBuffer) -> Result<(),
     ensures begins { OnErr result
         (Begins (text_of gathered.old) (O.written out.old) (O.written out.new)) }
     ensures fault { OnErr result (Rose (O.faults out.old) (O.faults out.new)) }
+    ensures err { OnErr result (text_of gathered.new ≡ text_of gathered.old) }
     ensures kept { OnOk result (O.faults out.new ≡ O.faults out.old) }
 {
     if gathered.len() <= MUCH {
