@@ -67,9 +67,13 @@ Writes old new before after (Ok None) = Gathered old new before after × (new �
 Writes old new before after (Err (stop.Log error)) = Gathered old new before after × (new ≡ [])
 Writes old new before after (Err stop.Write) = Begins old before after
 
--- the input failed only where its count rose, and the output only where its own did
+-- A count of faults rises only at a fault of its own: where the input failed its count rose, and
+-- where the output failed that one; any other answer leaves both as they were.
 abbrev pub HasStopCause : ℕ → ℕ → ℕ → ℕ → Result (Option Record) Stop → Type 0
 HasStopCause read read_new write write_new (Ok answer) = (read_new ≡ read) × (write_new ≡ write)
-HasStopCause read read_new write write_new (Err (stop.Log error.Failed)) = Rose read read_new
-HasStopCause read read_new write write_new (Err (stop.Log error)) = ⊤
-HasStopCause read read_new write write_new (Err stop.Write) = Rose write write_new
+HasStopCause read read_new write write_new (Err (stop.Log error.Failed)) =
+    Rose read read_new × (write_new ≡ write)
+HasStopCause read read_new write write_new (Err (stop.Log error)) =
+    (read_new ≡ read) × (write_new ≡ write)
+HasStopCause read read_new write write_new (Err stop.Write) =
+    (read_new ≡ read) × Rose write write_new

@@ -19,7 +19,8 @@ use std::alloc::Global;
 use tail_frame::{FrameData, Record};
 
 /// Lets a listener hear the log of an input, and writes what it says on each record, and at the log's end its last
-/// words. It has heard nothing, and hears from moment 0 on.
+/// words. It has heard nothing, and hears from moment 0 on. What is gathered is written before the input is read
+/// again.
 pub fn listen<M: Listener, L: Source, O: Sink>(
     alloc: Global,
     listener: &mut M,
@@ -36,6 +37,8 @@ pub fn listen<M: Listener, L: Source, O: Sink>(
         (L.left input.old) (L.left input.new) result (O.written out.old) (O.written out.new) }
     ensures read { result ≡ Ended.ReadFault → Rose (L.faults input.old) (L.faults input.new) }
     ensures write { result ≡ Ended.WriteFault → Rose (O.faults out.old) (O.faults out.new) }
+    ensures unread { result ≢ Ended.ReadFault → L.faults input.new ≡ L.faults input.old }
+    ensures unwritten { result ≢ Ended.WriteFault → O.faults out.new ≡ O.faults out.old }
     ensures kept { result ≡ Ended.Ok
         → (L.faults input.new ≡ L.faults input.old) × (O.faults out.new ≡ O.faults out.old) }
 {
@@ -68,6 +71,8 @@ fn hear_all<M: Listener, L: Source, O: Sink>(
         (L.left input.old) (L.left input.new) result (O.written out.old) (O.written out.new) }
     ensures read { result ≡ Ended.ReadFault → Rose (L.faults input.old) (L.faults input.new) }
     ensures write { result ≡ Ended.WriteFault → Rose (O.faults out.old) (O.faults out.new) }
+    ensures unread { result ≢ Ended.ReadFault → L.faults input.new ≡ L.faults input.old }
+    ensures unwritten { result ≢ Ended.WriteFault → O.faults out.new ≡ O.faults out.old }
     ensures kept { result ≡ Ended.Ok
         → (L.faults input.new ≡ L.faults input.old) × (O.faults out.new ≡ O.faults out.old) }
 {
@@ -99,7 +104,7 @@ fn end<M: Listener, O: Sink>(listener: &mut M, out: &mut O, gathered: &mut TextB
         → (first : M) (past : List M.event) → M.heard first listener.old past
         → O.written out.new ≡ behind (O.written out.old)
         (text_of gathered.old ++ (M.voice first).last past) }
-    ensures kept { result ≡ Ended.Ok → O.faults out.new ≡ O.faults out.old }
+    ensures unwritten { result ≢ Ended.WriteFault → O.faults out.new ≡ O.faults out.old }
     ensures begins { result ≡ Ended.WriteFault
         → (first : M) (past : List M.event) → M.heard first listener.old past
         → Begins (text_of gathered.old ++ (M.voice first).last past) (O.written out.old)
