@@ -114,7 +114,8 @@ impl Held {
 /// Twice as much as `size`, and at least a block, but no more than `most`.
 fn larger(size: usize, most: usize) -> usize
     requires { size < most }
-    ensures { size < result }
+    ensures grows { size < result }
+    ensures within { result ≤ most }
 {
     size.saturating_add(size.max(BLOCK)).min(most)
 }
