@@ -43,6 +43,8 @@ pub fn close<M: LineListener, O: Sink>(
         (O.written out.old) (O.written out.new) e) }
     ensures write { IfErr result
         (λ e. e ≡ LinesEnded.WriteFault → Rose (O.faults out.old) (O.faults out.new)) }
+    ensures unwritten { IfErr result
+        (λ e. e ≢ LinesEnded.WriteFault → O.faults out.new ≡ O.faults out.old) }
     ensures kept { OnOk result (O.faults out.new ≡ O.faults out.old) }
     ensures not { IfErr result (λ e. e ≢ LinesEnded.Ok) }
 {
@@ -66,6 +68,7 @@ pub fn refuse<M: LineListener, O: Sink>(
         → IsRefusal (M.last first past) refusal (text_of gathered.old)
         (O.written out.old) (O.written out.new) result }
     ensures write { result ≡ LinesEnded.WriteFault → Rose (O.faults out.old) (O.faults out.new) }
+    ensures unwritten { result ≢ LinesEnded.WriteFault → O.faults out.new ≡ O.faults out.old }
     ensures not { result ≢ LinesEnded.Ok }
 {
     match close(listener, out, gathered) {
@@ -84,6 +87,7 @@ pub fn ended_by<M: LineListener, O: Sink>(
     ensures ended { IsStop M.heard M.last listener.old stop (text_of gathered.old)
         (O.written out.old) (O.written out.new) result }
     ensures write { result ≡ LinesEnded.WriteFault → Rose (O.faults out.old) (O.faults out.new) }
+    ensures unwritten { result ≢ LinesEnded.WriteFault → O.faults out.new ≡ O.faults out.old }
     ensures not { result ≢ LinesEnded.Ok }
 {
     match stop {

@@ -18,6 +18,7 @@ use std::alloc::Global;
 
 /// Lets a listener answer the lines of an input, and writes what it says. However it ends, of each front
 /// of the bytes that were taken, behind which more than 65,536 bytes were taken, the answers are written.
+/// What is gathered is written before the input is read again.
 ///
 /// Lines end with a newline, which the last may lack; a newline at the end begins none. A line with
 /// more bytes than `bounds.line` is refused. Where the input has more than `bounds.all` bytes, the
@@ -37,6 +38,8 @@ pub fn listen_lines<M: LineListener, L: Source, O: Sink>(
         IsStreamed v (L.left input.old) (L.left input.new) (O.written out.old) (O.written out.new) }
     ensures read { result ≡ LinesEnded.ReadFault → Rose (L.faults input.old) (L.faults input.new) }
     ensures write { result ≡ LinesEnded.WriteFault → Rose (O.faults out.old) (O.faults out.new) }
+    ensures unread { result ≢ LinesEnded.ReadFault → L.faults input.new ≡ L.faults input.old }
+    ensures unwritten { result ≢ LinesEnded.WriteFault → O.faults out.new ≡ O.faults out.old }
     ensures kept { result ≡ LinesEnded.Ok
         → (L.faults input.new ≡ L.faults input.old) × (O.faults out.new ≡ O.faults out.old) }
 {
@@ -81,6 +84,8 @@ fn settle<M: LineListener, O: Sink>(
     ensures room { left_of reader.new ≡ left_of reader.old }
     ensures write { IfErr result
         (λ e. e ≡ LinesEnded.WriteFault → Rose (O.faults out.old) (O.faults out.new)) }
+    ensures unwritten { IfErr result
+        (λ e. e ≢ LinesEnded.WriteFault → O.faults out.new ≡ O.faults out.old) }
     ensures kept { OnOk result (O.faults out.new ≡ O.faults out.old) }
 {
     if let Err(ended) = hear_held(listener, bounds, reader, out, gathered) {
@@ -119,6 +124,8 @@ fn hear_held<M: LineListener, O: Sink>(
     ensures room { left_of reader.new ≡ left_of reader.old }
     ensures write { IfErr result
         (λ e. e ≡ LinesEnded.WriteFault → Rose (O.faults out.old) (O.faults out.new)) }
+    ensures unwritten { IfErr result
+        (λ e. e ≢ LinesEnded.WriteFault → O.faults out.new ≡ O.faults out.old) }
     ensures kept { OnOk result (O.faults out.new ≡ O.faults out.old) }
 {
     'lines: while let Some(n) = reader.find_line() {
@@ -154,6 +161,8 @@ fn hear_line<M: LineListener, O: Sink>(
     ensures room { left_of reader.new ≡ left_of reader.old }
     ensures write { IfErr result
         (λ e. e ≡ LinesEnded.WriteFault → Rose (O.faults out.old) (O.faults out.new)) }
+    ensures unwritten { IfErr result
+        (λ e. e ≢ LinesEnded.WriteFault → O.faults out.new ≡ O.faults out.old) }
     ensures kept { OnOk result (O.faults out.new ≡ O.faults out.old) }
 {
     let line = &reader.held()[..n];
@@ -181,7 +190,7 @@ fn hear_last<M: LineListener, O: Sink>(
         (λ first past. EndsBy (v first) past (held_of reader.now)
         (O.written out.old) (O.written out.new) result) }
     ensures write { result ≡ LinesEnded.WriteFault → Rose (O.faults out.old) (O.faults out.new) }
-    ensures kept { result ≡ LinesEnded.Ok → O.faults out.new ≡ O.faults out.old }
+    ensures unwritten { result ≢ LinesEnded.WriteFault → O.faults out.new ≡ O.faults out.old }
 {
     let line = reader.held();
     if line.is_empty() {
@@ -203,7 +212,7 @@ fn whole<M: LineListener, O: Sink>(
         → IsWhole (M.last first past) (text_of gathered.old)
         (O.written out.old) (O.written out.new) result }
     ensures write { result ≡ LinesEnded.WriteFault → Rose (O.faults out.old) (O.faults out.new) }
-    ensures kept { result ≡ LinesEnded.Ok → O.faults out.new ≡ O.faults out.old }
+    ensures unwritten { result ≢ LinesEnded.WriteFault → O.faults out.new ≡ O.faults out.old }
 {
     match close(listener, out, gathered) {
         Ok(()) => LinesEnded::Ok,
@@ -221,6 +230,7 @@ fn overlong<M: LineListener, O: Sink>(
     ensures ended { (first : M) (past : List (List ℕ)) → M.heard first listener.old past
         → IsOverlong (M.last first past) (O.written out.old) (O.written out.new) result }
     ensures write { result ≡ LinesEnded.WriteFault → Rose (O.faults out.old) (O.faults out.new) }
+    ensures unwritten { result ≢ LinesEnded.WriteFault → O.faults out.new ≡ O.faults out.old }
     ensures short { result ≢ LinesEnded.Ok }
 {
     match close(listener, out, gathered) {
