@@ -3,6 +3,7 @@ pub mod Logs
 pub mod Came
 pub mod Events
 pub mod Taken
+pub mod Opens
 pub mod Comes
 pub mod Streams
 pub mod Plain

@@ -27,7 +27,7 @@ use Rattle.log_loop.proofs.Came.{Reads, Has, has_log, has_next}
 use Rattle.log_loop.proofs.Events.{followed, followed_none}
 use Rattle.log_loop.proofs.Logs.{onto, newest_onto}
 use Rattle.log_loop.proofs.Runs.{HasGone, begun, has_refused, has_finished, has_taken, begins_step, not_read_fault, told_none}
-use Rattle.log_loop.proofs.Streams.{Streams, streamed_none, streamed_stopped, streamed_wanting, streamed_finished}
+use Rattle.log_loop.proofs.Streams.{Streams, failed_open, streamed_none, streamed_stopped, streamed_wanting, streamed_finished}
 use Rattle.log_loop.proofs.Written.{all_written, gathered_less, begins_gathered, begins_none}
 
 -- the records of a log, of which some came
@@ -66,12 +66,12 @@ module _ {E : Type 0} (names : List (List ℕ)) (v : Voice E) (s : Stages E) (co
   -- there is no further record
   pub listened_stopped : (halt : Stop) → GoesOn old new left next_left (Err halt) → ComesBehind old new left next_left rest (Err halt) → (saw_end old ≡ false → saw_end new ≡ true → IsAtEnd next_left)
       → (halt ≡ stop.Log error.Failed → (cut 10 (kept_bytes_of new) ≡ None) × (saw_end new ≡ false)) → Writes gathered rest mid after (Err halt) → s.heard past → HasListened names v s told next_left (stopped halt) before after
-  listened_stopped (stop.Log error) l c e failed w k =
-      let h = has_next names told left next_left old new (map v.record_of past) (Err error) reads l e in
+  listened_stopped (stop.Log why) l c e failed w k =
+      let h = has_next names told left next_left old new (map v.record_of past) (Err why) reads l e in
       let none : Gathered (said v past) [] before after = subst (λ (t : List ℕ). Gathered (said v past) t before after) w.1 (gathered_less (said v past) gathered rest before mid after has w.0) in
-      listened names v s comes told next_left past h.behind (stopped (stop.Log error)) before after may h.has (has_refused names v s told past before after error h k (all_written (said v past) before after none))
-      (has_taken names v s.heard told left next_left old new past (stop.Log error) gathered rest before mid after reads l failed k has w)
-      (streamed_stopped names v s told left next_left old new past gathered rest before mid after (stop.Log error) streams c k has w)
+      listened names v s comes told next_left past h.behind (stopped (stop.Log why)) before after may h.has (has_refused names v s told past before after why h k (all_written (said v past) before after none))
+      (has_taken names v s.heard told left next_left old new past (stop.Log why) gathered rest before mid after reads l failed (λ h. failed_open names v told left next_left old new past rest before mid after why streams c l (λ same. failed (ap stop.Log same)) cc) k has w)
+      (streamed_stopped names v s told left next_left old new past gathered rest before mid after (stop.Log why) streams c k has w)
   listened_stopped stop.Write l c e failed w k =
       let log = log_behind old (unwrap_or left []) in
       listened names v s comes told next_left past log end.WriteFault before after may (has_log names told left old (map v.record_of past) reads)

@@ -6,6 +6,7 @@ use Rattle.tail_frame.specs.declared.logged.Record.{Record}
 use Rattle.cy_outside.specs.Written.{behind, Begins}
 use Rattle.frame_log.specs.Log.{Log, ended as ended_by, log_of, start}
 use Rattle.frame_log.specs.Order.{IsAhead, IsFit}
+use Rattle.frame_log.specs.Input.{Took}
 use Rattle.frame_log.specs.Line.{cut}
 use Rattle.frame_log.specs.Reader.{buses_of, bytes_left, kept_bytes_of, place_of, saw_end, log_behind}
 use Rattle.frame_log.specs.declared.reader.LogReader.{LogReader}
@@ -13,12 +14,13 @@ use Rattle.frame_log.specs.declared.error.LogError.{LogError}
 use Rattle.frame_log.specs.declared.error.LogError.TheVariants as error
 use Rattle.gathered_text.specs.Gathered.{Gathered}
 use Rattle.log_loop.specs.Next.{GoesOn, Writes}
-use Rattle.log_loop.specs.Taken.{whole_records, IsOfTaken}
+use Rattle.log_loop.specs.Taken.{whole_records, IsOfTaken, NoneRefused}
 use Rattle.log_loop.specs.declared.next.Stop.{Stop}
 use Rattle.log_loop.specs.declared.next.Stop.TheVariants as stop
 use Rattle.log_loop.proofs.Events.{said_first}
 use Rattle.log_loop.proofs.Logs.{newest_onto, latest_of, line_of, ahead_in, all_in}
 use Rattle.log_loop.proofs.Written.{begins_more, begins_front, begins_end, gathered_end, gathered_less, gathered_more, all_written}
+use Rattle.log_loop.proofs.Opens.{open_taken}
 use Rattle.log_loop.proofs.Taken.{fill, plain_fill, length_fill, plain_cut, records_whole, none_behind}
 use Rattle.log_loop.proofs.Came.{took_more, log_after, Reads, HasNext}
 use Rattle.log_loop.specs.declared.ended.Ended.{Ended}
@@ -127,8 +129,9 @@ begins_step v past event gathered before after g = begins_more (said v past) (v.
 -- a run whose input failed
 pub has_taken : {E : Type 0} (names : List (List ℕ)) (v : Voice E) (heard : List E → Type 0) (told left next_left : Option (List ℕ)) (old new : LogReader) (past : List E) (halt : Stop) (gathered rest : List ℕ) (before mid after : Option (List ℕ))
     → Reads names told left old (map v.record_of past) → GoesOn old new left next_left (Err halt) → (halt ≡ stop.Log error.Failed → (cut 10 (kept_bytes_of new) ≡ None) × (saw_end new ≡ false))
+    → (halt ≡ stop.Log error.Failed → (bytes : List ℕ) × Took told next_left bytes × NoneRefused names bytes)
     → heard past → Gathered (said v past) gathered before mid → Writes gathered rest mid after (Err halt) → (events : List E) → FirstOf events past → stopped halt ≡ end.ReadFault → IsOfTaken names v heard events told next_left before after
-has_taken names v heard told left next_left old new past (stop.Log error.Failed) gathered rest before mid after r g failed k h w events first e =
+has_taken names v heard told left next_left old new past (stop.Log error.Failed) gathered rest before mid after r g failed unrefused k h w events first e =
     let records = map v.record_of past in
     let f = failed refl in
     let tail = fill 4097 in
@@ -144,20 +147,22 @@ has_taken names v heard told left next_left old new past (stop.Log error.Failed)
     ] in
     let of_lines = records_whole names (2 ^ 28) (r.came ++ g.came) tail start plain long in
     let same : whole_records names (r.came ++ g.came) ≡ records = ap (λ (t : List Record). reverse_aux t []) (sym of_lines ∙ (ap (λ (l : Log). l.records) whole ∙ ap (reverse_aux records) none)) ∙ newest_onto records [] in
+    let others = unrefused refl in
+    let front = open_taken names told next_left (r.came ++ g.came) others.0 (took_more told left next_left r.came g.came r.took g.took) others.1 others.2 in
     let empty : Gathered (said v past) [] before after = subst (λ (t : List ℕ). Gathered (said v past) t before after) w.1 (gathered_less (said v past) gathered rest before mid after h w.0) in record {
-      taken = r.came ++ g.came;
-      took = took_more told left next_left r.came g.came r.took g.took;
+      taken = front.taken;
+      took = front.took;
       came = past;
-      are = record { first = first; records_are = sym same };
+      are = record { unrefused = front.unrefused; first = first; records_are = sym (front.same ∙ same) };
       hears = k;
       written = all_written (said v past) before after empty;
     }
-has_taken names v heard told left next_left old new past (stop.Log (error.BadLine n)) gathered rest before mid after r g failed k h w events first e = absurd cc
-has_taken names v heard told left next_left old new past (stop.Log (error.TimeBack n)) gathered rest before mid after r g failed k h w events first e = absurd cc
-has_taken names v heard told left next_left old new past (stop.Log (error.UnknownBus n)) gathered rest before mid after r g failed k h w events first e = absurd cc
-has_taken names v heard told left next_left old new past (stop.Log (error.TooFar n)) gathered rest before mid after r g failed k h w events first e = absurd cc
-has_taken names v heard told left next_left old new past (stop.Log error.LogLong) gathered rest before mid after r g failed k h w events first e = absurd cc
-has_taken names v heard told left next_left old new past stop.Write gathered rest before mid after r g failed k h w events first e = absurd cc
+has_taken names v heard told left next_left old new past (stop.Log (error.BadLine n)) gathered rest before mid after r g failed unrefused k h w events first e = absurd cc
+has_taken names v heard told left next_left old new past (stop.Log (error.TimeBack n)) gathered rest before mid after r g failed unrefused k h w events first e = absurd cc
+has_taken names v heard told left next_left old new past (stop.Log (error.UnknownBus n)) gathered rest before mid after r g failed unrefused k h w events first e = absurd cc
+has_taken names v heard told left next_left old new past (stop.Log (error.TooFar n)) gathered rest before mid after r g failed unrefused k h w events first e = absurd cc
+has_taken names v heard told left next_left old new past (stop.Log error.LogLong) gathered rest before mid after r g failed unrefused k h w events first e = absurd cc
+has_taken names v heard told left next_left old new past stop.Write gathered rest before mid after r g failed unrefused k h w events first e = absurd cc
 
 pub not_read_fault : (stat : Ended) → IsFinish stat → stat ≡ end.ReadFault → ⊥
 not_read_fault stat f e = subst IsFinish e f

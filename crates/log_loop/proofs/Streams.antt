@@ -6,19 +6,23 @@ use mathlib.Core.List.{reverse_aux}
 use Rattle.tail_frame.specs.declared.logged.Record.{Record}
 use Rattle.cy_outside.specs.Written.{behind, Begins}
 use Rattle.frame_log.specs.Input.{Took}
+use Rattle.frame_log.specs.Line.{cut}
 use Rattle.frame_log.specs.Log.{Log, Place, Given, Skip, Take, Refuse, followed, given, lines_of, log_of_lines, with_byte, start}
 use Rattle.frame_log.specs.Reader.{buses_of, place_of, kept_bytes_of, saw_end}
 use Rattle.frame_log.specs.Used.{Passes, Gives, Uses, IsBefore}
 use Rattle.frame_log.specs.declared.error.LogError.{LogError}
+use Rattle.frame_log.specs.declared.error.LogError.TheVariants as error
 use Rattle.frame_log.specs.declared.reader.LogReader.{LogReader}
 use Rattle.frame_log.proofs.LogLemmas.{Took-none}
 use Rattle.frame_log.proofs.UsedLemmas.{lines_of-whole, lines_of-one, cut-parts}
 use Rattle.gathered_text.specs.Gathered.{Gathered}
 use Rattle.log_loop.specs.Next.{Goes, Comes, ComesBehind, Writes}
-use Rattle.log_loop.specs.Taken.{whole_records}
+use Rattle.log_loop.specs.Taken.{NoneRefused, whole_records}
 use Rattle.log_loop.specs.declared.next.Stop.{Stop}
 use Rattle.log_loop.specs.declared.next.Stop.TheVariants as stop
 use Rattle.log_loop.proofs.Came.{took_more}
+use Rattle.log_loop.proofs.Opens.{lines_open}
+use Rattle.log_loop.proofs.Taken.{IsPlain, lines_of_more, plain_cut}
 use Rattle.log_loop.proofs.Events.{first_of, oldest, said_first}
 use Rattle.log_loop.proofs.Logs.{onto, newest_onto}
 use Rattle.log_loop.proofs.Written.{behind_none, behind_more, all_written, gathered_less}
@@ -85,14 +89,37 @@ pub record Whole (names : List (List ℕ)) (bytes : List ℕ) (past : List Recor
   pub whole : (lines_of bytes).1 ≡ []
   pub leads : (refusal : Option LogError) (ls : List (List ℕ)) → log_of_lines names refusal ((lines_of bytes).0 ++ ls) start ≡ onto past (log_of_lines names refusal ls at)
 
+-- the lines of a front, of which 2 ^ 28 bytes count, are the first of all
+front_lines : (bytes front k : List ℕ) → bytes ≡ front ++ k → (more : List (List ℕ)) × ((lines_of bytes).0 ≡ (lines_of (take (2 ^ 28) front)).0 ++ more)
+front_lines bytes front k e =
+    let f = take (2 ^ 28) front in
+    let rest = drop (2 ^ 28) front in
+    let parts : bytes ≡ f ++ (rest ++ k) = e ∙ (ap (λ t. t ++ k) (sym (take-append-drop (2 ^ 28) front)) ∙ append_assoc f rest k) in
+    let ls = lines_before f (rest ++ k) in (ls.0, ap (λ (b : List ℕ). (lines_of b).0) parts ∙ ls.1)
+
+-- no line of these is refused
+first_open : (names : List (List ℕ)) (bytes : List ℕ) (past : List Record) (at : Place) (first more : List (List ℕ)) → Whole names bytes past at → (lines_of bytes).0 ≡ first ++ more → (log_of_lines names None first start).refusal ≡ None
+first_open names bytes past at first more w e =
+    lines_open names first more start
+    (sym (ap (λ (t : List (List ℕ)). (log_of_lines names None t start).refusal) (append-nil (lines_of bytes).0 ∙ e)) ∙ ap (λ (l : Log). l.refusal) (w.leads None []))
+
+-- no line of a front is refused
+front_open : (names : List (List ℕ)) (bytes front k : List ℕ) (past : List Record) (at : Place) → Whole names bytes past at → bytes ≡ front ++ k → NoneRefused names front
+front_open names bytes front k past at w e = let ls = front_lines bytes front k e in first_open names bytes past at (lines_of (take (2 ^ 28) front)).0 ls.0 w ls.1
+
+-- nor where bytes without a newline stand behind
+kept_open : (names : List (List ℕ)) (bytes whole kept : List ℕ) (past : List Record) (at : Place) → Whole names whole past at → bytes ≡ whole ++ kept → IsPlain kept → NoneRefused names bytes
+kept_open names bytes whole kept past at w e p =
+    let ls = front_lines bytes bytes [] (sym (append-nil bytes)) in
+    let same : (lines_of bytes).0 ≡ (lines_of whole).0 = ap (λ (b : List ℕ). (lines_of b).0) e ∙ ap (λ (l : List (List ℕ) × List ℕ). l.0) (lines_of_more whole kept p) in
+    first_open names whole past at (lines_of (take (2 ^ 28) bytes)).0 ls.0 w (sym same ∙ ls.1)
+
 -- the records of a front came before the others
 front_records : (names : List (List ℕ)) (bytes front k : List ℕ) (past : List Record) (at : Place) → Whole names bytes past at → bytes ≡ front ++ k → (newer : List Record) × (past ≡ newer ++ whole_records names front)
 front_records names bytes front k past at w e =
     let f = take (2 ^ 28) front in
-    let rest = drop (2 ^ 28) front in
-    let parts : bytes ≡ f ++ (rest ++ k) = e ∙ (ap (λ t. t ++ k) (sym (take-append-drop (2 ^ 28) front)) ∙ append_assoc f rest k) in
-    let ls = lines_before f (rest ++ k) in
-    let split : (lines_of bytes).0 ≡ (lines_of f).0 ++ ls.0 = ap (λ (b : List ℕ). (lines_of b).0) parts ∙ ls.1 in
+    let ls = front_lines bytes front k e in
+    let split : (lines_of bytes).0 ≡ (lines_of f).0 ++ ls.0 = ls.1 in
     let rs = records_before names None None (lines_of f).0 (ls.0 ++ []) start in
     let first = (log_of_lines names None (lines_of f).0 start).records in
     let all : (log_of_lines names None ((lines_of bytes).0 ++ []) start).records ≡ first ++ rs.0 =
@@ -126,24 +153,25 @@ pub record Far {E : Type 0} (names : List (List ℕ)) (v : Voice E) (front : Lis
   pub newer : List E
   pub came : List E
   pub parts : past ≡ newer ++ came
+  pub unrefused : NoneRefused names front
   pub records_are : map v.record_of came ≡ whole_records names front
   pub written : HasWritten (said v came) before after
 
 far_later : {E : Type 0} (names : List (List ℕ)) (v : Voice E) (front : List ℕ) (past : List E) (before mid after : Option (List ℕ)) → Far names v front past before mid → Grew mid after → Far names v front past before after
 far_later names v front past before mid after f g =
-    record { newer = f.newer; came = f.came; parts = f.parts; records_are = f.records_are; written = written_later _ before mid after f.written g }
+    record { newer = f.newer; came = f.came; parts = f.parts; unrefused = f.unrefused; records_are = f.records_are; written = written_later _ before mid after f.written g }
 
 far_next : {E : Type 0} (names : List (List ℕ)) (v : Voice E) (front : List ℕ) (past : List E) (event : E) (before after : Option (List ℕ)) → Far names v front past before after → Far names v front (event ∷ past) before after
 far_next names v front past event before after f =
-    record { newer = event ∷ f.newer; came = f.came; parts = ap (λ t. event ∷ t) f.parts; records_are = f.records_are; written = f.written }
+    record { newer = event ∷ f.newer; came = f.came; parts = ap (λ t. event ∷ t) f.parts; unrefused = f.unrefused; records_are = f.records_are; written = f.written }
 
 -- where all is written, that of the first events is
-far_all : {E : Type 0} (names : List (List ℕ)) (v : Voice E) (front : List ℕ) (past : List E) (newer : List Record) (before after : Option (List ℕ)) → map v.record_of past ≡ newer ++ whole_records names front → after ≡ behind before (said v past)
+far_all : {E : Type 0} (names : List (List ℕ)) (v : Voice E) (front : List ℕ) (past : List E) (newer : List Record) (before after : Option (List ℕ)) → NoneRefused names front → map v.record_of past ≡ newer ++ whole_records names front → after ≡ behind before (said v past)
     → Far names v front past before after
-far_all names v front past newer before after e w =
+far_all names v front past newer before after n e w =
     let o = oldest v past newer (whole_records names front) e in
     let first = said_first v o.newer o.came in
-    record { newer = o.newer; came = o.came; parts = o.parts; records_are = o.records_are; written = (first.0, w ∙ ap (behind before) (ap (said v) o.parts ∙ first.1)) }
+    record { newer = o.newer; came = o.came; parts = o.parts; unrefused = n; records_are = o.records_are; written = (first.0, w ∙ ap (behind before) (ap (said v) o.parts ∙ first.1)) }
 
 -- each front, behind which more than 8,192 bytes came
 abbrev pub AllFar : {E : Type 0} → List (List ℕ) → Voice E → List ℕ → List E → Option (List ℕ) → Option (List ℕ) → Type 0
@@ -217,6 +245,14 @@ module _ {E : Type 0} (names : List (List ℕ)) (v : Voice E) (told left next_le
   parts_of answer s c e u p =
       ap (λ t. t ++ c.came) u.parts ∙ (append_assoc u.used (kept_bytes_of old) c.came ∙ (ap (λ t. u.used ++ t) p.passes.parts ∙ sym (append_assoc u.used p.passes.skipped p.behind)))
 
+  -- where the input failed, no line that was taken is refused
+  taken_open : (s : Streams names v told left old past before mid) → (c : Comes old new left next_left rest (Err error.Failed)) → saw_end old ≡ false → cut 10 (kept_bytes_of new) ≡ None → NoneRefused names (s.taken ++ c.came)
+  taken_open s c was none =
+      let u = s.used was in
+      let p = used_of (Err error.Failed) s c was in
+      let w = passed names u.used (kept_bytes_of old ++ c.came) p.behind records (place_of old) p.at u.whole p.passes in
+      kept_open names (s.taken ++ c.came) (u.used ++ p.passes.skipped) p.behind records p.at w (parts_of (Err error.Failed) s c was u p) (subst (λ (t : List ℕ). IsPlain t) (sym p.there.1) (plain_cut (kept_bytes_of new) none))
+
   -- the same front, where nothing came
   far_same : (answer : Result (Option Record) LogError) → (s : Streams names v told left old past before mid) → (c : Comes old new left next_left rest answer) → c.came ≡ [] → Grew mid after → AllFar names v (s.taken ++ c.came) past before after
   far_same answer s c none g front more e long =
@@ -232,7 +268,7 @@ module _ {E : Type 0} (names : List (List ℕ)) (v : Voice E) (told left next_le
       let k = front_within front more (u.used ++ p.passes.skipped) p.behind (sym e ∙ parts_of answer s c was u p) (let near : length p.behind ≤ 8192 = p.near in omega (arith, near, long)) in
       let w = passed names u.used (kept_bytes_of old ++ c.came) p.behind records (place_of old) p.at u.whole p.passes in
       let n = front_records names (u.used ++ p.passes.skipped) front k.0 records p.at w k.1 in
-      far_all names v front past n.0 before after n.1 (all_written whole before after (subst (λ (t : List ℕ). Gathered whole t before after) none g))
+      far_all names v front past n.0 before after (front_open names (u.used ++ p.passes.skipped) front k.0 records p.at w k.1) n.1 (all_written whole before after (subst (λ (t : List ℕ). Gathered whole t before after) none g))
 
   pub far_comes : (answer : Result (Option Record) LogError) → (s : Streams names v told left old past before mid) → (c : Comes old new left next_left rest answer) → Grew mid after
       → Gathered (said v past) rest before after → AllFar names v (s.taken ++ c.came) past before after
@@ -278,20 +314,36 @@ open_before old new before after answer g e = by_end (saw_end old) refl
     by_end true is = let bad : true ≡ false = sym (g.ended is).1 ∙ e in absurd cc
     by_end false is = is
 
+-- the bytes that were taken before the input failed
+pub failed_open : {E : Type 0} (names : List (List ℕ)) (v : Voice E) (told left next_left : Option (List ℕ)) (old new : LogReader) (past : List E) (rest : List ℕ) (before mid after : Option (List ℕ)) (e : LogError)
+    → Streams names v told left old past before mid → Comes old new left next_left rest (Err e) → Goes old new left next_left (Err e) → (e ≡ error.Failed → (cut 10 (kept_bytes_of new) ≡ None) × (saw_end new ≡ false))
+    → e ≡ error.Failed → (bytes : List ℕ) × Took told next_left bytes × NoneRefused names bytes
+failed_open names v told left next_left old new past rest before mid after error.Failed s c g f h =
+    let k = f refl in (
+      s.taken ++ c.came,
+      took_more told left next_left s.taken c.came s.took c.took,
+      taken_open names v told left next_left old new past rest before mid after s c (open_before old new left next_left (Err error.Failed) g k.1) k.0,
+    )
+failed_open names v told left next_left old new past rest before mid after (error.BadLine n) s c g f h = absurd cc
+failed_open names v told left next_left old new past rest before mid after (error.TimeBack n) s c g f h = absurd cc
+failed_open names v told left next_left old new past rest before mid after (error.UnknownBus n) s c g f h = absurd cc
+failed_open names v told left next_left old new past rest before mid after (error.TooFar n) s c g f h = absurd cc
+failed_open names v told left next_left old new past rest before mid after error.LogLong s c g f h = absurd cc
+
 -- A whole run.
 
 module _ {E : Type 0} (names : List (List ℕ)) (v : Voice E) (s : Stages E) (events past : List E) (told left : Option (List ℕ)) (taken : List ℕ) (before after : Option (List ℕ)) where
   has_said : FirstOf events past → (front : List ℕ) → Far names v front past before after → HasSaid names v events front before after
   has_said first front f = record {
     came = f.came;
-    are = record { first = first_of events past f.newer f.came first f.parts; records_are = f.records_are };
+    are = record { unrefused = f.unrefused; first = first_of events past f.newer f.came first f.parts; records_are = f.records_are };
     written = f.written;
   }
 
   hears_bytes : FirstOf events past → HeardOrEnded s past → (front : List ℕ) → Far names v front past before after → HearsBytes names v s events front
   hears_bytes first k front f = record {
     came = f.came;
-    are = record { first = first_of events past f.newer f.came first f.parts; records_are = f.records_are };
+    are = record { unrefused = f.unrefused; first = first_of events past f.newer f.came first f.parts; records_are = f.records_are };
     hears = record { newer = f.newer; first = subst (FirstOf events) f.parts first; hears = subst (HeardOrEnded s) f.parts k };
   }
 

@@ -52,7 +52,7 @@ newline_before true b ls r s = refl
 newline_before false b ls r s = byte_before b ls r s
 
 -- bytes without a newline lengthen the last part
-lines_of_more : (c s : List ℕ) → IsPlain s → lines_of (c ++ s) ≡ ((lines_of c).0, (lines_of c).1 ++ s)
+pub lines_of_more : (c s : List ℕ) → IsPlain s → lines_of (c ++ s) ≡ ((lines_of c).0, (lines_of c).1 ++ s)
 lines_of_more [] s p = lines_of_plain s p
 lines_of_more (b ∷ c) s p =
     ap (λ (l : List (List ℕ) × List ℕ). if b == 10 then ([] ∷ l.0, l.1) else with_byte b l) (lines_of_more c s p) ∙ newline_before (b == 10) b (lines_of c).0 (lines_of c).1 s

@@ -34,7 +34,8 @@ pub record HearsBytes {E : Type 0} (names : List (List ℕ)) (v : Voice E) (s : 
   pub hears : IsHeard s events came
 
 -- However it ended: of each front of the bytes that were taken, behind which more than 8,192 bytes
--- were taken, what is said is written. Its events were heard too, unless memory was wanting.
+-- were taken, no line is refused, and what is said is written. Its events were heard too, unless
+-- memory was wanting.
 pub record IsStreamed {E : Type 0} (names : List (List ℕ)) (v : Voice E) (s : Stages E) (events : List E)
     (left new : Option (List ℕ)) (how : Ended) (before after : Option (List ℕ)) : Type 0 where
   pub taken : List ℕ

@@ -11,9 +11,16 @@ use Rattle.log_loop.specs.Voice.{Voice, said, newest_first}
 abbrev pub whole_records : List (List ℕ) → List ℕ → List Record
 whole_records names bytes = newest_first (log_of_lines names None (lines_of (take (2 ^ 28) bytes)).0 start)
 
--- the first of these events are those of the lines that end among these bytes
+-- none of the lines that end among these bytes, of which 2 ^ 28 count, is refused
+abbrev pub NoneRefused : List (List ℕ) → List ℕ → Type 0
+NoneRefused names bytes =
+    (log_of_lines names None (lines_of (take (2 ^ 28) bytes)).0 start).refusal ≡ None
+
+-- none of the lines that end among these bytes is refused, and the first of these events are those
+-- of these lines
 pub record AreOfBytes {E : Type 0} (names : List (List ℕ)) (v : Voice E) (events : List E)
     (bytes : List ℕ) (came : List E) : Type 0 where
+  pub unrefused : NoneRefused names bytes
   pub first : FirstOf events came
   pub records_are : map v.record_of came ≡ whole_records names bytes
 
