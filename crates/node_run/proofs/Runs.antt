@@ -198,7 +198,7 @@ module _ (told : Option Files) (plan : Plan) (before : Option (List Line)) (s : 
     taken = t.taken;
     took = t.took;
     came = t.came;
-    are = record { first = t.are.first; records_are = t.are.records_are };
+    are = record { unrefused = t.are.unrefused; first = t.are.first; records_are = t.are.records_are };
     settled = settled_upto t.came before_text after t.hears t.written;
   }
 
@@ -212,7 +212,7 @@ module _ (told : Option Files) (plan : Plan) (before : Option (List Line)) (s : 
   reports : (events : List Met) (front : List ℕ) → HearsBytes (names_of plan) (run_voice told plan) stages events front → ReportsBytes plan events steps_report front
   reports events front k = record {
     came = k.came;
-    are = record { first = k.are.first; records_are = k.are.records_are };
+    are = record { unrefused = k.are.unrefused; first = k.are.first; records_are = k.are.records_are };
     newer = k.hears.newer;
     first = k.hears.first;
     reported = is_reported (k.hears.newer ++ k.came) k.hears.hears;
@@ -222,7 +222,7 @@ module _ (told : Option Files) (plan : Plan) (before : Option (List Line)) (s : 
   reports_end events front e k =
       let n = k.are.first in record {
         came = k.came;
-        are = record { first = n; records_are = k.are.records_are };
+        are = record { unrefused = k.are.unrefused; first = n; records_are = k.are.records_are };
         newer = n.newer;
         first = record { newer = []; parts = n.parts };
         reported = subst (λ (all : List Met). IsReported plan (steps plan all) end_report) n.parts (inr (inl (at_end events e)));
@@ -236,7 +236,7 @@ module _ (told : Option Files) (plan : Plan) (before : Option (List Line)) (s : 
     written = λ front more same long.
         let w = x.written front more same long in record {
           came = w.came;
-          are = record { first = w.are.first; records_are = w.are.records_are };
+          are = record { unrefused = w.are.unrefused; first = w.are.first; records_are = w.are.records_are };
           written = subst (λ t. HasWritten t before_text after) (said_text told plan w.came) w.written;
         };
     reported = λ n front more same long. by how n g x front more same long;

@@ -3,16 +3,18 @@ use Rattle.std.specs.Prelude.{◌≡◌, ℕ, List, Some}
 use Rattle.frame_log.specs.Input.{Took}
 use Rattle.frame_log.specs.declared.error.LogError.TheVariants as error
 use Rattle.log_loop.specs.Gone.{FirstOf}
-use Rattle.log_loop.specs.Taken.{whole_records}
+use Rattle.log_loop.specs.Taken.{NoneRefused, whole_records}
 use Rattle.node_plan.specs.declared.plan.Plan.{Plan}
 use Rattle.node_core.specs.Steps.{Met, met_records, steps}
 use Rattle.node_run.specs.Failures.{Failures}
 use Rattle.node_run.specs.Ran.{Reported, Settled, names_of}
 use Rattle.node_run.specs.ValueLines.{Flow}
 
--- the first of these records are those whose line ends among these bytes
+-- no line that ends among these bytes is refused, and the first of these records are those of these
+-- lines
 pub record AreOfBytes (plan : Plan) (mets : List Met) (bytes : List ℕ)
     (came : List Met) : Type 0 where
+  pub unrefused : NoneRefused (names_of plan) bytes
   pub first : FirstOf mets came
   pub records_are : met_records came ≡ whole_records (names_of plan) bytes
 
