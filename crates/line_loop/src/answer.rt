@@ -11,6 +11,7 @@ use gathered_text::flush;
 use line_text::TextBuffer;
 
 /// Gathers the answer to a line. One of more bytes than the bound is refused.
+#[inline(always)]
 pub fn answer<M: LineListener>(
     listener: &mut M,
     bounds: LineBounds,
@@ -78,6 +79,8 @@ pub fn refuse<M: LineListener, O: Sink>(
 }
 
 /// Writes what is gathered and the last words where a line is refused, and ends so.
+#[cold]
+#[inline(never)]
 pub fn ended_by<M: LineListener, O: Sink>(
     listener: &mut M,
     stop: LineStop<M::Refusal>,

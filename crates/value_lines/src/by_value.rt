@@ -18,6 +18,8 @@ use value_text::print_value;
 use wire_values::{ReadError, read_as};
 
 /// Gathers the text of the value that the bytes read as whose hex a line is.
+#[cold]
+#[inline(never)]
 pub fn decode_by_value(
     alloc: Global,
     schema: &Schema,

@@ -66,6 +66,7 @@ impl LineListener for Decoder<'_> {
 
     ghost heard = { λ first now past. now.schema.now ≡ first.schema.now };
 
+    #[inline(always)]
     fn hear(
         &mut self,
         number: u64,
@@ -93,6 +94,7 @@ impl LineListener for Decoder<'_> {
 
 /// Gathers the text of the value that the bytes read as whose hex a line is. The bytes are written into a buffer that
 /// is used again.
+#[inline(always)]
 fn decode_line(
     alloc: Global,
     schema: &Schema,

@@ -71,6 +71,7 @@ impl LineListener for Encoder<'_> {
 
     ghost heard = { λ first now past. now.schema.now ≡ first.schema.now };
 
+    #[inline(always)]
     fn hear(
         &mut self,
         number: u64,
@@ -98,6 +99,7 @@ impl LineListener for Encoder<'_> {
 
 /// Gathers the hex of the serialized form of the value of which a line is the text: in one pass, and where that says
 /// nothing, by the value.
+#[inline(always)]
 fn encode_line(
     alloc: Global,
     schema: &Schema,
@@ -175,6 +177,8 @@ fn put_front_line(bytes: &[u8], count: usize, gathered: &mut TextBuffer) -> Resu
 }
 
 /// Gathers the hex of the serialized form of the value that a line reads as.
+#[cold]
+#[inline(never)]
 fn encode_read(
     alloc: Global,
     schema: &Schema,
