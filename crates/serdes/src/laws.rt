@@ -1,8 +1,9 @@
 //! The laws of writing and reading, and the call that does both.
-ghost use Rattle.std.specs.Prelude.{◌≡◌, ◌*◌, ◌^◌, ◌≤◌, IfOk, length};
+ghost use Rattle.std.specs.Prelude.{◌≡◌, ◌*◌, ◌^◌, ◌≤◌, ℕ, List, Err, IfOk, length};
 ghost use Rattle.dsdl_types.specs.Cast.{cast};
 ghost use Rattle.dsdl_types.specs.Greatest.{longest};
 ghost use Rattle.dsdl_types.specs.Views.{sch, val};
+ghost use Rattle.wire_values.specs.Results.{IsMisfit};
 
 use crate::serialized::{read, write};
 use dsdl_types::Value;
@@ -20,7 +21,9 @@ pub fn through_bytes(
 ) -> Result<Value, WriteError>
     requires room { longest (sch layout.now.schema) ≤ 8 * length out.old }
     requires small { length out.old ≤ 2 ^ 36 }
-    ensures { IfOk result (λ v. val v ≡ cast (sch layout.now.schema) (val value.now)) }
+    ensures same { IfOk result (λ v. val v ≡ cast (sch layout.now.schema) (val value.now)) }
+    ensures misfit { (path : List ℕ) → result ≡ Err (WriteError.Misfit path)
+        → IsMisfit (sch layout.now.schema) (val value.now) path }
 {
     let len = write(alloc, layout, value, out)?;
     match read(alloc, layout, &out[..len]) {
