@@ -11,6 +11,7 @@ use crate::gives_up::GivesUp;
 use crate::line::{eat, eat_lead};
 use crate::parts::{is_uint8, length_field_bits};
 use crate::scan::scan_part;
+use crate::truths::scan_truths;
 use dsdl_types::Schema;
 
 /// Scans an array of exactly so many items.
@@ -82,6 +83,25 @@ fn scan_array(
 /// Scans at most so many items up to a closing bracket, and says how many.
 #[cycle(scan)]
 fn scan_row(
+    item: &Schema,
+    most: u32,
+    line: &[u8],
+    at: &mut usize,
+    out: &mut BitBuffer,
+) -> Result<u32, GivesUp>
+    ensures scanned { IfOk result (λ n.
+        IsRow (sch item.now) n line.now at.old out.old at.new out.new) }
+    ensures place { OnOk result (out.old.place ≤ out.new.place) }
+{
+    match item {
+        Schema::Bool => scan_truths(most, line, at, out),
+        _ => scan_items(item, most, line, at, out),
+    }
+}
+
+/// The same of items of any type.
+#[cycle(scan)]
+fn scan_items(
     item: &Schema,
     most: u32,
     line: &[u8],

@@ -33,13 +33,14 @@ pub fn digits_at(bytes: &[u8]) -> Option<Digits>
             len: 1,
         });
     }
-    if bytes.len() >= 8 {
-        let few = few_digits(bytes);
-        if few.len < 8 {
-            return Some(few);
-        }
+    if bytes.len() < 8 {
+        return Some(with_later(bytes, Digits { number: 0, len: 0 }));
     }
-    Some(digits_of(bytes))
+    let few = few_digits(bytes);
+    if few.len < 8 {
+        return Some(few);
+    }
+    Some(with_later(bytes, few))
 }
 
 /// The digits among the first eight bytes, of which the first isn't `0`. All eight are gone over,
@@ -49,7 +50,9 @@ fn few_digits(bytes: &[u8]) -> Digits
     requires eight { 8 ≤ length bytes.now }
     requires least { 49 ≤ slice_index bytes.now 0 }
     requires most { slice_index bytes.now 0 ≤ 57 }
-    ensures { decimal result.number ≡ take result.len bytes.now }
+    ensures digits { decimal result.number ≡ take result.len bytes.now }
+    ensures some { (1 ≤ result.number) × (1 ≤ result.len) }
+    ensures few { result.len ≤ 8 }
 {
     let mut number = 0;
     let mut len = 0;
@@ -72,16 +75,20 @@ fn goes_on(len: usize, index: usize, value: u8) -> bool
     len == index && value <= 9
 }
 
-/// The digits of which the first isn't `0`.
+/// Some digits in front, or none yet, and those behind them; the first byte is a digit that isn't `0`.
 #[inline(always)]
-fn digits_of(bytes: &[u8]) -> Digits
+fn with_later(bytes: &[u8], front: Digits) -> Digits
     requires some { 1 ≤ length bytes.now }
     requires least { 49 ≤ slice_index bytes.now 0 }
     requires most { slice_index bytes.now 0 ≤ 57 }
+    requires within { front.len ≤ length bytes.now }
+    requires none { front.len ≡ 0 → front.number ≡ 0 }
+    requires digits { 1 ≤ front.len
+        → (1 ≤ front.number) × (decimal front.number ≡ take front.len bytes.now) }
     ensures { decimal result.number ≡ take result.len bytes.now }
 {
-    let mut number = 0;
-    for index in 0..bytes.len() {
+    let mut number = front.number;
+    for index in front.len..bytes.len() {
         let value = bytes[index].wrapping_sub(b'0');
         if value > 9 || number > MOST {
             return Digits { number, len: index };

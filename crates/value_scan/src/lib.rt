@@ -13,6 +13,7 @@ mod parts;
 mod primitives;
 mod scan;
 mod structures;
+mod truths;
 mod unions;
 mod words;
 

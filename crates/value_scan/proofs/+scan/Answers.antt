@@ -144,17 +144,25 @@ arrays::scan_item-returns-clause-scanned t c =
     (λ part. item_left (sch c.args.item.now) c.args.first (drop c.args.at.now line) (drop c.eat_lead.new.at line) (drop c.scan_part.new.at line) (written c.args.out.now) (written c.scan_part.new.out) c.in_ok-eat_lead.ensures part)
     c.scan_part.ensures.scanned
 
-pub arrays::scan_row-returns-then-eq-clause-scanned : goal.arrays::scan_row-returns-then-eq-clause-scanned
-arrays::scan_row-returns-then-eq-clause-scanned t c =
+pub arrays::scan_items-returns-then-eq-clause-scanned : goal.arrays::scan_items-returns-then-eq-clause-scanned
+arrays::scan_items-returns-then-eq-clause-scanned t c =
     let line = c.args.line.now in
     row_left_end (sch c.args.item.now) (drop c.args.at.now line) (drop c.loop-index.at line) (written c.args.out.now) (written c.loop-index.out) c.loop-index.index _ c.loop-index.invariant.left
 
-pub arrays::scan_row-returns-clause-scanned : goal.arrays::scan_row-returns-clause-scanned
-arrays::scan_row-returns-clause-scanned t c =
+pub arrays::scan_items-returns-clause-scanned : goal.arrays::scan_items-returns-clause-scanned
+arrays::scan_items-returns-clause-scanned t c =
     let line = c.args.line.now in
     let e : c.loop-index.index ≡ c.args.most = omega (arith, c.loop-index-test.false, c.loop-index.auto.index-end) in
     let all = row_left_end (sch c.args.item.now) (drop c.args.at.now line) (drop c.loop-index.at line) (written c.args.out.now) (written c.loop-index.out) c.loop-index.index _ c.loop-index.invariant.left in
     subst (λ n. RowScans (sch c.args.item.now) true n (drop c.args.at.now line) (drop c.loop-index.at line) (written c.args.out.now) (written c.loop-index.out)) e all
+
+pub arrays::scan_row-returns-in-Bool-clause-scanned : goal.arrays::scan_row-returns-in-Bool-clause-scanned
+arrays::scan_row-returns-in-Bool-clause-scanned t c =
+    let line = c.args.line.now in
+    let k = ap type_of (ap kind_of c.in-Bool.is ∙ kind_bool) in
+    if_ok c.scan_truths.result
+    (λ n row. subst (λ s. RowScans s true n (drop c.args.at.now line) (drop c.scan_truths.new.at line) (written c.args.out.now) (written c.scan_truths.new.out)) (sym k) row)
+    c.scan_truths.ensures.scanned
 
 pub arrays::scan_var-returns-clause-scanned : goal.arrays::scan_var-returns-clause-scanned
 arrays::scan_var-returns-clause-scanned t c =

@@ -13,8 +13,8 @@ invariant-structures::scan_fields-loop-field l = record {
 }
 
 -- so many items more, and all are there
-abbrev pub invariant-arrays::scan_row-loop-index : goal.invariant-arrays::scan_row-loop-index
-invariant-arrays::scan_row-loop-index l = record {
+abbrev pub invariant-arrays::scan_items-loop-index : goal.invariant-arrays::scan_items-loop-index
+invariant-arrays::scan_items-loop-index l = record {
   left : LeavesRow (sch l.item) (drop l.fn.at l.line) (drop l.at l.line) (written l.fn.out) (written l.out) true l.index (l.index == 0);
   past : l.fn.out.place ≤ l.out.place;
 }

@@ -22,8 +22,19 @@ loop-index-preserved c =
           subst (λ m. Few b (i + 1) c.if-goes_on.len m) (sym w.number-is) (subst (λ m. Few b (i + 1) m n) (sym w.len-is) same)
     ]
 
-pub returns : goal.returns
-returns c =
+pub returns-clause-digits : goal.returns-clause-digits
+returns-clause-digits c =
     let all = c.loop-index.invariant in
     let many : 1 ≤ c.loop-index.index = omega (arith, c.loop-index-test.false) in
     (all.wrote.some (all.some many)).1
+
+pub returns-clause-some : goal.returns-clause-some
+returns-clause-some c =
+    let all = c.loop-index.invariant in
+    let many : 1 ≤ c.loop-index.index = omega (arith, c.loop-index-test.false) in
+    ((all.wrote.some (all.some many)).0, all.some many)
+
+pub returns-clause-few : goal.returns-clause-few
+returns-clause-few c =
+    let all = c.loop-index.invariant in
+    omega (arith, all.within, c.loop-index.auto.index-end)

@@ -1,5 +1,5 @@
 use Rattle.value_scan.proofs.DigitLemmas.{Wrote}
-use Rattle.value_scan.proofs.digits.digits_of.Given as goal
+use Rattle.value_scan.proofs.digits.with_later.Given as goal
 
 -- the digits so far write the number
 abbrev pub invariant-loop-index : goal.invariant-loop-index

@@ -1,6 +1,9 @@
 use Rattle.std.proofs.Common.{◌≡◌, ◌∙◌, ◌+◌, ◌≤◌, get_or, length, take, ap, arith, Fits, w8, refl}
 use Rattle.value_scan.proofs.DigitLemmas.{wrote_more, wrote_all}
-use Rattle.value_scan.proofs.digits.digits_of.Goals as goal
+use Rattle.value_scan.proofs.digits.with_later.Goals as goal
+
+pub loop-index-init : goal.loop-index-init
+loop-index-init c = record { none = c.requires.none; some = c.requires.digits }
 
 pub loop-index-preserved : goal.loop-index-preserved
 loop-index-preserved c =
@@ -20,6 +23,7 @@ pub returns : goal.returns
 returns c =
     let b = c.args.bytes.now in
     let i = c.loop-index.index in
-    let some = c.loop-index.invariant.some (let h : 1 ≤ i = omega arith in h) in
-    let all : i ≡ length b = omega (arith, c.loop-index-test.false, c.loop-index.auto.index-end) in
+    let end : i ≤ length b = c.loop-index.auto.index-end c.requires.within in
+    let all : i ≡ length b = omega (arith, c.loop-index-test.false, end) in
+    let some = c.loop-index.invariant.some (let h : 1 ≤ i = omega (arith, all, c.requires.some) in h) in
     some.1 ∙ ap (λ n. take n b) all
