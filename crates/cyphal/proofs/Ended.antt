@@ -1,5 +1,6 @@
 -- Where neither the input nor the output failed.
 use Rattle.std.proofs.Common.{◌≡◌, inl, inr, Bool, false, refl}
+use Rattle.cyphal.specs.ErrorLine.{code_of}
 use Rattle.cy_outside.specs.Outside.{Rose}
 use Rattle.node_run.specs.declared.status.Status.{Status}
 use Rattle.node_run.specs.declared.status.Status.TheVariants as status
@@ -24,3 +25,19 @@ module _ {L : Type 0} (due : Status) (old new : Outside L) (takes serves : Bool)
       elim (c.read refl) [ inl f ↦ inr (inr (record { read_fault = refl; rose = f.0; source = f.1 })) | inr f ↦ absurd (x f) ]
   completed status.WriteFault e c x y = absurd (y (c.write refl))
   completed status.NoMemory e c x y = inr (inl refl)
+
+-- the number 8 is that of a read fault alone
+pub is_read_fault : (stat : Status) → code_of stat ≡ 8 → stat ≡ status.ReadFault
+is_read_fault status.ReadFault e = refl
+is_read_fault status.Ok e = absurd cc
+is_read_fault status.Usage e = absurd cc
+is_read_fault (status.Dsdl file n why) e = absurd cc
+is_read_fault (status.Plan n why) e = absurd cc
+is_read_fault (status.Log n why) e = absurd cc
+is_read_fault (status.Text line) e = absurd cc
+is_read_fault (status.Unreadable line path why) e = absurd cc
+is_read_fault (status.NotNewer path why) e = absurd cc
+is_read_fault status.LogLong e = absurd cc
+is_read_fault (status.NoFile path) e = absurd cc
+is_read_fault status.WriteFault e = absurd cc
+is_read_fault status.NoMemory e = absurd cc

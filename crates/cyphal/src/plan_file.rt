@@ -6,6 +6,7 @@ ghost use Rattle.dsdl_types.specs.Definitions.{IsNamespace};
 ghost use Rattle.dsdl_types.specs.declared.namespace.Namespace.{Namespace as Names};
 ghost use Rattle.node_plan.specs.IsPlan.{IsPlan};
 ghost use Rattle.node_plan.specs.declared.plan.PlanWhy.{PlanWhy as Why};
+ghost use Rattle.node_run.specs.Loaded.{IsLoaded, calls_of};
 ghost use Rattle.cyphal.specs.Job.{is_fault, is_settled, CallsAtMost};
 ghost use Rattle.cyphal.specs.MayEnd.{of_plan};
 ghost use Rattle.cyphal.specs.Plans.{EndsAt, EndsIn, without_plan, plan_calls, GivesPlan, PlanAt};
@@ -37,6 +38,8 @@ pub fn plan_at<T: Tree>(alloc: Global, root: &str, path: &str, tree: &mut T) -> 
     ensures early { IfErr result (λ stat. is_settled stat ≡ false) }
     ensures calls { CallsAtMost (plan_calls root.now path.now)
         (T.files tree.old) (T.calls tree.old) (T.calls tree.new) }
+    ensures first { ((names : Names) → IsLoaded root.now (T.files tree.old) names → ⊥)
+        → CallsAtMost (calls_of root.now) (T.files tree.old) (T.calls tree.old) (T.calls tree.new) }
 {
     let names = match load(alloc, tree, root) {
         Ok(names) => names,

@@ -1,10 +1,11 @@
 //! The whole program, over any outside.
 ghost use Rattle.std.specs.Prelude.{◌≡◌, None, IfSome, IsSome, false, map, string_bytes};
+ghost use Rattle.cy_outside.specs.Outside.{Rose};
 ghost use Rattle.cyphal.specs.Answered.{left_by, stream, HasEnded};
 ghost use Rattle.cyphal.specs.Cause.{outside};
 ghost use Rattle.cyphal.specs.Expected.{job_for};
-ghost use Rattle.cyphal.specs.Help.{own_answer, HasAnswered};
-ghost use Rattle.cyphal.specs.Job.{told_by};
+ghost use Rattle.cyphal.specs.Help.{own_answer, HasAnswered, HasOwnCause};
+ghost use Rattle.cyphal.specs.Job.{told_by, CallsAtMost};
 
 use crate::code_of;
 use crate::help::own_answer;
@@ -26,6 +27,8 @@ pub fn program<T: Tree, L: Source, O: Sink, E: Sink>(
 ) -> u8
     ensures own { IfSome (own_answer (map string_bytes words.now)) (λ text.
         HasAnswered text result (O.written out.old) (O.written out.new)) }
+    ensures own_cause { IsSome (own_answer (map string_bytes words.now))
+        → HasOwnCause result input.old input.new (O.faults out.old) (O.faults out.new) }
     ensures quiet { IsSome (own_answer (map string_bytes words.now)) → err.new ≡ err.old }
     ensures untouched { (job_for (map string_bytes words.now)).calls_tree ≡ false
         → tree.new ≡ tree.old }
@@ -37,6 +40,10 @@ pub fn program<T: Tree, L: Source, O: Sink, E: Sink>(
         let err_old = stream (E.faults err.old) (E.written err.old) in
         let err_new = stream (E.faults err.new) (E.written err.new) in
         own_answer words ≡ None → HasEnded words told result left old new err_old err_new }
+    // A read fault of the tree is one of a call that the command needs.
+    ensures needed { let needs = (job_for (map string_bytes words.now)).needs in
+        result ≡ 8 → ¬ Rose (L.faults input.old) (L.faults input.new)
+        → CallsAtMost needs (T.files tree.old) (T.calls tree.old) (T.calls tree.new) }
 {
     if let Some(text) = own_answer(words) {
         return match put_all(out, text.as_bytes()) {

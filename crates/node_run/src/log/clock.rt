@@ -36,6 +36,7 @@ impl Clock {
     pub fn begin(&mut self, moment: u64)
         ensures number { self.new.number ≡ self.old.number }
         ensures next { self.new.next ≡ begun_next self.old.number self.old.next moment }
+        ensures last { self.new.last ≡ self.old.last }
     {
         if self.number == 0 {
             self.next = moment;

@@ -1,3 +1,5 @@
+use Rattle.std.proofs.Common.{◌∙◌, sym}
+use Rattle.cyphal.proofs.Ended.{is_read_fault}
 use Rattle.cyphal.proofs.program.program.Goals as goal
 
 pub returns-clause-ended : goal.returns-clause-ended
@@ -9,3 +11,8 @@ returns-clause-ended g c own =
       answered = done.ensures.answered;
       said = done.ensures.said;
     }
+
+pub returns-clause-needed : goal.returns-clause-needed
+returns-clause-needed g c code quiet =
+    let done = c.run_words-done in
+    done.ensures.needed (is_read_fault done.result.status (sym c.code_of-2.ensures ∙ code)) quiet
