@@ -71,7 +71,8 @@ fn power(left: &Const, right: &Const) -> Result<Const, Why>
 fn by_kinds(alloc: Global, op: Operator, left: Operand, right: Const) -> Result<Operand, Why>
     requires left { IsOperand left }
     requires right { IsConst right }
-    ensures value { Gives (worth result) (by_kinds op (out-Const (constant_of left)) (out-Const right)) }
+    ensures value { Gives (worth result)
+        (by_kinds op (out-Const (constant_of left)) (out-Const right)) }
     ensures kept { IfOk result IsOperand }
 {
     match op {
@@ -129,7 +130,8 @@ fn remainder(alloc: Global, left: Const, right: Const) -> Result<Operand, Why>
     on_listed(alloc, op, Operand::Constant(left), right)
 }
 
-/// What an operator makes of two constants. The left one is taken as it is and grown where the result holds it.
+/// What an operator makes of two constants. The left one is taken as it is and grown where the
+/// result holds it.
 #[tactic(auto, unfolding(crate::specs::Binary::binary))]
 pub fn binary(alloc: Global, op: &str, left: Operand, right: Const) -> Result<Operand, Why>
     requires left { IsOperand left }

@@ -126,7 +126,8 @@ fn on_sets(alloc: Global, sign: Bits, xs: BTreeSet<Ranked>, ys: List<Const>) -> 
 fn with_set(alloc: Global, sign: Bits, left: Operand, ys: List<Const>) -> Result<Operand, Why>
     requires left { IsOperand left }
     requires right { IsAscending ys }
-    ensures value { Gives (worth result) (on_bits sign (out-Const (constant_of left)) (layer.Set ys)) }
+    ensures value { Gives (worth result)
+        (on_bits sign (out-Const (constant_of left)) (layer.Set ys)) }
     ensures kept { IfOk result IsOperand }
 {
     match left {
@@ -143,7 +144,8 @@ fn with_set(alloc: Global, sign: Bits, left: Operand, ys: List<Const>) -> Result
 #[tactic(auto, using(crate::proofs::Layers::layers))]
 fn with_number(sign: Bits, left: Operand, y: Ratio) -> Result<Operand, Why>
     requires { IsOperand left }
-    ensures value { Gives (worth result) (on_bits sign (out-Const (constant_of left)) (layer.Number y)) }
+    ensures value { Gives (worth result)
+        (on_bits sign (out-Const (constant_of left)) (layer.Number y)) }
     ensures kept { IfOk result IsOperand }
 {
     match left {
@@ -156,13 +158,14 @@ fn with_number(sign: Bits, left: Operand, y: Ratio) -> Result<Operand, Why>
     }
 }
 
-/// What an operator makes of two constants whose lengths are listed: whole numbers, by their bits in two's
-/// complement; sets of one kind, unless the result has no member.
+/// What an operator makes of two constants whose lengths are listed: whole numbers, by their bits
+/// in two's complement; sets of one kind, unless the result has no member.
 #[tactic(auto, using(crate::proofs::Layers::layers, crate::proofs::Keeps::set_ascends))]
 pub fn bits(alloc: Global, sign: Bits, left: Operand, right: Const) -> Result<Operand, Why>
     requires left { IsOperand left }
     requires right { IsConst right }
-    ensures value { Gives (worth result) (on_bits sign (out-Const (constant_of left)) (out-Const right)) }
+    ensures value { Gives (worth result)
+        (on_bits sign (out-Const (constant_of left)) (out-Const right)) }
     ensures kept { IfOk result IsOperand }
 {
     match right {

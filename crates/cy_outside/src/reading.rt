@@ -8,8 +8,8 @@ use std::alloc::Global;
 
 /// The first `most` bytes of a file, or all that it has; `None` where there is no file.
 ///
-/// `Failed` comes only where a read of the tree failed. The tree is called once for each whole piece
-/// of 8,192 bytes that it gives, and at most once more.
+/// `Failed` comes only where a read of the tree failed. The tree is called once for each whole
+/// piece of 8,192 bytes that it gives, and at most once more.
 pub fn read_file<T: Tree>(
     alloc: Global,
     tree: &mut T,

@@ -61,7 +61,8 @@ pub enum Size {
 /// begins with it and `/`. That nothing stands at a path is an answer, and no fault.
 ///
 /// No call changes the files. `TreeError::Failed` comes only where the call raised the count of
-/// faults; every other answer leaves the count as it was. Each call raises the count of calls by one.
+/// faults; every other answer leaves the count as it was. Each call raises the count of calls by
+/// one.
 pub trait Tree {
     /// The files, where it tells them.
     ghost files: { Self → Option Files };
@@ -69,8 +70,8 @@ pub trait Tree {
     /// How often it has failed. The count stays at 2^64 - 1 once it is there.
     ghost faults: { Self → ℕ };
 
-    /// How many calls it has had. The count stays at 2^64 - 1 once it is there, and a tree that doesn't
-    /// count stands there from the start.
+    /// How many calls it has had. The count stays at 2^64 - 1 once it is there, and a tree that
+    /// doesn't count stands there from the start.
     ghost calls: { Self → ℕ };
 
     /// The direct members of a folder.
@@ -81,8 +82,8 @@ pub trait Tree {
         ensures count { faults self.old ≤ faults self.new }
         ensures calls { calls self.new ≡ one_more (calls self.old) };
 
-    /// Puts as many bytes of a file, from an offset on, at the buffer's front as the file has and the
-    /// buffer takes. The rest of the buffer stays. Takes no memory: it fails only as `Failed`.
+    /// Puts as many bytes of a file, from an offset on, at the buffer's front as the file has and
+    /// the buffer takes. The rest of the buffer stays. Takes no memory: it fails only as `Failed`.
     fn read_at(&mut self, path: &str, offset: u64, buf: &mut [u8]) -> Result<Got, TreeError>
         ensures files { files self.new ≡ files self.old }
         ensures within { IfOk result (λ got. IsWithin got (length buf.old)) }

@@ -154,10 +154,11 @@ statuses: 0 done, 1 usage, 2 DSDL file refused, 3 plan refused, 4 log refused,
     12 no such file, folder or type
 ";
 
-/// The command that the words are, so `compile ROOT`, `compat ROOT NEW OLD`, `versions ROOT`, `encode
-/// ROOT TYPE`, `decode ROOT TYPE`, `run ROOT PLAN`, `bound ROOT PLAN`, `migrate ROOT PLAN`, `explain
-/// ROOT PLAN`, `gen NUMBER`, `order MICROS`, `survey BUSES`, `monitor NODE`, `allocate NODE` or `fetch
-/// NODE SERVER PATH`; none where they aren't accepted. It wants memory where they are.
+/// The command that the words are, so `compile ROOT`, `compat ROOT NEW OLD`, `versions ROOT`,
+/// `encode ROOT TYPE`, `decode ROOT TYPE`, `run ROOT PLAN`, `bound ROOT PLAN`, `migrate ROOT PLAN`,
+/// `explain ROOT PLAN`, `gen NUMBER`, `order MICROS`, `survey BUSES`, `monitor NODE`, `allocate
+/// NODE` or `fetch NODE SERVER PATH`; none where they aren't accepted. It wants memory where they
+/// are.
 pub fn command_of<'a>(alloc: Global, words: &'a [String]) -> Result<Option<Accepted<'a>>, NoMemory>
     ensures is { let asked = command_of (map string_bytes words.entry.now) in
         IfOk result (λ given. option_map asked_by given ≡ asked) }

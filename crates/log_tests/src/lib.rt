@@ -1,5 +1,6 @@
 //! Tests of the crates that a log and a plan are read by, of those below them, and of those that
-//! frames are made by. They stand in a crate of their own, since a crate with tests is proved twice.
+//! frames are made by. They stand in a crate of their own, since a crate with tests is proved
+//! twice.
 #![tactic(auto)]
 
 #[cfg(test)]

@@ -1,5 +1,5 @@
-//! The node: what one record or one tick gives, line by line, and what it sends. The lines are those
-//! of `report_lines`.
+//! The node: what one record or one tick gives, line by line, and what it sends. The lines are
+//! those of `report_lines`.
 #![tactic(auto)]
 
 mod answers;

@@ -11,8 +11,8 @@ use dsdl_types::Shape;
 use rx_table::Port;
 use tail_frame::Frame;
 
-/// The same as `reason_on` where the source's session is at this place among the port's. `None` says
-/// nothing.
+/// The same as `reason_on` where the source's session is at this place among the port's. `None`
+/// says nothing.
 #[inline(always)]
 pub(crate) fn reason_by<S: Shape>(
     port: &Port<S>,

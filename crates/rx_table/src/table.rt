@@ -73,9 +73,9 @@ impl<S: Shape> Table<S> {
 
     /// Subscribes to a kind and port, for the first `sources` sources that send a start frame.
     ///
-    /// The table has fewer than 2^16 subscriptions, `sources` is 1 to 128, and the shape's extent is
-    /// at most 2^32 bits; what it stands for is told of a table that has no source yet. Taken where that kind and port is there; the table is then as
-    /// before, as it is at want of memory.
+    /// The table has fewer than 2^16 subscriptions, `sources` is 1 to 128, and the shape's extent
+    /// is at most 2^32 bits; what it stands for is told of a table that has no source yet. Taken
+    /// where that kind and port is there; the table is then as before, as it is at want of memory.
     pub fn subscribe(
         &mut self,
         kind: Kind,
@@ -143,10 +143,10 @@ impl<S: Shape> Table<S> {
 
     /// Takes a frame, at a moment in microseconds not before that of any frame taken earlier.
     ///
-    /// A frame on no subscribed port leaves the table as it is, and so does an anonymous one, which is
-    /// delivered at once. A start frame of a new source opens a session where the port has fewer sources
-    /// than it takes: only then is memory taken, and want of it leaves the table as it was. A frame that
-    /// isn't a start, of a source with no session, is ignored.
+    /// A frame on no subscribed port leaves the table as it is, and so does an anonymous one, which
+    /// is delivered at once. A start frame of a new source opens a session where the port has fewer
+    /// sources than it takes: only then is memory taken, and want of it leaves the table as it was.
+    /// A frame that isn't a start, of a source with no session, is ignored.
     ///
     /// The short form of `step` and `lend`, for a caller that takes each answer at once; a node
     /// calls these two.
@@ -167,7 +167,8 @@ impl<S: Shape> Table<S> {
         }
     }
 
-    /// Puts the bytes of a frame in front of its session's buffer, where it came to a whole transfer.
+    /// Puts the bytes of a frame in front of its session's buffer, where it came to a whole
+    /// transfer.
     fn put_whole(&mut self, met: Met, frame: &Frame)
         ensures keeps { Keeps S.shape self.old self.new }
         ensures states { states_of S.shape self.new
@@ -180,8 +181,8 @@ impl<S: Shape> Table<S> {
         }
     }
 
-    /// Puts the bytes of a frame in front of the buffer of the session at a place of the port at a place,
-    /// where no transfer is being put together.
+    /// Puts the bytes of a frame in front of the buffer of the session at a place of the port at a
+    /// place, where no transfer is being put together.
     fn put_body(&mut self, place: usize, index: usize, frame: &Frame)
         ensures keeps { Keeps S.shape self.old self.new }
         ensures states { states_of S.shape self.new
@@ -193,8 +194,8 @@ impl<S: Shape> Table<S> {
         }
     }
 
-    /// What `feed` does, without borrowing a payload: `lend` tells it, with the same frame. The bytes of a
-    /// whole transfer aren't put into its session's buffer.
+    /// What `feed` does, without borrowing a payload: `lend` tells it, with the same frame. The
+    /// bytes of a whole transfer aren't put into its session's buffer.
     #[inline(always)]
     pub fn step(&mut self, frame: &Frame) -> Result<Met, NoMemory>
         requires { HasHeardBy S.shape frame.now.moment self.old }
@@ -242,8 +243,8 @@ impl<S: Shape> Table<S> {
         }
     }
 
-    /// A frame of a source whose session is found without a search, on the port at a place: the session's
-    /// place, and what it made of the frame. `None` says nothing, and does nothing.
+    /// A frame of a source whose session is found without a search, on the port at a place: the
+    /// session's place, and what it made of the frame. `None` says nothing, and does nothing.
     #[inline(always)]
     fn quick_at(&mut self, place: usize, source: u8, frame: &Frame) -> Option<(usize, Step)>
         requires within { place < length self.old.ports.items }
@@ -263,9 +264,9 @@ impl<S: Shape> Table<S> {
         }
     }
 
-    /// What `step` does with a frame of a source whose session is found without a search, on the port at
-    /// this place: the session's place, and what it made of the frame. `None` says nothing, and does
-    /// nothing.
+    /// What `step` does with a frame of a source whose session is found without a search, on the
+    /// port at this place: the session's place, and what it made of the frame. `None` says nothing,
+    /// and does nothing.
     #[inline(always)]
     pub fn quick(&mut self, place: usize, frame: &Frame) -> Option<(usize, Step)>
         requires place { let key = key_of frame.now.ident in
@@ -306,8 +307,8 @@ impl<S: Shape> Table<S> {
         }
     }
 
-    /// The bytes of the buffers of all sessions, or 2^64 - 1 where they are more. Frames that a plan's
-    /// ports let in never make them that many. The cost doesn't depend on the subscriptions.
+    /// The bytes of the buffers of all sessions, or 2^64 - 1 where they are more. Frames that a
+    /// plan's ports let in never make them that many. The cost doesn't depend on the subscriptions.
     pub fn held(&self) -> u64
         ensures sum { result ≡ min (held_of (states_of S.shape self.now)) (2 ^ 64 - 1) }
         ensures held { (log : List KeyedFrame) → IsOfLog S.shape self.now log
@@ -347,8 +348,8 @@ impl<S: Shape> Table<S> {
         &self.ports[place].shape
     }
 
-    /// The sources of a subscription that have a session, in the order of their first start frames. None
-    /// where that kind and port isn't subscribed.
+    /// The sources of a subscription that have a session, in the order of their first start frames.
+    /// None where that kind and port isn't subscribed.
     pub fn sources(&self, kind: Kind, port: u16) -> ShortList<u8, 128>
         ensures { (log : List KeyedFrame) → IsOfLog S.shape self.now log
             → result ≡ admitted_on (port_at kind port (subscriptions S.shape self.now)) log }

@@ -14,8 +14,8 @@ pub struct Digits {
     pub len: usize,
 }
 
-/// The digits in front of some bytes, of a number without zeros in front; nothing where none stands there. Behind `0`
-/// and behind those of a number near 2^64 others may stand.
+/// The digits in front of some bytes, of a number without zeros in front; nothing where none stands
+/// there. Behind `0` and behind those of a number near 2^64 others may stand.
 #[inline(always)]
 pub fn digits_at(bytes: &[u8]) -> Option<Digits>
     ensures { IfSome result (λ it. decimal it.number ≡ take it.len bytes.now) }
@@ -75,7 +75,8 @@ fn goes_on(len: usize, index: usize, value: u8) -> bool
     len == index && value <= 9
 }
 
-/// Some digits in front, or none yet, and those behind them; the first byte is a digit that isn't `0`.
+/// Some digits in front, or none yet, and those behind them; the first byte is a digit that isn't
+/// `0`.
 #[inline(always)]
 fn with_later(bytes: &[u8], front: Digits) -> Digits
     requires some { 1 ≤ length bytes.now }

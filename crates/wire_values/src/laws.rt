@@ -10,8 +10,8 @@ pub fn fits_or_misfit()
     ensures { FitsOrMisfit }
 {}
 
-/// What `write_as` wrote, alone or with zeros behind, `read_as` reads as that value with its numbers in
-/// range.
+/// What `write_as` wrote, alone or with zeros behind, `read_as` reads as that value with its
+/// numbers in range.
 pub fn written_reads()
     ensures { RoundTrip }
 {}

@@ -43,8 +43,8 @@ pub fn write_as(
     }
 }
 
-/// Reads bytes as a value of a composite schema (Cyphal Specification, section 3.7). Past the end of
-/// the bytes, and past that of a delimited part, zeros are read; surplus bytes are ignored.
+/// Reads bytes as a value of a composite schema (Cyphal Specification, section 3.7). Past the end
+/// of the bytes, and past that of a delimited part, zeros are read; surplus bytes are ignored.
 pub fn read_as(alloc: Global, schema: &Schema, bytes: &[u8]) -> Result<Value, ReadError>
     requires rules { IsSchema (sch schema.now) }
     requires composite { is_composite (sch schema.now) ≡ true }
