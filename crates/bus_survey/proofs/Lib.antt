@@ -7,4 +7,3 @@ pub mod SourceLemmas
 pub mod BusLemmas
 pub mod MoreLemmas
 pub mod SurveyLemmas
-pub mod Weaker

@@ -20,8 +20,8 @@ use std::alloc::Global;
 /// the folder whose listing brings the entries of all folders together past `MAX_ENTRIES`; else the
 /// first file in the order of paths that is past the count of `MAX_FILES` or has more than
 /// `MAX_FILE` bytes. `NotFolder` comes exactly where the root is no folder of the tree. `Failed`
-/// comes only where the tree failed in this call. The tree is called once for the root and for each
-/// folder below it, and for each file as often as `read_file` says.
+/// comes only where the tree failed in this call. The tree is called at most once for the root and
+/// for each folder below it, and for each file as often as `read_file` says.
 ///
 /// A listed file that the tree then answers as absent or as a folder counts as an empty file, and a
 /// listed folder that is then absent or no folder as an empty one. A name that a listing repeats

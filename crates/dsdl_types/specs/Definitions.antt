@@ -32,8 +32,8 @@ abbrev pub count_in : Parts → ℕ
 count_in (parts.Message s) = typed_count (sch s)
 count_in (parts.Service request response) = typed_count (sch request) + typed_count (sch response)
 
--- a definition's schemas are composites that keep the rules, and each of their fields that isn't
--- padding has the text of its type
+-- a definition's schemas are composites that keep the rules, and it has as many texts of types as
+-- they have fields that aren't padding
 pub record IsDefinition (d : Definition) : Type 0 where
   pub rules : AreTypes d.parts
   pub texts : length d.types ≡ count_in d.parts

@@ -6,7 +6,6 @@ pub mod Lasts
 pub mod Slots
 pub mod Said
 pub mod Reported
-pub mod Weaker
 pub mod Nodes
 mod Frames
 mod Heard

@@ -9,3 +9,4 @@ pub mod Streams
 pub mod Plain
 pub mod Runs
 pub mod Listened
+pub mod Weaker

@@ -40,7 +40,7 @@ module _ {E : Type 0} (v : Voice E) (past : List E) (before after : Option (List
 
   -- this holds of the first events
   pub begun : (done : List E → Type 0) (events : List E) (refusal : Option LogError) → FirstOf events past → done past → Begins (said v past) before after → Begun v done events refusal before after
-  begun done events refusal first k b = record { came = past; first = first; is = k; written = begins_whole events refusal first b }
+  begun done events refusal first k b = record { came = past; first = first; is = k; begins = b; written = begins_whole events refusal first b }
 
   -- this holds of all events
   settled : (done : List E → Type 0) (events : List E) (refusal : Option LogError) → events ≡ past → done past → after ≡ behind before (whole_text v past refusal) → Settled v done events refusal before after

@@ -51,12 +51,14 @@ pub record Upto {E : Type 0} (v : Voice E) (heard : List E → Type 0) (events :
   pub hears : heard came
   pub written : after ≡ behind before (said v came)
 
--- this holds of the first events, and a beginning of all that is said of them all was written
+-- this holds of the first events, and a beginning of what is said on these was written, so one of
+-- all that is said of them all
 pub record Begun {E : Type 0} (v : Voice E) (done : List E → Type 0) (events : List E) (refusal : Option LogError)
     (before after : Option (List ℕ)) : Type 0 where
   pub came : List E
   pub first : FirstOf events came
   pub is : done came
+  pub begins : Begins (said v came) before after
   pub written : Begins (whole_text v events refusal) before after
 
 -- this holds of all events of a log that was read to its end, and a beginning of all that is said

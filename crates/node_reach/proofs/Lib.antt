@@ -1,6 +1,5 @@
 pub mod Extents
 pub mod Results
-pub mod Weaker
 pub mod Answered
 pub mod Allocates
 pub mod Begun

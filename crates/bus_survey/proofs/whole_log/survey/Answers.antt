@@ -3,7 +3,7 @@ use Rattle.tail_frame.specs.declared.logged.Record.{Record}
 use Rattle.log_loop.specs.Gone.{any_stages}
 use Rattle.log_loop.specs.Listened.{HasListened}
 use Rattle.bus_survey.specs.Surveyed.{survey_voice}
-use Rattle.bus_survey.proofs.Weaker.{has_listened}
+use Rattle.log_loop.proofs.Weaker.{has_listened}
 use Rattle.bus_survey.proofs.whole_log.survey.Goals as goal
 
 pub returns-clause-listened : goal.returns-clause-listened

@@ -9,7 +9,7 @@ use Rattle.log_loop.specs.declared.ended.Ended.TheVariants as end
 use Rattle.node_core.specs.declared.node.Node.{Node}
 use Rattle.log_explain.specs.Explained.{explain_voice, last_text, names_of, step_text}
 use Rattle.log_explain.proofs.Nodes.{begun, few_first}
-use Rattle.log_explain.proofs.Weaker.{has_listened}
+use Rattle.log_loop.proofs.Weaker.{has_listened}
 use Rattle.log_explain.proofs.whole_log.explain_log.Goals as goal
 
 none_listened : (plan : Plan) (told before : Option (List ℕ)) → HasListened (names_of plan) (explain_voice plan) (any_stages Record) told told end.NoMemory before before

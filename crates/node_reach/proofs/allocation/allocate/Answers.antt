@@ -4,7 +4,7 @@ use Rattle.log_loop.specs.Gone.{any_stages}
 use Rattle.log_loop.specs.Listened.{HasListened}
 use Rattle.node_reach.specs.Allocated.{allocate_voice}
 use Rattle.node_reach.specs.Buses.{bus_names}
-use Rattle.node_reach.proofs.Weaker.{has_listened}
+use Rattle.log_loop.proofs.Weaker.{has_listened}
 use Rattle.node_reach.proofs.allocation.allocate.Goals as goal
 
 pub returns-clause-listened : goal.returns-clause-listened

@@ -18,7 +18,7 @@ use Rattle.node_reach.specs.Buses.{bus_names}
 use Rattle.node_reach.specs.Fetched.{client_of, file_limit, events, file_line, end_text, fetch_voice, step_text, last_text}
 use Rattle.node_reach.specs.FetchedFile.{IsFetched, WritesFile}
 use Rattle.node_reach.specs.declared.client.Client.{Client}
-use Rattle.node_reach.proofs.Weaker.{has_listened}
+use Rattle.log_loop.proofs.Weaker.{has_listened}
 use Rattle.node_reach.proofs.file_fetch.fetch.Goals as goal
 
 -- what is said at the end of a log by which a file was fetched

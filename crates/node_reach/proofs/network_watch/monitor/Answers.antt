@@ -6,7 +6,7 @@ use Rattle.log_loop.specs.Gone.{any_stages}
 use Rattle.log_loop.specs.Listened.{HasListened}
 use Rattle.node_reach.specs.Buses.{bus_names}
 use Rattle.node_reach.specs.Monitored.{monitor_voice, step_text, last_text}
-use Rattle.node_reach.proofs.Weaker.{has_listened}
+use Rattle.log_loop.proofs.Weaker.{has_listened}
 use Rattle.node_reach.proofs.network_watch.monitor.Goals as goal
 
 pub returns-in_default-clause-listened : goal.returns-in_default-clause-listened

@@ -19,7 +19,7 @@ module _ {E : Type 0} (names : List (List ℕ)) (v : Voice E) (s : Stages E) (ev
   upto u = record { came = u.came; first = u.first; hears = tt; written = u.written }
 
   begun : (done : List E → Type 0) (refusal : Option LogError) → Begun v done events refusal before after → Begun v (λ past. ⊤) events refusal before after
-  begun done refusal b = record { came = b.came; first = b.first; is = tt; written = b.written }
+  begun done refusal b = record { came = b.came; first = b.first; is = tt; begins = b.begins; written = b.written }
 
   begun_whole : (done : List E → Type 0) (refusal : Option LogError) → BegunWhole v done events refusal before after → BegunWhole v (λ past. ⊤) events refusal before after
   begun_whole done refusal b = record { is = tt; read = b.read; written = b.written }
