@@ -12,7 +12,8 @@ use Rattle.value_text.specs.Unreadable.{read_why_number}
 use Rattle.value_json.specs.Json.{json_of}
 use Rattle.value_json.specs.Pieces.{Exact, Piece, exact}
 use Rattle.value_json.specs.Words.{name_text, quoted}
-use Rattle.text_lines.specs.Text.{bus_text, kind_text}
+use Rattle.can_id.specs.Kinds.{kind_text}
+use Rattle.node_plan.specs.Buses.{bus_text}
 use Rattle.report_lines.specs.declared.line.Line.{Line}
 use Rattle.report_lines.specs.declared.line.Line.TheVariants.{Rx, NoSession, Tx, Full}
 use Rattle.report_lines.specs.declared.line.Rx.{Rx as Received}

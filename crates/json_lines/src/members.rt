@@ -1,8 +1,8 @@
 //! Members of lines that have room in a text.
 ghost use Rattle.std.specs.Prelude.{◌≡◌, ◌≤◌, ◌+◌, ◌*◌, ◌++◌, decimal, length};
-ghost use Rattle.line_text.specs.Buffer.{room_of};
-ghost use Rattle.text_lines.specs.Puts.{Puts};
-ghost use Rattle.text_lines.specs.Text.{bus_text, kind_text};
+ghost use Rattle.line_text.specs.Buffer.{Puts, room_of};
+ghost use Rattle.can_id.specs.Kinds.{kind_text};
+ghost use Rattle.node_plan.specs.Buses.{bus_text};
 ghost use Rattle.value_json.specs.Words.{quoted};
 ghost use Rattle.json_lines.specs.Text.{error_text, key_members, node_members, payload_member, place_members, received_members, source_json, transfer_members, why_name};
 

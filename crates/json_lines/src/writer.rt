@@ -2,10 +2,9 @@
 ghost use Rattle.std.specs.Prelude.{◌≡◌, ◌≤◌, ◌+◌, ◌*◌, ◌++◌, None, OnOk, OnErr, Some, codes, length};
 ghost use Rattle.dsdl_types.specs.Fits.{Fits};
 ghost use Rattle.dsdl_types.specs.Views.{sch, val};
-ghost use Rattle.line_text.specs.Buffer.{room_of, text_of};
+ghost use Rattle.line_text.specs.Buffer.{Puts as PutsBytes, room_of, text_of};
 ghost use Rattle.value_json.specs.Pieces.{Begins, Puts, exact};
 ghost use Rattle.value_json.specs.Json.{json_of};
-ghost use Rattle.text_lines.specs.Puts.{Puts as PutsBytes};
 ghost use Rattle.json_lines.specs.Text.{end_json, line_end};
 
 use crate::members::{
@@ -16,9 +15,9 @@ use cy_bits::{NoMemory, ShortList};
 use dsdl_types::{ReadWhy, Schema, Value};
 use line_text::TextBuffer;
 use node_plan::BusPlan;
+use node_plan::buses::copy_of;
 use report_lines::{CompiledShape, FullLine, LineRef, Numbers, Refused, RxRef, TxRef};
 use std::alloc::Global;
-use text_lines::buses::copy_of;
 use value_json::put_value;
 
 /// The most bytes of a line besides those of its payload and of what that says.

@@ -10,9 +10,8 @@ use Rattle.rx_reason.specs.Asked.{listens}
 use Rattle.rx_reason.specs.Reasons.{Listens}
 use Rattle.node_plan.specs.declared.plan.Plan.{Plan}
 use Rattle.node_core.specs.Heard.{ports_of}
-use Rattle.line_text.specs.Buffer.{text_of}
+use Rattle.line_text.specs.Buffer.{Puts, text_of}
 use Rattle.line_text.specs.declared.text_buffer.TextBuffer.{TextBuffer}
-use Rattle.text_lines.specs.Puts.{Puts}
 use Rattle.node_core.specs.Shapes.{shape_extent}
 use Rattle.node_core.specs.Stands.{Stands as NodeStands}
 use Rattle.node_core.specs.declared.node.Node.{Node}

@@ -1,7 +1,7 @@
 -- What a node stands for whose frames are explained.
 use Rattle.std.specs.Prelude.{◌≡◌, List, ◌∷◌, length}
 use Rattle.line_text.specs.declared.text_buffer.TextBuffer.{TextBuffer}
-use Rattle.text_lines.specs.Puts.{Puts}
+use Rattle.line_text.specs.Buffer.{Puts}
 use Rattle.node_core.specs.Stands.{Stands}
 use Rattle.node_plan.specs.declared.plan.Plan.{Plan}
 use Rattle.node_core.specs.Heard.{ports_of}

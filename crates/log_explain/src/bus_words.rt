@@ -19,8 +19,7 @@ pub struct BusWords {
 
 impl BusWords {
     ghost use Rattle.std.specs.Prelude.{◌≤◌, ◌+◌};
-    ghost use Rattle.line_text.specs.Buffer.{room_of};
-    ghost use Rattle.text_lines.specs.Puts.{Puts};
+    ghost use Rattle.line_text.specs.Buffer.{Puts, room_of};
     ghost use Rattle.log_explain.specs.Text.{name_of};
 
     /// The words of buses with these names.

@@ -1,8 +1,7 @@
 //! The text of the lines on records.
 ghost use Rattle.std.specs.Prelude.{◌≡◌, ◌≤◌, ◌+◌, ◌++◌, ◌∷◌, [], IfOk};
-ghost use Rattle.line_text.specs.Buffer.{room_of};
+ghost use Rattle.line_text.specs.Buffer.{Puts, room_of};
 ghost use Rattle.line_text.specs.Text.{spaced};
-ghost use Rattle.text_lines.specs.Puts.{Puts};
 ghost use Rattle.log_explain.specs.Text.{kind_word, source_word, transfer_words};
 
 use crate::bus_words::BusWords;

@@ -21,8 +21,7 @@ pub struct PortWords {
 
 impl PortWords {
     ghost use Rattle.std.specs.Prelude.{◌≤◌, ◌+◌};
-    ghost use Rattle.line_text.specs.Buffer.{room_of};
-    ghost use Rattle.text_lines.specs.Puts.{Puts};
+    ghost use Rattle.line_text.specs.Buffer.{Puts, room_of};
 
     /// Takes memory for the numbers.
     pub fn new(alloc: Global) -> Result<PortWords, NoMemory> {

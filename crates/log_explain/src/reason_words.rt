@@ -1,8 +1,7 @@
 //! The words of a reason.
 ghost use Rattle.std.specs.Prelude.{◌≡◌, ◌≤◌, ◌+◌, ◌++◌, ◌∷◌, [], decimal, length};
-ghost use Rattle.line_text.specs.Buffer.{room_of};
+ghost use Rattle.line_text.specs.Buffer.{Puts, room_of};
 ghost use Rattle.line_text.specs.Text.{line_of};
-ghost use Rattle.text_lines.specs.Puts.{Puts};
 ghost use Rattle.log_explain.specs.Text.{before, change_words, reason_words, silence_words};
 
 use crate::bus_words::BusWords;

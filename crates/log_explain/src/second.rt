@@ -22,9 +22,8 @@ pub struct Second {
 
 impl Second {
     ghost use Rattle.std.specs.Prelude.{◌≤◌, ◌<◌, ◌+◌};
-    ghost use Rattle.line_text.specs.Buffer.{room_of};
+    ghost use Rattle.line_text.specs.Buffer.{Puts, room_of};
     ghost use Rattle.line_text.specs.Text.{moment_text};
-    ghost use Rattle.text_lines.specs.Puts.{Puts};
 
     /// The second in which a moment is.
     pub fn of(moment: u64) -> Second

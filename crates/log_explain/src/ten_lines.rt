@@ -19,8 +19,7 @@ pub struct TenLines {
 
 impl TenLines {
     ghost use Rattle.std.specs.Prelude.{◌≤◌, ◌<◌, ◌+◌, ◌++◌, ◌∷◌, [], codes, decimal};
-    ghost use Rattle.line_text.specs.Buffer.{room_of};
-    ghost use Rattle.text_lines.specs.Puts.{Puts};
+    ghost use Rattle.line_text.specs.Buffer.{Puts, room_of};
 
     /// The ten lines of which a line is one.
     pub fn of(line: u64) -> TenLines

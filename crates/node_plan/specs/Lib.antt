@@ -14,3 +14,4 @@ pub mod IsPlan
 pub mod Ports
 pub mod Bound
 pub mod Laws
+pub mod Buses

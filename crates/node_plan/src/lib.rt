@@ -3,6 +3,7 @@
 #![tactic(auto)]
 
 mod bus;
+pub mod buses;
 mod draft;
 mod info;
 pub mod laws;

@@ -1,4 +1,3 @@
-pub mod Puts
 pub mod Seconds
 pub mod Text
 pub mod Words

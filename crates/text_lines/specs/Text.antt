@@ -1,32 +1,21 @@
 -- The text of a report.
-use Rattle.std.specs.Prelude.{ℕ, List, [], ◌∷◌, ◌++◌, Option, Some, None, codes, decimal, slice_get}
+use Rattle.std.specs.Prelude.{ℕ, List, [], ◌∷◌, ◌++◌, Option, Some, None, codes, decimal}
 use Rattle.hex.specs.Hex.{encode_upper}
 pub use Rattle.line_text.specs.Text.{ident_text, moment_text, line_of, spaced}
 use Rattle.line_text.specs.TxLine.{tx_words}
 use Rattle.can_id.specs.declared.key.Key.{Key}
 use Rattle.can_id.specs.declared.key.Kind.{Kind}
-use Rattle.can_id.specs.declared.key.Kind.TheVariants.{Message, Request, Response}
+use Rattle.can_id.specs.declared.key.Kind.TheVariants.{Message}
+pub use Rattle.can_id.specs.Kinds.{kind_text}
 use Rattle.value_text.specs.Unreadable.{unreadable_text}
 use Rattle.node_plan.specs.declared.plan.BusPlan.{BusPlan}
+pub use Rattle.node_plan.specs.Buses.{bus_text, name_of}
 use Rattle.report_lines.specs.declared.line.Line.{Line}
 use Rattle.report_lines.specs.declared.line.Line.TheVariants.{Rx, NoSession, Tx, Full}
 use Rattle.report_lines.specs.declared.line.Rx.{Rx as Received}
 use Rattle.report_lines.specs.declared.line.Reading.{Reading}
 use Rattle.report_lines.specs.declared.line.Reading.TheVariants.{Raw, Good, Bad}
 use Rattle.report_lines.specs.declared.numbers.Numbers.{Numbers}
-
-abbrev pub name_of : Option BusPlan → List ℕ
-name_of None = []
-name_of (Some bus) = bus.name
-
--- the name of the bus at a place of the plan
-abbrev pub bus_text : List BusPlan → ℕ → List ℕ
-bus_text buses bus = name_of (slice_get buses bus)
-
-abbrev pub kind_text : Kind → List ℕ
-kind_text Message = codes "msg"
-kind_text Request = codes "req"
-kind_text Response = codes "res"
 
 -- the sender's node-ID; an anonymous message has none
 abbrev pub source_text : Option ℕ → List ℕ

@@ -3,7 +3,6 @@ ghost use Rattle.std.specs.Prelude.{◌≡◌, ◌≤◌, length};
 ghost use Rattle.text_lines.specs.Text.{bus_text, message_words};
 ghost use Rattle.text_lines.specs.Words.{word_text};
 
-use crate::buses::copy_of;
 use crate::word::Word;
 use crate::words::kind_word;
 use can_id::Kind;
@@ -11,6 +10,7 @@ use cy_bits::ShortList;
 use itoa::Buffer;
 use line_text::TextBuffer;
 use node_plan::BusPlan;
+use node_plan::buses::copy_of;
 
 /// The buses of a plan, and the words of the last line on a message, which many lines in a row have
 /// in common.
@@ -29,8 +29,7 @@ pub struct BusWords {
 
 impl BusWords {
     ghost use Rattle.std.specs.Prelude.{◌+◌};
-    ghost use Rattle.line_text.specs.Buffer.{room_of};
-    ghost use Rattle.text_lines.specs.Puts.{Puts};
+    ghost use Rattle.line_text.specs.Buffer.{Puts, room_of};
     ghost use Rattle.text_lines.specs.Text.{port_words};
 
     /// The words of these buses.

@@ -2,7 +2,6 @@
 #![tactic(auto)]
 
 mod bus_words;
-pub mod buses;
 pub mod line_writer;
 mod second;
 mod typed_text;

@@ -1,7 +1,6 @@
 //! The text of a report's lines.
 ghost use Rattle.std.specs.Prelude.{◌≡◌, ◌≤◌, ◌+◌, ◌*◌, [], None, OnOk, OnErr, length};
-ghost use Rattle.line_text.specs.Buffer.{room_of, text_of};
-ghost use Rattle.text_lines.specs.Puts.{Puts};
+ghost use Rattle.line_text.specs.Buffer.{Puts, room_of, text_of};
 ghost use Rattle.text_lines.specs.Text.{end_text};
 ghost use Rattle.value_put.specs.Told.{Begins};
 

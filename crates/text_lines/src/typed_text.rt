@@ -1,8 +1,7 @@
 //! What a payload says, put at once: no value is made of it.
 ghost use Rattle.std.specs.Prelude.{◌≡◌, ◌≤◌, ◌^◌, ◌++◌, ◌∷◌, [], Some, IfOk, OnOk};
 ghost use Rattle.dsdl_types.specs.Views.{sch};
-ghost use Rattle.line_text.specs.Buffer.{text_of};
-ghost use Rattle.text_lines.specs.Puts.{Puts};
+ghost use Rattle.line_text.specs.Buffer.{Puts, text_of};
 ghost use Rattle.report_lines.specs.Readings.{IsKept, reading_of};
 ghost use Rattle.text_lines.specs.Text.{reading_text};
 ghost use Rattle.value_put.specs.Told.{Begins};

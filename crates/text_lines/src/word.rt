@@ -25,8 +25,7 @@ impl Default for Word {
 
 impl Word {
     ghost use Rattle.std.specs.Prelude.{◌≡◌, ◌+◌, ◌++◌, ◌∷◌, [], decimal, length};
-    ghost use Rattle.line_text.specs.Buffer.{room_of};
-    ghost use Rattle.text_lines.specs.Puts.{Puts};
+    ghost use Rattle.line_text.specs.Buffer.{Puts, room_of};
     ghost use Rattle.text_lines.specs.Words.{block_text, word_text};
 
     /// No text.

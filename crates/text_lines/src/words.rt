@@ -1,8 +1,7 @@
 //! The words of a line.
 ghost use Rattle.std.specs.Prelude.{◌≡◌, ◌≤◌, ◌+◌, ◌*◌, ◌++◌, ◌∷◌, [], OnOk, codes, decimal, length};
-ghost use Rattle.line_text.specs.Buffer.{text_of, room_of};
+ghost use Rattle.line_text.specs.Buffer.{Puts, room_of, text_of};
 ghost use Rattle.line_text.specs.Text.{moment_text, spaced};
-ghost use Rattle.text_lines.specs.Puts.{Puts};
 ghost use Rattle.text_lines.specs.Text.{bus_text, kind_text, source_text, payload_text, reading_text};
 ghost use Rattle.text_lines.specs.Text.{key_words, transfer_words, received_words};
 ghost use Rattle.text_lines.specs.Words.{long_part};

@@ -1,4 +1,4 @@
-use Rattle.text_lines.specs.Text.{kind_text}
+use Rattle.can_id.specs.Kinds.{kind_text}
 use Rattle.json_lines.proofs.Lines.{key_written}
 use Rattle.json_lines.proofs.members.put_key.Goals as goal
 

@@ -1,5 +1,5 @@
 use Rattle.std.proofs.Common.{◌≡◌, take}
-use Rattle.text_lines.proofs.buses.copy_of.Given as goal
+use Rattle.node_plan.proofs.buses.copy_of.Given as goal
 
 abbrev pub invariant-loop-bus : goal.invariant-loop-bus
 invariant-loop-bus l = l.copied ≡ take l.bus-index l.bus-items

@@ -1,10 +1,10 @@
-//! The buses whose names lines have.
+//! A plan's buses, copied.
 ghost use Rattle.std.specs.Prelude.{◌≡◌};
 
+use crate::plan::BusPlan;
 use cy_bits::{BusName, ShortList};
-use node_plan::BusPlan;
 
-/// The same buses.
+/// The same buses. Takes no memory.
 pub fn copy_of(buses: &ShortList<BusPlan, 3>) -> ShortList<BusPlan, 3>
     ensures { result ≡ buses.now }
 {
