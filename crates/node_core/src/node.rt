@@ -59,7 +59,7 @@ pub struct Stepped {
 }
 
 impl Node {
-    ghost use Rattle.std.specs.Prelude.{[], List as ListOf, IfOk, OnOk, OnErr, length, take};
+    ghost use Rattle.std.specs.Prelude.{[], List as ListOf, IfOk, IfSome, OnOk, OnErr, length, take};
     ghost use Rattle.std.specs.Option.{ForSome};
     ghost use Rattle.file_service.specs.Causes.{TellsFault};
     ghost use Rattle.tail_frame.specs.Frames.{seen};
@@ -79,7 +79,8 @@ impl Node {
     ghost use Rattle.node_core.specs.Stands.{FrameTellsBadCrc};
     ghost use Rattle.node_core.specs.Stands.{Holds, IsWithinBound};
     ghost use Rattle.node_core.specs.Told.{answer_is_bad};
-    ghost use Rattle.report_lines.specs.Lent.{told_lines};
+    ghost use Rattle.node_core.specs.Types.{type_at};
+    ghost use Rattle.report_lines.specs.Lent.{HasType, told_lines};
 
     /// A node that runs by a plan of `read_plan`. It has heard nothing.
     pub fn open(alloc: Global, plan: Plan) -> Result<Node, NoMemory>
@@ -201,7 +202,8 @@ impl Node {
     /// The line on what a record came to, if there is one: it was the last that the node took.
     #[inline(always)]
     pub fn told<'a>(&'a self, rec: &'a Record, came: Came) -> Option<LineRef<'a>>
-        ensures { told_lines result ≡ came_lines self.now rec.now came }
+        ensures line { told_lines result ≡ came_lines self.now rec.now came }
+        ensures typed { IfSome result (HasType (type_at self.now.table)) }
     {
         let heard = came.heard?;
         let frame = heard.frame(rec);

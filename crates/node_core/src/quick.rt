@@ -13,7 +13,7 @@ ghost use Rattle.node_core.specs.Quick.{quick_is_bad, quick_lines, quick_met};
 ghost use Rattle.node_core.specs.Stands.{FrameGives, FrameTellsBadCrc, Gives, KeepsSessions};
 ghost use Rattle.node_core.specs.Stands.{StandsAsBefore, Takes, TakesFrame, TellsBadCrc};
 ghost use Rattle.node_core.specs.Told.{answer_is_bad};
-ghost use Rattle.report_lines.specs.Lent.{told_lines};
+ghost use Rattle.report_lines.specs.Lent.{HasType, told_lines};
 ghost use Rattle.node_core.specs.Types.{type_at};
 
 use crate::fed::{line_on, untyped_line};
@@ -146,7 +146,8 @@ impl Node {
     /// The line on a frame that came to this in the table as the last one, if there is one.
     #[inline(always)]
     pub fn told_met<'a>(&'a self, frame: &Frame<'a>, met: Met) -> Option<LineRef<'a>>
-        ensures { told_lines result ≡ met_lines self.now (seen frame.now) met }
+        ensures line { told_lines result ≡ met_lines self.now (seen frame.now) met }
+        ensures typed { IfSome result (HasType (type_at self.now.table)) }
     {
         line_on(&self.table, frame, self.table.lend(met, frame))
     }
@@ -156,6 +157,7 @@ impl Node {
     pub fn told_untyped<'a>(&'a self, quick: &Quick<'a>) -> Option<LineRef<'a>>
         requires { type_at self.now.table (key_of quick.now.frame.ident) ≡ None }
         ensures line { told_lines result ≡ quick_lines self.now quick.now }
+        ensures typed { IfSome result (HasType (type_at self.now.table)) }
         ensures untyped { IfSome result IsUntyped }
     {
         let fed = self.table.lend(quick.met(), &quick.frame);

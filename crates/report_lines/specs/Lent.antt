@@ -1,5 +1,7 @@
 -- Lines whose payload is lent.
-use Rattle.std.specs.Prelude.{List, [], ◌∷◌, Option, Some, None, option_map}
+use Rattle.std.specs.Prelude.{◌≡◌, List, [], ◌∷◌, Option, Some, None, option_map, ⊤}
+use Rattle.can_id.specs.declared.key.Key.{Key}
+use Rattle.dsdl_types.specs.Schemas.{Sch}
 use Rattle.dsdl_types.specs.Views.{sch}
 use Rattle.report_lines.specs.Readings.{reading_of}
 use Rattle.report_lines.specs.declared.line.Line.{Line}
@@ -9,9 +11,18 @@ use Rattle.report_lines.specs.declared.line_ref.LineRef.{LineRef}
 use Rattle.report_lines.specs.declared.line_ref.LineRef.TheVariants as lent
 use Rattle.report_lines.specs.declared.line_ref.RxRef.{RxRef}
 
+-- the type of a transfer's port; bytes have none
+abbrev pub lent_type : RxRef → Option Sch
+lent_type rx = option_map (λ shape. sch shape.now.schema) rx.port_type
+
 -- what the payload of a transfer says
 abbrev pub reading_in : RxRef → Reading
-reading_in rx = reading_of (option_map (λ shape. sch shape.now.schema) rx.port_type) rx.payload.now
+reading_in rx = reading_of (lent_type rx) rx.payload.now
+
+-- a line on a transfer has the type that these give its port
+abbrev pub HasType : (Key → Option Sch) → LineRef → Type 0
+HasType types (lent.Rx rx) = lent_type rx ≡ types rx.key
+HasType types line = ⊤
 
 -- a line with its payload, and what that says
 abbrev pub owned : LineRef → Line

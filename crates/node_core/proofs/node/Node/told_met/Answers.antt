@@ -5,7 +5,7 @@ use Rattle.node_core.specs.Told.{answer_lines}
 use Rattle.node_core.specs.Types.{type_at}
 use Rattle.node_core.proofs.node.Node.told_met.Goals as goal
 
-pub returns : goal.returns
-returns c =
+pub returns-clause-line : goal.returns-clause-line
+returns-clause-line c =
     let f = seen c.args.frame.now in
-    c.line_on.ensures ∙ ap (answer_lines (type_at c.args.self.now.table (key_of f.ident)) f) c.lend.ensures
+    c.line_on.ensures.line ∙ ap (answer_lines (type_at c.args.self.now.table (key_of f.ident)) f) c.lend.ensures

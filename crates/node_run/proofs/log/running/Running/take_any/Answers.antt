@@ -120,7 +120,7 @@ returns-in_err-follow-clause-err g c =
     let came = c.in_ok-came.came in
     let told = told_lines c.told-told.result in
     let request = request_ended node rec came in
-    let to = came_to rec self.node.now node came told request c.step.ensures.plan c.step.ensures.keeps step.stands step.lines step.badcrc step.request c.told-told.ensures (ap (came_request came) (sym c.told-told.ensures)) in
+    let to = came_to rec self.node.now node came told request c.step.ensures.plan c.step.ensures.keeps step.stands step.lines step.badcrc step.request c.told-told.ensures.line (ap (came_request came) (sym c.told-told.ensures.line)) in
     let part = c.in_err-follow.ensures.followed.err in
     on_err _ c.from_residual-in_err-follow.result (record {
       breaks = λ plan before past since h failed.
@@ -139,7 +139,7 @@ returns-clause-ok g c =
     let came = c.in_ok-came.came in
     let told = told_lines c.told-told.result in
     let request = request_ended node rec came in
-    let to = came_to rec self.node.now node came told request c.step.ensures.plan c.step.ensures.keeps step.stands step.lines step.badcrc step.request c.told-told.ensures (ap (came_request came) (sym c.told-told.ensures)) in
+    let to = came_to rec self.node.now node came told request c.step.ensures.plan c.step.ensures.keeps step.stands step.lines step.badcrc step.request c.told-told.ensures.line (ap (came_request came) (sym c.told-told.ensures.line)) in
     let buses = writes_for c.tell.new.writer in
     let put = lines c.tell.new.lines in
     let text = text_of c.args.gathered.now in
