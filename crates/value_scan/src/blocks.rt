@@ -11,6 +11,14 @@ pub fn begins(bytes: &[u8], text: &[u8]) -> bool
     len <= bytes.len() && is_same(&bytes[..len], text)
 }
 
+/// Whether bytes begin with a text of two.
+#[inline(always)]
+pub fn begins_pair(bytes: &[u8], pair: [u8; 2]) -> bool
+    ensures { result ≡ true → bytes.now ≡ pair ++ drop 2 bytes.now }
+{
+    bytes.len() >= 2 && bytes[0] == pair[0] && bytes[1] == pair[1]
+}
+
 /// Whether two texts of one length are the same. Those of the length of most names are compared by two blocks that may
 /// overlap.
 #[inline(always)]

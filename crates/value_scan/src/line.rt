@@ -12,10 +12,10 @@ use crate::hex_text::number_in;
 pub fn behind<'a>(line: &'a [u8], at: usize) -> Result<&'a [u8], GivesUp>
     ensures { IfOk result (λ rest. rest.now ≡ drop at line.now) }
 {
-    match line.get(at..) {
-        Some(rest) => Ok(rest),
-        None => Err(GivesUp),
+    if at > line.len() {
+        return Err(GivesUp);
     }
+    Ok(&line[at..])
 }
 
 /// Goes past so many bytes.

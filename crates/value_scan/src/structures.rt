@@ -9,7 +9,7 @@ ghost use Rattle.value_scan.specs.Written.{written};
 ghost use Rattle.value_scan.specs.Scanned.{AreFields, IsFieldScanned, IsOwn};
 
 use crate::bit_buffer::BitBuffer;
-use crate::blocks::begins;
+use crate::blocks::{begins, begins_pair};
 use crate::gives_up::GivesUp;
 use crate::line::{behind, eat, skip};
 use crate::parts::is_aligned;
@@ -158,7 +158,7 @@ fn front_len(bytes: &[u8], first: bool, name: &[u8]) -> Result<usize, GivesUp>
     if first {
         return name_len(bytes, name);
     }
-    if !begins(bytes, b", ") {
+    if !begins_pair(bytes, *b", ") {
         return Err(GivesUp);
     }
     Ok(2 + name_len(&bytes[2..], name)?)
@@ -171,7 +171,7 @@ fn name_len(bytes: &[u8], name: &[u8]) -> Result<usize, GivesUp>
     ensures within { IfOk result (λ n. n ≤ length bytes.now) }
 {
     let len = name.len();
-    if !begins(bytes, name) || !begins(&bytes[len..], b": ") {
+    if !begins(bytes, name) || !begins_pair(&bytes[len..], *b": ") {
         return Err(GivesUp);
     }
     Ok(len + 2)
