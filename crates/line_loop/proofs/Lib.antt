@@ -6,3 +6,4 @@ pub mod Inputs
 pub mod States
 pub mod Buffers
 pub mod Found
+pub mod Newlines

@@ -7,6 +7,7 @@ pub mod bounds;
 pub mod ended;
 mod held;
 pub mod listener;
+mod newline;
 mod over_lines;
 mod reader;
 

@@ -4,8 +4,8 @@ ghost use Rattle.memchr.specs.Find.{Nowhere, Passes, is_byte};
 ghost use Rattle.line_loop.specs.Held.{bytes_of};
 
 use crate::held::{BLOCK, Held, read_some};
+use crate::newline::newline_in;
 use cy_outside::Source;
-use memchr::memchr;
 use std::alloc::Global;
 
 /// What a read gave.
@@ -84,7 +84,7 @@ impl LineReader {
         ensures room { left_of self.new ≡ left_of self.old }
         ensures count { count_of self.new ≡ count_of self.old }
     {
-        match memchr(b'\n', &self.held.as_slice()[self.seen..]) {
+        match newline_in(&self.held.as_slice()[self.seen..]) {
             Some(n) => Some(self.seen + n),
             None => {
                 self.seen = self.held.as_slice().len();
