@@ -70,12 +70,13 @@ five_written a k b d c s old t u v w new e f g h i =
     i ∙ ap (λ x. x ++ s) (h ∙ ap (λ x. x ++ c) (g ∙ ap (λ x. x ++ (b ++ d)) (f ∙ ap (λ x. x ++ k) e))) ∙ simp append_assoc
 
 -- the members of a key
-pub key_written : (kind k d s old t u v w new : List ℕ) → k ≡ kind → t ≡ old ++ codes ",\"kind\":\"" → u ≡ t ++ k → v ≡ u ++ (codes "\",\"port\":" ++ d) → w ≡ v ++ codes ",\"source\":" → new ≡ w ++ s →
-    new ≡ old ++ (more (codes "kind") (quoted kind) ++ (more (codes "port") d ++ more (codes "source") s))
-key_written kind k d s old t u v w new is e f g h i =
-    five_written (codes ",\"kind\":\"") k (codes "\",\"port\":") d (codes ",\"source\":") s old t u v w new e f g h i
-    ∙ ap (λ x. old ++ (codes ",\"kind\":\"" ++ (x ++ (codes "\",\"port\":" ++ (d ++ (codes ",\"source\":" ++ s)))))) is
-    ∙ sym (ap (λ x. old ++ (codes ",\"kind\":\"" ++ x)) (append_assoc kind (34 ∷ []) (more (codes "port") d ++ more (codes "source") s)))
+pub key_written : (kind k d s old t u new : List ℕ) → k ≡ kind → t ≡ old ++ (k ++ d) → u ≡ t ++ codes ",\"source\":" → new ≡ u ++ s →
+    new ≡ old ++ (kind ++ (d ++ more (codes "source") s))
+key_written kind k d s old t u new is e f g =
+    g ∙ ap (λ x. x ++ s) (f ∙ ap (λ x. x ++ codes ",\"source\":") (e ∙ ap (λ x. old ++ (x ++ d)) is)) ∙ parts old kind d (codes ",\"source\":") s
+  where
+    parts : (o k d c s : List ℕ) → ((o ++ (k ++ d)) ++ c) ++ s ≡ o ++ (k ++ (d ++ (c ++ s)))
+    parts o k d c s = simp append_assoc
 
 -- why a payload can't be read
 pub error_written : (name k number d path p old t u v w x new : List ℕ) → k ≡ name → d ≡ number → p ≡ path → t ≡ old ++ codes "{\"why\":\"" → u ≡ t ++ k → v ≡ u ++ (codes "\",\"number\":" ++ d) → w ≡ v ++ codes ",\"at\":\"" →

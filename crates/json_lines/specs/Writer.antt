@@ -37,12 +37,16 @@ front_of buses rx =
 
 -- the line of a transfer whose payload is read as a value
 abbrev pub valued_json : List BusPlan → RxRef → Sch → Val → List Piece
-valued_json buses rx s v = Exact (front_of buses rx) ∷ (Exact (44 ∷ name_text (codes "value")) ∷ (json_of s v ++ exact line_end))
+valued_json buses rx s v =
+    Exact (front_of buses rx)
+    ∷ (Exact (44 ∷ name_text (codes "value")) ∷ (json_of s v ++ exact line_end))
 
 -- the line of a transfer whose payload can't be read
 abbrev pub refused_text : List BusPlan → RxRef → List ℕ → ReadWhy → List ℕ
-refused_text buses rx path why = front_of buses rx ++ (more (codes "error") (error_text path why) ++ line_end)
+refused_text buses rx path why =
+    front_of buses rx ++ (more (codes "error") (error_text path why) ++ line_end)
 
 -- it puts the text of a line behind a text
 abbrev pub Writes : JsonWriter → LineRef → TextBuffer → TextBuffer → Type 0
-Writes writer line old new = Puts (line_json (type_in line) (writes_for writer) (owned line)) old new
+Writes writer line old new =
+    Puts (line_json (type_in line) (writes_for writer) (owned line)) old new

@@ -1,10 +1,11 @@
 //! Members of lines that have room in a text.
 ghost use Rattle.std.specs.Prelude.{◌≡◌, ◌≤◌, ◌+◌, ◌*◌, ◌++◌, decimal, length};
 ghost use Rattle.line_text.specs.Buffer.{Puts, room_of};
-ghost use Rattle.can_id.specs.Kinds.{kind_text};
 ghost use Rattle.node_plan.specs.Buses.{bus_text};
 ghost use Rattle.value_json.specs.Words.{quoted};
-ghost use Rattle.json_lines.specs.Text.{error_text, key_members, node_members, payload_member, place_members, received_members, source_json, transfer_members, why_name};
+ghost use Rattle.json_lines.specs.Text.{error_text, key_members, node_members, payload_member};
+ghost use Rattle.json_lines.specs.Text.{kind_front, place_text, received_members, source_json};
+ghost use Rattle.json_lines.specs.Text.{transfer_members, why_name};
 
 use can_id::{Key, Kind};
 use cy_bits::ShortList;
@@ -25,13 +26,20 @@ pub fn put_label(text: &mut TextBuffer, label: &[u8], number: u64)
     text.put_number(number);
 }
 
-/// Puts a moment and the name of a bus.
-pub fn put_place(text: &mut TextBuffer, buses: &ShortList<BusPlan, 3>, moment: u64, bus: u8)
-    requires { 100 ≤ room_of text.old }
-    ensures text { Puts (place_members buses.now moment bus) text.old text.new }
-    ensures room { room_of text.old ≤ room_of text.new + 53 }
+/// Puts what is in front of a moment, the moment and the name of a bus.
+#[inline(always)]
+pub fn put_place(
+    text: &mut TextBuffer,
+    front: &[u8],
+    buses: &ShortList<BusPlan, 3>,
+    moment: u64,
+    bus: u8,
+)
+    requires { length front.now + 100 ≤ room_of text.old }
+    ensures text { Puts (front.now ++ place_text buses.now moment bus) text.old text.new }
+    ensures room { room_of text.old ≤ room_of text.new + length front.now + 45 }
 {
-    text.put_slice(b",\"time\":");
+    text.put_slice(front);
     text.put_moment(moment);
     text.put_slice(b",\"bus\":\"");
     put_bus(text, buses, bus);
@@ -39,6 +47,7 @@ pub fn put_place(text: &mut TextBuffer, buses: &ShortList<BusPlan, 3>, moment: u
 }
 
 /// Puts the name of a bus.
+#[inline(always)]
 fn put_bus(text: &mut TextBuffer, buses: &ShortList<BusPlan, 3>, bus: u8)
     requires { 16 ≤ room_of text.old }
     ensures text { Puts (bus_text buses.now bus) text.old text.new }
@@ -50,31 +59,32 @@ fn put_bus(text: &mut TextBuffer, buses: &ShortList<BusPlan, 3>, bus: u8)
 }
 
 /// Puts a kind, a port and a sender.
+#[inline(always)]
 pub fn put_key(text: &mut TextBuffer, key: &Key)
     requires { 120 ≤ room_of text.old }
     ensures text { Puts (key_members key.now) text.old text.new }
     ensures room { room_of text.old ≤ room_of text.new + 73 }
 {
-    text.put_slice(b",\"kind\":\"");
-    text.put_slice(kind_name(key.kind));
-    put_label(text, b"\",\"port\":", key.port as u64);
+    put_label(text, kind_front(key.kind), key.port as u64);
     text.put_slice(b",\"source\":");
     put_source(text, key.source);
 }
 
-/// The name of a kind.
-fn kind_name(kind: Kind) -> &'static [u8]
-    ensures text { result.now ≡ kind_text kind }
-    ensures length { length result.now ≡ 3 }
+/// What is in front of a port: a kind.
+#[inline(always)]
+fn kind_front(kind: Kind) -> &'static [u8]
+    ensures text { result.now ≡ kind_front kind }
+    ensures length { length result.now ≡ 21 }
 {
     match kind {
-        Kind::Message => b"msg",
-        Kind::Request => b"req",
-        Kind::Response => b"res",
+        Kind::Message => b",\"kind\":\"msg\",\"port\":",
+        Kind::Request => b",\"kind\":\"req\",\"port\":",
+        Kind::Response => b",\"kind\":\"res\",\"port\":",
     }
 }
 
 /// Puts the sender, or null.
+#[inline(always)]
 fn put_source(text: &mut TextBuffer, source: Option<u8>)
     requires { 24 ≤ room_of text.old }
     ensures text { Puts (source_json source) text.old text.new }
@@ -87,6 +97,7 @@ fn put_source(text: &mut TextBuffer, source: Option<u8>)
 }
 
 /// Puts priority, transfer-ID, and the lines of the first and the last frame.
+#[inline(always)]
 pub fn put_transfer(text: &mut TextBuffer, rx: &RxRef<'_>)
     requires { 160 ≤ room_of text.old }
     ensures text { let t = rx.now in
@@ -100,6 +111,7 @@ pub fn put_transfer(text: &mut TextBuffer, rx: &RxRef<'_>)
 }
 
 /// Puts a payload in hex.
+#[inline(always)]
 pub fn put_payload(text: &mut TextBuffer, payload: &[u8])
     requires { 2 * length payload.now + 32 ≤ room_of text.old }
     ensures text { Puts (payload_member payload.now) text.old text.new }

@@ -1,5 +1,6 @@
 //! The JSON text of a report's lines.
-ghost use Rattle.std.specs.Prelude.{◌≡◌, ◌≤◌, ◌+◌, ◌*◌, ◌++◌, None, OnOk, OnErr, Some, codes, length};
+ghost use Rattle.std.specs.Prelude.{◌≡◌, ◌≤◌, ◌+◌, ◌*◌, ◌++◌, None, OnOk, OnErr, Some, codes};
+ghost use Rattle.std.specs.Prelude.{length};
 ghost use Rattle.dsdl_types.specs.Fits.{Fits};
 ghost use Rattle.dsdl_types.specs.Views.{sch, val};
 ghost use Rattle.line_text.specs.Buffer.{Puts as PutsBytes, room_of, text_of};
@@ -34,7 +35,8 @@ pub struct JsonWriter {
 
 #[tactic(auto, unfolding(crate::specs::Writer::writes_for))]
 impl JsonWriter {
-    ghost use Rattle.json_lines.specs.Writer.{Writes, front_of, port_type, refused_text, valued_json, writes_for};
+    ghost use Rattle.json_lines.specs.Writer.{Writes, front_of, port_type, refused_text};
+    ghost use Rattle.json_lines.specs.Writer.{valued_json, writes_for};
 
     /// A writer of lines with the names of these buses. Takes no memory.
     pub fn new(alloc: Global, buses: &ShortList<BusPlan, 3>) -> JsonWriter
@@ -87,7 +89,8 @@ impl JsonWriter {
     }
 
     /// Appends the text of a transfer on a port without a type.
-    fn push_raw(&self, text: &mut TextBuffer, rx: &RxRef<'_>) -> Result<(), NoMemory>
+    #[inline(always)]
+    pub fn push_raw(&self, text: &mut TextBuffer, rx: &RxRef<'_>) -> Result<(), NoMemory>
         requires { rx.now.port_type ≡ None }
         ensures ok { OnOk result (Writes self.now (LineRef.Rx rx.now) text.old text.new) }
         ensures err { OnErr result (text_of text.new ≡ text_of text.old) }
@@ -125,8 +128,9 @@ impl JsonWriter {
         value: &Value,
     ) -> Result<(), NoMemory>
         requires { Fits (sch schema.now) (val value.now) }
-        ensures ok { OnOk result (Puts (valued_json (writes_for self.now) rx.now (sch schema.now) (val value.now))
-            text.old text.new) }
+        ensures ok { let line = valued_json (writes_for self.now) rx.now
+            (sch schema.now) (val value.now) in
+            OnOk result (Puts line text.old text.new) }
         ensures err { OnErr result (text_of text.new ≡ text_of text.old) }
     {
         reserve_for(text, rx.payload, &[])?;
@@ -148,7 +152,8 @@ impl JsonWriter {
         path: &str,
         why: ReadWhy,
     ) -> Result<(), NoMemory>
-        ensures ok { OnOk result (PutsBytes (refused_text (writes_for self.now) rx.now path.now why) text.old text.new) }
+        ensures ok { let line = refused_text (writes_for self.now) rx.now path.now why in
+            OnOk result (PutsBytes line text.old text.new) }
         ensures err { OnErr result (text_of text.new ≡ text_of text.old) }
     {
         reserve_for(text, rx.payload, path.as_bytes())?;
@@ -160,14 +165,20 @@ impl JsonWriter {
     }
 
     /// Puts the members of a transfer up to its payload.
+    #[inline(always)]
     fn put_front(&self, text: &mut TextBuffer, rx: &RxRef<'_>)
         requires { 512 + 2 * length rx.now.payload.now ≤ room_of text.old }
         ensures text { PutsBytes (front_of (writes_for self.now) rx.now) text.old text.new }
         ensures room { let digits = 2 * length rx.now.payload.now in
             room_of text.old ≤ room_of text.new + digits + 300 }
     {
-        text.put_slice(b"{\"line\":\"rx\"");
-        put_place(text, &self.buses, rx.moment, rx.bus);
+        put_place(
+            text,
+            b"{\"line\":\"rx\",\"time\":",
+            &self.buses,
+            rx.moment,
+            rx.bus,
+        );
         put_key(text, &rx.key);
         put_transfer(text, rx);
         put_payload(text, rx.payload);
@@ -175,12 +186,18 @@ impl JsonWriter {
 
     /// Appends the text of a start frame that had no session.
     fn push_refused(&self, text: &mut TextBuffer, refused: &Refused) -> Result<(), NoMemory>
-        ensures ok { OnOk result (Writes self.now (LineRef.NoSession refused.now) text.old text.new) }
+        ensures ok { let line = LineRef.NoSession refused.now in
+            OnOk result (Writes self.now line text.old text.new) }
         ensures err { OnErr result (text_of text.new ≡ text_of text.old) }
     {
         text.reserve(LINE)?;
-        text.put_slice(b"{\"line\":\"nosession\"");
-        put_place(text, &self.buses, refused.moment, refused.bus);
+        put_place(
+            text,
+            b"{\"line\":\"nosession\",\"time\":",
+            &self.buses,
+            refused.moment,
+            refused.bus,
+        );
         put_key(text, &refused.key);
         put_label(text, b",\"at\":", refused.line);
         text.put_slice(b"}\n");
@@ -193,8 +210,13 @@ impl JsonWriter {
         ensures err { OnErr result (text_of text.new ≡ text_of text.old) }
     {
         text.reserve(LINE)?;
-        text.put_slice(b"{\"line\":\"tx\"");
-        put_place(text, &self.buses, tx.moment, tx.bus);
+        put_place(
+            text,
+            b"{\"line\":\"tx\",\"time\":",
+            &self.buses,
+            tx.moment,
+            tx.bus,
+        );
         text.put_slice(b",\"id\":\"");
         text.put_ident(tx.ident);
         text.put_slice(b"\",\"data\":\"");
@@ -209,8 +231,13 @@ impl JsonWriter {
         ensures err { OnErr result (text_of text.new ≡ text_of text.old) }
     {
         text.reserve(LINE)?;
-        text.put_slice(b"{\"line\":\"full\"");
-        put_place(text, &self.buses, full.moment, full.bus);
+        put_place(
+            text,
+            b"{\"line\":\"full\",\"time\":",
+            &self.buses,
+            full.moment,
+            full.bus,
+        );
         put_label(text, b",\"port\":", full.port as u64);
         put_label(text, b",\"needed\":", full.needed);
         put_label(text, b",\"free\":", full.free);
@@ -220,6 +247,7 @@ impl JsonWriter {
 }
 
 /// Takes memory for a line with this payload and this path.
+#[inline(always)]
 fn reserve_for(text: &mut TextBuffer, payload: &[u8], path: &[u8]) -> Result<(), NoMemory>
     ensures text { text_of text.new ≡ text_of text.old }
     ensures room { OnOk result (512 + 2 * length payload.now + length path.now ≤ room_of text.new) }

@@ -7,11 +7,10 @@ pub returns-clause-ok : goal.returns-clause-ok
 unfolding writes_for
 returns-clause-ok c =
     adds_exact _ _ _ (rw (
-      c.put_slice-2.ensures.text,
+      c.put_slice.ensures.text,
       c.put_label-3.ensures.text,
       c.put_label-2.ensures.text,
       c.put_label.ensures.text,
       c.put_place.ensures.text,
-      c.put_slice.ensures.text,
       c.reserve.ensures.text,
     ) (simp append_assoc))

@@ -7,13 +7,12 @@ pub returns-clause-ok : goal.returns-clause-ok
 unfolding writes_for
 returns-clause-ok c =
     adds_exact _ _ _ (rw (
-      c.put_slice-4.ensures.text,
-      c.put_hex.ensures.text,
       c.put_slice-3.ensures.text,
-      c.put_ident.ensures.text,
+      c.put_hex.ensures.text,
       c.put_slice-2.ensures.text,
-      c.put_place.ensures.text,
+      c.put_ident.ensures.text,
       c.put_slice.ensures.text,
+      c.put_place.ensures.text,
       c.reserve.ensures.text,
       c.as_slice.ensures.value,
     ) (simp append_assoc))

@@ -10,5 +10,4 @@ returns-clause-text c =
       c.put_transfer.ensures.text,
       c.put_key.ensures.text,
       c.put_place.ensures.text,
-      c.put_slice.ensures.text,
     ) (simp append_assoc)
