@@ -8,11 +8,11 @@ _cyphal()
         return
     fi
     if [ "$COMP_CWORD" -eq 1 ]; then
-        mapfile -t COMPREPLY < <(compgen -W 'compile compat versions encode decode run bound migrate gen monitor allocate fetch explain order survey --help --version' -- "$word")
+        mapfile -t COMPREPLY < <(compgen -W 'compile compat versions encode decode run json bound migrate gen monitor allocate fetch explain order survey --help --version' -- "$word")
         return
     fi
     case $command:$COMP_CWORD in
-        run:2 | bound:2 | migrate:2 | explain:2 | compile:2 | compat:2 | versions:2 | encode:2 | decode:2)
+        run:2 | json:2 | bound:2 | migrate:2 | explain:2 | compile:2 | compat:2 | versions:2 | encode:2 | decode:2)
             compopt -o filenames
             mapfile -t COMPREPLY < <(compgen -d -W 'none' -- "$word")
             ;;

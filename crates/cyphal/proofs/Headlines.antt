@@ -20,6 +20,7 @@ use Rattle.node_plan.specs.IsPlan.{TypesKeepRules}
 use Rattle.node_plan.specs.declared.plan.Plan.{Plan}
 use Rattle.frame_log.specs.Log.{log_of}
 use Rattle.frame_log.specs.declared.error.LogError.{LogError}
+use Rattle.frame_log.specs.declared.error.LogError.TheVariants.{Failed}
 use Rattle.log_loop.specs.Gone.{FirstOf}
 use Rattle.log_loop.proofs.Written.{begins_none}
 use Rattle.report_lines.specs.declared.line.Line.{Line}
@@ -32,13 +33,15 @@ use Rattle.session_lines.specs.Values.{type_of, IsSentTo, SayValues, SaysDueValu
 use Rattle.session_lines.proofs.Frames.{frames_are, are_records, in_order}
 use Rattle.session_lines.proofs.Sending.{rxs_append}
 use Rattle.node_run.specs.Failures.{Failures}
+use Rattle.node_run.specs.declared.form.Form.{Form}
+use Rattle.node_run.specs.declared.form.Form.TheVariants.{Text, Json}
 use Rattle.node_run.specs.HasRun.{HasRun}
-use Rattle.node_run.specs.Ran.{Reported, Ran, names_of, newest_first, due_lines, end_part, whole_text}
+use Rattle.node_run.specs.Ran.{Reported, Ran, IsBegun, IsWritten, names_of, newest_first, due_lines, end_part, json_end_part, whole_text}
 use Rattle.node_run.specs.Streamed.{IsStreamed}
 use Rattle.node_run.specs.Taken.{IsOfTaken}
 use Rattle.node_run.specs.declared.status.Status.{Status}
 use Rattle.node_run.specs.declared.status.Status.TheVariants as status
-use Rattle.node_run.proofs.Tells.{text_append}
+use Rattle.node_run.proofs.Forms.{text_append}
 use Rattle.cyphal.specs.Words.{Command}
 use Rattle.cyphal.specs.Cause.{Outside}
 use Rattle.cyphal.specs.Job.{Told, Outcome, flow_of, is_settled, NotDone}
@@ -48,18 +51,74 @@ use Rattle.cyphal.specs.Expected.{job_asked, job_for, WasDone}
 use Rattle.rx_table.specs.Heard.{heard_as}
 use Rattle.cyphal.specs.Laws.{HeadlineLaws}
 use Rattle.cyphal.proofs.Plans.{one_plan}
-use Rattle.cyphal.specs.Headline.{log_in, logged_in, lines_of, report_text, AreMet, Asked, ExplainsIn, OnceIn, DueIn, ValuesIn, DueValuesIn, HeadlineOf, HasPut, OncePut, DuePut, ValuesPut, DueValuesPut}
+use Rattle.cyphal.specs.Headline.{log_in, logged_in, lines_of, AreMet, HasReport, BeginsReport, Asked, ExplainsIn, OnceIn, DueIn, ValuesIn, DueValuesIn, HeadlineOf, HasPut, OncePut, DuePut, ValuesPut, DueValuesPut}
 use Rattle.cyphal.proofs.Fronts.{IsFront, first_front, whole_front, came_lines, steps_due, due_all}
 use Rattle.cyphal.proofs.Mets.{met_all}
 
+-- all that was written is a beginning of it
+begins_all : (written : List ℕ) (before after : Option (List ℕ)) → after ≡ behind before written → Begins written before after
+begins_all written before after w = record { front = written; rest = []; whole = sym (append-nil written); written = w }
+
+-- where all was written, a beginning was
+begun_whole : (form : Form) (plan : Plan) (all : List Step) (refusal : Option LogError) (before after : Option (List ℕ))
+    → IsWritten form plan all refusal before after → IsBegun form plan all refusal before after
+begun_whole Text plan all refusal before after w = begins_all (whole_text plan all refusal) before after w
+begun_whole Json plan all refusal before after w = record {
+  front = due_lines plan all refusal;
+  rest = [];
+  parts = sym (append-nil (due_lines plan all refusal));
+  said = w.said;
+  spelled = w.spelled;
+  end = json_end_part plan all refusal;
+  ended = inr (refl, refl);
+  written = begins_all (w.said ++ json_end_part plan all refusal) before after w.written;
+}
+
+-- where all on the records that came was written, a beginning was
+begun_came : (form : Form) (plan : Plan) (mets came : List Met) (refusal : Option LogError) (before after : Option (List ℕ)) → FirstOf mets came
+    → IsWritten form plan (steps plan came) (Some Failed) before after → IsBegun form plan (steps plan mets) refusal before after
+begun_came Text plan mets came refusal before after is_first w =
+    let more = came_lines plan mets came refusal is_first in
+    let first = text plan.buses (lines plan (steps plan came)) in
+    let last = end_part plan (steps plan mets) refusal in record {
+      front = first;
+      rest = text plan.buses more.0 ++ last;
+      whole =
+          ap (λ t. t ++ last) (ap (text plan.buses) more.1 ∙ text_append plan.buses (lines plan (steps plan came)) more.0)
+          ∙ append_assoc first (text plan.buses more.0) last;
+      written = w ∙ ap (behind before) (append-nil first);
+    }
+begun_came Json plan mets came refusal before after is_first w =
+    let more = came_lines plan mets came refusal is_first in record {
+      front = lines plan (steps plan came);
+      rest = more.0;
+      parts = more.1;
+      said = w.said;
+      spelled = w.spelled;
+      end = [];
+      ended = inl refl;
+      written = begins_all (w.said ++ []) before after w.written;
+    }
+
+-- where nothing was written, a beginning was
+begun_none : (form : Form) (plan : Plan) (all : List Step) (refusal : Option LogError) (before : Option (List ℕ)) → IsBegun form plan all refusal before before
+begun_none Text plan all refusal before = begins_none (whole_text plan all refusal) before
+begun_none Json plan all refusal before = record {
+  front = [];
+  rest = due_lines plan all refusal;
+  parts = refl;
+  said = [];
+  spelled = refl;
+  end = [];
+  ended = inl refl;
+  written = begins_none [] before;
+}
+
 -- what was run over a log with these records that ends so
-module _ (plan : Plan) (mets : List Met) (refusal : Option LogError) (r : Reported) (f : Failures) (before after : Option (List ℕ)) where
-  -- the steps of the log, and its text
+module _ (form : Form) (plan : Plan) (mets : List Met) (refusal : Option LogError) (r : Reported) (f : Failures) (before after : Option (List ℕ)) where
+  -- the steps of the log
   abbrev all : List Step
   all = steps plan mets
-
-  abbrev text_in : List ℕ
-  text_in = whole_text plan all refusal
 
   -- whatever the status, the first lines of the log were put
   came_front : (came : List Met) → FirstOf mets came → r.new ≡ put_behind r.old (lines plan (steps plan came)) → IsFront plan all refusal r
@@ -67,7 +126,7 @@ module _ (plan : Plan) (mets : List Met) (refusal : Option LogError) (r : Report
       let more = came_lines plan mets came refusal first in
       record { mine = lines plan (steps plan came); rest = more.0; put = put; whole = more.1 }
 
-  front : (stat : Status) → Ran plan mets refusal stat r f before after → IsFront plan all refusal r
+  front : (stat : Status) → Ran form plan mets refusal stat r f before after → IsFront plan all refusal r
   front status.Ok x = whole_front plan all refusal r x.1.at
   front status.Usage x = absurd x
   front (status.Dsdl file n w) x = absurd x
@@ -83,7 +142,7 @@ module _ (plan : Plan) (mets : List Met) (refusal : Option LogError) (r : Report
   front status.NoMemory x = first_front plan all refusal r f x.first
 
   -- where the run wasn't cut short, all of them were put
-  whole : (stat : Status) → is_settled stat ≡ true → Ran plan mets refusal stat r f before after → r.new ≡ put_behind r.old (due_lines plan all refusal)
+  whole : (stat : Status) → is_settled stat ≡ true → Ran form plan mets refusal stat r f before after → r.new ≡ put_behind r.old (due_lines plan all refusal)
   whole status.Ok s x = x.1.at.reported
   whole status.Usage s x = absurd x
   whole (status.Dsdl file n w) s x = absurd x
@@ -99,7 +158,7 @@ module _ (plan : Plan) (mets : List Met) (refusal : Option LogError) (r : Report
   whole status.NoMemory s x = absurd (true≢false (sym s))
 
   -- and all was written
-  written_whole : (stat : Status) → is_settled stat ≡ true → Ran plan mets refusal stat r f before after → after ≡ behind before text_in
+  written_whole : (stat : Status) → is_settled stat ≡ true → Ran form plan mets refusal stat r f before after → IsWritten form plan all refusal before after
   written_whole status.Ok s x = x.1.written
   written_whole status.Usage s x = absurd x
   written_whole (status.Dsdl file n w) s x = absurd x
@@ -115,59 +174,43 @@ module _ (plan : Plan) (mets : List Met) (refusal : Option LogError) (r : Report
   written_whole status.NoMemory s x = absurd (true≢false (sym s))
 
   -- whatever the status, a beginning of it was written
-  begins_whole : after ≡ behind before text_in → Begins text_in before after
-  begins_whole w = record { front = text_in; rest = []; whole = sym (append-nil text_in); written = w }
-
-  begins_came : (came : List Met) → FirstOf mets came → after ≡ behind before (text plan.buses (lines plan (steps plan came)) ++ []) → Begins text_in before after
-  begins_came came is_first w =
-      let more = came_lines plan mets came refusal is_first in
-      let first = text plan.buses (lines plan (steps plan came)) in
-      let last = end_part plan all refusal in record {
-        front = first;
-        rest = text plan.buses more.0 ++ last;
-        whole =
-            ap (λ t. t ++ last) (ap (text plan.buses) more.1 ∙ text_append plan.buses (lines plan (steps plan came)) more.0)
-            ∙ append_assoc first (text plan.buses more.0) last;
-        written = w ∙ ap (behind before) (append-nil first);
-      }
-
-  written_first : (stat : Status) → Ran plan mets refusal stat r f before after → Begins text_in before after
-  written_first status.Ok x = begins_whole x.1.written
+  written_first : (stat : Status) → Ran form plan mets refusal stat r f before after → IsBegun form plan all refusal before after
+  written_first status.Ok x = begun_whole form plan all refusal before after x.1.written
   written_first status.Usage x = absurd x
   written_first (status.Dsdl file n w) x = absurd x
   written_first (status.Plan n w) x = absurd x
-  written_first (status.Log n w) x = begins_whole x.1.written
+  written_first (status.Log n w) x = begun_whole form plan all refusal before after x.1.written
   written_first (status.Text line) x = absurd x
   written_first (status.Unreadable line path w) x = absurd x
   written_first (status.NotNewer path w) x = absurd x
-  written_first status.LogLong x = begins_whole x.1.written
+  written_first status.LogLong x = begun_whole form plan all refusal before after x.1.written
   written_first (status.NoFile path) x = absurd x
-  written_first status.ReadFault x = begins_came x.came x.first x.settled.written
+  written_first status.ReadFault x = begun_came form plan mets x.came refusal before after x.first x.settled.written
   written_first status.WriteFault x = x.written
   written_first status.NoMemory x = x.written
 
 -- what was done where the words name a run: that run
 did_run : (words : List (List ℕ)) (told : Told) (came : Outcome) (plan : Plan) (bytes : List ℕ)
-    → (job_for words).did told came → (a : Asked words told plan bytes) → HasRunAt a.root a.path told came
+    → (job_for words).did told came → (a : Asked words told plan bytes) → HasRunAt a.form a.root a.path told came
 did_run words told came plan bytes d a = subst (λ (o : Option Command). (job_asked o).did told came) a.command d
 
 -- the run of a plan over told files and a told input
-pub record RunOver (plan : Plan) (tree : Files) (bytes : List ℕ) (told : Told) (came : Outcome) : Type 0 where
+pub record RunOver (form : Form) (plan : Plan) (tree : Files) (bytes : List ℕ) (told : Told) (came : Outcome) : Type 0 where
   pub mets : List Met
   pub are : AreMet plan tree bytes mets
-  pub ran : Ran plan mets (log_in plan bytes).refusal came.status came.reported came.failures told.written came.written
-  pub taken : came.status ≡ status.ReadFault → IsOfTaken plan mets (flow_of told came) came.reported came.failures
-  pub streamed : IsStreamed plan mets (flow_of told came) came.status came.reported
+  pub ran : Ran form plan mets (log_in plan bytes).refusal came.status came.reported came.failures told.written came.written
+  pub taken : came.status ≡ status.ReadFault → IsOfTaken form plan mets (flow_of told came) came.reported came.failures
+  pub streamed : IsStreamed form plan mets (flow_of told came) came.status came.reported
 
 module _ (one : HaveOneAnswer × OnePlan) (words : List (List ℕ)) (told : Told) (came : Outcome) (plan : Plan) (bytes : List ℕ) (a : Asked words told plan bytes) where
   -- a run is of the plan that is asked for
-  of_plan : HasRunAt a.root a.path told came → HasRun plan told.files (flow_of told came) came.status came.reported came.failures
+  of_plan : HasRunAt a.form a.root a.path told came → HasRun a.form plan told.files (flow_of told came) came.status came.reported came.failures
   of_plan r =
       let same : r.plan ≡ plan = one_plan one a.root a.path a.tree r.plan plan (subst (λ f. PlanAt a.root a.path f r.plan) a.is_tree r.is) a.is_plan in
-      subst (λ (q : Plan). HasRun q told.files (flow_of told came) came.status came.reported came.failures) same r.run
+      subst (λ (q : Plan). HasRun a.form q told.files (flow_of told came) came.status came.reported came.failures) same r.run
 
   -- over the told files and the told input
-  run_over : HasRunAt a.root a.path told came → RunOver plan a.tree bytes told came
+  run_over : HasRunAt a.form a.root a.path told came → RunOver a.form plan a.tree bytes told came
   run_over at =
       let r = of_plan at in
       let is : r.bytes ≡ bytes = subst (λ (i : Option (List ℕ)). IfSome i (λ (left : List ℕ). r.bytes ≡ left)) a.is_input r.is in
@@ -177,16 +220,16 @@ module _ (one : HaveOneAnswer × OnePlan) (words : List (List ℕ)) (told : Told
           of_log = r.of_log ∙ ap (λ (b : List ℕ). newest_first (log_of (names_of plan) b)) is;
           served = subst (λ (f : Option Files). AreServed f plan (steps plan r.mets)) a.is_tree r.served;
         };
-        ran = subst (λ (b : List ℕ). Ran plan r.mets (log_of (names_of plan) b).refusal came.status came.reported came.failures told.written came.written) is r.ran;
+        ran = subst (λ (b : List ℕ). Ran a.form plan r.mets (log_of (names_of plan) b).refusal came.status came.reported came.failures told.written came.written) is r.ran;
         taken = r.taken;
         streamed = r.streamed;
       }
 
-  pub did_over : (job_for words).did told came → RunOver plan a.tree bytes told came
+  pub did_over : (job_for words).did told came → RunOver a.form plan a.tree bytes told came
   did_over d = run_over (did_run words told came plan bytes d a)
 
   -- or nothing was done
-  pub run_done : {L : Type 0} (old new : Outside L) → WasDone words told came old new → NotDone told came old new ⊎ RunOver plan a.tree bytes told came
+  pub run_done : {L : Type 0} (old new : Outside L) → WasDone words told came old new → NotDone told came old new ⊎ RunOver a.form plan a.tree bytes told came
   run_done old new (inl n) = inl n
   run_done old new (inr d) = inr (did_over d)
 
@@ -277,11 +320,11 @@ module _ (law : HeadlineLaws) (plan : Plan) (bytes : List ℕ) (mets : List Met)
       (behind_values law plan bytes key mets is all.0 p port sent origin q (sent_to law plan bytes rules key p port sent origin s t x) due)
 
 -- what was met of a log, and what was written of it
-record Writes (plan : Plan) (tree : Files) (bytes : List ℕ) (stat : Status) (before after : Option (List ℕ)) : Type 0 where
+record Writes (form : Form) (plan : Plan) (tree : Files) (bytes : List ℕ) (stat : Status) (before after : Option (List ℕ)) : Type 0 where
   mets : List Met
   are : AreMet plan tree bytes mets
-  written : is_settled stat ≡ true → after ≡ behind before (report_text plan bytes mets)
-  begun : Begins (report_text plan bytes mets) before after
+  written : is_settled stat ≡ true → HasReport form plan bytes mets before after
+  begun : BeginsReport form plan bytes mets before after
 
 -- the lines that were put are the first of the log
 record PutsFront (plan : Plan) (bytes : List ℕ) (mine : List Line) : Type 0 where
@@ -297,23 +340,23 @@ record PutsAll (plan : Plan) (bytes : List ℕ) (mine : List Line) : Type 0 wher
   all : lines_of plan bytes mets ≡ mine
 
 module _ {L : Type 0} (one : HaveOneAnswer × OnePlan) (words : List (List ℕ)) (told : Told) (came : Outcome) (old new : Outside L) (done : WasDone words told came old new) (law : HeadlineLaws) where
-  writes : (plan : Plan) (bytes : List ℕ) (a : Asked words told plan bytes) → Writes plan a.tree bytes came.status told.written came.written
+  writes : (plan : Plan) (bytes : List ℕ) (a : Asked words told plan bytes) → Writes a.form plan a.tree bytes came.status told.written came.written
   writes plan bytes a = by_run (run_done one words told came plan bytes a old new done)
     where
-      by_run : NotDone told came old new ⊎ RunOver plan a.tree bytes told came → Writes plan a.tree bytes came.status told.written came.written
+      by_run : NotDone told came old new ⊎ RunOver a.form plan a.tree bytes told came → Writes a.form plan a.tree bytes came.status told.written came.written
       by_run (inl n) =
           let m = met_all (Some a.tree) plan law.served (logged_in plan bytes) in record {
             mets = m.mets;
             are = record { of_log = m.records_are; served = m.served };
             written = λ s. absurd (both_ways (is_settled came.status) n.not_settled s);
-            begun = subst (λ w. Begins (report_text plan bytes m.mets) told.written w) (sym n.written) (begins_none (report_text plan bytes m.mets) told.written);
+            begun = subst (λ w. BeginsReport a.form plan bytes m.mets told.written w) (sym n.written) (begun_none a.form plan (steps plan m.mets) (log_in plan bytes).refusal told.written);
           }
       by_run (inr r) =
           let refusal = (log_in plan bytes).refusal in record {
             mets = r.mets;
             are = r.are;
-            written = λ s. written_whole plan r.mets refusal came.reported came.failures told.written came.written came.status s r.ran;
-            begun = written_first plan r.mets refusal came.reported came.failures told.written came.written came.status r.ran;
+            written = λ s. written_whole a.form plan r.mets refusal came.reported came.failures told.written came.written came.status s r.ran;
+            begun = written_first a.form plan r.mets refusal came.reported came.failures told.written came.written came.status r.ran;
           }
 
   pub headline_of : HeadlineOf words told came
@@ -342,25 +385,25 @@ module _ {L : Type 0} (one : HaveOneAnswer × OnePlan) (words : List (List ℕ))
   front_put : (plan : Plan) (bytes : List ℕ) (mine : List Line) → Asked words told plan bytes → HasPut came.reported mine → PutsFront plan bytes mine
   front_put plan bytes mine a h = by_run (run_done one words told came plan bytes a old new done)
     where
-      by_run : NotDone told came old new ⊎ RunOver plan a.tree bytes told came → PutsFront plan bytes mine
+      by_run : NotDone told came old new ⊎ RunOver a.form plan a.tree bytes told came → PutsFront plan bytes mine
       by_run (inl n) =
           let none : [] ≡ mine = same_put mine [] h (n.empty.lines ∙ (h.1 ∙ (ap Some (sym (append-nil h.0)) ∙ ap (λ o. put_behind o []) (sym h.1)))) in
           let m = met_all (Some a.tree) plan law.served (logged_in plan bytes) in
           record { mets = m.mets; is = m.records_are; rest = lines_of plan bytes m.mets; whole = ap (λ t. t ++ lines_of plan bytes m.mets) none }
       by_run (inr r) =
-          let f = front plan r.mets (log_in plan bytes).refusal came.reported came.failures told.written came.written came.status r.ran in
+          let f = front a.form plan r.mets (log_in plan bytes).refusal came.reported came.failures told.written came.written came.status r.ran in
           record { mets = r.mets; is = r.are.of_log; rest = f.rest; whole = f.whole ∙ ap (λ t. t ++ f.rest) (same_put mine f.mine h f.put) }
 
   -- where all that counts was run
   whole_put : (plan : Plan) (bytes : List ℕ) (mine : List Line) → Asked words told plan bytes → HasPut came.reported mine → is_settled came.status ≡ true → PutsAll plan bytes mine
   whole_put plan bytes mine a h s = by_run (run_done one words told came plan bytes a old new done)
     where
-      by_run : NotDone told came old new ⊎ RunOver plan a.tree bytes told came → PutsAll plan bytes mine
+      by_run : NotDone told came old new ⊎ RunOver a.form plan a.tree bytes told came → PutsAll plan bytes mine
       by_run (inl n) = absurd (both_ways (is_settled came.status) n.not_settled s)
       by_run (inr r) = record {
         mets = r.mets;
         is = r.are.of_log;
-        all = same_put mine (lines_of plan bytes r.mets) h (whole plan r.mets (log_in plan bytes).refusal came.reported came.failures told.written came.written came.status s r.ran);
+        all = same_put mine (lines_of plan bytes r.mets) h (whole a.form plan r.mets (log_in plan bytes).refusal came.reported came.failures told.written came.written came.status s r.ran);
       }
 
   pub once_of : OncePut words told came

@@ -138,7 +138,7 @@ module _ (laws : HaveOneAnswer × OnePlan) (encodes : HasOneStatus Encodes) (dec
   single (Versions root) told s t h a b = by_versions root told.files s t h a b
   single (Encode root name) told s t h a b = by_lines Encodes encodes root name told s t h a b
   single (Decode root name) told s t h a b = by_lines Decodes decodes root name told s t h a b
-  single (Run root path) told s t h a b = by_running root path told s t h a b
+  single (Run form root path) told s t h a b = by_running root path told s t h a b
   single (Gen number) told s t h a b = a ∙ sym b
   single (Order window) told s t h a b = by_order window told.input s t h a b
   single (Survey names) told s t h a b = by_log names told.input s t h a b

@@ -27,6 +27,7 @@ use Rattle.node_plan.specs.Laws.{PlainPlans}
 use Rattle.node_plan.specs.PlainPlan.{plan_of}
 use Rattle.node_plan.specs.Plan.{Good}
 use Rattle.node_plan.specs.Types.{none}
+use Rattle.node_run.specs.declared.form.Form.TheVariants.{Text}
 use Rattle.node_run.specs.Loaded.{IsLoaded}
 use Rattle.dsdl_resolve.specs.Passes.{Compiled}
 use Rattle.dsdl_links.specs.Order.{begin}
@@ -273,6 +274,7 @@ is_there = map.get-from_sorted (slice_cmp nat_cmp) ((codes "plan", plan_text) �
 
 asked : PlainPlans → Asked (codes "run" ∷ codes "none" ∷ codes "plan" ∷ []) (told_by (Some files) (Some log_text) (Some [])) plan log_text
 asked plain = record {
+  form = Text;
   root = codes "none";
   path = codes "plan";
   command = refl;

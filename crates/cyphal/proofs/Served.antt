@@ -4,6 +4,7 @@ use Rattle.frame_log.specs.Log.{log_of}
 use Rattle.report_lines.specs.LineSinks.{put_behind}
 use Rattle.node_core.specs.Steps.{failed_lines, steps}
 use Rattle.node_run.specs.Failures.{AreFailures, Failures}
+use Rattle.node_run.specs.declared.form.Form.{Form}
 use Rattle.node_run.specs.Ran.{Ran, names_of}
 use Rattle.node_run.specs.declared.status.Status.{Status}
 use Rattle.node_run.specs.declared.status.Status.TheVariants as status
@@ -25,23 +26,23 @@ stays_or_fails [] f old a = inl (a.kept refl)
 stays_or_fails (line ∷ lines) f old a = inr (none_told line lines f.new (a.tells.told ∙ ap (λ o. put_behind o (line ∷ lines)) old))
 
 module _ (told : Told) (came : Outcome) where
-  run_done : (root path : List ℕ) → came.failures.old ≡ Some [] → came.status ≡ status.Ok → HasRunAt root path told came → StaysOrFails came.failures
-  run_done root path old ok r =
+  run_done : (form : Form) (root path : List ℕ) → came.failures.old ≡ Some [] → came.status ≡ status.Ok → HasRunAt form root path told came → StaysOrFails came.failures
+  run_done form root path old ok r =
       let refusal = (log_of (names_of r.plan) r.run.bytes).refusal in
-      let ran : Ran r.plan r.run.mets refusal status.Ok came.reported came.failures told.written came.written =
-      subst (λ (s : Status). Ran r.plan r.run.mets refusal s came.reported came.failures told.written came.written) ok r.run.ran in
+      let ran : Ran form r.plan r.run.mets refusal status.Ok came.reported came.failures told.written came.written =
+      subst (λ (s : Status). Ran form r.plan r.run.mets refusal s came.reported came.failures told.written came.written) ok r.run.ran in
       stays_or_fails (failed_lines (steps r.plan r.run.mets)) came.failures old ran.1.failed
 
   did_asked : (command : Option Command) → ((job_asked command).serves ≡ false → came.failures.faults_new ≡ came.failures.faults) → came.failures.old ≡ Some [] → came.status ≡ status.Ok
       → (job_asked command).did told came → StaysOrFails came.failures
   did_asked None kept old ok d = absurd d
-  did_asked (Some (Run root path)) kept old ok d = run_done root path old ok d
+  did_asked (Some (Run form root path)) kept old ok d = run_done form root path old ok d
   did_asked (Some other) kept old ok d = inl (kept refl)
 
   -- a command that serves no files reports none
   nothing_by : (command : Option Command) → (job_asked command).serves ≡ false → (job_asked command).did told came → ReportsNothing came
   nothing_by None h d = absurd d
-  nothing_by (Some (Run root path)) h d = absurd cc
+  nothing_by (Some (Run form root path)) h d = absurd cc
   nothing_by (Some other) h d = d.1
 
 module _ {L : Type 0} (words : List (List ℕ)) (told : Told) (came : Outcome) (old new : Outside L) (done : WasDone words told came old new) where

@@ -24,20 +24,20 @@ module _ {L : Type 0} (one : HaveOneAnswer × OnePlan) (words : List (List ℕ))
 
   -- a call that did nothing took nothing
   still : HeadlineLaws → (plan : Plan) (bytes : List ℕ) (a : Asked words told plan bytes) → NotDone told came old new
-      → OverMet plan a.tree bytes (λ mets. IsStreamed plan mets (flow_of told came) came.status came.reported)
+      → OverMet plan a.tree bytes (λ mets. IsStreamed a.form plan mets (flow_of told came) came.status came.reported)
   still law plan bytes a n =
       let m = met_all (Some a.tree) plan law.served (logged_in plan bytes) in record {
         mets = m.mets;
         are = record { of_log = m.records_are; served = m.served };
         is =
-            subst (λ (o : Option (List ℕ)). IsStreamed plan m.mets (flow told.input o told.written came.written) came.status came.reported) (sym n.left)
-            (subst (λ (o : Option (List ℕ)). IsStreamed plan m.mets (flow told.input told.input told.written o) came.status came.reported) (sym n.written)
-            (streamed_none plan m.mets told.input told.written came.status came.reported));
+            subst (λ (o : Option (List ℕ)). IsStreamed a.form plan m.mets (flow told.input o told.written came.written) came.status came.reported) (sym n.left)
+            (subst (λ (o : Option (List ℕ)). IsStreamed a.form plan m.mets (flow told.input told.input told.written o) came.status came.reported) (sym n.written)
+            (streamed_none a.form plan m.mets told.input told.written came.status came.reported));
       }
 
   pub streamed_of : HeadlineLaws → WasDone words told came old new → StreamedOf words told came
   streamed_of law w plan bytes a = by_run (run_done one words told came plan bytes a old new w)
     where
-      by_run : NotDone told came old new ⊎ RunOver plan a.tree bytes told came → OverMet plan a.tree bytes (λ mets. IsStreamed plan mets (flow_of told came) came.status came.reported)
+      by_run : NotDone told came old new ⊎ RunOver a.form plan a.tree bytes told came → OverMet plan a.tree bytes (λ mets. IsStreamed a.form plan mets (flow_of told came) came.status came.reported)
       by_run (inl n) = still law plan bytes a n
       by_run (inr r) = record { mets = r.mets; are = r.are; is = r.streamed }

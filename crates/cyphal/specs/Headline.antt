@@ -13,7 +13,6 @@ use Rattle.frag.specs.declared.sent.Sent.{Sent}
 use Rattle.once.specs.Raw.{WireExplains}
 use Rattle.once.specs.Report.{AnyRx, SelectedRx, IsDue}
 use Rattle.cy_outside.specs.Files.{Files}
-use Rattle.cy_outside.specs.Written.{behind, Begins}
 use Rattle.frame_log.specs.Log.{Log, log_of}
 use Rattle.node_plan.specs.declared.plan.Plan.{Plan}
 use Rattle.report_lines.specs.declared.line.Line.{Line}
@@ -21,17 +20,20 @@ use Rattle.rx_table.specs.Heard.{heard_as}
 use Rattle.node_core.specs.Steps.{AreServed, Met, met_records, steps, without_files}
 use Rattle.session_lines.specs.Reported.{rxs, of_key, IsSession}
 use Rattle.session_lines.specs.Values.{type_of, SayValues, SaysDueValue}
-use Rattle.node_run.specs.Ran.{Reported, names_of, newest_first, due_lines, whole_text}
+use Rattle.node_run.specs.declared.form.Form.{Form}
+use Rattle.node_run.specs.Ran.{Reported, names_of, newest_first, due_lines, IsWritten, IsBegun}
 use Rattle.node_run.specs.declared.status.Status.{Status}
 use Rattle.cyphal.specs.Words.{Run, command_of}
 use Rattle.cyphal.specs.Job.{Told, Outcome, is_settled}
 use Rattle.cyphal.specs.Plans.{PlanAt}
 
--- the words name a root, in whose namespace a file gives this plan, and the input has these bytes
+-- the words name a form, and a root in whose namespace a file gives this plan, and the input has
+-- these bytes
 pub record Asked (words : List (List ℕ)) (told : Told) (plan : Plan) (bytes : List ℕ) : Type 0 where
+  pub form : Form
   pub root : List ℕ
   pub path : List ℕ
-  pub command : command_of words ≡ Some (Run root path)
+  pub command : command_of words ≡ Some (Run form root path)
   pub tree : Files
   pub is_tree : told.files ≡ Some tree
   pub is_plan : PlanAt root path (Some tree) plan
@@ -67,9 +69,16 @@ pub record AreMet (plan : Plan) (tree : Files) (bytes : List ℕ) (mets : List M
 abbrev pub lines_of : Plan → List ℕ → List Met → List Line
 lines_of plan bytes mets = due_lines plan (steps plan mets) (log_in plan bytes).refusal
 
--- the text of its lines, and where it was read to its end the last line
-abbrev pub report_text : Plan → List ℕ → List Met → List ℕ
-report_text plan bytes mets = whole_text plan (steps plan mets) (log_in plan bytes).refusal
+-- the text of its lines in a form is written, and where it was read to its end the last line
+abbrev pub HasReport : Form → Plan → List ℕ → List Met → Option (List ℕ) → Option (List ℕ) → Type 0
+HasReport form plan bytes mets before after =
+    IsWritten form plan (steps plan mets) (log_in plan bytes).refusal before after
+
+-- a beginning of it is written
+abbrev pub BeginsReport : Form → Plan → List ℕ → List Met → Option (List ℕ) → Option (List ℕ)
+    → Type 0
+BeginsReport form plan bytes mets before after =
+    IsBegun form plan (steps plan mets) (log_in plan bytes).refusal before after
 
 -- once: what these lines say of a session are sent transfers, in the order of the sent list, each
 -- at most once, cut to the extent
@@ -106,19 +115,19 @@ DueValuesIn plan bytes lines =
     → (due : IsDue plan.timeout sent origin (of_session_in plan bytes key) q)
     → SaysDueValue key port (transfer_at sent due.j).payload q lines
 
--- The headline over what is written. The records of the log are met, each with what the tree told
--- of a file there; a plan that serves no files asks for none, so its log has one text. Where all
--- that counts of the input was run, what is written is the text of the lines of the log with these,
--- and a beginning of it however the run ended. These lines, and each front of them, say of a
--- session only what was sent, at most once, each value as it was sent; and all of them say what is
--- due.
-pub record Headline (plan : Plan) (tree : Files) (bytes : List ℕ) (stat : Status)
+-- The headline over what is written in a form. The records of the log are met, each with what the
+-- tree told of a file there; a plan that serves no files asks for none, so its log has one list of
+-- lines. Where all that counts of the input was run, what is written is the text of the lines of
+-- the log with these, and a beginning of it however the run ended. These lines, and each front of
+-- them, say of a session only what was sent, at most once, each value as it was sent; and all of
+-- them say what is due.
+pub record Headline (form : Form) (plan : Plan) (tree : Files) (bytes : List ℕ) (stat : Status)
     (before after : Option (List ℕ)) : Type 0 where
   pub mets : List Met
   pub are : AreMet plan tree bytes mets
   pub plain : plan.serve ≡ None → mets ≡ without_files (logged_in plan bytes)
-  pub written : is_settled stat ≡ true → after ≡ behind before (report_text plan bytes mets)
-  pub begun : Begins (report_text plan bytes mets) before after
+  pub written : is_settled stat ≡ true → HasReport form plan bytes mets before after
+  pub begun : BeginsReport form plan bytes mets before after
   pub once : (front rest : List Line) → lines_of plan bytes mets ≡ front ++ rest
       → OnceIn plan bytes front
   pub due : DueIn plan bytes (lines_of plan bytes mets)
@@ -130,7 +139,7 @@ pub record Headline (plan : Plan) (tree : Files) (bytes : List ℕ) (stat : Stat
 abbrev pub HeadlineOf : List (List ℕ) → Told → Outcome → Type 0
 HeadlineOf words told came =
     (plan : Plan) (bytes : List ℕ) (a : Asked words told plan bytes)
-    → Headline plan a.tree bytes came.status told.written came.written
+    → Headline a.form plan a.tree bytes came.status told.written came.written
 
 -- the lines that were put, where the sink of lines tells them
 abbrev pub HasPut : Reported → List Line → Type 0

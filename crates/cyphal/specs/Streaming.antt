@@ -22,12 +22,12 @@ abbrev pub TakenOf : List (List ℕ) → Told → Outcome → Type 0
 TakenOf words told came =
     (plan : Plan) (bytes : List ℕ) (a : Asked words told plan bytes)
     → OverMet plan a.tree bytes
-    (λ mets. IsOfTaken plan mets (flow_of told came) came.reported came.failures)
+    (λ mets. IsOfTaken a.form plan mets (flow_of told came) came.reported came.failures)
 
 -- however a run ended: no more than 8,192 bytes were taken of the input before the lines on what
--- came before them were written
+-- came before them were written; in JSON, unless memory was wanting
 abbrev pub StreamedOf : List (List ℕ) → Told → Outcome → Type 0
 StreamedOf words told came =
     (plan : Plan) (bytes : List ℕ) (a : Asked words told plan bytes)
     → OverMet plan a.tree bytes
-    (λ mets. IsStreamed plan mets (flow_of told came) came.status came.reported)
+    (λ mets. IsStreamed a.form plan mets (flow_of told came) came.status came.reported)

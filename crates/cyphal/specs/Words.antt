@@ -4,6 +4,8 @@ use Rattle.std.specs.Prelude.{Option, Some, None, option_map, if◌then◌else�
 use Rattle.std.specs.List.{list_all}
 use Rattle.std.specs.Str.{bytes_eq}
 use Rattle.dsdl_names.specs.Words.{number_to}
+use Rattle.node_run.specs.declared.form.Form.{Form}
+use Rattle.node_run.specs.declared.form.Form.TheVariants.{Text, Json}
 use Rattle.cyphal.specs.BusNames.{buses_given}
 use Rattle.cyphal.specs.declared.bus_names.BusNames.{BusNames}
 use Rattle.cyphal.specs.declared.bus_names.BusNames.TheVariants.{One, Two, Three}
@@ -12,20 +14,20 @@ use Rattle.cyphal.specs.declared.words.Accepted.TheVariants as accepted
 
 -- what the words ask for: the layouts of the types below this root, whether one of them is newer
 -- than another, whether each of their versions is newer than the one before it, values of one of
--- them as bytes, bytes as values of it, a run of the plan at this path, which is read in the
--- namespace of the root, its memory bound, its text in version 2, the run of the log that is made
--- of this number, who is online in the log of the input, which a node with this node-ID hears,
--- node-IDs for the nodes of that log that have none, the file that a node with this node-ID fetches
--- of another one over that log, the lines of a log in the order of their moments, with a window of
--- so many microseconds, what the buses with these names carry, or what became of each frame of a
--- log by such a plan
+-- them as bytes, bytes as values of it, a run, written in a form, of the plan at this path, which
+-- is read in the namespace of the root, its memory bound, its text in version 2, the run of the log
+-- that is made of this number, who is online in the log of the input, which a node with this
+-- node-ID hears, node-IDs for the nodes of that log that have none, the file that a node with this
+-- node-ID fetches of another one over that log, the lines of a log in the order of their moments,
+-- with a window of so many microseconds, what the buses with these names carry, or what became of
+-- each frame of a log by such a plan
 pub data Command : Type 0 where
   Compile : List ℕ → Command
   Compat : List ℕ → List ℕ → List ℕ → Command
   Versions : List ℕ → Command
   Encode : List ℕ → List ℕ → Command
   Decode : List ℕ → List ℕ → Command
-  Run : List ℕ → List ℕ → Command
+  Run : Form → List ℕ → List ℕ → Command
   Bound : List ℕ → List ℕ → Command
   Migrate : List ℕ → List ℕ → Command
   Gen : ℕ → Command
@@ -49,7 +51,7 @@ asked_by (accepted.Compat root new old) = Compat root.now new.now old.now
 asked_by (accepted.Versions root) = Versions root.now
 asked_by (accepted.Encode root name) = Encode root.now name.now
 asked_by (accepted.Decode root name) = Decode root.now name.now
-asked_by (accepted.Run root plan) = Run root.now plan.now
+asked_by (accepted.Run form root plan) = Run form root.now plan.now
 asked_by (accepted.Bound root plan) = Bound root.now plan.now
 asked_by (accepted.Migrate root plan) = Migrate root.now plan.now
 asked_by (accepted.Gen number) = Gen number
@@ -135,10 +137,11 @@ named_of_one word argument =
 -- the command that a word names, of a root and a plan
 abbrev pub named_of_plan : List ℕ → List ℕ → List ℕ → Option Command
 named_of_plan word root plan =
-    if bytes_eq word (codes "run") then Some (Run root plan)
+    if bytes_eq word (codes "run") then Some (Run Text root plan)
+    else (if bytes_eq word (codes "json") then Some (Run Json root plan)
     else (if bytes_eq word (codes "bound") then Some (Bound root plan)
     else (if bytes_eq word (codes "migrate") then Some (Migrate root plan)
-    else (if bytes_eq word (codes "explain") then Some (Explain root plan) else None)))
+    else (if bytes_eq word (codes "explain") then Some (Explain root plan) else None))))
 
 -- the command that a word names, of a root and another argument
 abbrev pub named_of_two : List ℕ → List ℕ → List ℕ → Option Command
@@ -155,9 +158,9 @@ named_of_three word first second third =
     then fetch_given (node_given first) (node_given second) third else None)
 
 -- what the words ask for, where they are accepted: `compile ROOT`, `compat ROOT NEW OLD`, `versions
--- ROOT`, `encode ROOT TYPE`, `decode ROOT TYPE`, `run ROOT PLAN`, `bound ROOT PLAN`, `migrate ROOT
--- PLAN`, `explain ROOT PLAN`, `gen NUMBER`, `order MICROS`, `survey BUSES`, `monitor NODE`,
--- `allocate NODE` or `fetch NODE SERVER PATH`
+-- ROOT`, `encode ROOT TYPE`, `decode ROOT TYPE`, `run ROOT PLAN`, `json ROOT PLAN`, `bound ROOT
+-- PLAN`, `migrate ROOT PLAN`, `explain ROOT PLAN`, `gen NUMBER`, `order MICROS`, `survey BUSES`,
+-- `monitor NODE`, `allocate NODE` or `fetch NODE SERVER PATH`
 abbrev pub command_of : List (List ℕ) → Option Command
 command_of [] = None
 command_of (word ∷ []) = None

@@ -83,7 +83,9 @@ pub fn carry_out<T: Tree, L: Source, O: Sink, K: LineSink>(
         Accepted::Decode { root, name } => {
             Counted::nothing(decode_lines(alloc, root, name, tree, input, out))
         }
-        Accepted::Run { root, plan } => run_plan(alloc, root, plan, tree, input, out, lines),
+        Accepted::Run { form, root, plan } => {
+            run_plan(alloc, form, root, plan, tree, input, out, lines)
+        }
         Accepted::Explain { root, plan } => {
             Counted::nothing(explain_plan(alloc, root, plan, tree, input, out))
         }

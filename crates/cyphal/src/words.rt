@@ -1,6 +1,8 @@
 //! Which words are a command, what its arguments are, and what `--help` says of it.
 ghost use Rattle.std.specs.Prelude.{◌≡◌, IfOk, OnErr, is_some, map, option_map, string_bytes, true};
-ghost use Rattle.cyphal.specs.Words.{Gen, Order, Survey, Monitor, Allocate, asked_by, names_of, named_of_one, named_of_node, named_of_two, named_of_plan, named_of_three, command_of};
+ghost use Rattle.cyphal.specs.Words.{Gen, Order, Survey, Monitor, Allocate, asked_by, names_of};
+ghost use Rattle.cyphal.specs.Words.{named_of_one, named_of_node, named_of_two, named_of_plan};
+ghost use Rattle.cyphal.specs.Words.{named_of_three, command_of};
 
 use crate::arguments::{are_arguments, are_three, is_argument, one_word, three_words, two_words};
 use crate::bus_names::BusNames;
@@ -8,6 +10,7 @@ use crate::node_id::NodeId;
 use crate::number::{node_of, number_of, window_of};
 use crate::remote_file::RemoteFile;
 use cy_bits::NoMemory;
+use node_run::Form;
 use std::alloc::Global;
 
 /// A command with its arguments.
@@ -37,8 +40,10 @@ pub enum Accepted<'a> {
         root: &'a str,
         name: &'a str,
     },
-    /// Runs the plan at a path, which is read in the namespace of a root, over a log.
+    /// Runs the plan at a path, which is read in the namespace of a root, over a log, and writes
+    /// its report in a form.
     Run {
+        form: Form,
         root: &'a str,
         plan: &'a str,
     },
@@ -111,6 +116,9 @@ cyphal run ROOT PLAN
     runs a node by the plan in the file PLAN over the log on standard input,
     and writes its report; the types that the plan names are those of ROOT
 
+cyphal json ROOT PLAN
+    does the same, and writes each line of the report as a JSON object
+
 cyphal explain ROOT PLAN
     writes what became of each frame of the log on standard input by the plan in
     the file PLAN, and how each session fared
@@ -155,10 +163,10 @@ statuses: 0 done, 1 usage, 2 DSDL file refused, 3 plan refused, 4 log refused,
 ";
 
 /// The command that the words are, so `compile ROOT`, `compat ROOT NEW OLD`, `versions ROOT`,
-/// `encode ROOT TYPE`, `decode ROOT TYPE`, `run ROOT PLAN`, `bound ROOT PLAN`, `migrate ROOT PLAN`,
-/// `explain ROOT PLAN`, `gen NUMBER`, `order MICROS`, `survey BUSES`, `monitor NODE`, `allocate
-/// NODE` or `fetch NODE SERVER PATH`; none where they aren't accepted. It wants memory where they
-/// are.
+/// `encode ROOT TYPE`, `decode ROOT TYPE`, `run ROOT PLAN`, `json ROOT PLAN`, `bound ROOT PLAN`,
+/// `migrate ROOT PLAN`, `explain ROOT PLAN`, `gen NUMBER`, `order MICROS`, `survey BUSES`, `monitor
+/// NODE`, `allocate NODE` or `fetch NODE SERVER PATH`; none where they aren't accepted. It wants
+/// memory where they are.
 pub fn command_of<'a>(alloc: Global, words: &'a [String]) -> Result<Option<Accepted<'a>>, NoMemory>
     ensures is { let asked = command_of (map string_bytes words.entry.now) in
         IfOk result (λ given. option_map asked_by given ≡ asked) }
@@ -325,7 +333,17 @@ fn of_plan<'a>(word: &str, root: &'a str, plan: &'a str) -> Option<Accepted<'a>>
         ≡ named_of_plan word.now root.entry.now plan.entry.now }
 {
     if word == "run" {
-        Some(Accepted::Run { root, plan })
+        Some(Accepted::Run {
+            form: Form::Text,
+            root,
+            plan,
+        })
+    } else if word == "json" {
+        Some(Accepted::Run {
+            form: Form::Json,
+            root,
+            plan,
+        })
     } else if word == "bound" {
         Some(Accepted::Bound { root, plan })
     } else if word == "migrate" {

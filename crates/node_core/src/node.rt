@@ -59,7 +59,8 @@ pub struct Stepped {
 }
 
 impl Node {
-    ghost use Rattle.std.specs.Prelude.{[], List as ListOf, IfOk, IfSome, OnOk, OnErr, length, take};
+    ghost use Rattle.std.specs.Prelude.{[], List as ListOf, IfOk, IfSome, OnOk, OnErr, length};
+    ghost use Rattle.std.specs.Prelude.{take};
     ghost use Rattle.std.specs.Option.{ForSome};
     ghost use Rattle.file_service.specs.Causes.{TellsFault};
     ghost use Rattle.tail_frame.specs.Frames.{seen};

@@ -19,6 +19,7 @@ use Rattle.node_core.specs.declared.request.Request.{Request}
 use Rattle.node_core.proofs.Waits.{records_behind, records_of_steps}
 use Rattle.node_run.specs.FailedLines.{EndsFailed, FailedAreNamed}
 use Rattle.node_run.specs.Failures.{Failures, HasRisen, TellsFailures, failures}
+use Rattle.node_run.specs.Forms.{Form}
 use Rattle.node_run.specs.Ran.{Ran, Reported, names_of}
 use Rattle.node_run.specs.declared.status.Status.{Status}
 use Rattle.node_run.specs.declared.status.Status.TheVariants as status
@@ -185,8 +186,8 @@ record NamesFirst (all : List Step) (f : Failures) : Type 0 where
 names_all : (all : List Step) (f : Failures) → TellsFailures (failed_lines all) f → NamesFirst all f
 names_all all f t = record { past = all; first = record { newer = []; parts = refl }; tells = t }
 
-module _ (plan : Plan) (mets : List Met) (refusal : Option LogError) (r : Reported) (f : Failures) (before after : Option (List ℕ)) where
-  names_first : (stat : Status) → Ran plan mets refusal stat r f before after → NamesFirst (steps plan mets) f
+module _ (form : Form) (plan : Plan) (mets : List Met) (refusal : Option LogError) (r : Reported) (f : Failures) (before after : Option (List ℕ)) where
+  names_first : (stat : Status) → Ran form plan mets refusal stat r f before after → NamesFirst (steps plan mets) f
   names_first status.Ok x = names_all (steps plan mets) f x.1.failed.tells
   names_first status.Usage x = absurd x
   names_first (status.Dsdl file n w) x = absurd x
@@ -205,9 +206,9 @@ lines_are : (lines told : List ℕ) → Some lines ≡ Some ([] ++ told) → tol
 lines_are lines told e = cc
 
 pub failed_named : ((buses : List (List ℕ)) (bytes : List ℕ) → IsAhead 0 0 (log_of buses bytes).records) → FailedAreNamed
-failed_named ordered plan files flow stat r lines faults faults_new h =
+failed_named ordered form plan files flow stat r lines faults faults_new h =
     let log = log_of (names_of plan) h.bytes in
-    let n = names_first plan h.mets log.refusal r (failures (Some []) (Some lines) faults faults_new) flow.before flow.after stat h.ran in
+    let n = names_first form plan h.mets log.refusal r (failures (Some []) (Some lines) faults faults_new) flow.before flow.after stat h.ran in
     let is = lines_are lines (failed_lines n.past) n.tells.told in
     let more = failed_front n.first.newer n.past in
     let whole : failed_lines (steps plan h.mets) ≡ failed_lines n.past ++ more.0 = ap failed_lines n.first.parts ∙ more.1 in

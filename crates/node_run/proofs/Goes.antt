@@ -10,17 +10,18 @@ use Rattle.node_core.specs.Keeps.{keeps}
 use Rattle.report_lines.specs.LineSinks.{BeginsList, put_behind}
 use Rattle.node_core.specs.Queues.{Queue, fulls, leaving, waiting}
 use Rattle.node_core.proofs.Waits.{all_stay, none_leaves}
-use Rattle.node_plan.specs.declared.plan.BusPlan.{BusPlan}
 use Rattle.node_core.specs.Stands.{Stands}
 use Rattle.node_core.specs.Steps.{Step, Tick, Kept, ticks_from, emptying, failed_lines, kept, left, lines, lines_at, lines_behind, moment_of, numbers, pushed, received_at, records, sends}
-use Rattle.text_lines.specs.Text.{text}
+use Rattle.node_core.specs.Types.{type_on}
 use Rattle.node_run.specs.Failures.{Failures, TellsFailures}
+use Rattle.node_run.specs.Forms.{Adds, Style, Types}
 use Rattle.node_run.specs.Goes.{BreaksOff, Broke, GoesOn, IsFew, Runs, State, report_of, with_sent}
 use Rattle.node_run.specs.Tells.{HasTold}
 use Rattle.node_run.specs.Ran.{AtFirst, Reported, At, first_lines, next_lines}
 use Rattle.node_run.proofs.Fails.{tells_later}
 use Rattle.node_run.proofs.Steps.{behind_newer, length_behind, tick_more, ticks_split}
-use Rattle.node_run.proofs.Tells.{put_more, text_append, told_more, told_none}
+use Rattle.node_run.proofs.Forms.{adds_more, adds_none}
+use Rattle.node_run.proofs.Tells.{put_more, told_more, told_none}
 
 -- a step's lines, from what it received and what it sends
 pub lines_are : (plan : Plan) (s : Step) (past : List Step) (k mid : Kept) (g f : List Line) → k ≡ kept plan past → mid ≡ pushed plan s past k → g ≡ received_at plan s past → f ≡ fulls (moment_of s) (sends plan s past k) k.queues
@@ -33,14 +34,14 @@ pub kept_next : (plan : Plan) (s : Step) (past : List Step) (k mid new : Kept) �
 kept_next plan s past k mid new e m n = n ∙ ap left (m ∙ ap (pushed plan s past) e)
 
 -- one more step is run
-pub runs_next : (plan : Plan) (before : Option (List Line)) (s : Step) (past : List Step) (old new : State) → Runs plan before old past → new.node.plan ≡ old.node.plan → Stands new.node (records (s ∷ past)) → keeps new.node ≡ kept plan (s ∷ past) → new.buses ≡ old.buses
+pub runs_next : (plan : Plan) (before : Option (List Line)) (s : Step) (past : List Step) (old new : State) → Runs plan before old past → new.node.plan ≡ old.node.plan → Stands new.node (records (s ∷ past)) → keeps new.node ≡ kept plan (s ∷ past) → new.style ≡ old.style
     → new.told ≡ put_behind old.told (lines_at plan s past) → new.numbers ≡ numbers plan (s ∷ past) → new.numbers.held ≤ bound_of plan → Runs plan before new (s ∷ past)
-runs_next plan before s past old new h same stands keep buses told counted held = record {
+runs_next plan before s past old new h same stands keep style told counted held = record {
   is = h.is;
   same = same ∙ h.same;
   stands = stands;
   keeps_are = keep;
-  names = buses ∙ h.names;
+  names = ap (λ (x : Style). x.buses) style ∙ h.names;
   at = record { reported = told ∙ (ap (λ o. put_behind o (lines_at plan s past)) h.at.reported ∙ put_more before (lines plan past) (lines_at plan s past)); counted = counted };
   within = held;
 }
@@ -144,19 +145,22 @@ first_cut plan all r f mid m b counted failed = record {
 -- One after the other.
 
 pub goes_none : (old : State) (t : List ℕ) → GoesOn [] old old t t
-goes_none old t plan before past few h = (h, sym (append-nil t))
+goes_none old t plan before past few h = record { runs = h; same = refl; adds = adds_none old.style (type_on plan) t }
 
 pub goes_more : (a b : List Step) (old mid new : State) (t now after : List ℕ) → GoesOn a old mid t now → GoesOn b mid new now after → GoesOn (b ++ a) old new t after
 goes_more a b old mid new t now after x y plan before past few h =
     let all = append_assoc b a past in
     let less : IsFew (a ++ past) = fewer b a past few in
     let f = x plan before past less h in
-    let g = y plan before (a ++ past) (subst IsFew all few) f.0 in (
-      subst (λ (l : List Step). Runs plan before new l) (sym all) g.0,
-      g.1 ∙ (ap (λ s. s ++ text plan.buses (lines_behind plan b (a ++ past))) f.1
-          ∙ (append_assoc t (text plan.buses (lines_behind plan a past)) (text plan.buses (lines_behind plan b (a ++ past)))
-          ∙ ap (λ s. t ++ s) (sym (text_append plan.buses (lines_behind plan a past) (lines_behind plan b (a ++ past))) ∙ ap (text plan.buses) (sym (behind_newer plan b a past))))),
-    )
+    let g = y plan before (a ++ past) (subst IsFew all few) f.runs in
+    let first = lines_behind plan a past in
+    let later = lines_behind plan b (a ++ past) in
+    let adds = subst (λ (s : Style). Adds s (type_on plan) later now after) f.same g.adds in record {
+      runs = subst (λ (l : List Step). Runs plan before new l) (sym all) g.runs;
+      same = g.same ∙ f.same;
+      adds = subst (λ (ls : List Line). Adds old.style (type_on plan) ls t after) (sym (behind_newer plan b a past))
+          (adds_more old.style (type_on plan) first later t now after f.adds adds);
+    }
   where
     longer : (c d : List Step) → length d ≤ length (c ++ d)
     longer [] d = omega arith
@@ -181,17 +185,17 @@ module _ (plan : Plan) (before : Option (List Line)) (s : Step) (past : List Ste
     pub all_lines_are : g ++ (f ++ out) ≡ lines_at plan s past
     all_lines_are = sym (append_assoc g f out) ∙ lines_are plan s past k mid g f ek em eg ef
 
-    pub step_told : (t now after : List ℕ) (o1 o2 : Option (List Line)) → HasTold old.buses g t now old.told o1 → HasTold old.buses (f ++ out) now after o1 o2 → HasTold plan.buses (lines_at plan s past) t after old.told o2
-    step_told t now after o1 o2 x y =
-        subst (λ (ls : List Line). HasTold plan.buses ls t after old.told o2) all_lines_are
-        (subst (λ b. HasTold b (g ++ (f ++ out)) t after old.told o2) h.names (told_more old.buses g (f ++ out) t now after old.told o1 o2 x y))
+    pub step_told : (types : Types) (t now after : List ℕ) (o1 o2 : Option (List Line)) → HasTold old.style types g t now old.told o1 → HasTold old.style types (f ++ out) now after o1 o2 → HasTold old.style types (lines_at plan s past) t after old.told o2
+    step_told types t now after o1 o2 x y =
+        subst (λ (ls : List Line). HasTold old.style types ls t after old.told o2) all_lines_are
+        (told_more old.style types g (f ++ out) t now after old.told o1 o2 x y)
 
 -- what a quiet step leaves as it was
 pub none_kept : (k : Kept) → waiting k.queues ≡ 0 → k ≡ left k
 none_kept k e = ap (λ (qs : List Queue). record k { queues = qs }) (sym (all_stay k.queues e))
 
-pub none_told : (buses : List BusPlan) (moment : ℕ) (qs : List Queue) (t : List ℕ) (o : Option (List Line)) → waiting qs ≡ 0 → HasTold buses (leaving moment qs) t t o o
-none_told buses moment qs t o e = subst (λ (ls : List Line). HasTold buses ls t t o o) (sym (none_leaves moment 0 qs e)) (told_none buses t o)
+pub none_told : (style : Style) (types : Types) (moment : ℕ) (qs : List Queue) (t : List ℕ) (o : Option (List Line)) → waiting qs ≡ 0 → HasTold style types (leaving moment qs) t t o o
+none_told style types moment qs t o e = subst (λ (ls : List Line). HasTold style types ls t t o o) (sym (none_leaves moment 0 qs e)) (told_none style types t o)
 
 pub none_sent : (moment : ℕ) (qs : List Queue) (n : Numbers) → n.sent < 2 ^ 64 → waiting qs ≡ 0 → n ≡ with_sent n (length (leaving moment qs))
 none_sent moment qs n low e =
@@ -206,7 +210,7 @@ ticks_broke first number due n at moment below e f old mid new t now goes breaks
     let done = length_behind first number n past in
     let few_done : IsFew (ticks_from first number n ++ past) = omega (arith, few, size, done) in
     let few_more : IsFew (Tick at moment ∷ (ticks_from first number n ++ past)) = omega (arith, few, size, done) in
-    let b = breaks plan before (ticks_from first number n ++ past) g few_more (goes plan before past few_done h).0 (tells_later first number n past g failed) in
+    let b = breaks plan before (ticks_from first number n ++ past) g few_more (goes plan before past few_done h).runs (tells_later first number n past g failed) in
     let d = due - (n + 1) in
     let split = ticks_split first number (n + 1) d in
     let more = ap (λ (ts : List Step). ts ++ past) (tick_more first number n at moment e f) in

@@ -9,12 +9,13 @@ use Rattle.report_lines.specs.declared.line.Line.{Line}
 use Rattle.report_lines.specs.declared.numbers.Numbers.{Numbers}
 use Rattle.node_core.specs.Keeps.{IsServedBy, keeps}
 use Rattle.node_core.specs.Queues.{Queue, rounds, waiting}
-use Rattle.node_core.specs.Steps.{Heard, IsServedAt, Kept, Met, Step, failed_at, failed_lines, first_of, kept, lines_behind, met, met_records, steps, ticks_before, ticks_done, ticks_from}
-use Rattle.text_lines.specs.Text.{text}
+use Rattle.node_core.specs.Steps.{Heard, IsServedAt, Kept, Met, Step, failed_at, failed_lines, first_of, kept, lines_behind, lines_on, met, met_records, steps, ticks_before, ticks_done, ticks_from}
+use Rattle.node_core.specs.Types.{type_on}
 use Rattle.node_core.proofs.Waits.{records_of_steps}
 use Rattle.node_run.specs.declared.log.clock.Clock.{Clock}
-use Rattle.node_run.specs.Goes.{BreaksOff, Broke, GoesOn, IsFew, IsFrom, IsLast, Runs, State, last_tick, next_behind, report_of, ticks_left}
-use Rattle.node_run.specs.Hears.{Hears, IsServedMet, step_text, ticks_of}
+use Rattle.node_run.specs.Forms.{Adds}
+use Rattle.node_run.specs.Goes.{BreaksOff, Broke, GoesOn, HasGoneOn, IsFew, IsFrom, IsLast, Runs, State, last_tick, next_behind, report_of, ticks_left}
+use Rattle.node_run.specs.Hears.{Hears, IsServedMet, ticks_of}
 use Rattle.node_run.specs.Listens.{BreaksAt, BreaksOn}
 use Rattle.node_run.specs.Failures.{Failures, TellsFailures}
 use Rattle.node_run.specs.Ran.{Reported}
@@ -78,7 +79,7 @@ module _ (plan : Plan) (before : Option (List Line)) (rec : Record) (past : List
 
   module _ (mid : State) (t now : List ℕ) (goes : (x : ℕ) → IsFrom x from.number from.next rec.moment → GoesOn (ticks_from x from.number left) old mid t now) where
     runs_mid : Runs plan before mid (ticks ++ steps plan past)
-    runs_mid = (goes first are.first plan before (steps plan past) few_here h.runs).0
+    runs_mid = (goes first are.first plan before (steps plan past) few_here h.runs).runs
 
     served_met : (told : Option Files) (file : FileReply) → IsServedAt told plan (Heard rec file) (ticks ++ steps plan past) → IsServedMet told plan (met rec file) past
     served_met told file s = subst (IsServedAt told plan (Heard rec file)) behind s
@@ -99,14 +100,14 @@ module _ (plan : Plan) (before : Option (List Line)) (rec : Record) (past : List
     broke_record told r f b = subst (Broke plan r f) (same b.file) b.broke
 
     module _ (file : FileReply) (new : State) (after : List ℕ) (goes_on : GoesOn (Heard rec file ∷ []) mid new now after) where
-      both : Runs plan before new (Heard rec file ∷ (ticks ++ steps plan past)) × (after ≡ t ++ text plan.buses (lines_behind plan (Heard rec file ∷ ticks) (steps plan past)))
+      both : HasGoneOn plan before (Heard rec file ∷ ticks) (steps plan past) old new t after
       both = goes_more ticks (Heard rec file ∷ []) old mid new t now after (goes first are.first) goes_on plan before (steps plan past) (few_next file) h.runs
 
       runs_new : Runs plan before new (steps plan (met rec file ∷ past))
-      runs_new = subst (Runs plan before new) (same file) both.0
+      runs_new = subst (Runs plan before new) (same file) both.runs
 
-      pub heard_text : after ≡ t ++ step_text plan (met rec file) past
-      heard_text = both.1 ∙ ap (λ (ts : List Step). t ++ text plan.buses (lines_behind plan (Heard rec file ∷ ts) (steps plan past))) (sym are.ticks)
+      pub heard_text : Adds old.style (type_on plan) (lines_on plan (met rec file) past) t after
+      heard_text = subst (λ (ts : List Step). Adds old.style (type_on plan) (lines_behind plan (Heard rec file ∷ ts) (steps plan past)) t after) (sym are.ticks) both.adds
 
       pub hears_next : (upto : Clock) → upto.number ≡ from.number + left → upto.next ≡ next_behind from.number from.next rec.moment → IsLast rec.moment (keeps new.node).queues upto.last → Hears plan before new upto (met rec file ∷ past)
       hears_next upto n x l =

@@ -1,3 +1,4 @@
+pub mod Forms
 pub mod Tells
 pub mod Drains
 pub mod Waits
@@ -5,12 +6,15 @@ pub mod Steps
 pub mod Counts
 pub mod Goes
 pub mod SameNodes
+pub mod TypesOf
 pub mod Takes
 pub mod Ticks
 pub mod Fails
+pub mod Leaving
 pub mod Hearing
 pub mod FailedLines
 pub mod Listens
+pub mod Spoken
 pub mod Runs
 pub mod Streams
 pub mod Starts

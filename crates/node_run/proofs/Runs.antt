@@ -1,6 +1,7 @@
 -- From what a listener's loop did to what a run did.
-use Rattle.std.proofs.Common.{◌≡◌, ◌∙◌, inl, inr, ◌<◌, ◌≤◌, ◌-◌, ℕ, List, length, [], ◌∷◌, ◌++◌, Option, Some, None, Bool, true, false, zero, suc, refl, sym, ap, ap₂, subst, append_assoc, append-nil, arith}
+use Rattle.std.proofs.Common.{◌≡◌, ◌∙◌, inl, inr, ◌<◌, ◌≤◌, ◌-◌, ℕ, List, length, [], ◌∷◌, ◌++◌, Option, Some, None, Bool, true, false, zero, suc, refl, sym, ap, ap₂, subst, append-nil, arith}
 use Rattle.std.specs.Prelude.{if◌then◌else◌}
+use Rattle.std.proofs.lemmas.List.{map-append}
 use Rattle.tail_frame.specs.declared.logged.Record.{Record}
 use Rattle.cy_outside.specs.Files.{Files}
 use Rattle.cy_outside.specs.Written.{behind, Begins}
@@ -8,34 +9,35 @@ use Rattle.frame_log.specs.Log.{log_of}
 use Rattle.frame_log.specs.declared.error.LogError.{LogError}
 use Rattle.frame_log.specs.declared.error.LogError.TheVariants as error
 use Rattle.log_loop.specs.Voice.{MayCome, Voice, said, whole_text as all_said}
-use Rattle.log_loop.specs.Gone.{Stages, HeardOrEnded, Settled as HeardAll, Upto as HeardUpto, Begun as HeardFirst, BegunWhole as HeardWhole, Gone}
+use Rattle.log_loop.specs.Gone.{FirstOf, Stages, HeardOrEnded, Settled as HeardAll, Upto as HeardUpto, Begun as HeardFirst, BegunWhole as HeardWhole, Gone}
 use Rattle.log_loop.specs.Listened.{HasListened}
-use Rattle.log_loop.specs.Taken.{IsOfTaken as HeardTaken}
-use Rattle.log_loop.specs.Streamed.{HearsBytes, IsStreamed as HeardStreamed, HasWritten}
+use Rattle.log_loop.specs.Taken.{AreOfBytes as HeardOfBytes, IsOfTaken as HeardTaken}
+use Rattle.log_loop.specs.Streamed.{HasSaid, HearsBytes, IsStreamed as HeardStreamed}
 use Rattle.log_loop.specs.declared.ended.Ended.{Ended}
 use Rattle.log_loop.specs.declared.ended.Ended.TheVariants as end
 use Rattle.node_plan.specs.Bound.{bound_of}
+use Rattle.node_plan.specs.declared.plan.BusPlan.{BusPlan}
 use Rattle.node_plan.specs.declared.plan.Plan.{Plan}
 use Rattle.report_lines.specs.declared.line.Line.{Line}
 use Rattle.report_lines.specs.declared.numbers.Numbers.{Numbers}
-use Rattle.node_core.specs.Steps.{AreServed, Met, Step, emptying, end_numbers, failed_lines, first_of, lines, lines_on, met_records, new_steps, steps, ticks_before, ticks_done, ticks_from, ticks_until, ticks_upto}
+use Rattle.node_core.specs.Steps.{AreServed, Met, Step, emptying, failed_lines, first_of, lines, met_records, steps, ticks_before, ticks_done, ticks_from, ticks_until, ticks_upto}
 use Rattle.report_lines.specs.LineSinks.{put_behind}
-use Rattle.text_lines.specs.Text.{text, end_text}
 use Rattle.node_run.specs.declared.log.running.Running.{Running}
 use Rattle.node_run.specs.declared.status.Status.{Status}
 use Rattle.node_run.specs.declared.status.Status.TheVariants as status
 use Rattle.node_run.specs.Failures.{AreFailures, Failures}
+use Rattle.node_run.specs.Forms.{Form, Text, Json, Style, in_style}
 use Rattle.node_run.specs.HasRun.{HasRun}
-use Rattle.node_run.specs.Ran.{Reported, reported, Tells, AtEnd, AtFirst, due_lines, due_numbers, next_lines, end_sent, Settled, Begun, CutOff, Upto, Ran, names_of, whole_text, status_of}
-use Rattle.node_run.specs.Taken.{IsOfTaken}
-use Rattle.node_run.specs.Streamed.{IsReported, IsStreamed, ReportsBytes}
+use Rattle.node_run.specs.Ran.{Reported, reported, Tells, AtEnd, AtFirst, due_lines, due_numbers, next_lines, end_sent, Settled, Begun, CutOff, Upto, Ran, names_of, status_of}
+use Rattle.node_run.specs.Taken.{AreOfBytes, IsOfTaken}
+use Rattle.node_run.specs.Streamed.{Holds, IsReported, IsStreamed, ReportsBytes, WritesBytes}
 use Rattle.node_run.specs.Goes.{Broke, Runs, State, report_of, state_in}
-use Rattle.node_run.specs.Hears.{CutShort, HasEnded, run_voice}
-use Rattle.node_run.specs.Listens.{HasBrokenOff, HasEndedBehind, HasHeardAll, IsCutShort, IsOver, Views, failed_since}
+use Rattle.node_run.specs.Hears.{AreSaid, CutShort, HasEnded, Said, but_newest, mets_of, run_voice}
+use Rattle.node_run.specs.Listens.{HasBrokenOff, HasEndedBehind, HasHeardAll, IsCutShort, IsOver, OfBroken, OfSaid, Views, failed_since}
 use Rattle.node_run.specs.ValueLines.{flow}
 use Rattle.node_run.proofs.Goes.{broke_grow}
-use Rattle.node_run.proofs.Steps.{first_steps, lines_newer}
-use Rattle.node_run.proofs.Tells.{text_append}
+use Rattle.node_run.proofs.Spoken.{first_mets, is_begun, is_begun_whole, is_written, lines_written, may_first, records_same, said_front, same_first, text_said, voice_in}
+use Rattle.node_run.proofs.Steps.{first_steps}
 
 -- What the tree did in each step is what it may do.
 
@@ -50,100 +52,117 @@ served_before told plan rec log past h = go plan.silent
     go true = h
     go false = served_ticks told plan (first_of rec log) (ticks_done log) (ticks_until (first_of rec log) rec.moment - ticks_done log) past h
 
-pub are_served : (told : Option Files) (plan : Plan) (mets : List Met) → MayCome (run_voice told plan) mets → AreServed told plan (steps plan mets)
-are_served told plan [] may = tt
-are_served told plan (m ∷ past) may = (may.0, served_before told plan m.rec (met_records past) (steps plan past) (are_served told plan past may.1))
-
--- The text.
-
-said_text : (told : Option Files) (plan : Plan) (past : List Met) → said (run_voice told plan) past ≡ text plan.buses (lines plan (steps plan past))
-said_text told plan [] = refl
-said_text told plan (m ∷ past) =
-    ap (λ t. t ++ text plan.buses (lines_on plan m past)) (said_text told plan past)
-    ∙ (sym (text_append plan.buses (lines plan (steps plan past)) (lines_on plan m past)) ∙ ap (text plan.buses) (sym (lines_newer plan (new_steps plan m past) (steps plan past))))
-
-whole_said : (told : Option Files) (plan : Plan) (past : List Met) (refusal : Option LogError) → all_said (run_voice told plan) past refusal ≡ whole_text plan (steps plan past) refusal
-whole_said told plan past None =
-    let all = steps plan past in
-    let last = end_text (end_numbers plan all) in
-    ap (λ t. t ++ (text plan.buses (emptying plan all) ++ last)) (said_text told plan past)
-    ∙ (sym (append_assoc (text plan.buses (lines plan all)) (text plan.buses (emptying plan all)) last)
-    ∙ ap (λ t. t ++ last) (sym (text_append plan.buses (lines plan all) (emptying plan all))))
-whole_said told plan past (Some e) = ap (λ t. t ++ []) (said_text told plan past)
+pub are_served : (s : Style) (told : Option Files) (plan : Plan) (past : List Said) → MayCome (run_voice s told plan) past → AreServed told plan (steps plan (mets_of past))
+are_served s told plan [] may = tt
+are_served s told plan (it ∷ past) may =
+    let mets = mets_of past in (may.0.0, served_before told plan it.met.rec (met_records mets) (steps plan mets) (are_served s told plan past may.1))
 
 -- What a run has reported, and in which requests the tree failed, at each of its stages.
-pub record AreRuns (plan : Plan) (before : Option (List Line)) (s : State) (sent : ℕ) (f : Failures) (stages : Stages Met) : Type 0 where
-  pub heard : (past : List Met) → stages.heard past → Runs plan before s (steps plan past) × AreFailures (failed_lines (steps plan past)) f
-  pub ended : (past : List Met) → stages.ended past → HasEnded plan (report_of before s) sent past × AreFailures (failed_lines (steps plan past)) f
-  pub broke : (past : List Met) → stages.broke past → Broke plan (report_of before s) f (steps plan past)
-  pub cut : (past : List Met) → stages.cut_short past → CutShort plan (report_of before s) f past
+pub record AreRuns (plan : Plan) (before : Option (List Line)) (s : State) (sent : ℕ) (f : Failures) (stages : Stages Said) : Type 0 where
+  pub heard : (past : List Said) → stages.heard past → OfSaid (λ mets. Runs plan before s (steps plan mets) × AreFailures (failed_lines (steps plan mets)) f) past
+  pub ended : (past : List Said) → stages.ended past → OfSaid (λ mets. HasEnded plan (report_of before s) sent mets × AreFailures (failed_lines (steps plan mets)) f) past
+  pub broke : (past : List Said) → stages.broke past → OfBroken (λ mets. Broke plan (report_of before s) f (steps plan mets)) past
+  pub cut : (past : List Said) → stages.cut_short past → OfSaid (CutShort plan (report_of before s) f) past
 
-abbrev pub stages_of : {K T : Type 0} → Views K T → Running K T → Running K T → Stages Met
-stages_of v first now = record { heard = HasHeardAll v first now; ended = HasEndedBehind v first now; broke = HasBrokenOff v first now; cut_short = IsCutShort v first now }
+abbrev pub stages_of : {W K T : Type 0} → Views W K T → Running W K T → Running W K T → Stages Said
+stages_of v first now =
+    record { heard = OfSaid (HasHeardAll v first now); ended = OfSaid (HasEndedBehind v first now); broke = OfBroken (HasBrokenOff v first now); cut_short = OfSaid (IsCutShort v first now) }
 
-pub are_runs : {K T : Type 0} (v : Views K T) (first now : Running K T) → AreRuns first.node.now.plan (v.lines first.lines.now) (state_in v.lines now) now.sent (failed_since v first now) (stages_of v first now)
+pub are_runs : {W K T : Type 0} (v : Views W K T) (first now : Running W K T) → AreRuns first.node.now.plan (v.lines first.lines.now) (state_in v.style v.lines now) now.sent (failed_since v first now) (stages_of v first now)
 are_runs v first now = record {
-  heard = λ past h. (h.hears.runs, h.failed);
-  ended = λ past h. (h.ended, h.failed);
-  broke = λ past h. h.broke;
-  cut = λ past h. h.cut;
+  heard = λ past h. record { met = (h.met.hears.runs, h.met.failed); said = h.said };
+  ended = λ past h. record { met = (h.met.ended, h.met.failed); said = h.said };
+  broke = λ past h. record { met = h.met.broke; said = h.said };
+  cut = λ past h. record { met = h.met.cut; said = h.said };
 }
+
+-- What holds where something was said on these events: of text always, in JSON unless memory was
+-- wanting.
+held_in : (form : Form) (told : Option Files) (plan : Plan) (stat : Status) (came : List Said) (P : Type 0) → MayCome (voice_in form told plan) came → ((stat ≡ status.NoMemory → ⊥) → AreSaid came) → (AreSaid came → P) → Holds form stat P
+held_in Text told plan stat came P may h p = p (text_said told plan came may)
+held_in Json told plan stat came P may h p = λ n. p (h n)
 
 -- A whole run.
 
 -- a run whose loop over its log ended so, where so many frames were sent in all
-module _ (told : Option Files) (plan : Plan) (before : Option (List Line)) (s : State) (sent : ℕ) (f : Failures) (stages : Stages Met) (runs : AreRuns plan before s sent f stages) where
+module _ (form : Form) (told : Option Files) (plan : Plan) (before : Option (List Line)) (s : State) (sent : ℕ) (f : Failures) (stages : Stages Said) (runs : AreRuns plan before s sent f stages) where
   abbrev steps_report : Reported
   steps_report = report_of before s
 
   abbrev end_report : Reported
   end_report = reported before s.told (end_sent end.Ok s.numbers sent)
 
-  at_end : (past : List Met) → stages.ended past → AtEnd plan (steps plan past) end_report
+  abbrev voice : Voice Said
+  voice = voice_in form told plan
+
+  abbrev steps_of : List Said → List Step
+  steps_of past = steps plan (mets_of past)
+
+  at_end : (past : List Said) → stages.ended past → AtEnd plan (steps_of past) end_report
   at_end past k =
-      let x = (runs.ended past k).0 in record {
+      let x = (runs.ended past k).met.0 in record {
         reported = x.at.reported;
         counted = ap₂ (λ (n : Numbers) m. record n { sent = m }) x.at.counted x.sent_is;
       }
 
-  settled : (events : List Met) (is refusal : Option LogError) (r : Reported) (done : List Met → Type 0) (before_text after : Option (List ℕ)) → ((past : List Met) → done past → Tells (due_lines plan (steps plan past) is) (due_numbers plan (steps plan past) is) r)
-      → ((past : List Met) → done past → AreFailures (failed_lines (steps plan past)) f) → refusal ≡ is → HeardAll (run_voice told plan) done events refusal before_text after → Settled plan (steps plan events) refusal r f before_text after
-  settled events is refusal r done before_text after at failed e x = record {
-    at = subst (λ (y : Option LogError). Tells (due_lines plan (steps plan events) y) (due_numbers plan (steps plan events) y) r) (sym e) (at events x.hears);
-    failed = failed events x.hears;
-    written = x.written ∙ ap (behind before_text) (whole_said told plan events refusal);
-  }
+  -- what holds of records that were heard
+  record IsDone (is : Option LogError) (r : Reported) (past : List Said) : Type 0 where
+    at : Tells (due_lines plan (steps_of past) is) (due_numbers plan (steps_of past) is) r
+    failed : AreFailures (failed_lines (steps_of past)) f
+    said : AreSaid past
 
-  -- exactly these records are reported and written, whatever came behind them
-  settled_upto : (past : List Met) (before_text after : Option (List ℕ)) → stages.heard past → after ≡ behind before_text (said (run_voice told plan) past) → Settled plan (steps plan past) (Some error.Failed) steps_report f before_text after
-  settled_upto past before_text after k w = record {
-    at = (runs.heard past k).0.at;
-    failed = (runs.heard past k).1;
-    written = w ∙ ap (behind before_text) (said_text told plan past ∙ sym (append-nil (text plan.buses (lines plan (steps plan past)))));
-  }
+  done_heard : (e : LogError) (past : List Said) → stages.heard past → IsDone (Some e) steps_report past
+  done_heard e past k = let h = runs.heard past k in record { at = h.met.0.at; failed = h.met.1; said = h.said }
 
-  upto : (events : List Met) (before_text after : Option (List ℕ)) → HeardUpto (run_voice told plan) stages.heard events before_text after → Upto plan events steps_report f before_text after
-  upto events before_text after u = record { came = u.came; first = u.first; settled = settled_upto u.came before_text after u.hears u.written }
+  done_ended : (past : List Said) → stages.ended past → IsDone None end_report past
+  done_ended past k = let h = runs.ended past k in record { at = at_end past k; failed = h.met.1; said = h.said }
 
-  -- memory was wanting in a step, or in the last lines
-  begun : (events : List Met) (refusal : Option LogError) (before_text after : Option (List ℕ)) → HeardFirst (run_voice told plan) stages.broke events refusal before_text after → Begun plan (steps plan events) refusal steps_report f before_text after
-  begun events refusal before_text after x =
-      let n = first_steps plan events x.came x.first in record {
-        first = subst (λ (ss : List Step). AtFirst plan ss refusal steps_report f) (sym n.parts) ((broke_grow plan n.newer (steps plan x.came) steps_report f (runs.broke x.came x.is)).first refusal);
-        written = subst (λ t. Begins t before_text after) (whole_said told plan events refusal) x.written;
+  settled : (events : List Said) → MayCome voice events → (is refusal : Option LogError) (r : Reported) (done : List Said → Type 0) (before_text after : Option (List ℕ)) → ((past : List Said) → done past → IsDone is r past) → refusal ≡ is
+      → HeardAll voice done events refusal before_text after → Settled form plan (steps_of events) refusal r f before_text after
+  settled events may is refusal r done before_text after by e x =
+      let d = by events x.hears in record {
+        at = subst (λ (y : Option LogError). Tells (due_lines plan (steps_of events) y) (due_numbers plan (steps_of events) y) r) (sym e) d.at;
+        failed = d.failed;
+        written = is_written form told plan events refusal before_text after may d.said x.written;
       }
 
-  begun_whole : (events : List Met) (refusal : Option LogError) (before_text after : Option (List ℕ)) → HeardWhole (run_voice told plan) stages.cut_short events refusal before_text after → Begun plan (steps plan events) refusal steps_report f before_text after
-  begun_whole events refusal before_text after x = record {
-    first = subst (λ (z : Option LogError). AtFirst plan (steps plan events) z steps_report f) (sym x.read) (runs.cut events x.is).first;
-    written = subst (λ t. Begins t before_text after) (whole_said told plan events refusal) x.written;
+  -- exactly these records are reported and written, whatever came behind them
+  settled_upto : (past : List Said) (before_text after : Option (List ℕ)) → MayCome voice past → stages.heard past → after ≡ behind before_text (said voice past) → Settled form plan (steps_of past) (Some error.Failed) steps_report f before_text after
+  settled_upto past before_text after may k w =
+      let h = runs.heard past k in record {
+        at = h.met.0.at;
+        failed = h.met.1;
+        written = is_written form told plan past (Some error.Failed) before_text after may h.said (w ∙ ap (behind before_text) (sym (append-nil (said voice past))));
+      }
+
+  upto : (events : List Said) (before_text after : Option (List ℕ)) → MayCome voice events → HeardUpto voice stages.heard events before_text after → Upto form plan (mets_of events) steps_report f before_text after
+  upto events before_text after may u = record {
+    came = mets_of u.came;
+    first = first_mets events u.came u.first;
+    settled = settled_upto u.came before_text after (may_first voice events u.came u.first may) u.hears u.written;
   }
 
+  -- memory was wanting in a step, or in the last lines
+  begun : (events : List Said) (refusal : Option LogError) (before_text after : Option (List ℕ)) → MayCome voice events → HeardFirst voice stages.broke events refusal before_text after → Begun form plan (steps_of events) refusal steps_report f before_text after
+  begun events refusal before_text after may x =
+      let h = runs.broke x.came x.is in
+      let n = first_steps plan (mets_of events) (mets_of x.came) (first_mets events x.came x.first) in record {
+        first = subst (λ (ss : List Step). AtFirst plan ss refusal steps_report f) (sym n.parts) ((broke_grow plan n.newer (steps_of x.came) steps_report f h.met).first refusal);
+        written = is_begun form told plan events x.came refusal before_text after may x.first h.said x.begins x.written;
+      }
+
+  begun_whole : (events : List Said) (refusal : Option LogError) (before_text after : Option (List ℕ)) → MayCome voice events → HeardWhole voice stages.cut_short events refusal before_text after → Begun form plan (steps_of events) refusal steps_report f before_text after
+  begun_whole events refusal before_text after may x =
+      let h = runs.cut events x.is in record {
+        first = subst (λ (z : Option LogError). AtFirst plan (steps_of events) z steps_report f) (sym x.read) h.met.first;
+        written = is_begun_whole form told plan events refusal before_text after may h.said x.written;
+      }
+
   -- a write failed behind a step, or behind the last line
-  cut_off : (events : List Met) (refusal : Option LogError) (before_text after : Option (List ℕ)) → HeardFirst (run_voice told plan) stages.heard events refusal before_text after → CutOff plan (steps plan events) refusal steps_report f before_text after
-  cut_off events refusal before_text after x =
-      let n = first_steps plan events x.came x.first in
-      let past = steps plan x.came in
+  cut_off : (events : List Said) (refusal : Option LogError) (before_text after : Option (List ℕ)) → MayCome voice events → HeardFirst voice stages.heard events refusal before_text after → CutOff form plan (steps_of events) refusal steps_report f before_text after
+  cut_off events refusal before_text after may x =
+      let n = first_steps plan (mets_of events) (mets_of x.came) (first_mets events x.came x.first) in
+      let past = steps_of x.came in
       let h = runs.heard x.came x.is in record {
         first = record {
           newer = n.newer;
@@ -152,18 +171,18 @@ module _ (told : Option Files) (plan : Plan) (before : Option (List Line)) (s : 
           told = [];
           rest = next_lines plan n.newer past refusal;
           next = refl;
-          at = record { reported = h.0.at.reported ∙ ap (put_behind before) (sym (append-nil (lines plan past))); counted = h.0.at.counted };
-          failed = h.1.tells;
+          at = record { reported = h.met.0.at.reported ∙ ap (put_behind before) (sym (append-nil (lines plan past))); counted = h.met.0.at.counted };
+          failed = h.met.1.tells;
         };
-        failed = h.1;
-        written = subst (λ t. Begins t before_text after) (whole_said told plan events refusal) x.written;
+        failed = h.met.1;
+        written = is_begun form told plan events x.came refusal before_text after may x.first (but_newest x.came h.said) x.begins x.written;
       }
 
-  cut_whole : (events : List Met) (refusal : Option LogError) (before_text after : Option (List ℕ)) → HeardWhole (run_voice told plan) stages.ended events refusal before_text after → CutOff plan (steps plan events) refusal steps_report f before_text after
-  cut_whole events refusal before_text after x =
-      let all = steps plan events in
+  cut_whole : (events : List Said) (refusal : Option LogError) (before_text after : Option (List ℕ)) → MayCome voice events → HeardWhole voice stages.ended events refusal before_text after → CutOff form plan (steps_of events) refusal steps_report f before_text after
+  cut_whole events refusal before_text after may x =
+      let all = steps_of events in
       let h = runs.ended events x.is in
-      subst (λ (z : Option LogError). CutOff plan all z steps_report f before_text after) (sym x.read) (record {
+      subst (λ (z : Option LogError). CutOff form plan all z steps_report f before_text after) (sym x.read) (record {
         first = record {
           newer = [];
           past = all;
@@ -171,80 +190,100 @@ module _ (told : Option Files) (plan : Plan) (before : Option (List Line)) (s : 
           told = emptying plan all;
           rest = [];
           next = sym (append-nil (emptying plan all));
-          at = h.0.at;
-          failed = h.1.tells;
+          at = h.met.0.at;
+          failed = h.met.1.tells;
         };
-        failed = h.1;
-        written = subst (λ t. Begins t before_text after) (whole_said told plan events None) (subst (λ (z : Option LogError). Begins (all_said (run_voice told plan) events z) before_text after) x.read x.written);
+        failed = h.met.1;
+        written = is_begun_whole form told plan events None before_text after may h.said (subst (λ (z : Option LogError). Begins (all_said voice events z) before_text after) x.read x.written);
       })
 
-  ran : (events : List Met) (refusal : Option LogError) (how : Ended) (before_text after : Option (List ℕ)) → Gone (run_voice told plan) stages events refusal how before_text after
-      → Ran plan events refusal (status_of how) (reported before s.told (end_sent how s.numbers sent)) f before_text after
-  ran events refusal end.Ok before_text after g = (g.0, settled events None refusal end_report stages.ended before_text after at_end (λ past k. (runs.ended past k).1) g.0 g.1)
-  ran events refusal (end.Log line why) before_text after g = (g.0, settled events (Some _) refusal steps_report stages.heard before_text after (λ past k. (runs.heard past k).0.at) (λ past k. (runs.heard past k).1) g.0 g.1)
-  ran events refusal end.LogLong before_text after g = (g.0, settled events (Some _) refusal steps_report stages.heard before_text after (λ past k. (runs.heard past k).0.at) (λ past k. (runs.heard past k).1) g.0 g.1)
-  ran events refusal end.ReadFault before_text after g = upto events before_text after g
-  ran events refusal end.WriteFault before_text after g = elim g [
-    | inl x ↦ cut_off events refusal before_text after x
-    | inr x ↦ cut_whole events refusal before_text after x
+  ran : (events : List Said) (refusal : Option LogError) (how : Ended) (before_text after : Option (List ℕ)) → MayCome voice events → Gone voice stages events refusal how before_text after
+      → Ran form plan (mets_of events) refusal (status_of how) (reported before s.told (end_sent how s.numbers sent)) f before_text after
+  ran events refusal end.Ok before_text after may g = (g.0, settled events may None refusal end_report stages.ended before_text after done_ended g.0 g.1)
+  ran events refusal (end.Log line why) before_text after may g = (g.0, settled events may (Some _) refusal steps_report stages.heard before_text after (done_heard _) g.0 g.1)
+  ran events refusal end.LogLong before_text after may g = (g.0, settled events may (Some _) refusal steps_report stages.heard before_text after (done_heard _) g.0 g.1)
+  ran events refusal end.ReadFault before_text after may g = upto events before_text after may g
+  ran events refusal end.WriteFault before_text after may g = elim g [
+    | inl x ↦ cut_off events refusal before_text after may x
+    | inr x ↦ cut_whole events refusal before_text after may x
   ]
-  ran events refusal end.NoMemory before_text after g = elim g [
-    | inl x ↦ begun events refusal before_text after x
-    | inr x ↦ begun_whole events refusal before_text after x
+  ran events refusal end.NoMemory before_text after may g = elim g [
+    | inl x ↦ begun events refusal before_text after may x
+    | inr x ↦ begun_whole events refusal before_text after may x
   ]
 
-  has_taken : (events : List Met) (left new before_text after : Option (List ℕ)) → HeardTaken (names_of plan) (run_voice told plan) stages.heard events left new before_text after → IsOfTaken plan events (flow left new before_text after) steps_report f
-  has_taken events left new before_text after t = record {
+  of_bytes : (events : List Said) (bytes : List ℕ) (came : List Said) → HeardOfBytes (names_of plan) voice events bytes came → AreOfBytes plan (mets_of events) bytes (mets_of came)
+  of_bytes events bytes came are = record { unrefused = are.unrefused; first = first_mets events came are.first; records_are = records_same came ∙ are.records_are }
+
+  has_taken : (events : List Said) (left new before_text after : Option (List ℕ)) → MayCome voice events → HeardTaken (names_of plan) voice stages.heard events left new before_text after → IsOfTaken form plan (mets_of events) (flow left new before_text after) steps_report f
+  has_taken events left new before_text after may t = record {
     taken = t.taken;
     took = t.took;
-    came = t.came;
-    are = record { unrefused = t.are.unrefused; first = t.are.first; records_are = t.are.records_are };
-    settled = settled_upto t.came before_text after t.hears t.written;
+    came = mets_of t.came;
+    are = of_bytes events t.taken t.came t.are;
+    settled = settled_upto t.came before_text after (may_first voice events t.came t.are.first may) t.hears t.written;
   }
 
-  is_reported : (past : List Met) → HeardOrEnded stages past → IsReported plan (steps plan past) steps_report
+  is_reported : (past : List Said) → HeardOrEnded stages past → IsReported plan (steps_of past) steps_report
   is_reported past k = elim k [
-    | inl x ↦ inl (runs.heard past x).0.at
-    | inr x ↦ inr (inr (runs.ended past x).0.at)
+    | inl x ↦ inl (runs.heard past x).met.0.at
+    | inr x ↦ inr (inr (runs.ended past x).met.0.at)
   ]
 
-  -- of a loop that the log's end or a fault ended, what was heard is reported
-  reports : (events : List Met) (front : List ℕ) → HearsBytes (names_of plan) (run_voice told plan) stages events front → ReportsBytes plan events steps_report front
-  reports events front k = record {
-    came = k.came;
-    are = record { unrefused = k.are.unrefused; first = k.are.first; records_are = k.are.records_are };
-    newer = k.hears.newer;
-    first = k.hears.first;
-    reported = is_reported (k.hears.newer ++ k.came) k.hears.hears;
-  }
+  are_said : (past : List Said) → HeardOrEnded stages past → AreSaid past
+  are_said past k = elim k [ inl x ↦ (runs.heard past x).said | inr x ↦ (runs.ended past x).said ]
 
-  reports_end : (events : List Met) (front : List ℕ) → stages.ended events → HearsBytes (names_of plan) (run_voice told plan) stages events front → ReportsBytes plan events end_report front
-  reports_end events front e k =
-      let n = k.are.first in record {
-        came = k.came;
-        are = record { unrefused = k.are.unrefused; first = n; records_are = k.are.records_are };
-        newer = n.newer;
-        first = record { newer = []; parts = n.parts };
-        reported = subst (λ (all : List Met). IsReported plan (steps plan all) end_report) n.parts (inr (inl (at_end events e)));
+  -- of a loop that the log's end or a fault ended, what was heard is reported
+  reports : (events : List Said) (front : List ℕ) → HearsBytes (names_of plan) voice stages events front → ReportsBytes plan (mets_of events) steps_report front
+  reports events front k =
+      let newer = k.hears.newer in
+      let both : mets_of (newer ++ k.came) ≡ mets_of newer ++ mets_of k.came = map-append (λ (it : Said). it.met) newer k.came in record {
+        came = mets_of k.came;
+        are = of_bytes events front k.came k.are;
+        newer = mets_of newer;
+        first = subst (λ (mets : List Met). FirstOf (mets_of events) mets) both (first_mets events (newer ++ k.came) k.hears.first);
+        reported = subst (λ (mets : List Met). IsReported plan (steps plan mets) steps_report) both (is_reported (newer ++ k.came) k.hears.hears);
       }
 
-  has_streamed : (events : List Met) (refusal : Option LogError) (left new : Option (List ℕ)) (how : Ended) (before_text after : Option (List ℕ)) → Gone (run_voice told plan) stages events refusal how before_text after
-      → HeardStreamed (names_of plan) (run_voice told plan) stages events left new how before_text after → IsStreamed plan events (flow left new before_text after) (status_of how) (reported before s.told (end_sent how s.numbers sent))
-  has_streamed events refusal left new how before_text after g x = record {
+  reports_end : (events : List Said) (front : List ℕ) → stages.ended events → HearsBytes (names_of plan) voice stages events front → ReportsBytes plan (mets_of events) end_report front
+  reports_end events front e k =
+      let are = of_bytes events front k.came k.are in
+      let n = are.first in record {
+        came = mets_of k.came;
+        are = are;
+        newer = n.newer;
+        first = record { newer = []; parts = n.parts };
+        reported = subst (λ (mets : List Met). IsReported plan (steps plan mets) end_report) n.parts (inr (inl (at_end events e)));
+      }
+
+  -- what is written of the lines that end among some bytes, if each was heard
+  writes : (events : List Said) (left new before_text after : Option (List ℕ)) (front : List ℕ) → MayCome voice events → (w : HasSaid (names_of plan) voice events front before_text after) → AreSaid w.came → WritesBytes form plan (mets_of events) (flow left new before_text after) front
+  writes events left new before_text after front may w h = record {
+    came = mets_of w.came;
+    are = of_bytes events front w.came w.are;
+    written = lines_written form told plan w.came before_text after (may_first voice events w.came w.are.first may) h w.written;
+  }
+
+  -- the events that were heard are these
+  said_bytes : (events : List Said) (front : List ℕ) (came : List Said) → HeardOfBytes (names_of plan) voice events front came → HearsBytes (names_of plan) voice stages events front → AreSaid came
+  said_bytes events front came are k =
+      let same = same_first events k.came came k.are.first are.first (k.are.records_are ∙ sym are.records_are) in subst AreSaid same (said_front k.hears.newer k.came (are_said (k.hears.newer ++ k.came) k.hears.hears))
+
+  has_streamed : (events : List Said) (refusal : Option LogError) (left new : Option (List ℕ)) (how : Ended) (before_text after : Option (List ℕ)) → MayCome voice events → Gone voice stages events refusal how before_text after
+      → HeardStreamed (names_of plan) voice stages events left new how before_text after → IsStreamed form plan (mets_of events) (flow left new before_text after) (status_of how) (reported before s.told (end_sent how s.numbers sent))
+  has_streamed events refusal left new how before_text after may g x = record {
     taken = x.taken;
     took = x.took;
     written = λ front more same long.
-        let w = x.written front more same long in record {
-          came = w.came;
-          are = record { unrefused = w.are.unrefused; first = w.are.first; records_are = w.are.records_are };
-          written = subst (λ t. HasWritten t before_text after) (said_text told plan w.came) w.written;
-        };
+        let w = x.written front more same long in
+        held_in form told plan (status_of how) w.came _ (may_first voice events w.came w.are.first may)
+        (λ n. said_bytes events front w.came w.are (x.hears (λ e. n (ap status_of e)) front more same long)) (writes events left new before_text after front may w);
     reported = λ n front more same long. by how n g x front more same long;
   }
     where
       -- all of this, by how it ended
-      by : (how : Ended) → (status_of how ≡ status.NoMemory → ⊥) → Gone (run_voice told plan) stages events refusal how before_text after → (y : HeardStreamed (names_of plan) (run_voice told plan) stages events left new how before_text after)
-          → (front more : List ℕ) → y.taken ≡ front ++ more → 8192 < length more → ReportsBytes plan events (reported before s.told (end_sent how s.numbers sent)) front
+      by : (how : Ended) → (status_of how ≡ status.NoMemory → ⊥) → Gone voice stages events refusal how before_text after → (y : HeardStreamed (names_of plan) voice stages events left new how before_text after)
+          → (front more : List ℕ) → y.taken ≡ front ++ more → 8192 < length more → ReportsBytes plan (mets_of events) (reported before s.told (end_sent how s.numbers sent)) front
       by end.Ok n e y front more same long = reports_end events front e.1.hears (y.hears (λ o. cc) front more same long)
       by (end.Log line why) n e y front more same long = reports events front (y.hears (λ o. cc) front more same long)
       by end.LogLong n e y front more same long = reports events front (y.hears (λ o. cc) front more same long)
@@ -252,43 +291,46 @@ module _ (told : Option Files) (plan : Plan) (before : Option (List Line)) (s : 
       by end.WriteFault n e y front more same long = reports events front (y.hears (λ o. cc) front more same long)
       by end.NoMemory n e y front more same long = absurd (n refl)
 
-  has_run : (left new : Option (List ℕ)) (how : Ended) (before_text after : Option (List ℕ)) → HasListened (names_of plan) (run_voice told plan) stages left new how before_text after
-      → HasRun plan told (flow left new before_text after) (status_of how) (reported before s.told (end_sent how s.numbers sent)) f
+  has_run : (left new : Option (List ℕ)) (how : Ended) (before_text after : Option (List ℕ)) → HasListened (names_of plan) voice stages left new how before_text after
+      → HasRun form plan told (flow left new before_text after) (status_of how) (reported before s.told (end_sent how s.numbers sent)) f
   has_run left new how before_text after g = record {
     bytes = g.bytes;
     is = g.is;
-    mets = g.events;
-    of_log = g.of_log.records_are;
-    served = are_served told plan g.events g.of_log.may;
-    ran = ran g.events (log_of (names_of plan) g.bytes).refusal how before_text after g.gone;
+    mets = mets_of g.events;
+    of_log = records_same g.events ∙ g.of_log.records_are;
+    served = are_served (in_style form plan.buses) told plan g.events g.of_log.may;
+    ran = ran g.events (log_of (names_of plan) g.bytes).refusal how before_text after g.of_log.may g.gone;
     taken = taken_by how g.taken;
-    streamed = has_streamed g.events (log_of (names_of plan) g.bytes).refusal left new how before_text after g.gone g.streamed;
+    streamed = has_streamed g.events (log_of (names_of plan) g.bytes).refusal left new how before_text after g.of_log.may g.gone g.streamed;
   }
     where
-      taken_by : (how : Ended) → (how ≡ end.ReadFault → HeardTaken (names_of plan) (run_voice told plan) stages.heard g.events left new before_text after) → status_of how ≡ status.ReadFault
-          → IsOfTaken plan g.events (flow left new before_text after) (reported before s.told (end_sent how s.numbers sent)) f
+      taken_by : (how : Ended) → (how ≡ end.ReadFault → HeardTaken (names_of plan) voice stages.heard g.events left new before_text after) → status_of how ≡ status.ReadFault
+          → IsOfTaken form plan (mets_of g.events) (flow left new before_text after) (reported before s.told (end_sent how s.numbers sent)) f
       taken_by end.Ok t e = absurd cc
       taken_by (end.Log line why) t e = absurd cc
       taken_by end.LogLong t e = absurd cc
-      taken_by end.ReadFault t e = has_taken g.events left new before_text after (t refl)
+      taken_by end.ReadFault t e = has_taken g.events left new before_text after g.of_log.may (t refl)
       taken_by end.WriteFault t e = absurd cc
       taken_by end.NoMemory t e = absurd cc
 
--- The same for a node that was opened by the plan, and what was reported in the end.
-pub run_gone : (told : Option Files) (plan of_node : Plan) → of_node ≡ plan → (names : List (List ℕ)) → names ≡ names_of plan → (before : Option (List Line)) (s : State) (sent : ℕ) (f : Failures) (stages : Stages Met) → AreRuns of_node before s sent f stages
-    → (left new before_text after : Option (List ℕ)) (how : Ended) → HasListened names (run_voice told of_node) stages left new how before_text after → (stat : Status) → stat ≡ status_of how → (r : Reported) → r ≡ reported before s.told (end_sent how s.numbers sent) → (g : Failures) → g ≡ f
-    → HasRun plan told (flow left new before_text after) stat r g
-run_gone told plan of_node same names named before s sent f stages runs left new before_text after how h stat by r is g are =
-    let there : HasRun of_node told (flow left new before_text after) (status_of how) (reported before s.told (end_sent how s.numbers sent)) f =
-    has_run told of_node before s sent f stages runs left new how before_text after
-    (subst (λ (t : List (List ℕ)). HasListened t (run_voice told of_node) stages left new how before_text after) (named ∙ ap names_of (sym same)) h) in
-    subst (λ (x : Failures). HasRun plan told (flow left new before_text after) stat r x) (sym are)
-    (subst (λ (x : Reported). HasRun plan told (flow left new before_text after) stat x f) (sym is)
-    (subst (λ (x : Status). HasRun plan told (flow left new before_text after) x (reported before s.told (end_sent how s.numbers sent)) f) (sym by)
-    (subst (λ (p : Plan). HasRun p told (flow left new before_text after) (status_of how) (reported before s.told (end_sent how s.numbers sent)) f) same there)))
+-- The same in a style of the plan's buses, for a node that was opened by the plan, and what was
+-- reported in the end.
+pub run_gone : (style : Style) (told : Option Files) (plan of_node : Plan) → of_node ≡ plan → style.buses ≡ plan.buses → (names : List (List ℕ)) → names ≡ names_of plan → (before : Option (List Line)) (s : State) (sent : ℕ) (f : Failures) (stages : Stages Said) → AreRuns of_node before s sent f stages
+    → (left new before_text after : Option (List ℕ)) (how : Ended) → HasListened names (run_voice style told of_node) stages left new how before_text after → (stat : Status) → stat ≡ status_of how → (r : Reported) → r ≡ reported before s.told (end_sent how s.numbers sent) → (g : Failures) → g ≡ f
+    → HasRun style.form plan told (flow left new before_text after) stat r g
+run_gone style told plan of_node same buses names named before s sent f stages runs left new before_text after how h stat by r is g are =
+    let heard : HasListened names (run_voice (in_style style.form of_node.buses) told of_node) stages left new how before_text after =
+    subst (λ (bs : List BusPlan). HasListened names (run_voice (in_style style.form bs) told of_node) stages left new how before_text after) (buses ∙ ap (λ (p : Plan). p.buses) (sym same)) h in
+    let there : HasRun style.form of_node told (flow left new before_text after) (status_of how) (reported before s.told (end_sent how s.numbers sent)) f =
+    has_run style.form told of_node before s sent f stages runs left new how before_text after
+    (subst (λ (t : List (List ℕ)). HasListened t (run_voice (in_style style.form of_node.buses) told of_node) stages left new how before_text after) (named ∙ ap names_of (sym same)) heard) in
+    subst (λ (x : Failures). HasRun style.form plan told (flow left new before_text after) stat r x) (sym are)
+    (subst (λ (x : Reported). HasRun style.form plan told (flow left new before_text after) stat x f) (sym is)
+    (subst (λ (x : Status). HasRun style.form plan told (flow left new before_text after) x (reported before s.told (end_sent how s.numbers sent)) f) (sym by)
+    (subst (λ (p : Plan). HasRun style.form p told (flow left new before_text after) (status_of how) (reported before s.told (end_sent how s.numbers sent)) f) same there)))
 
 -- what holds of the records that were heard, or broken off on, whichever they are
-pub whichever : (P : Type 0) (names : List (List ℕ)) (v : Voice Met) (stages : Stages Met) (left new before after : Option (List ℕ)) (how : Ended) → ((past : List Met) → stages.heard past → P) → ((past : List Met) → stages.ended past → P) → ((past : List Met) → stages.broke past → P) → ((past : List Met) → stages.cut_short past → P)
+pub whichever : (P : Type 0) (names : List (List ℕ)) (v : Voice Said) (stages : Stages Said) (left new before after : Option (List ℕ)) (how : Ended) → ((past : List Said) → stages.heard past → P) → ((past : List Said) → stages.ended past → P) → ((past : List Said) → stages.broke past → P) → ((past : List Said) → stages.cut_short past → P)
     → HasListened names v stages left new how before after → P
 whichever P names v stages left new before after how h e b c g = of_gone how g.gone
   where
@@ -304,16 +346,16 @@ whichever P names v stages left new before after how h e b c g = of_gone how g.g
     of_gone end.NoMemory k = elim k [ inl x ↦ b x.came x.is | inr x ↦ c g.events x.is ]
 
 -- whatever it heard, it is over the sink and the tree that it was over
-pub over_all : {K T : Type 0} (v : Views K T) (first now : Running K T) (names : List (List ℕ)) (voice : Voice Met) (left new before after : Option (List ℕ)) (how : Ended) → HasListened names voice (stages_of v first now) left new how before after → IsOver v.files first now
+pub over_all : {W K T : Type 0} (v : Views W K T) (first now : Running W K T) (names : List (List ℕ)) (voice : Voice Said) (left new before after : Option (List ℕ)) (how : Ended) → HasListened names voice (stages_of v first now) left new how before after → IsOver v.style v.files first now
 over_all v first now names voice left new before after how g =
-    whichever (IsOver v.files first now) names voice (stages_of v first now) left new before after how (λ past h. h.over) (λ past h. h.over) (λ past h. h.over) (λ past h. h.over) g
+    whichever (IsOver v.style v.files first now) names voice (stages_of v first now) left new before after how (λ past h. h.met.over) (λ past h. h.met.over) (λ past h. h.met.over) (λ past h. h.met.over) g
 
 -- its bound is the plan's, and it holds no more
-pub bound_all : {K T : Type 0} (v : Views K T) (first now : Running K T) (names : List (List ℕ)) (voice : Voice Met) (left new before after : Option (List ℕ)) (how : Ended) → HasListened names voice (stages_of v first now) left new how before after
+pub bound_all : {W K T : Type 0} (v : Views W K T) (first now : Running W K T) (names : List (List ℕ)) (voice : Voice Said) (left new before after : Option (List ℕ)) (how : Ended) → HasListened names voice (stages_of v first now) left new how before after
     → (now.tally.numbers.bound ≡ bound_of first.node.now.plan) × (now.tally.numbers.held ≤ bound_of first.node.now.plan)
 bound_all v first now names voice left new before after how g =
-    whichever _ names voice (stages_of v first now) left new before after how (λ past h. (ap (λ (n : Numbers). n.bound) h.hears.runs.at.counted, h.hears.runs.within)) (λ past h. (ap (λ (n : Numbers). n.bound) h.ended.at.counted, h.ended.within))
-    (λ past h. (ap (λ (n : Numbers). n.bound) (h.broke.first (Some error.Failed)).at.counted, h.broke.within)) (λ past h. (ap (λ (n : Numbers). n.bound) h.cut.first.at.counted, h.cut.within)) g
+    whichever _ names voice (stages_of v first now) left new before after how (λ past h. (ap (λ (n : Numbers). n.bound) h.met.hears.runs.at.counted, h.met.hears.runs.within)) (λ past h. (ap (λ (n : Numbers). n.bound) h.met.ended.at.counted, h.met.ended.within))
+    (λ past h. (ap (λ (n : Numbers). n.bound) (h.met.broke.first (Some error.Failed)).at.counted, h.met.broke.within)) (λ past h. (ap (λ (n : Numbers). n.bound) h.met.cut.first.at.counted, h.met.cut.within)) g
 
 -- The memory bound, and what is held.
 

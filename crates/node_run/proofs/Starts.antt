@@ -1,11 +1,12 @@
 -- A run that heard nothing.
-use Rattle.std.proofs.Common.{◌≡◌, ◌∙◌, ℕ, ◌+◌, ◌*◌, ◌≤◌, Bool, true, false, List, [], ◌∷◌, length, take, Option, refl, sym, ap, ap₂, subst, append-nil, arith}
+use Rattle.std.proofs.Common.{◌≡◌, ◌∙◌, inl, ℕ, ◌+◌, ◌*◌, ◌≤◌, Bool, true, false, List, [], ◌∷◌, length, map, take, Option, refl, sym, ap, ap₂, subst, append-nil, arith}
 use Rattle.std.proofs.lemmas.Grind.{common_steps}
 use Rattle.std.specs.Prelude.{if◌then◌else◌, unwrap_or}
 use Rattle.rx_table.specs.Ports.{Port, held}
 use Rattle.cy_outside.specs.Files.{Files}
 use Rattle.tail_frame.specs.declared.logged.Record.{Record}
 use Rattle.frame_log.specs.Log.{log_of}
+use Rattle.frame_log.specs.declared.error.LogError.{LogError}
 use Rattle.log_loop.specs.Voice.{MayCome}
 use Rattle.log_loop.proofs.Runs.{told_none}
 use Rattle.log_loop.proofs.Written.{begins_none}
@@ -16,23 +17,25 @@ use Rattle.node_core.specs.Heard.{ports_of}
 use Rattle.node_core.specs.Keeps.{keeps}
 use Rattle.node_core.specs.Queues.{waiting}
 use Rattle.node_core.specs.Stands.{Stands}
-use Rattle.node_core.specs.Steps.{Met, Step, held_at, kept, met_records, steps}
+use Rattle.node_core.specs.Steps.{Met, Step, held_at, kept, steps}
 use Rattle.node_core.proofs.Queues.{nothing_waits}
 use Rattle.node_core.proofs.Served.{something_served}
-use Rattle.node_run.specs.Listens.{some_met}
+use Rattle.node_run.specs.Listens.{some_said}
 use Rattle.node_plan.specs.IsPlan.{IsPlan}
 use Rattle.node_run.specs.declared.log.clock.Clock.{Clock}
 use Rattle.node_run.specs.Goes.{State, report_of}
-use Rattle.node_run.specs.Hears.{Hears, next_of, run_voice, ticks_of}
+use Rattle.node_run.specs.Hears.{Hears, Said, mets_of, next_of, run_voice, ticks_of}
 use Rattle.node_run.proofs.Waits.{none_rounds}
 use Rattle.node_run.specs.declared.status.Status.TheVariants as status
 use Rattle.node_run.specs.Failures.{failures}
+use Rattle.node_run.specs.Forms.{Form, Text, Json, Style}
 use Rattle.node_run.specs.HasRun.{HasRun}
-use Rattle.node_run.specs.Ran.{names_of, newest_first, reported, no_numbers, At, AtFirst, whole_text}
+use Rattle.node_run.specs.Ran.{names_of, newest_first, reported, no_numbers, At, AtFirst, IsBegun, due_lines, whole_text}
 use Rattle.node_run.specs.ValueLines.{flow}
 use Rattle.node_run.proofs.Fails.{failed_none}
 use Rattle.node_run.proofs.Goes.{first_none}
 use Rattle.node_run.proofs.Runs.{are_served}
+use Rattle.node_run.proofs.Spoken.{records_same}
 use Rattle.node_run.proofs.Streams.{streamed_none}
 use Rattle.node_run.proofs.Tells.{put_none}
 
@@ -55,41 +58,56 @@ at_none plan lines held bound h b = record {
 }
 
 -- records of a log, each with something that the tree may tell for it
-pub record SomeMet (told : Option Files) (plan : Plan) (log : List Record) : Type 0 where
-  pub mets : List Met
-  pub are : met_records mets ≡ log
-  pub may : MayCome (run_voice told plan) mets
+pub record SomeMet (style : Style) (told : Option Files) (plan : Plan) (log : List Record) : Type 0 where
+  pub events : List Said
+  pub are : map (λ (it : Said). it.met.rec) events ≡ log
+  pub may : MayCome (run_voice style told plan) events
 
-pub some_mets : (told : Option Files) (plan : Plan) (log : List Record) → SomeMet told plan log
-some_mets told plan [] = record { mets = []; are = refl; may = tt }
-some_mets told plan (rec ∷ log) =
-    let past = some_mets told plan log in
-    let next = some_met something_served told plan rec past.mets in record {
-      mets = next.event ∷ past.mets;
+pub some_mets : (style : Style) (told : Option Files) (plan : Plan) (log : List Record) → SomeMet style told plan log
+some_mets style told plan [] = record { events = []; are = refl; may = tt }
+some_mets style told plan (rec ∷ log) =
+    let past = some_mets style told plan log in
+    let next = some_said something_served style told plan rec past.events in record {
+      events = next.event ∷ past.events;
       are = ap₂ (λ (r : Record) (rs : List Record). r ∷ rs) next.of past.are;
       may = (next.may, past.may);
     }
 
+-- nothing is a beginning of what is due
+begun_none : (form : Form) (plan : Plan) (all : List Step) (refusal : Option LogError) (before : Option (List ℕ)) → IsBegun form plan all refusal before before
+begun_none Text plan all refusal before = begins_none (whole_text plan all refusal) before
+begun_none Json plan all refusal before = record {
+  front = [];
+  rest = due_lines plan all refusal;
+  parts = refl;
+  said = [];
+  spelled = refl;
+  end = [];
+  ended = inl refl;
+  written = begins_none [] before;
+}
+
 -- memory was wanting before the first record
-pub has_none : (told : Option Files) (plan : Plan) (left : Option (List ℕ)) (lines : Option (List Line)) (bound : ℕ) (before : Option (List ℕ)) (failed : Option (List ℕ)) (faults : ℕ) → bound ≡ bound_of plan
-    → HasRun plan told (flow left left before before) status.NoMemory (reported lines lines (record no_numbers { bound = bound })) (failures failed failed faults faults)
-has_none told plan left lines bound before failed faults b =
+pub has_none : (style : Style) (told : Option Files) (plan : Plan) (left : Option (List ℕ)) (lines : Option (List Line)) (bound : ℕ) (before : Option (List ℕ)) (failed : Option (List ℕ)) (faults : ℕ) → bound ≡ bound_of plan
+    → HasRun style.form plan told (flow left left before before) status.NoMemory (reported lines lines (record no_numbers { bound = bound })) (failures failed failed faults faults)
+has_none style told plan left lines bound before failed faults b =
     let log = log_of (names_of plan) (unwrap_or left []) in
-    let some = some_mets told plan (newest_first log) in
-    let all = steps plan some.mets in
+    let some = some_mets style told plan (newest_first log) in
+    let mets = mets_of some.events in
+    let all = steps plan mets in
     let r = reported lines lines (record no_numbers { bound = bound }) in
     let f = failures failed failed faults faults in record {
       bytes = unwrap_or left [];
       is = told_none left;
-      mets = some.mets;
-      of_log = some.are;
-      served = are_served told plan some.mets some.may;
+      mets = mets;
+      of_log = records_same some.events ∙ some.are;
+      served = are_served style told plan some.events some.may;
       ran = record {
         first = subst (λ (ss : List Step). AtFirst plan ss log.refusal r f) (append-nil all) (first_none plan all [] log.refusal r f (at_none plan lines 0 bound (sym (held_none plan)) b) (failed_none failed faults).tells);
-        written = begins_none (whole_text plan all log.refusal) before;
+        written = begun_none style.form plan all log.refusal before;
       };
       taken = λ e. absurd cc;
-      streamed = streamed_none plan some.mets left before status.NoMemory r;
+      streamed = streamed_none style.form plan mets left before status.NoMemory r;
     }
 
 no_ticks : (plan : Plan) → ticks_of plan [] ≡ 0
@@ -100,7 +118,7 @@ no_ticks plan = go plan.silent
     go false = refl
 
 -- a run before its first record
-pub hears_none : (plan : Plan) (before : Option (List Line)) (s : State) (clock : Clock) → IsPlan plan → plan ≡ s.node.plan → Stands s.node [] → keeps s.node ≡ kept plan [] → s.buses ≡ plan.buses → At s.node.plan [] (report_of before s) → s.numbers.held ≤ bound_of s.node.plan
+pub hears_none : (plan : Plan) (before : Option (List Line)) (s : State) (clock : Clock) → IsPlan plan → plan ≡ s.node.plan → Stands s.node [] → keeps s.node ≡ kept plan [] → s.style.buses ≡ plan.buses → At s.node.plan [] (report_of before s) → s.numbers.held ≤ bound_of s.node.plan
     → clock.number ≡ 0 → clock.next ≡ next_of s.node.plan [] → s.numbers.records ≡ 0 → Hears s.node.plan before s clock []
 hears_none plan before s clock is same stands keep buses at held number next none =
     let qs = (kept s.node.plan []).queues in record {

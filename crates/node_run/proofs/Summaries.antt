@@ -28,6 +28,7 @@ use Rattle.node_core.proofs.Silence.{mute_keep_nothing}
 use Rattle.node_core.proofs.Waits.{nothing_emptied}
 use Rattle.node_run.specs.Generated.{generated_plan, generated_numbers}
 use Rattle.node_run.specs.Failures.{Failures}
+use Rattle.node_run.specs.Forms.{Text}
 use Rattle.node_run.specs.HasRun.{HasRun}
 use Rattle.node_run.specs.Ran.{Reported, Ran, names_of, newest_first}
 use Rattle.node_run.specs.ValueLines.{flow}
@@ -61,7 +62,7 @@ no_refusal : (e : LogError) → None ≡ Some e → ⊥
 no_refusal e h = cc
 
 -- where a log was read to its end and no fault came, all was run, or memory was wanting
-only : (mets : List Met) (stat : Status) (r : Reported) (f : Failures) (before after : Option (List ℕ)) → Ran generated_plan mets None stat r f before after → (stat ≡ status.ReadFault → ⊥) → (stat ≡ status.WriteFault → ⊥) → (stat ≡ status.Ok) ⊎ (stat ≡ status.NoMemory)
+only : (mets : List Met) (stat : Status) (r : Reported) (f : Failures) (before after : Option (List ℕ)) → Ran Text generated_plan mets None stat r f before after → (stat ≡ status.ReadFault → ⊥) → (stat ≡ status.WriteFault → ⊥) → (stat ≡ status.Ok) ⊎ (stat ≡ status.NoMemory)
 only mets status.Ok r f before after h read write = inl refl
 only mets status.Usage r f before after h read write = absurd h
 only mets (status.Dsdl file line why) r f before after h read write = absurd h
@@ -78,7 +79,7 @@ only mets status.NoMemory r f before after h read write = inr refl
 
 module _ (number : ℕ) (reads : IsRead number) (told : Option Files) (bytes : List ℕ) (are : bytes ≡ log_text number) (new before after : Option (List ℕ)) (stat : Status) (r : Reported) (f : Failures) where
   abbrev HasRunBy : Plan → Type 0
-  HasRunBy plan = HasRun plan told (flow (Some bytes) new before after) stat r f
+  HasRunBy plan = HasRun Text plan told (flow (Some bytes) new before after) stat r f
 
   abbrev whole : Log
   whole = record { records = reverse (records_by number); refusal = None }
@@ -86,8 +87,8 @@ module _ (number : ℕ) (reads : IsRead number) (told : Option Files) (bytes : L
   log_is : (h : HasRunBy generated_plan) → log_of (names_of generated_plan) h.bytes ≡ whole
   log_is h = ap (log_of (names_of generated_plan)) (h.is ∙ are) ∙ reads
 
-  ran_whole : (h : HasRunBy generated_plan) → Ran generated_plan h.mets None stat r f before after
-  ran_whole h = subst (λ (log : Log). Ran generated_plan h.mets log.refusal stat r f before after) (log_is h) h.ran
+  ran_whole : (h : HasRunBy generated_plan) → Ran Text generated_plan h.mets None stat r f before after
+  ran_whole h = subst (λ (log : Log). Ran Text generated_plan h.mets log.refusal stat r f before after) (log_is h) h.ran
 
   -- no file was asked for
   mets_are : NothingServed → (h : HasRunBy generated_plan) → h.mets ≡ without_files (records_by number)
@@ -102,7 +103,7 @@ module _ (number : ℕ) (reads : IsRead number) (told : Option Files) (bytes : L
     -- where all was run, the numbers are those of the log
     pub all_run : NothingServed → stat ≡ status.Ok → r.numbers ≡ generated_numbers number
     all_run nothing e =
-        let ok : Ran generated_plan there.mets None status.Ok r f before after = subst (λ (s : Status). Ran generated_plan there.mets None s r f before after) e (ran_whole there) in
+        let ok : Ran Text generated_plan there.mets None status.Ok r f before after = subst (λ (s : Status). Ran Text generated_plan there.mets None s r f before after) e (ran_whole there) in
         ok.1.at.counted ∙ (same_numbers there.mets ∙ ap (λ (mets : List Met). numbers generated_plan (steps generated_plan mets)) (mets_are nothing there))
 
     -- and that, or want of memory, is all that can come

@@ -1,10 +1,9 @@
 -- The step of a record: what it came to, and what follows.
-use Rattle.std.proofs.Common.{◌≡◌, ◌∙◌, ◌++◌, ◌≤◌, ℕ, Bool, false, List, [], ◌∷◌, Option, None, count_by, refl, sym, ap, ap₂, subst}
+use Rattle.std.proofs.Common.{◌≡◌, ◌∙◌, ◌≤◌, ℕ, Bool, false, List, [], ◌∷◌, Option, None, count_by, refl, sym, ap, ap₂, subst}
 use Rattle.cy_outside.specs.Files.{Files}
 use Rattle.tail_frame.specs.declared.logged.Record.{Record}
 use Rattle.rx_table.specs.Views.{subscriptions}
 use Rattle.node_plan.specs.Bound.{bound_of}
-use Rattle.node_plan.specs.declared.plan.BusPlan.{BusPlan}
 use Rattle.node_plan.specs.declared.plan.Plan.{Plan}
 use Rattle.node_core.specs.Came.{TellsRequest, came_lines, came_request, heard_lines}
 use Rattle.node_core.specs.Files.{IsServed}
@@ -16,7 +15,7 @@ use Rattle.node_core.specs.Quick.{AsksNothing}
 use Rattle.node_core.specs.Shapes.{port_schema}
 use Rattle.node_core.specs.Stands.{Gives, Holds, IsWithinBound, Stands, StandsAsBefore, Takes, TellsBadCrc}
 use Rattle.node_core.specs.Steps.{Step, Heard, IsServedAt, Kept, failed_lines, got, held_at, is_bad_at, is_nosession, is_rx, kept, lines_at, one_if, pushed, records, request_on, sends}
-use Rattle.text_lines.specs.Text.{text}
+use Rattle.node_core.specs.Types.{type_on}
 use Rattle.node_core.specs.declared.came.Came.{Came}
 use Rattle.node_core.specs.declared.file_reply.FileReply.{FileReply}
 use Rattle.report_lines.specs.declared.line.Line.{Line}
@@ -25,17 +24,19 @@ use Rattle.report_lines.specs.declared.numbers.Numbers.{Numbers}
 use Rattle.node_core.specs.declared.request.Request.{Request}
 use Rattle.node_run.specs.Follows.{BrokeFollowing, Follows, asked, following}
 use Rattle.node_run.specs.Failures.{Failures, TellsFailures}
-use Rattle.node_run.specs.Goes.{Broke, IsFew, Runs, State, report_of, state}
+use Rattle.node_run.specs.Forms.{Style, Types}
+use Rattle.node_run.specs.Goes.{Broke, HasGoneOn, IsFew, Runs, State, report_of, state}
 use Rattle.node_run.specs.Hears.{counted}
 use Rattle.node_run.specs.Leaves.{IsSameNode}
 use Rattle.node_run.specs.Listens.{BreaksAt, BreaksOn, HasTaken}
-use Rattle.node_run.specs.Tells.{HasTold}
+use Rattle.node_run.specs.Tells.{AreTypesOf, HasTold}
 use Rattle.node_run.specs.declared.log.tally.Seen.{Seen}
 use Rattle.node_core.proofs.Elsewhere.{takes_by, gives_none, ends_none}
 use Rattle.node_core.proofs.Served.{something_served}
 use Rattle.node_run.proofs.Counts.{numbers_heard}
 use Rattle.node_run.proofs.Goes.{all_lines_are, broke_in, broke_none, kept_next, runs_next, sent_is, step_told}
 use Rattle.node_run.proofs.Tells.{begins_later}
+use Rattle.node_run.proofs.TypesOf.{types_of}
 
 -- a node has come to these lines and this request by a record
 pub record CameTo (rec : Record) (old new : Node) (told : List Line) (request : Option Request) (bad : Bool) : Type 0 where
@@ -100,7 +101,7 @@ came_quick rec old new told bad same keep stands gives is_bad asks = record {
 
 -- A run whose node stands for what it stood for goes on as before.
 pub runs_again : (plan : Plan) (before : Option (List Line)) (past : List Step) (old : State) (node : Node) → Runs plan before old past → node.plan ≡ old.node.plan → keeps node ≡ keeps old.node → StandsAsBefore old.node node
-    → Runs plan before (state node old.buses old.told old.numbers) past
+    → Runs plan before (state node old.style old.told old.numbers) past
 runs_again plan before past old node h same keep stands = record {
   is = h.is;
   same = same ∙ h.same;
@@ -113,15 +114,17 @@ runs_again plan before past old node h same keep stands = record {
 
 -- What follows from such a node follows from the first one too.
 module _ (files : Option Files) (rec : Record) (old : State) (node : Node) (new : State) (f : Failures) (same : node.plan ≡ old.node.plan) (keep : keeps node ≡ keeps old.node) (stands : StandsAsBefore old.node node) where
-  pub taken_again : (before after : List ℕ) → HasTaken files rec (state node old.buses old.told old.numbers) new before after f → HasTaken files rec old new before after f
+  pub taken_again : (before after : List ℕ) → HasTaken files rec (state node old.style old.told old.numbers) new before after f → HasTaken files rec old new before after f
   taken_again before after x = record {
     file = x.file;
     served = λ past s. subst (λ (p : Plan). IsServedAt files p (Heard rec x.file) past) same (x.served past (stands (records past) s));
-    goes = λ plan first past few h. x.goes plan first past few (runs_again plan first past old node h same keep stands);
+    goes = λ plan first past few h.
+        let g = x.goes plan first past few (runs_again plan first past old node h same keep stands) in
+        record { runs = g.runs; same = g.same; adds = g.adds };
     fails = x.fails;
   }
 
-  pub breaks_again : BreaksOn files rec (state node old.buses old.told old.numbers) new f → BreaksOn files rec old new f
+  pub breaks_again : BreaksOn files rec (state node old.style old.told old.numbers) new f → BreaksOn files rec old new f
   breaks_again x = record {
     breaks = λ plan first past since h told. x.breaks plan first past since (runs_again plan first past old node h same keep stands) told;
     untold = x.untold;
@@ -189,36 +192,42 @@ module _ (plan : Plan) (before : Option (List Line)) (rec : Record) (past : List
     broke_behind new since o failed put b same =
         broke_in plan before s past old new since _ h (all_lines_are plan before s past old h k (answered node.plan request file k) ek em told full lines_are ef) (begins_later told _ old.told o new.told put b) same failed
 
-    module _ (buses : List BusPlan) (o : Option (List Line)) (t now after : List ℕ) (names : buses ≡ old.buses) (first : HasTold old.buses told t now old.told o) (fin : State) (same : IsSameNode node fin.node) (behind : fin.buses ≡ buses) (f : Follows (asked request file) rec.moment (state node buses o old.numbers) fin now after) where
+    module _ (style : Style) (o : Option (List Line)) (t now after : List ℕ) (names : style ≡ old.style) (first : (types : Types) → AreTypesOf types node → HasTold old.style types told t now old.told o) (fin : State) (same : IsSameNode node fin.node) (behind : fin.style ≡ style) (f : Follows (asked request file) rec.moment (state node style o old.numbers) fin now after) where
+      node_stands : Stands node (rec ∷ records past)
+      node_stands = c.stands (records past) h.stands
+
       stands : Stands fin.node (rec ∷ records past)
-      stands = same.stands (rec ∷ records past) (c.stands (records past) h.stands)
+      stands = same.stands (rec ∷ records past) node_stands
 
-      next : HasTold old.buses due now after o fin.told
-      next = subst (λ b. HasTold b due now after o fin.told) names f.told
+      types_are : AreTypesOf (type_on plan) node
+      types_are = subst (λ (p : Plan). AreTypesOf (type_on p) node) plan_is (types_of node (rec ∷ records past) node_stands)
 
-      all : HasTold plan.buses (lines_at plan s past) t after old.told fin.told
-      all = step_told plan before s past old h k (answered node.plan request file k) ek em told full lines_are ef t now after o fin.told first next
+      next : HasTold old.style (type_on plan) due now after o fin.told
+      next = subst (λ (s : Style). HasTold s (type_on plan) due now after o fin.told) names (subst (λ (p : Plan). HasTold style (type_on p) due now after o fin.told) plan_is f.told)
 
-      pub text_behind : after ≡ t ++ text plan.buses (lines_at plan s past)
-      text_behind = all.gathered
+      all : HasTold old.style (type_on plan) (lines_at plan s past) t after old.told fin.told
+      all = step_told plan before s past old h k (answered node.plan request file k) ek em told full lines_are ef (type_on plan) t now after o fin.told (first (type_on plan) types_are) next
 
       -- it goes on, once the record is counted
-      pub runs_behind : IsFew (s ∷ past) → (seen : Seen) (held : ℕ) (numbers : Numbers) → seen.delivered ≡ count_by is_rx told → seen.badcrc ≡ one_if bad → seen.nosession ≡ count_by is_nosession told → Holds fin.node held → IsWithinBound fin.node held
-          → numbers ≡ counted fin.numbers seen held → Runs plan before (record fin { numbers = numbers }) (s ∷ past)
-      runs_behind few seen held numbers d b r holds within e =
+      pub goes_behind : IsFew (s ∷ past) → (seen : Seen) (held : ℕ) (numbers : Numbers) → seen.delivered ≡ count_by is_rx told → seen.badcrc ≡ one_if bad → seen.nosession ≡ count_by is_nosession told → Holds fin.node held → IsWithinBound fin.node held
+          → numbers ≡ counted fin.numbers seen held → HasGoneOn plan before (s ∷ []) past old (record fin { numbers = numbers }) t after
+      goes_behind few seen held numbers d b r holds within e =
           let plan_fin = same.plan ∙ plan_is in
           let more = sent_is plan before s past old h k (answered node.plan request file k) ek em _ refl in
           let bad_is = c.is_bad (records past) h.stands ∙ ap (λ (p : Plan). is_bad_at p rec (records past)) h.same in
           let held_is = holds (rec ∷ records past) stands ∙ ap (λ (p : Plan). held_at p (rec ∷ records past)) plan_fin in
           let counted_is =
           e ∙ numbers_heard plan past h.is rec file few old.numbers fin.numbers h.at.counted _ more f.counted seen held (d ∙ ap (count_by is_rx) lines_are) (b ∙ ap one_if bad_is) (r ∙ ap (count_by is_nosession) lines_are) held_is in
-          let low = subst (λ (n : Numbers). n.held ≤ bound_of plan) (sym e) (subst (λ (p : Plan). held ≤ bound_of p) plan_fin (within (rec ∷ records past) stands)) in
-          runs_next plan before s past old (record fin { numbers = numbers }) h (same.plan ∙ c.same) stands (kept_next plan s past k (answered node.plan request file k) (keeps fin.node) ek em f.keeps_are) (behind ∙ names) all.put counted_is low
+          let low = subst (λ (n : Numbers). n.held ≤ bound_of plan) (sym e) (subst (λ (p : Plan). held ≤ bound_of p) plan_fin (within (rec ∷ records past) stands)) in record {
+            runs = runs_next plan before s past old (record fin { numbers = numbers }) h (same.plan ∙ c.same) stands (kept_next plan s past k (answered node.plan request file k) (keeps fin.node) ek em f.keeps_are) (behind ∙ names) all.put counted_is low;
+            same = behind ∙ names;
+            adds = all.gathered;
+          }
 
   -- it broke off in what follows
-  pub broke_following : (files : Option Files) (buses : List BusPlan) (o : Option (List Line)) (new : State) (f since : Failures) → TellsFailures (failed_lines past) since → o ≡ put_behind old.told told
-      → BrokeFollowing files rec request (state node buses o old.numbers) new f → BreaksAt files plan rec past (report_of before new) since
-  broke_following files buses o new f since failed put b =
+  pub broke_following : (files : Option Files) (style : Style) (o : Option (List Line)) (new : State) (f since : Failures) → TellsFailures (failed_lines past) since → o ≡ put_behind old.told told
+      → BrokeFollowing files rec request (state node style o old.numbers) new f → BreaksAt files plan rec past (report_of before new) since
+  broke_following files style o new f since failed put b =
       let some = something_served files plan rec past in
       let x = b.part some.0 (served_there some.0 files some.1) in record {
         file = x.file;

@@ -7,6 +7,7 @@ use Rattle.node_core.specs.Files.{is_failed}
 use Rattle.node_core.specs.Steps.{Met, got, met_records, request_on}
 use Rattle.node_core.specs.declared.request.Request.{Request}
 use Rattle.node_run.specs.Failures.{HasRisen, failures}
+use Rattle.node_run.specs.Forms.{Form}
 use Rattle.node_run.specs.HasRun.{HasRun}
 use Rattle.node_run.specs.Ran.{Reported}
 use Rattle.node_run.specs.ValueLines.{Flow}
@@ -33,7 +34,7 @@ pub record NamesRequests (plan : Plan) (mets : List Met) (lines : List ℕ) : Ty
 -- by, unless that stands at its end
 abbrev pub FailedAreNamed : Type 0
 FailedAreNamed =
-    (plan : Plan) (files : Option Files) (flow : Flow) (stat : Status) (r : Reported)
+    (form : Form) (plan : Plan) (files : Option Files) (flow : Flow) (stat : Status) (r : Reported)
     (lines : List ℕ) (faults faults_new : ℕ)
-    → (h : HasRun plan files flow stat r (failures (Some []) (Some lines) faults faults_new))
+    → (h : HasRun form plan files flow stat r (failures (Some []) (Some lines) faults faults_new))
     → NamesRequests plan h.mets lines × HasRisen lines faults faults_new

@@ -14,8 +14,9 @@ use Rattle.node_core.specs.declared.file_reply.FileReply.{FileReply}
 use Rattle.report_lines.specs.declared.line.Line.{Line}
 use Rattle.node_core.specs.declared.node.Node.{Node}
 use Rattle.node_core.specs.declared.request.Request.{Request}
-use Rattle.text_lines.specs.Writer.{writes_for}
+use Rattle.node_core.specs.Types.{type_on}
 use Rattle.node_run.specs.Failures.{Failures, FailsAs, FailsUntold}
+use Rattle.node_run.specs.Forms.{Style}
 use Rattle.node_run.specs.Goes.{State, state_in, with_sent}
 use Rattle.node_run.specs.Leaves.{IsSameNode}
 use Rattle.node_run.specs.Listens.{IsOver, Views, failures_in}
@@ -47,7 +48,7 @@ pub record Follows (asked : Asked) (moment : ℕ) (old new : State)
   pub keeps_are : let k = keeps old.node in
       keeps new.node ≡ left (answered old.node.plan asked.request asked.file k)
   pub told : let due = following old.node.plan moment asked (keeps old.node) in
-      HasTold old.buses due before after old.told new.told
+      HasTold old.style (type_on old.node.plan) due before after old.told new.told
   pub counted : let sent = frames_behind old.node.plan moment asked (keeps old.node) in
       new.numbers ≡ with_sent old.numbers (length sent)
 
@@ -81,11 +82,10 @@ pub record BrokeFollowing (told : Option Files) (rec : Record) (request : Option
   pub untold : FailsUntold f
 
 -- a run stays what it was, but for what it keeps, tells and counts
-pub record IsSameRun {K T : Type 0} (files : T → Option Files)
-    (old new : Running K T) : Type 0 where
-  pub over : IsOver files old new
+pub record IsSameRun {W K T : Type 0} (style : W → Style) (files : T → Option Files)
+    (old new : Running W K T) : Type 0 where
+  pub over : IsOver style files old new
   pub node : IsSameNode old.node.now new.node.now
-  pub buses : writes_for new.writer.now ≡ writes_for old.writer.now
   pub records : new.tally.numbers.records ≡ old.tally.numbers.records
   pub number : new.clock.number ≡ old.clock.number
   pub next : new.clock.next ≡ old.clock.next
@@ -96,12 +96,12 @@ request_ended node rec came = came_request came (came_lines node rec came)
 
 -- what follows a record of a run: a request, if there is one, is answered and frames leave, or for
 -- want of memory the run breaks off in that
-pub record IsFollowed {K T E : Type 0} (v : Views K T) (rec : Record) (request : Option Request)
-    (old new : Running K T) (before after : List ℕ) (result : Result (Unit {0}) E) : Type 0 where
-  pub same : IsSameRun v.files old new
+pub record IsFollowed {W K T E : Type 0} (v : Views W K T) (rec : Record) (request : Option Request)
+    (old new : Running W K T) (before after : List ℕ) (result : Result (Unit {0}) E) : Type 0 where
+  pub same : IsSameRun v.style v.files old new
   pub ok : let f = failures_in v.failed v.faults old new in
       OnOk result (HasFollowed (v.files old.tree.now) rec request
-      (state_in v.lines old) (state_in v.lines new) before after f)
+      (state_in v.style v.lines old) (state_in v.style v.lines new) before after f)
   pub err : let f = failures_in v.failed v.faults old new in
       OnErr result (BrokeFollowing (v.files old.tree.now) rec request
-      (state_in v.lines old) (state_in v.lines new) f)
+      (state_in v.style v.lines old) (state_in v.style v.lines new) f)

@@ -4,7 +4,6 @@ use Rattle.std.specs.Prelude.{max, refl, List, [], Option, if◌then◌else◌, 
 use Rattle.std.proofs.Common.{◌∙◌, ap, sym, append-nil}
 use Rattle.node_plan.specs.Bound.{bound_of}
 use Rattle.node_plan.specs.IsPlan.{IsPlan}
-use Rattle.node_plan.specs.declared.plan.BusPlan.{BusPlan}
 use Rattle.node_plan.specs.declared.plan.Plan.{Plan}
 use Rattle.frame_log.specs.declared.error.LogError.{LogError}
 use Rattle.report_lines.specs.declared.line.Line.{Line}
@@ -15,28 +14,31 @@ use Rattle.report_lines.specs.LineSinks.{put_behind}
 use Rattle.node_core.specs.Queues.{Queue, waiting}
 use Rattle.node_core.specs.Stands.{Stands}
 use Rattle.node_core.specs.Steps.{Step, failed_lines, records, kept, lines, lines_behind}
-use Rattle.text_lines.specs.Text.{text}
-use Rattle.text_lines.specs.Writer.{writes_for}
 use Rattle.node_run.specs.declared.log.clock.Clock.{Clock}
 use Rattle.node_run.specs.declared.log.running.Running.{Running}
+use Rattle.node_core.specs.Types.{type_on}
 use Rattle.node_run.specs.Failures.{Failures, TellsFailures}
+use Rattle.node_run.specs.Forms.{Adds, Style}
 use Rattle.node_run.specs.Ran.{Reported, reported, At, AtFirst, next_lines}
 
--- what a run has come to: its node, the buses whose names its lines have, the lines that were put,
--- and the numbers
+-- what a run has come to: its node, the style in which its lines are written, the lines that were
+-- put, and the numbers
 pub record State : Type 0 where
   pub node : Node
-  pub buses : List BusPlan
+  pub style : Style
   pub told : Option (List Line)
   pub numbers : Numbers
 
-abbrev pub state : Node → List BusPlan → Option (List Line) → Numbers → State
-state node buses told numbers = record { node = node; buses = buses; told = told; numbers = numbers }
+abbrev pub state : Node → Style → Option (List Line) → Numbers → State
+state node style told numbers =
+    record { node = node; style = style; told = told; numbers = numbers }
 
--- what a run that listens has come to, by what its sink tells of the lines that were put
-abbrev pub state_in : {K T : Type 0} → (K → Option (List Line)) → Running K T → State
-state_in put run =
-    state run.node.now (writes_for run.writer.now) (put run.lines.now) run.tally.numbers
+-- what a run that listens has come to, by its writer's style and by what its sink tells of the
+-- lines that were put
+abbrev pub state_in : {W K T : Type 0} → (W → Style) → (K → Option (List Line)) → Running W K T
+    → State
+state_in style put run =
+    state run.node.now (style run.writer.now) (put run.lines.now) run.tally.numbers
 
 -- what it has reported, where these lines were put before
 abbrev pub report_of : Option (List Line) → State → Reported
@@ -49,7 +51,7 @@ pub record Runs (plan : Plan) (before : Option (List Line)) (s : State)
   pub same : s.node.plan ≡ plan
   pub stands : Stands s.node (records all)
   pub keeps_are : keeps s.node ≡ kept plan all
-  pub names : s.buses ≡ plan.buses
+  pub names : s.style.buses ≡ plan.buses
   pub at : At plan all (report_of before s)
   pub within : s.numbers.held ≤ bound_of plan
 
@@ -83,14 +85,20 @@ unbroken plan before s f all h failed = record {
 abbrev pub IsFew : List Step → Type 0
 IsFew all = length all ≤ 2 ^ 50
 
--- a run goes on by newer steps: they are reported and counted, and the text of their lines is
--- gathered behind what was
+-- newer steps behind others are reported and counted, and a text of their lines is gathered behind
+-- what was
+pub record HasGoneOn (plan : Plan) (before : Option (List Line)) (newer past : List Step)
+    (old new : State) (gathered_old gathered_new : List ℕ) : Type 0 where
+  pub runs : Runs plan before new (newer ++ past)
+  pub same : new.style ≡ old.style
+  pub adds : Adds old.style (type_on plan) (lines_behind plan newer past) gathered_old gathered_new
+
+-- a run goes on by newer steps, whatever steps it is behind
 abbrev pub GoesOn : List Step → State → State → List ℕ → List ℕ → Type 0
 GoesOn newer old new gathered_old gathered_new =
     (plan : Plan) (before : Option (List Line)) (past : List Step)
     → IsFew (newer ++ past) → Runs plan before old past
-    → Runs plan before new (newer ++ past)
-    × (gathered_new ≡ gathered_old ++ text plan.buses (lines_behind plan newer past))
+    → HasGoneOn plan before newer past old new gathered_old gathered_new
 
 -- a run breaks off in one of these newer steps, where of those behind them these failures are told
 abbrev pub BreaksOff : List Step → State → State → Type 0

@@ -1,6 +1,6 @@
 -- What a node that runs has heard, and what it has reported.
-use Rattle.std.specs.Prelude.{◌≡◌, ◌≤◌, ◌+◌, ◌*◌, ◌-◌, ◌^◌, ◌++◌, ℕ, List, [], ◌∷◌, Option, None}
-use Rattle.std.specs.Prelude.{count_by, length, if◌then◌else◌}
+use Rattle.std.specs.Prelude.{◌≡◌, ◌≤◌, ◌+◌, ◌*◌, ◌-◌, ◌^◌, ◌++◌, ℕ, List, [], ◌∷◌, Option, Some}
+use Rattle.std.specs.Prelude.{None, ⊤, count_by, length, if◌then◌else◌, map, refl, unwrap_or}
 use Rattle.cy_outside.specs.Files.{Files}
 use Rattle.tail_frame.specs.declared.logged.Record.{Record}
 use Rattle.log_loop.specs.Voice.{Voice}
@@ -12,11 +12,14 @@ use Rattle.node_core.specs.Queues.{rounds, waiting}
 use Rattle.node_core.specs.Steps.{Heard, IsServedAt, Met, met_records, first_of, ticks_before}
 use Rattle.node_core.specs.Steps.{ticks_done, steps, kept, emptying, lines_on, all_lines, is_tx}
 use Rattle.node_core.specs.Steps.{end_numbers}
-use Rattle.text_lines.specs.Text.{text, end_text}
+use Rattle.node_plan.specs.declared.plan.BusPlan.{BusPlan}
+use Rattle.node_core.specs.Types.{type_on}
+use Rattle.text_lines.specs.Text.{text}
 use Rattle.node_run.specs.declared.log.clock.Clock.{Clock}
 use Rattle.node_run.specs.declared.log.tally.Seen.{Seen}
 use Rattle.node_run.specs.Failures.{Failures}
 use Rattle.node_run.specs.Ran.{Reported, AtFirst, Emptied}
+use Rattle.node_run.specs.Forms.{Form, Style, Text, Json, Spells, in_style, last_line, leaving_text}
 use Rattle.node_run.specs.Goes.{State, Runs, Broke}
 
 -- how many ticks come before the newest of these records
@@ -60,14 +63,11 @@ pub record CutShort (plan : Plan) (r : Reported) (f : Failures) (past : List Met
   pub first : AtFirst plan (steps plan past) None r f
   pub within : r.numbers.held ≤ bound_of plan
 
--- the text of what a record gives, with the ticks before it
-abbrev pub step_text : Plan → Met → List Met → List ℕ
-step_text plan m past = text plan.buses (lines_on plan m past)
-
 -- the text of what leaves at the end, and the last line
-abbrev pub last_text : Plan → List Met → List ℕ
-last_text plan past =
-    text plan.buses (emptying plan (steps plan past)) ++ end_text (end_numbers plan (steps plan past))
+abbrev pub last_text : Style → Plan → List Met → List ℕ
+last_text s plan past =
+    leaving_text s (emptying plan (steps plan past))
+    ++ last_line s.form (end_numbers plan (steps plan past))
 
 -- what the tree does for a record behind others is what it may do
 abbrev pub IsServedMet : Option Files → Plan → Met → List Met → Type 0
@@ -75,14 +75,59 @@ IsServedMet told plan m past =
     IsServedAt told plan (Heard m.rec m.file)
     (ticks_before plan m.rec (met_records past) ++ steps plan past)
 
+-- what a run met, and the text that it said on it, if it heard it
+pub record Said : Type 0 where
+  pub met : Met
+  pub text : Option (List ℕ)
+
+abbrev pub said : Met → Option (List ℕ) → Said
+said met text = record { met = met; text = text }
+
+abbrev pub mets_of : List Said → List Met
+mets_of past = map (λ (it : Said). it.met) past
+
+-- the text on an event is one of the lines that it gives, with those of the ticks before it; in
+-- JSON there is none where it wasn't heard, since nothing has put its floats down
+abbrev pub MaySay : Style → Plan → Met → List Met → Option (List ℕ) → Type 0
+MaySay s plan m past (Some text) = Spells s.form (type_on plan) s.buses (lines_on plan m past) text
+MaySay s plan m past None = s.form ≡ Json
+
+-- the text of lines that weren't heard
+abbrev pub unheard : Form → List BusPlan → List Line → Option (List ℕ)
+unheard Text buses lines = Some (text buses lines)
+unheard Json buses lines = None
+
+abbrev pub may_be_unheard : (form : Form) (buses : List BusPlan) (plan : Plan) (m : Met)
+    (past : List Met)
+    → MaySay (in_style form buses) plan m past (unheard form buses (lines_on plan m past))
+may_be_unheard Text buses plan m past = refl
+may_be_unheard Json buses plan m past = refl
+
 -- what a run of a plan says over a log, where the tree tells these files or none
-abbrev pub run_voice : Option Files → Plan → Voice Met
-run_voice told plan = record {
-  record_of = λ m. m.rec;
-  may_come = IsServedMet told plan;
-  step = step_text plan;
-  last = last_text plan;
+abbrev pub run_voice : Style → Option Files → Plan → Voice Said
+run_voice s told plan = record {
+  record_of = λ it. it.met.rec;
+  may_come = λ it past.
+      IsServedMet told plan it.met (mets_of past) × MaySay s plan it.met (mets_of past) it.text;
+  step = λ it past. unwrap_or it.text [];
+  last = λ past. last_text s plan (mets_of past);
 }
+
+-- on each of these events something was said, if only a text of no lines
+abbrev pub IsSaid : Said → Type 0
+IsSaid it = (text : List ℕ) × (it.text ≡ Some text)
+
+abbrev pub AreSaid : List Said → Type 0
+AreSaid [] = ⊤
+AreSaid (it ∷ past) = IsSaid it × AreSaid past
+
+abbrev pub AreSaidButNewest : List Said → Type 0
+AreSaidButNewest [] = ⊤
+AreSaidButNewest (it ∷ past) = AreSaid past
+
+abbrev pub but_newest : (past : List Said) → AreSaid past → AreSaidButNewest past
+but_newest [] h = tt
+but_newest (it ∷ past) h = h.1
 
 -- the numbers behind one more record, of which this is counted
 abbrev pub counted : Numbers → Seen → ℕ → Numbers

@@ -1,5 +1,7 @@
 pub mod BoundText
+pub mod Flow
 pub mod Follows
+pub mod Forms
 pub mod Generated
 pub mod Goes
 pub mod Hears

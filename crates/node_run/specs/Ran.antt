@@ -1,5 +1,5 @@
 -- What a run over a log has reported and written.
-use Rattle.std.specs.Prelude.{◌≡◌, ◌++◌, ℕ, List, [], ◌∷◌, Option, Some, None, map}
+use Rattle.std.specs.Prelude.{◌≡◌, ◌⊎◌, ◌++◌, ℕ, List, [], ◌∷◌, Option, Some, None, map}
 use Rattle.cy_outside.specs.Written.{behind, Begins}
 use Rattle.node_plan.specs.declared.plan.BusPlan.{BusPlan}
 use Rattle.node_plan.specs.declared.plan.Plan.{Plan}
@@ -14,10 +14,13 @@ use Rattle.report_lines.specs.declared.numbers.Numbers.{Numbers}
 use Rattle.report_lines.specs.LineSinks.{put_behind}
 use Rattle.node_core.specs.Steps.{Met, Step, steps, lines, lines_at, emptying, all_lines, numbers}
 use Rattle.node_core.specs.Steps.{end_numbers, failed_lines}
+use Rattle.node_core.specs.Types.{type_on}
 use Rattle.text_lines.specs.Text.{text, end_text}
+use Rattle.json_lines.specs.Text.{end_json}
 use Rattle.log_loop.specs.declared.ended.Ended.{Ended}
 use Rattle.log_loop.specs.declared.ended.Ended.TheVariants as end
 use Rattle.node_run.specs.Failures.{Failures, AreFailures, TellsFailures, failures}
+use Rattle.node_run.specs.Forms.{Form, Text, Json, Spells}
 use Rattle.node_run.specs.declared.report.Report.{Report}
 use Rattle.node_run.specs.declared.status.Status.{Status}
 use Rattle.node_run.specs.declared.status.Status.TheVariants as status
@@ -118,48 +121,85 @@ end_part plan all (Some refusal) = []
 abbrev pub whole_text : Plan → List Step → Option LogError → List ℕ
 whole_text plan all refusal = text plan.buses (due_lines plan all refusal) ++ end_part plan all refusal
 
+-- the same in JSON: the last line
+abbrev pub json_end_part : Plan → List Step → Option LogError → List ℕ
+json_end_part plan all None = end_json (end_numbers plan all)
+json_end_part plan all (Some refusal) = []
+
+-- in JSON: a text of all lines that are due, and the last line
+pub record IsJsonWritten (plan : Plan) (all : List Step) (refusal : Option LogError)
+    (before after : Option (List ℕ)) : Type 0 where
+  pub said : List ℕ
+  pub spelled : Spells Json (type_on plan) plan.buses (due_lines plan all refusal) said
+  pub written : after ≡ behind before (said ++ json_end_part plan all refusal)
+
+-- in JSON: a beginning of a text of the first lines that are due, or of all and the last line
+pub record IsJsonBegun (plan : Plan) (all : List Step) (refusal : Option LogError)
+    (before after : Option (List ℕ)) : Type 0 where
+  pub front : List Line
+  pub rest : List Line
+  pub parts : due_lines plan all refusal ≡ front ++ rest
+  pub said : List ℕ
+  pub spelled : Spells Json (type_on plan) plan.buses front said
+  pub end : List ℕ
+  pub ended : (end ≡ []) ⊎ ((rest ≡ []) × (end ≡ json_end_part plan all refusal))
+  pub written : Begins (said ++ end) before after
+
+-- all that is written of a log with these steps that ends so
+abbrev pub IsWritten : Form → Plan → List Step → Option LogError → Option (List ℕ)
+    → Option (List ℕ) → Type 0
+IsWritten Text plan all refusal before after = after ≡ behind before (whole_text plan all refusal)
+IsWritten Json plan all refusal before after = IsJsonWritten plan all refusal before after
+
+-- a beginning of it
+abbrev pub IsBegun : Form → Plan → List Step → Option LogError → Option (List ℕ) → Option (List ℕ)
+    → Type 0
+IsBegun Text plan all refusal before after = Begins (whole_text plan all refusal) before after
+IsBegun Json plan all refusal before after = IsJsonBegun plan all refusal before after
+
 -- all is reported, counted and written, and the requests in which the tree failed are told
-pub record Settled (plan : Plan) (all : List Step) (refusal : Option LogError) (r : Reported)
-    (f : Failures) (before after : Option (List ℕ)) : Type 0 where
+pub record Settled (form : Form) (plan : Plan) (all : List Step) (refusal : Option LogError)
+    (r : Reported) (f : Failures) (before after : Option (List ℕ)) : Type 0 where
   pub at : Tells (due_lines plan all refusal) (due_numbers plan all refusal) r
   pub failed : AreFailures (failed_lines all) f
-  pub written : after ≡ behind before (whole_text plan all refusal)
+  pub written : IsWritten form plan all refusal before after
 
 -- the first steps are reported and counted, and a beginning of it is written
-pub record Begun (plan : Plan) (all : List Step) (refusal : Option LogError) (r : Reported)
-    (f : Failures) (before after : Option (List ℕ)) : Type 0 where
+pub record Begun (form : Form) (plan : Plan) (all : List Step) (refusal : Option LogError)
+    (r : Reported) (f : Failures) (before after : Option (List ℕ)) : Type 0 where
   pub first : AtFirst plan all refusal r f
-  pub written : Begins (whole_text plan all refusal) before after
+  pub written : IsBegun form plan all refusal before after
 
 -- the same where a write failed: no step broke off, so the tree failed in no other request
-pub record CutOff (plan : Plan) (all : List Step) (refusal : Option LogError) (r : Reported)
-    (f : Failures) (before after : Option (List ℕ)) : Type 0 where
+pub record CutOff (form : Form) (plan : Plan) (all : List Step) (refusal : Option LogError)
+    (r : Reported) (f : Failures) (before after : Option (List ℕ)) : Type 0 where
   pub first : AtFirst plan all refusal r f
   pub failed : AreFailures (failed_lines first.past) f
-  pub written : Begins (whole_text plan all refusal) before after
+  pub written : IsBegun form plan all refusal before after
 
 -- exactly the first records are reported and written, each of them whole
-pub record Upto (plan : Plan) (mets : List Met) (r : Reported) (f : Failures)
+pub record Upto (form : Form) (plan : Plan) (mets : List Met) (r : Reported) (f : Failures)
     (before after : Option (List ℕ)) : Type 0 where
   pub came : List Met
   pub first : FirstOf mets came
-  pub settled : Settled plan (steps plan came) (Some error.Failed) r f before after
+  pub settled : Settled form plan (steps plan came) (Some error.Failed) r f before after
 
 -- what a run has done over a log with these records that ends so, by its status
-abbrev pub Ran : Plan → List Met → Option LogError → Status → Reported → Failures
+abbrev pub Ran : Form → Plan → List Met → Option LogError → Status → Reported → Failures
     → Option (List ℕ) → Option (List ℕ) → Type 0
-Ran plan mets refusal status.Ok r f before after =
-    (refusal ≡ None) × Settled plan (steps plan mets) refusal r f before after
-Ran plan mets refusal (status.Log line why) r f before after =
-    (refusal ≡ Some (refusal_of line why)) × Settled plan (steps plan mets) refusal r f before after
-Ran plan mets refusal status.LogLong r f before after =
-    (refusal ≡ Some error.LogLong) × Settled plan (steps plan mets) refusal r f before after
-Ran plan mets refusal status.ReadFault r f before after = Upto plan mets r f before after
-Ran plan mets refusal status.WriteFault r f before after =
-    CutOff plan (steps plan mets) refusal r f before after
-Ran plan mets refusal status.NoMemory r f before after =
-    Begun plan (steps plan mets) refusal r f before after
-Ran plan mets refusal other r f before after = ⊥
+Ran form plan mets refusal status.Ok r f before after =
+    (refusal ≡ None) × Settled form plan (steps plan mets) refusal r f before after
+Ran form plan mets refusal (status.Log line why) r f before after =
+    (refusal ≡ Some (refusal_of line why))
+    × Settled form plan (steps plan mets) refusal r f before after
+Ran form plan mets refusal status.LogLong r f before after =
+    (refusal ≡ Some error.LogLong) × Settled form plan (steps plan mets) refusal r f before after
+Ran form plan mets refusal status.ReadFault r f before after = Upto form plan mets r f before after
+Ran form plan mets refusal status.WriteFault r f before after =
+    CutOff form plan (steps plan mets) refusal r f before after
+Ran form plan mets refusal status.NoMemory r f before after =
+    Begun form plan (steps plan mets) refusal r f before after
+Ran form plan mets refusal other r f before after = ⊥
 
 -- the status of a run that the log ended
 abbrev pub refused : LogError → Status

@@ -1,22 +1,43 @@
 -- How far the input was taken before the lines on what it gave were written.
-use Rattle.std.specs.Prelude.{◌≡◌, ◌<◌, ◌⊎◌, ◌++◌, ℕ, List, length}
+use Rattle.std.specs.Prelude.{◌≡◌, ◌<◌, ◌⊎◌, ◌++◌, ℕ, List, Option, length}
 use Rattle.frame_log.specs.Input.{Took}
 use Rattle.log_loop.specs.Gone.{FirstOf}
 use Rattle.log_loop.specs.Streamed.{HasWritten}
 use Rattle.node_plan.specs.declared.plan.Plan.{Plan}
 use Rattle.node_core.specs.Steps.{Met, Step, steps, lines}
+use Rattle.node_core.specs.Types.{type_on}
 use Rattle.text_lines.specs.Text.{text}
+use Rattle.node_run.specs.Forms.{Form, Text, Json, Spells}
 use Rattle.node_run.specs.Ran.{Reported, At, AtEnd, Emptied}
 use Rattle.node_run.specs.Taken.{AreOfBytes}
 use Rattle.node_run.specs.ValueLines.{Flow}
 use Rattle.node_run.specs.declared.status.Status.{Status}
 use Rattle.node_run.specs.declared.status.Status.TheVariants as status
 
+-- in JSON: a text of the lines of these steps is written
+pub record HasWrittenJson (plan : Plan) (all : List Step)
+    (before after : Option (List ℕ)) : Type 0 where
+  pub said : List ℕ
+  pub spelled : Spells Json (type_on plan) plan.buses (lines plan all) said
+  pub written : HasWritten said before after
+
+-- the lines of these steps are written
+abbrev pub HasWrittenLines : Form → Plan → List Step → Option (List ℕ) → Option (List ℕ) → Type 0
+HasWrittenLines Text plan all before after =
+    HasWritten (text plan.buses (lines plan all)) before after
+HasWrittenLines Json plan all before after = HasWrittenJson plan all before after
+
 -- the lines of the steps over the records whose line ends among these bytes are written
-pub record WritesBytes (plan : Plan) (mets : List Met) (flow : Flow) (bytes : List ℕ) : Type 0 where
+pub record WritesBytes (form : Form) (plan : Plan) (mets : List Met) (flow : Flow)
+    (bytes : List ℕ) : Type 0 where
   pub came : List Met
   pub are : AreOfBytes plan mets bytes came
-  pub written : HasWritten (text plan.buses (lines plan (steps plan came))) flow.before flow.after
+  pub written : HasWrittenLines form plan (steps plan came) flow.before flow.after
+
+-- this holds; in JSON, unless memory was wanting
+abbrev pub Holds : Form → Status → Type 0 → Type 0
+Holds Text stat fact = fact
+Holds Json stat fact = (stat ≡ status.NoMemory → ⊥) → fact
 
 -- these steps are reported and counted; so is what left behind them, where the log was read to its
 -- end, but that the last line may not be written, and this not be counted
@@ -35,11 +56,11 @@ pub record ReportsBytes (plan : Plan) (mets : List Met) (r : Reported)
 
 -- However a run ended: of each front of the bytes that it took, behind which it took more than
 -- 8,192 bytes, the lines are written. They are reported and counted too, unless memory was wanting.
-pub record IsStreamed (plan : Plan) (mets : List Met) (flow : Flow) (stat : Status)
+pub record IsStreamed (form : Form) (plan : Plan) (mets : List Met) (flow : Flow) (stat : Status)
     (r : Reported) : Type 0 where
   pub taken : List ℕ
   pub took : Took flow.left flow.new taken
   pub written : (front more : List ℕ) → taken ≡ front ++ more → 8192 < length more
-      → WritesBytes plan mets flow front
+      → Holds form stat (WritesBytes form plan mets flow front)
   pub reported : (stat ≡ status.NoMemory → ⊥) → (front more : List ℕ) → taken ≡ front ++ more
       → 8192 < length more → ReportsBytes plan mets r front

@@ -12,6 +12,7 @@ use Rattle.line_loop.specs.declared.ended.LinesEnded.TheVariants as end
 use Rattle.value_lines.specs.LongLines.{longest_line}
 use Rattle.value_lines.specs.declared.refusal.Refusal.{Refusal}
 use Rattle.value_lines.specs.declared.refusal.Refusal.TheVariants as refusal
+pub use Rattle.node_run.specs.Flow.{Flow, flow}
 use Rattle.node_run.specs.NamedTypes.{message_named}
 use Rattle.node_run.specs.declared.status.Status.{Status}
 use Rattle.node_run.specs.declared.status.Status.TheVariants as status
@@ -41,18 +42,6 @@ lines_status end.TooLong = status.LogLong
 lines_status end.ReadFault = status.ReadFault
 lines_status end.WriteFault = status.WriteFault
 lines_status end.NoMemory = status.NoMemory
-
--- what an input tells that it has left, and what is written on an output, before a call and after
--- it
-pub record Flow : Type 0 where
-  pub left : Option (List ℕ)
-  pub new : Option (List ℕ)
-  pub before : Option (List ℕ)
-  pub after : Option (List ℕ)
-
-abbrev pub flow : Option (List ℕ) → Option (List ℕ) → Option (List ℕ) → Option (List ℕ) → Flow
-flow left new before after =
-    record { left = left; new = new; before = before; after = after }
 
 -- nothing was taken, and nothing was written
 pub record IsStill (told : Flow) : Type 0 where

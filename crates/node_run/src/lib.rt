@@ -2,16 +2,18 @@
 //! types, and `values`, what is written of values of a type.
 #![tactic(auto)]
 
+pub mod form;
 pub mod log;
 pub mod report;
 pub mod status;
 pub mod types;
 pub mod values;
 
+pub use form::Form;
 pub use frame_log::LogWhy;
 pub use log::bound_text::bound;
 pub use log::generated::run_gen;
-pub use log::run::{run_log, run_over, status_of};
+pub use log::run::{run_in, run_log, run_over, status_of};
 pub use report::Report;
 pub use status::Status;
 pub use types::compared::compat;

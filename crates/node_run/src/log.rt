@@ -5,6 +5,7 @@ pub mod clock;
 pub mod generated;
 mod labelled;
 pub mod laws;
+pub mod report_writer;
 pub mod run;
 pub mod running;
 mod sending;

@@ -1,4 +1,5 @@
-//! Tests of runs over an outside that fails, says little at a time, or sends what no node sends.
+//! Tests of runs over an outside that fails, says little at a time, or sends what no node sends,
+//! and of reports as JSON lines.
 #![tactic(auto)]
 
 #[cfg(test)]
@@ -7,6 +8,8 @@ mod cut_logs;
 mod failing_calls;
 #[cfg(test)]
 mod file_requests;
+#[cfg(test)]
+mod json_reports;
 #[cfg(test)]
 mod many_sources;
 #[cfg(test)]

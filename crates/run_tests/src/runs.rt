@@ -1,12 +1,14 @@
 //! Runs over an outside in memory.
+ghost use Rattle.std.specs.Prelude.{IfOk};
 ghost use Rattle.dsdl_types.specs.Definitions.{IsNamespace};
 
 use crate::narrow::{NarrowSink, NarrowSource};
 use cy_bits::{Bytes, List, NoMemory};
 use cy_outside::{File, MemTree};
 use dsdl_types::Namespace;
+use node_core::{NoLines, Numbers};
 use node_plan::read_plan;
-use node_run::{Report, Status, run_log};
+use node_run::{Form, Report, Status, load, run_in, run_log};
 use std::alloc::Global;
 use std::test::Fail;
 
@@ -72,6 +74,52 @@ pub fn come_of(alloc: Global, run: &Run<'_>) -> Result<Done, Fail> {
         asked: tree.calls.next,
         faults: tree.calls.faults | input.calls.faults | out.calls.faults,
     })
+}
+
+/// What is written as JSON lines of a run with the types of a root, over the same outside.
+pub fn json_of(alloc: Global, root: &str, run: &Run<'_>) -> Result<Bytes, Fail> {
+    let mut tree = MemTree::new(files_of(alloc, run.files)?, run.tree).ok_or("apart")?;
+    let names = types_of(alloc, &mut tree, root)?;
+    let plan = read_plan(alloc, run.plan.as_bytes(), &names)?;
+    let mut input = NarrowSource::new(run.log, run.input);
+    let mut out = NarrowSink::new(alloc, run.out);
+    let status = run_in(
+        alloc,
+        Form::Json,
+        plan,
+        &mut tree,
+        &mut input,
+        &mut out,
+        &mut NoLines,
+        &mut no_numbers(),
+    );
+    match status {
+        Status::Ok => Ok(out.written),
+        _ => Err("a run that is refused")?,
+    }
+}
+
+/// The namespace of a root.
+fn types_of(alloc: Global, tree: &mut MemTree<'_>, root: &str) -> Result<Namespace, Fail>
+    ensures { IfOk result IsNamespace }
+{
+    match load(alloc, tree, root) {
+        Ok(names) => Ok(names),
+        Err(_) => Err("a root that is refused")?,
+    }
+}
+
+/// The numbers of nothing.
+fn no_numbers() -> Numbers {
+    Numbers {
+        records: 0,
+        delivered: 0,
+        badcrc: 0,
+        nosession: 0,
+        sent: 0,
+        held: 0,
+        bound: 0,
+    }
 }
 
 /// The namespace without types.

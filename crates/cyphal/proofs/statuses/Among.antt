@@ -15,6 +15,7 @@ use Rattle.node_plan.specs.declared.plan.Plan.{Plan}
 use Rattle.node_run.specs.BoundText.{HasBound}
 use Rattle.node_run.specs.Compared.{parts_verdict, ended, compared_found}
 use Rattle.node_run.specs.Failures.{Failures}
+use Rattle.node_run.specs.declared.form.Form.{Form}
 use Rattle.node_run.specs.Generated.{HasGenerated}
 use Rattle.node_run.specs.Loaded.{IsNotLoaded}
 use Rattle.node_run.specs.NamedTypes.{named as named_in}
@@ -133,8 +134,8 @@ end_among end.NoMemory = refl
 pub log_among : (how : Ended) (stat : Status) → stat ≡ status_of how → of_log stat ≡ true
 log_among how stat e = ap of_log e ∙ end_among how
 
-module _ (plan : Plan) (mets : List Met) (refusal : Option LogError) (put : Reported) (failed : Failures) (before after : Option (List ℕ)) where
-  ran_among : (stat : Status) → Ran plan mets refusal stat put failed before after → of_log stat ≡ true
+module _ (form : Form) (plan : Plan) (mets : List Met) (refusal : Option LogError) (put : Reported) (failed : Failures) (before after : Option (List ℕ)) where
+  ran_among : (stat : Status) → Ran form plan mets refusal stat put failed before after → of_log stat ≡ true
   ran_among status.Ok r = refl
   ran_among (status.Log line why) r = refl
   ran_among status.LogLong r = refl
@@ -144,9 +145,9 @@ module _ (plan : Plan) (mets : List Met) (refusal : Option LogError) (put : Repo
   ran_among other r = absurd r
 
 -- a run over a log
-pub run_among : (plan : Plan) (files : Option Files) (told : Flow) (stat : Status) (put : Reported) (failed : Failures) → HasRun plan files told stat put failed → of_log stat ≡ true
-run_among plan files told stat put failed r =
-    ran_among plan r.mets (log_of (names_of plan) r.bytes).refusal put failed told.before told.after stat r.ran
+pub run_among : (form : Form) (plan : Plan) (files : Option Files) (told : Flow) (stat : Status) (put : Reported) (failed : Failures) → HasRun form plan files told stat put failed → of_log stat ≡ true
+run_among form plan files told stat put failed r =
+    ran_among form plan r.mets (log_of (names_of plan) r.bytes).refusal put failed told.before told.after stat r.ran
 
 pub values_among : (answers : Answering) (message : Option Sch) (name : List ℕ) (stat : Status) (told : Flow) → HasAnsweredLines answers message name stat told → of_values stat ≡ true
 values_among answers message name status.Ok told h = refl

@@ -6,6 +6,7 @@ use Rattle.frame_log.specs.Log.{log_of}
 use Rattle.frame_log.specs.declared.error.LogError.{LogError}
 use Rattle.node_core.specs.Steps.{Met}
 use Rattle.node_run.specs.Failures.{Failures}
+use Rattle.node_run.specs.declared.form.Form.{Form}
 use Rattle.node_run.specs.HasRun.{HasRun}
 use Rattle.node_run.specs.Ran.{Reported, Ran, names_of}
 use Rattle.node_run.specs.ValueLines.{Flow}
@@ -17,9 +18,9 @@ use Rattle.cyphal.specs.LogEnds.{ending}
 use Rattle.cyphal.specs.jobs.Run.{over}
 use Rattle.cyphal.proofs.LogEnds.{named}
 
-module _ (plan : Plan) (mets : List Met) (refusal : Option LogError) (put : Reported) (failed : Failures) (before after : Option (List ℕ)) where
+module _ (form : Form) (plan : Plan) (mets : List Met) (refusal : Option LogError) (put : Reported) (failed : Failures) (before after : Option (List ℕ)) where
   -- a status that is no fault is that of the log's end
-  ended_so : (stat : Status) → is_fault stat ≡ false → Ran plan mets refusal stat put failed before after → stat ≡ ending refusal
+  ended_so : (stat : Status) → is_fault stat ≡ false → Ran form plan mets refusal stat put failed before after → stat ≡ ending refusal
   ended_so status.Ok h r = ap ending (sym r.0)
   ended_so status.Usage h r = absurd r
   ended_so (status.Dsdl file n w) h r = absurd r
@@ -35,7 +36,7 @@ module _ (plan : Plan) (mets : List Met) (refusal : Option LogError) (put : Repo
   ended_so status.NoMemory h r = absurd cc
 
   -- a run over a log is none of the refusals before it
-  no_refusal : (stat : Status) → is_refused stat ≡ true → Ran plan mets refusal stat put failed before after → ⊥
+  no_refusal : (stat : Status) → is_refused stat ≡ true → Ran form plan mets refusal stat put failed before after → ⊥
   no_refusal status.Ok h r = absurd cc
   no_refusal status.Usage h r = r
   no_refusal (status.Dsdl file n w) h r = r
@@ -50,7 +51,7 @@ module _ (plan : Plan) (mets : List Met) (refusal : Option LogError) (put : Repo
   no_refusal status.WriteFault h r = absurd cc
   no_refusal status.NoMemory h r = absurd cc
 
-module _ (plan : Plan) (files : Option Files) (told : Flow) (stat : Status) (put : Reported) (failed : Failures) (r : HasRun plan files told stat put failed) where
+module _ (form : Form) (plan : Plan) (files : Option Files) (told : Flow) (stat : Status) (put : Reported) (failed : Failures) (r : HasRun form plan files told stat put failed) where
   -- a run's status is the one that is asked for
   pub plan_answer : is_fault stat ≡ false → over told.left plan stat
   plan_answer h = by_input told.left r.is
@@ -58,8 +59,8 @@ module _ (plan : Plan) (files : Option Files) (told : Flow) (stat : Status) (put
       by_input : (input : Option (List ℕ)) → IfSome input (λ (left : List ℕ). r.bytes ≡ left) → over input plan stat
       by_input None is = tt
       by_input (Some bytes) is =
-          ended_so plan r.mets (log_of (names_of plan) r.bytes).refusal put failed told.before told.after stat h r.ran
+          ended_so form plan r.mets (log_of (names_of plan) r.bytes).refusal put failed told.before told.after stat h r.ran
           ∙ ap (λ b. ending (log_of (names_of plan) b).refusal) is
 
   pub run_not_refused : is_refused stat ≡ true → ⊥
-  run_not_refused h = no_refusal plan r.mets (log_of (names_of plan) r.bytes).refusal put failed told.before told.after stat h r.ran
+  run_not_refused h = no_refusal form plan r.mets (log_of (names_of plan) r.bytes).refusal put failed told.before told.after stat h r.ran

@@ -1,7 +1,8 @@
--- `run ROOT PLAN`: a plan over the log of the input.
+-- `run ROOT PLAN` and `json ROOT PLAN`: a plan over the log of the input.
 use Rattle.std.specs.Prelude.{◌≡◌, ℕ, true, ◌&&◌, ◌||◌, List, Option, is_some}
 use Rattle.node_plan.specs.Bound.{bound_of}
 use Rattle.node_plan.specs.declared.plan.Plan.{Plan}
+use Rattle.node_run.specs.declared.form.Form.{Form}
 use Rattle.node_run.specs.HasRun.{HasRun}
 use Rattle.node_run.specs.Ran.{names_of}
 use Rattle.cyphal.specs.Job.{Told, Outcome, Job, flow_of}
@@ -13,16 +14,16 @@ use Rattle.cyphal.specs.Plans.{PlanEnds, EndsAt, PlanAt, plan_calls}
 abbrev pub over : Option (List ℕ) → PlanEnds
 over input plan stat = EndsAsLog (names_of plan) input stat
 
--- the plan at a path was run over the input and the files of the tree; the memory bound is the
--- plan's however the run ended
-pub record HasRunAt (root path : List ℕ) (told : Told) (came : Outcome) : Type 0 where
+-- the plan at a path was run over the input and the files of the tree, and the report written in a
+-- form; the memory bound is the plan's however the run ended
+pub record HasRunAt (form : Form) (root path : List ℕ) (told : Told) (came : Outcome) : Type 0 where
   pub plan : Plan
   pub is : PlanAt root path told.files plan
-  pub run : HasRun plan told.files (flow_of told came) came.status came.reported came.failures
+  pub run : HasRun form plan told.files (flow_of told came) came.status came.reported came.failures
   pub bound : came.reported.numbers.bound ≡ bound_of plan
 
-abbrev pub run_job : List ℕ → List ℕ → Job
-run_job root path = record {
+abbrev pub run_job : Form → List ℕ → List ℕ → Job
+run_job form root path = record {
   calls_tree = true;
   needs = plan_calls root path;
   takes_input = true;
@@ -30,5 +31,5 @@ run_job root path = record {
   may_end = λ stat. of_plan stat || of_log stat;
   is_told = λ told. is_some told.files && is_some told.input;
   expects = λ told stat. EndsAt (over told.input) root path told.files stat;
-  did = λ told came. HasRunAt root path told came;
+  did = λ told came. HasRunAt form root path told came;
 }

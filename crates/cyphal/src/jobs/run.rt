@@ -1,4 +1,4 @@
-//! `run ROOT PLAN`: a plan over the log of the input.
+//! `run ROOT PLAN` and `json ROOT PLAN`: a plan over the log of the input.
 ghost use Rattle.std.specs.Prelude.{◌≡◌};
 ghost use Rattle.cy_outside.specs.Outside.{Rose};
 ghost use Rattle.node_run.specs.Failures.{failures};
@@ -13,13 +13,14 @@ use crate::counted::{Counted, no_numbers};
 use crate::plan_file::plan_at;
 use cy_outside::{Sink, Source, Tree};
 use node_core::LineSink;
-use node_run::{Status, run_over};
+use node_run::{Form, Status, run_in};
 use std::alloc::Global;
 
 /// Runs the plan at a path, which is read in the namespace of a root, over the input, and serves
-/// the files of the tree. A sink takes the lines of its report.
+/// the files of the tree. The report is written in a form, and a sink takes its lines.
 pub fn run_plan<T: Tree, L: Source, O: Sink, K: LineSink>(
     alloc: Global,
+    form: Form,
     root: &str,
     path: &str,
     tree: &mut T,
@@ -35,7 +36,7 @@ pub fn run_plan<T: Tree, L: Source, O: Sink, K: LineSink>(
         let came = outcome result.status put failed (L.left input.new) (O.written out.new) in
         let old = outside (T.faults tree.old) (L.faults input.old) (O.faults out.old) input.old in
         let new = outside (T.faults tree.new) (L.faults input.new) (O.faults out.new) input.new in
-        IsCarriedOut (run_job root.now path.now) told came old new }
+        IsCarriedOut (run_job form root.now path.now) told came old new }
     ensures needed { let needs = plan_calls root.now path.now in
         result.status ≡ Status.ReadFault → ¬ Rose (L.faults input.old) (L.faults input.new)
         → CallsAtMost needs (T.files tree.old) (T.calls tree.old) (T.calls tree.new) }
@@ -45,6 +46,6 @@ pub fn run_plan<T: Tree, L: Source, O: Sink, K: LineSink>(
         Err(status) => return Counted::nothing(status),
     };
     let mut numbers = no_numbers();
-    let status = run_over(alloc, plan, tree, input, out, lines, &mut numbers);
+    let status = run_in(alloc, form, plan, tree, input, out, lines, &mut numbers);
     Counted { status, numbers }
 }

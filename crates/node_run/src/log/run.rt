@@ -1,21 +1,25 @@
 //! A run over a log.
-ghost use Rattle.std.specs.Prelude.{◌≡◌, ◌≤◌, [], map};
+ghost use Rattle.std.specs.Prelude.{◌≡◌, ◌≢◌, ◌≤◌, [], map};
 ghost use Rattle.cy_outside.specs.Outside.{Rose};
 ghost use Rattle.node_plan.specs.Bound.{bound_of};
 ghost use Rattle.node_plan.specs.IsPlan.{IsPlan};
 ghost use Rattle.node_run.specs.Failures.{failures};
+ghost use Rattle.node_run.specs.Forms.{Text, Json};
 ghost use Rattle.node_run.specs.HasRun.{HasRun};
 ghost use Rattle.node_run.specs.Ran.{IsEmpty, end_sent, names_of, of_failed, of_report};
 ghost use Rattle.node_run.specs.Ran.{reported, status_of};
 ghost use Rattle.node_run.specs.ValueLines.{flow};
 
+use crate::form::Form;
 use crate::log::clock::Clock;
+use crate::log::report_writer::ReportWriter;
 use crate::log::running::Running;
 use crate::log::tally::Tally;
 use crate::report::Report;
 use crate::status::Status;
 use cy_bits::{BusName, ShortList};
 use cy_outside::{Sink, Source, Tree};
+use json_lines::JsonWriter;
 use log_loop::{Ended, listen};
 use node_core::{KeptLines, LineSink, Node, Numbers};
 use node_plan::{BusPlan, Plan, bound};
@@ -41,17 +45,108 @@ pub fn run_over<T: Tree, L: Source, O: Sink, K: LineSink>(
         (T.faults tree.old) (T.faults tree.new) in
         let flow = flow (L.left input.old) (L.left input.new)
         (O.written out.old) (O.written out.new) in
-        HasRun plan (T.files tree.old) flow result r f }
+        HasRun Text plan (T.files tree.old) flow result r f }
     ensures files { T.files tree.new ≡ T.files tree.old }
     ensures read { result ≡ Status.ReadFault → Rose (L.faults input.old) (L.faults input.new) }
     ensures write { result ≡ Status.WriteFault → Rose (O.faults out.old) (O.faults out.new) }
-    ensures kept { result ≡ Status.Ok
-        → (L.faults input.new ≡ L.faults input.old) × (O.faults out.new ≡ O.faults out.old) }
+    ensures unread { result ≢ Status.ReadFault → L.faults input.new ≡ L.faults input.old }
+    ensures unwritten { result ≢ Status.WriteFault → O.faults out.new ≡ O.faults out.old }
+    ensures bound { numbers.new.bound ≡ bound_of plan }
+    ensures held { numbers.new.held ≤ numbers.new.bound }
+{
+    let mut writer = LineWriter::new(alloc, &plan.buses);
+    run_with(alloc, plan, &mut writer, tree, input, out, lines, numbers)
+}
+
+/// The same, written in a form.
+pub fn run_in<T: Tree, L: Source, O: Sink, K: LineSink>(
+    alloc: Global,
+    form: Form,
+    plan: Plan,
+    tree: &mut T,
+    input: &mut L,
+    out: &mut O,
+    lines: &mut K,
+    numbers: &mut Numbers,
+) -> Status
+    requires plan { IsPlan plan }
+    ensures ran { let r = reported (K.lines lines.old) (K.lines lines.new) numbers.new in
+        let f = failures (K.failed lines.old) (K.failed lines.new)
+        (T.faults tree.old) (T.faults tree.new) in
+        let flow = flow (L.left input.old) (L.left input.new)
+        (O.written out.old) (O.written out.new) in
+        HasRun form plan (T.files tree.old) flow result r f }
+    ensures files { T.files tree.new ≡ T.files tree.old }
+    ensures read { result ≡ Status.ReadFault → Rose (L.faults input.old) (L.faults input.new) }
+    ensures write { result ≡ Status.WriteFault → Rose (O.faults out.old) (O.faults out.new) }
+    ensures unread { result ≢ Status.ReadFault → L.faults input.new ≡ L.faults input.old }
+    ensures unwritten { result ≢ Status.WriteFault → O.faults out.new ≡ O.faults out.old }
+    ensures bound { numbers.new.bound ≡ bound_of plan }
+    ensures held { numbers.new.held ≤ numbers.new.bound }
+{
+    match form {
+        Form::Text => run_over(alloc, plan, tree, input, out, lines, numbers),
+        Form::Json => run_json(alloc, plan, tree, input, out, lines, numbers),
+    }
+}
+
+/// The same, written as JSON lines (RFC 8259): an object a line.
+fn run_json<T: Tree, L: Source, O: Sink, K: LineSink>(
+    alloc: Global,
+    plan: Plan,
+    tree: &mut T,
+    input: &mut L,
+    out: &mut O,
+    lines: &mut K,
+    numbers: &mut Numbers,
+) -> Status
+    requires plan { IsPlan plan }
+    ensures ran { let r = reported (K.lines lines.old) (K.lines lines.new) numbers.new in
+        let f = failures (K.failed lines.old) (K.failed lines.new)
+        (T.faults tree.old) (T.faults tree.new) in
+        let flow = flow (L.left input.old) (L.left input.new)
+        (O.written out.old) (O.written out.new) in
+        HasRun Json plan (T.files tree.old) flow result r f }
+    ensures files { T.files tree.new ≡ T.files tree.old }
+    ensures read { result ≡ Status.ReadFault → Rose (L.faults input.old) (L.faults input.new) }
+    ensures write { result ≡ Status.WriteFault → Rose (O.faults out.old) (O.faults out.new) }
+    ensures unread { result ≢ Status.ReadFault → L.faults input.new ≡ L.faults input.old }
+    ensures unwritten { result ≢ Status.WriteFault → O.faults out.new ≡ O.faults out.old }
+    ensures bound { numbers.new.bound ≡ bound_of plan }
+    ensures held { numbers.new.held ≤ numbers.new.bound }
+{
+    let mut writer = JsonWriter::new(alloc, &plan.buses);
+    run_with(alloc, plan, &mut writer, tree, input, out, lines, numbers)
+}
+
+/// The same, written as a writer of the plan's lines does.
+fn run_with<W: ReportWriter, T: Tree, L: Source, O: Sink, K: LineSink>(
+    alloc: Global,
+    plan: Plan,
+    writer: &mut W,
+    tree: &mut T,
+    input: &mut L,
+    out: &mut O,
+    lines: &mut K,
+    numbers: &mut Numbers,
+) -> Status
+    requires plan { IsPlan plan }
+    requires buses { (W.style writer.old).buses ≡ plan.buses }
+    ensures ran { let r = reported (K.lines lines.old) (K.lines lines.new) numbers.new in
+        let f = failures (K.failed lines.old) (K.failed lines.new)
+        (T.faults tree.old) (T.faults tree.new) in
+        let flow = flow (L.left input.old) (L.left input.new)
+        (O.written out.old) (O.written out.new) in
+        HasRun (W.style writer.old).form plan (T.files tree.old) flow result r f }
+    ensures files { T.files tree.new ≡ T.files tree.old }
+    ensures read { result ≡ Status.ReadFault → Rose (L.faults input.old) (L.faults input.new) }
+    ensures write { result ≡ Status.WriteFault → Rose (O.faults out.old) (O.faults out.new) }
+    ensures unread { result ≢ Status.ReadFault → L.faults input.new ≡ L.faults input.old }
+    ensures unwritten { result ≢ Status.WriteFault → O.faults out.new ≡ O.faults out.old }
     ensures bound { numbers.new.bound ≡ bound_of plan }
     ensures held { numbers.new.held ≤ numbers.new.bound }
 {
     let names = names_of(&plan);
-    let mut writer = LineWriter::new(alloc, &plan.buses);
     let bound = bound(&plan);
     *numbers = Tally::new(0, bound).numbers;
     let Ok(mut node) = Node::open(alloc, plan) else {
@@ -62,7 +157,7 @@ pub fn run_over<T: Tree, L: Source, O: Sink, K: LineSink>(
         tally: Tally::new(node.held(), bound),
         sent: 0,
         node: &mut node,
-        writer: &mut writer,
+        writer,
         lines,
         tree,
     };
@@ -85,12 +180,12 @@ pub fn run_log<T: Tree, L: Source, O: Sink>(
     ensures ran { let f = of_failed report.new (T.faults tree.old) (T.faults tree.new) in
         let flow = flow (L.left input.old) (L.left input.new)
         (O.written out.old) (O.written out.new) in
-        HasRun plan (T.files tree.old) flow result (of_report report.new) f }
+        HasRun Text plan (T.files tree.old) flow result (of_report report.new) f }
     ensures files { T.files tree.new ≡ T.files tree.old }
     ensures read { result ≡ Status.ReadFault → Rose (L.faults input.old) (L.faults input.new) }
     ensures write { result ≡ Status.WriteFault → Rose (O.faults out.old) (O.faults out.new) }
-    ensures kept { result ≡ Status.Ok
-        → (L.faults input.new ≡ L.faults input.old) × (O.faults out.new ≡ O.faults out.old) }
+    ensures unread { result ≢ Status.ReadFault → L.faults input.new ≡ L.faults input.old }
+    ensures unwritten { result ≢ Status.WriteFault → O.faults out.new ≡ O.faults out.old }
     ensures bound { report.new.bound ≡ bound_of plan }
     ensures held { report.new.held ≤ report.new.bound }
 {

@@ -9,18 +9,19 @@ ghost use Rattle.node_core.specs.Keeps.{keeps};
 ghost use Rattle.node_core.specs.Quick.{LeadsTo};
 ghost use Rattle.node_core.specs.Shapes.{port_schema};
 ghost use Rattle.node_core.specs.Sending.{IsRequestTo};
-ghost use Rattle.node_core.specs.Steps.{Met, Tick, ticks_from};
+ghost use Rattle.node_core.specs.Steps.{Tick, ticks_from};
 ghost use Rattle.node_run.specs.Goes.{BreaksOff, GoesOn, IsFrom, IsLast};
 ghost use Rattle.node_run.specs.Goes.{begun_next, last_tick, latest_of, next_behind, state_in};
 ghost use Rattle.node_run.specs.Goes.{ticks_due, ticks_left};
 ghost use Rattle.node_run.specs.Follows.{IsFollowed, request_ended};
-ghost use Rattle.node_run.specs.Hears.{run_voice};
+ghost use Rattle.node_run.specs.Hears.{Said};
 ghost use Rattle.node_run.specs.Listens.{AsksNone, BreaksOn, HasTaken, IsOver, failures_in, views};
 ghost use Rattle.node_run.specs.Listens.{HasBrokenOff, HasEndedBehind, HasHeardAll, IsCutShort};
-ghost use Rattle.node_run.specs.Listens.{some_met, unbroken_off};
+ghost use Rattle.node_run.specs.Listens.{OfBroken, OfSaid, some_said, unbroken_said, voice_of};
 ghost use Rattle.node_core.proofs.Served.{something_served};
 
 use crate::log::clock::Clock;
+use crate::log::report_writer::ReportWriter;
 use crate::log::sending::{empty, send};
 use crate::log::tally::{Seen, Tally};
 use crate::log::telling::{tell, tell_failed, tell_quick};
@@ -30,17 +31,16 @@ use line_text::TextBuffer;
 use log_loop::Listener;
 use node_core::{Came, Lead, LineSink, Node, Numbers, Request};
 use tail_frame::Record;
-use text_lines::LineWriter;
 
 /// A node, the numbers of its run, and where its lines go.
 #[derive(Drop)]
-pub struct Running<'a, K, T> {
+pub struct Running<'a, 'w, W, K, T> {
     /// The node.
     pub node: &'a mut Node,
     /// When it ticks.
     pub clock: Clock,
     /// What puts the text of lines together.
-    pub writer: &'a mut LineWriter,
+    pub writer: &'w mut W,
     /// The numbers of the steps.
     pub tally: Tally,
     /// How many frames were sent in all, once the last line is said.
@@ -51,22 +51,22 @@ pub struct Running<'a, K, T> {
     pub tree: &'a mut T,
 }
 
-impl<'a, K: LineSink, T: Tree> Listener for Running<'a, K, T> {
-    ghost event = { Met };
+impl<'a, 'w, W: ReportWriter, K: LineSink, T: Tree> Listener for Running<'a, 'w, W, K, T> {
+    ghost event = { Said };
 
-    ghost voice = { λ first. run_voice (T.files first.tree.now) first.node.now.plan };
+    ghost voice = { λ first. voice_of (views W.style K.lines K.failed T.files T.faults) first };
 
     ghost heard = { λ first now past.
-        HasHeardAll (views K.lines K.failed T.files T.faults) first now past };
+        OfSaid (HasHeardAll (views W.style K.lines K.failed T.files T.faults) first now) past };
 
     ghost ended = { λ first now past.
-        HasEndedBehind (views K.lines K.failed T.files T.faults) first now past };
+        OfSaid (HasEndedBehind (views W.style K.lines K.failed T.files T.faults) first now) past };
 
     ghost broke = { λ first now past.
-        HasBrokenOff (views K.lines K.failed T.files T.faults) first now past };
+        OfBroken (HasBrokenOff (views W.style K.lines K.failed T.files T.faults) first now) past };
 
     ghost cut_short = { λ first now past.
-        IsCutShort (views K.lines K.failed T.files T.faults) first now past };
+        OfSaid (IsCutShort (views W.style K.lines K.failed T.files T.faults) first now) past };
 
     ghost latest = { λ run. latest_of run.node.now run.clock };
 
@@ -94,26 +94,27 @@ impl<'a, K: LineSink, T: Tree> Listener for Running<'a, K, T> {
             sent,
             ..self.tally.numbers
         };
-        LineWriter::push_end(gathered, &numbers)?;
+        self.writer.push_end(gathered, &numbers)?;
         self.sent = sent;
         Ok(())
     }
 
     ghost heard_broke = { λ first now past h.
-        unbroken_off (views K.lines K.failed T.files T.faults) first now past h };
+        unbroken_said (views W.style K.lines K.failed T.files T.faults) first now past h };
 
     ghost comes = { λ first rec past.
-        some_met something_served (T.files first.tree.now) first.node.now.plan rec past };
+        some_said something_served (W.style first.writer.now) (T.files first.tree.now)
+        first.node.now.plan rec past };
 }
 
-impl<'a, K: LineSink, T: Tree> Running<'a, K, T> {
+impl<'a, 'w, W: ReportWriter, K: LineSink, T: Tree> Running<'a, 'w, W, K, T> {
     /// The step of a record. A message of a source whose session is found without a search, and a
     /// record on no port of the plan, go the quick way.
     #[inline(always)]
     fn take(&mut self, rec: &Record, gathered: &mut TextBuffer) -> Result<(), NoMemory>
         requires moment { self.old.node.now.latest ≤ rec.now.moment }
         requires few { self.old.tally.numbers.records < 2 ^ 28 }
-        ensures over { IsOver T.files self.old self.new }
+        ensures over { IsOver W.style T.files self.old self.new }
         ensures latest { self.new.node.now.latest ≤ rec.now.moment }
         ensures count { self.new.tally.numbers.records ≤ self.old.tally.numbers.records + 1 }
         ensures number { self.new.clock.number ≡ self.old.clock.number }
@@ -122,11 +123,11 @@ impl<'a, K: LineSink, T: Tree> Running<'a, K, T> {
             OnOk result (IsLast rec.now.moment qs self.new.clock.last) }
         ensures ok { let f = failures_in K.failed T.faults self.old self.new in
             OnOk result (HasTaken (T.files self.old.tree.now) rec.now
-            (state_in K.lines self.old) (state_in K.lines self.new)
+            (state_in W.style K.lines self.old) (state_in W.style K.lines self.new)
             (text_of gathered.old) (text_of gathered.new) f) }
         ensures err { let f = failures_in K.failed T.faults self.old self.new in
             OnErr result (BreaksOn (T.files self.old.tree.now) rec.now
-            (state_in K.lines self.old) (state_in K.lines self.new) f) }
+            (state_in W.style K.lines self.old) (state_in W.style K.lines self.new) f) }
     {
         match self.node.lead(rec) {
             Lead::Service => self.take_any(rec, gathered),
@@ -142,7 +143,7 @@ impl<'a, K: LineSink, T: Tree> Running<'a, K, T> {
             IsElsewhere (subscriptions port_schema table) rec.now }
         requires moment { self.old.node.now.latest ≤ rec.now.moment }
         requires few { self.old.tally.numbers.records < 2 ^ 28 }
-        ensures over { IsOver T.files self.old self.new }
+        ensures over { IsOver W.style T.files self.old self.new }
         ensures latest { self.new.node.now.latest ≤ rec.now.moment }
         ensures count { self.new.tally.numbers.records ≤ self.old.tally.numbers.records + 1 }
         ensures number { self.new.clock.number ≡ self.old.clock.number }
@@ -151,11 +152,11 @@ impl<'a, K: LineSink, T: Tree> Running<'a, K, T> {
             OnOk result (IsLast rec.now.moment qs self.new.clock.last) }
         ensures ok { let f = failures_in K.failed T.faults self.old self.new in
             OnOk result (HasTaken (T.files self.old.tree.now) rec.now
-            (state_in K.lines self.old) (state_in K.lines self.new)
+            (state_in W.style K.lines self.old) (state_in W.style K.lines self.new)
             (text_of gathered.old) (text_of gathered.new) f) }
         ensures err { let f = failures_in K.failed T.faults self.old self.new in
             OnErr result (BreaksOn (T.files self.old.tree.now) rec.now
-            (state_in K.lines self.old) (state_in K.lines self.new) f) }
+            (state_in W.style K.lines self.old) (state_in W.style K.lines self.new) f) }
     {
         let seen = Seen::of(None, false);
         self.leave(rec, gathered)?;
@@ -174,7 +175,7 @@ impl<'a, K: LineSink, T: Tree> Running<'a, K, T> {
         requires leads { LeadsTo self.old.node.now rec.now place }
         requires moment { self.old.node.now.latest ≤ rec.now.moment }
         requires few { self.old.tally.numbers.records < 2 ^ 28 }
-        ensures over { IsOver T.files self.old self.new }
+        ensures over { IsOver W.style T.files self.old self.new }
         ensures latest { self.new.node.now.latest ≤ rec.now.moment }
         ensures count { self.new.tally.numbers.records ≤ self.old.tally.numbers.records + 1 }
         ensures number { self.new.clock.number ≡ self.old.clock.number }
@@ -183,11 +184,11 @@ impl<'a, K: LineSink, T: Tree> Running<'a, K, T> {
             OnOk result (IsLast rec.now.moment qs self.new.clock.last) }
         ensures ok { let f = failures_in K.failed T.faults self.old self.new in
             OnOk result (HasTaken (T.files self.old.tree.now) rec.now
-            (state_in K.lines self.old) (state_in K.lines self.new)
+            (state_in W.style K.lines self.old) (state_in W.style K.lines self.new)
             (text_of gathered.old) (text_of gathered.new) f) }
         ensures err { let f = failures_in K.failed T.faults self.old self.new in
             OnErr result (BreaksOn (T.files self.old.tree.now) rec.now
-            (state_in K.lines self.old) (state_in K.lines self.new) f) }
+            (state_in W.style K.lines self.old) (state_in W.style K.lines self.new) f) }
     {
         let Some(quick) = self.node.quick(rec, place) else {
             return self.take_any(rec, gathered);
@@ -203,7 +204,7 @@ impl<'a, K: LineSink, T: Tree> Running<'a, K, T> {
     fn take_any(&mut self, rec: &Record, gathered: &mut TextBuffer) -> Result<(), NoMemory>
         requires moment { self.old.node.now.latest ≤ rec.now.moment }
         requires few { self.old.tally.numbers.records < 2 ^ 28 }
-        ensures over { IsOver T.files self.old self.new }
+        ensures over { IsOver W.style T.files self.old self.new }
         ensures latest { self.new.node.now.latest ≤ rec.now.moment }
         ensures count { self.new.tally.numbers.records ≤ self.old.tally.numbers.records + 1 }
         ensures number { self.new.clock.number ≡ self.old.clock.number }
@@ -212,11 +213,11 @@ impl<'a, K: LineSink, T: Tree> Running<'a, K, T> {
             OnOk result (IsLast rec.now.moment qs self.new.clock.last) }
         ensures ok { let f = failures_in K.failed T.faults self.old self.new in
             OnOk result (HasTaken (T.files self.old.tree.now) rec.now
-            (state_in K.lines self.old) (state_in K.lines self.new)
+            (state_in W.style K.lines self.old) (state_in W.style K.lines self.new)
             (text_of gathered.old) (text_of gathered.new) f) }
         ensures err { let f = failures_in K.failed T.faults self.old self.new in
             OnErr result (BreaksOn (T.files self.old.tree.now) rec.now
-            (state_in K.lines self.old) (state_in K.lines self.new) f) }
+            (state_in W.style K.lines self.old) (state_in W.style K.lines self.new) f) }
     {
         let came = self.node.step(rec)?;
         if came.heard.is_none() {
@@ -244,7 +245,7 @@ impl<'a, K: LineSink, T: Tree> Running<'a, K, T> {
         requires { let request = request_ended self.old.node.now rec.now came in
             ForSome request (IsRequestTo self.old.node.now.plan.node) }
         ensures followed { let request = request_ended self.old.node.now rec.now came in
-            IsFollowed (views K.lines K.failed T.files T.faults) rec.now request
+            IsFollowed (views W.style K.lines K.failed T.files T.faults) rec.now request
             self.old self.new (text_of gathered.old) (text_of gathered.new) result }
         ensures last { let qs = (keeps self.new.node.now).queues in
             OnOk result (IsLast rec.now.moment qs self.new.clock.last) }
@@ -262,7 +263,7 @@ impl<'a, K: LineSink, T: Tree> Running<'a, K, T> {
         requires { let request = request_ended self.old.node.now rec.now came in
             ForSome request (IsRequestTo self.old.node.now.plan.node) }
         ensures followed { let request = request_ended self.old.node.now rec.now came in
-            IsFollowed (views K.lines K.failed T.files T.faults) rec.now request
+            IsFollowed (views W.style K.lines K.failed T.files T.faults) rec.now request
             self.old self.new (text_of gathered.old) (text_of gathered.new) result }
         ensures last { let qs = (keeps self.new.node.now).queues in
             OnOk result (IsLast rec.now.moment qs self.new.clock.last) }
@@ -277,7 +278,7 @@ impl<'a, K: LineSink, T: Tree> Running<'a, K, T> {
     /// Lets frames leave behind a record that asked nothing. Where none wait, nothing is done.
     #[inline(always)]
     fn leave(&mut self, rec: &Record, gathered: &mut TextBuffer) -> Result<(), NoMemory>
-        ensures followed { IsFollowed (views K.lines K.failed T.files T.faults) rec.now None
+        ensures followed { IsFollowed (views W.style K.lines K.failed T.files T.faults) rec.now None
             self.old self.new (text_of gathered.old) (text_of gathered.new) result }
         ensures last { let qs = (keeps self.new.node.now).queues in
             OnOk result (IsLast rec.now.moment qs self.new.clock.last) }
@@ -293,7 +294,7 @@ impl<'a, K: LineSink, T: Tree> Running<'a, K, T> {
     /// The same, where some wait.
     #[inline(never)]
     fn leave_some(&mut self, rec: &Record, gathered: &mut TextBuffer) -> Result<(), NoMemory>
-        ensures followed { IsFollowed (views K.lines K.failed T.files T.faults) rec.now None
+        ensures followed { IsFollowed (views W.style K.lines K.failed T.files T.faults) rec.now None
             self.old self.new (text_of gathered.old) (text_of gathered.new) result }
         ensures last { OnOk result (self.new.clock.last ≡ rec.now.moment) }
     {
@@ -322,7 +323,7 @@ impl<'a, K: LineSink, T: Tree> Running<'a, K, T> {
     ) -> Result<(), NoMemory>
         requires { IsRequestTo self.old.node.now.plan.node request }
         ensures followed { let asked = Some request in
-            IsFollowed (views K.lines K.failed T.files T.faults) rec.now asked
+            IsFollowed (views W.style K.lines K.failed T.files T.faults) rec.now asked
             self.old self.new (text_of gathered.old) (text_of gathered.new) result }
         ensures last { OnOk result (self.new.clock.last ≡ rec.now.moment) }
     {
@@ -347,7 +348,7 @@ impl<'a, K: LineSink, T: Tree> Running<'a, K, T> {
     fn tick_up_to(&mut self, moment: u64, gathered: &mut TextBuffer) -> Result<(), NoMemory>
         requires low { moment < 10 ^ 18 }
         requires last { last_tick self.old.clock.number self.old.clock.next ≤ moment }
-        ensures asks { AsksNone K.failed self.old self.new }
+        ensures asks { AsksNone W.style K.failed self.old self.new }
         ensures latest { self.new.node.now.latest ≡ self.old.node.now.latest }
         ensures records { self.new.tally.numbers.records ≡ self.old.tally.numbers.records }
         ensures last { last_tick self.new.clock.number self.new.clock.next ≤ moment }
@@ -355,15 +356,15 @@ impl<'a, K: LineSink, T: Tree> Running<'a, K, T> {
             OnOk result (self.new.clock.number ≡ self.old.clock.number + due) }
         ensures next { let next = next_behind self.old.clock.number self.old.clock.next moment in
             OnOk result (self.new.clock.next ≡ next) }
-        ensures ok { let old = state_in K.lines self.old in
-            let new = state_in K.lines self.new in
+        ensures ok { let old = state_in W.style K.lines self.old in
+            let new = state_in W.style K.lines self.new in
             let number = self.old.clock.number in
             let next = self.old.clock.next in
             OnOk result ((first : ℕ) → IsFrom first number next moment
             → GoesOn (ticks_from first number (ticks_left number next moment)) old new
             (text_of gathered.old) (text_of gathered.new)) }
-        ensures err { let old = state_in K.lines self.old in
-            let new = state_in K.lines self.new in
+        ensures err { let old = state_in W.style K.lines self.old in
+            let new = state_in W.style K.lines self.new in
             let number = self.old.clock.number in
             let next = self.old.clock.next in
             OnErr result ((first : ℕ) → IsFrom first number next moment
@@ -380,7 +381,7 @@ impl<'a, K: LineSink, T: Tree> Running<'a, K, T> {
     fn ticks(&mut self, moment: u64, gathered: &mut TextBuffer) -> Result<(), NoMemory>
         requires due { self.old.clock.next ≤ moment }
         requires low { moment < 10 ^ 18 }
-        ensures asks { AsksNone K.failed self.old self.new }
+        ensures asks { AsksNone W.style K.failed self.old self.new }
         ensures latest { self.new.node.now.latest ≡ self.old.node.now.latest }
         ensures records { self.new.tally.numbers.records ≡ self.old.tally.numbers.records }
         ensures last { last_tick self.new.clock.number self.new.clock.next ≤ moment }
@@ -388,14 +389,14 @@ impl<'a, K: LineSink, T: Tree> Running<'a, K, T> {
             OnOk result (self.new.clock.number ≡ self.old.clock.number + ticks_due next moment) }
         ensures next { let next = begun_next self.old.clock.number self.old.clock.next moment in
             OnOk result (self.new.clock.next ≡ next + ticks_due next moment * 1000000) }
-        ensures ok { let old = state_in K.lines self.old in
-            let new = state_in K.lines self.new in
+        ensures ok { let old = state_in W.style K.lines self.old in
+            let new = state_in W.style K.lines self.new in
             let next = begun_next self.old.clock.number self.old.clock.next moment in
             OnOk result ((first : ℕ) → next ≡ first + self.old.clock.number * 1000000
             → GoesOn (ticks_from first self.old.clock.number (ticks_due next moment)) old new
             (text_of gathered.old) (text_of gathered.new)) }
-        ensures err { let old = state_in K.lines self.old in
-            let new = state_in K.lines self.new in
+        ensures err { let old = state_in W.style K.lines self.old in
+            let new = state_in W.style K.lines self.new in
             let next = begun_next self.old.clock.number self.old.clock.next moment in
             OnErr result ((first : ℕ) → next ≡ first + self.old.clock.number * 1000000
             → BreaksOff (ticks_from first self.old.clock.number (ticks_due next moment))
@@ -412,17 +413,17 @@ impl<'a, K: LineSink, T: Tree> Running<'a, K, T> {
     /// The step of the next tick.
     fn tick(&mut self, gathered: &mut TextBuffer) -> Result<(), NoMemory>
         requires low { self.old.clock.next < 10 ^ 18 }
-        ensures asks { AsksNone K.failed self.old self.new }
+        ensures asks { AsksNone W.style K.failed self.old self.new }
         ensures latest { self.new.node.now.latest ≡ self.old.node.now.latest }
         ensures records { self.new.tally.numbers.records ≡ self.old.tally.numbers.records }
         ensures number { OnOk result (self.new.clock.number ≡ self.old.clock.number + 1) }
         ensures next { OnOk result (self.new.clock.next ≡ self.old.clock.next + 1000000) }
-        ensures ok { let old = state_in K.lines self.old in
-            let new = state_in K.lines self.new in
+        ensures ok { let old = state_in W.style K.lines self.old in
+            let new = state_in W.style K.lines self.new in
             OnOk result (GoesOn (Tick self.old.clock.number self.old.clock.next ∷ []) old new
             (text_of gathered.old) (text_of gathered.new)) }
-        ensures err { let old = state_in K.lines self.old in
-            let new = state_in K.lines self.new in
+        ensures err { let old = state_in W.style K.lines self.old in
+            let new = state_in W.style K.lines self.new in
             OnErr result (BreaksOff (Tick self.old.clock.number self.old.clock.next ∷ [])
             old new) }
         ensures stays { OnErr result ((self.new.clock.number ≡ self.old.clock.number)

@@ -6,32 +6,32 @@ ghost use Rattle.report_lines.specs.LineSinks.{BeginsList};
 ghost use Rattle.node_core.specs.Pops.{queue_at};
 ghost use Rattle.node_core.specs.Queues.{bus_lines, leaving, rounds, waiting};
 ghost use Rattle.node_core.specs.Steps.{left};
-ghost use Rattle.text_lines.specs.Writer.{writes_for};
 ghost use Rattle.report_lines.specs.declared.line.Line.TheVariants.{Full};
+ghost use Rattle.node_run.specs.Forms.{Types};
 ghost use Rattle.node_run.specs.Leaves.{IsSameNode, bus_left};
 ghost use Rattle.node_run.specs.Tells.{HasTold};
 
+use crate::log::report_writer::ReportWriter;
 use crate::log::telling::{tell, tell_fulls};
 use cy_bits::{NoMemory, ShortList};
 use line_text::TextBuffer;
 use node_core::{FullLine, LineRef, LineSink, Node, TxRef};
-use text_lines::LineWriter;
 
 /// Tells on which buses there was no room for what a step sends, and lets frames leave behind it.
 /// Answers how many left.
-pub(crate) fn send<K: LineSink>(
+pub(crate) fn send<W: ReportWriter, K: LineSink>(
     node: &mut Node,
     moment: u64,
     fulls: &ShortList<FullLine, 3>,
-    writer: &mut LineWriter,
+    writer: &mut W,
     lines: &mut K,
     gathered: &mut TextBuffer,
 ) -> Result<u64, NoMemory>
     ensures same { IsSameNode node.old node.new }
-    ensures buses { writes_for writer.new ≡ writes_for writer.old }
+    ensures style { W.style writer.new ≡ W.style writer.old }
     ensures keeps { OnOk result (keeps node.new ≡ left (keeps node.old)) }
     ensures told { let told = map Full fulls.now ++ leaving moment (keeps node.old).queues in
-        OnOk result (HasTold (writes_for writer.old) told
+        OnOk result ((types : Types) → HasTold (W.style writer.old) types told
         (text_of gathered.old) (text_of gathered.new) (K.lines lines.old) (K.lines lines.new)) }
     ensures sent { IfOk result (λ n. n ≡ length (leaving moment (keeps node.old).queues)) }
     ensures err { let told = map Full fulls.now ++ leaving moment (keeps node.old).queues in
@@ -45,18 +45,18 @@ pub(crate) fn send<K: LineSink>(
 /// Lets frames leave each bus, in the plan's order: at most its rate, the least identifier first.
 /// Tells them with a moment in microseconds, and answers how many they are. Where it fails, some
 /// were told, and the node is not to be used further.
-fn drain<K: LineSink>(
+fn drain<W: ReportWriter, K: LineSink>(
     node: &mut Node,
     moment: u64,
-    writer: &mut LineWriter,
+    writer: &mut W,
     lines: &mut K,
     gathered: &mut TextBuffer,
 ) -> Result<u64, NoMemory>
     ensures same { IsSameNode node.old node.new }
-    ensures buses { writes_for writer.new ≡ writes_for writer.old }
+    ensures style { W.style writer.new ≡ W.style writer.old }
     ensures keeps { OnOk result (keeps node.new ≡ left (keeps node.old)) }
     ensures told { let told = leaving moment (keeps node.old).queues in
-        OnOk result (HasTold (writes_for writer.old) told
+        OnOk result ((types : Types) → HasTold (W.style writer.old) types told
         (text_of gathered.old) (text_of gathered.new) (K.lines lines.old) (K.lines lines.new)) }
     ensures sent { IfOk result (λ n. n ≡ length (leaving moment (keeps node.old).queues)) }
     ensures err { let told = leaving moment (keeps node.old).queues in
@@ -69,18 +69,18 @@ fn drain<K: LineSink>(
 }
 
 /// The same, bus by bus.
-fn drain_buses<K: LineSink>(
+fn drain_buses<W: ReportWriter, K: LineSink>(
     node: &mut Node,
     moment: u64,
-    writer: &mut LineWriter,
+    writer: &mut W,
     lines: &mut K,
     gathered: &mut TextBuffer,
 ) -> Result<(), NoMemory>
     ensures same { IsSameNode node.old node.new }
-    ensures buses { writes_for writer.new ≡ writes_for writer.old }
+    ensures style { W.style writer.new ≡ W.style writer.old }
     ensures keeps { OnOk result (keeps node.new ≡ left (keeps node.old)) }
     ensures told { let told = leaving moment (keeps node.old).queues in
-        OnOk result (HasTold (writes_for writer.old) told
+        OnOk result ((types : Types) → HasTold (W.style writer.old) types told
         (text_of gathered.old) (text_of gathered.new) (K.lines lines.old) (K.lines lines.new)) }
     ensures err { let told = leaving moment (keeps node.old).queues in
         OnErr result (BeginsList told (K.lines lines.old) (K.lines lines.new)) }
@@ -94,20 +94,20 @@ fn drain_buses<K: LineSink>(
 }
 
 /// Lets frames leave one bus.
-fn drain_bus<K: LineSink>(
+fn drain_bus<W: ReportWriter, K: LineSink>(
     node: &mut Node,
     bus: u8,
     moment: u64,
-    writer: &mut LineWriter,
+    writer: &mut W,
     lines: &mut K,
     gathered: &mut TextBuffer,
 ) -> Result<(), NoMemory>
     requires { bus < length (keeps node.old).queues }
     ensures same { IsSameNode node.old node.new }
-    ensures buses { writes_for writer.new ≡ writes_for writer.old }
+    ensures style { W.style writer.new ≡ W.style writer.old }
     ensures keeps { OnOk result (keeps node.new ≡ bus_left (keeps node.old) bus) }
     ensures told { let q = queue_at (keeps node.old).queues bus in
-        OnOk result (HasTold (writes_for writer.old) (bus_lines moment bus q)
+        OnOk result ((types : Types) → HasTold (W.style writer.old) types (bus_lines moment bus q)
         (text_of gathered.old) (text_of gathered.new) (K.lines lines.old) (K.lines lines.new)) }
     ensures err { let q = queue_at (keeps node.old).queues bus in
         OnErr result (BeginsList (bus_lines moment bus q) (K.lines lines.old) (K.lines lines.new)) }
@@ -130,15 +130,17 @@ fn drain_bus<K: LineSink>(
 }
 
 /// Lets all frames leave that wait, in rounds, and answers how many they are.
-pub(crate) fn empty<K: LineSink>(
+pub(crate) fn empty<W: ReportWriter, K: LineSink>(
     node: &mut Node,
     moment: u64,
-    writer: &mut LineWriter,
+    writer: &mut W,
     lines: &mut K,
     gathered: &mut TextBuffer,
 ) -> Result<u64, NoMemory>
+    ensures style { W.style writer.new ≡ W.style writer.old }
     ensures told { let qs = (keeps node.old).queues in
-        OnOk result (HasTold (writes_for writer.old) (rounds (waiting qs) moment qs)
+        OnOk result ((types : Types)
+        → HasTold (W.style writer.old) types (rounds (waiting qs) moment qs)
         (text_of gathered.old) (text_of gathered.new) (K.lines lines.old) (K.lines lines.new)) }
     ensures sent { let qs = (keeps node.old).queues in
         IfOk result (λ n. n ≡ length (rounds (waiting qs) moment qs)) }

@@ -1,15 +1,16 @@
 //! Telling lines: their text is gathered, and a sink takes them.
-ghost use Rattle.std.specs.Prelude.{◌≡◌, ◌++◌, ◌∷◌, [], IfOk, IfSome, OnOk, OnErr, Some, false, if◌then◌else◌, map};
+ghost use Rattle.std.specs.Prelude.{◌≡◌, ◌∷◌, [], IfOk, IfSome, OnOk, OnErr};
+ghost use Rattle.std.specs.Prelude.{Some, false, if◌then◌else◌, map};
 ghost use Rattle.line_text.specs.Buffer.{text_of};
 ghost use Rattle.tail_frame.specs.Frames.{frame_of, seen};
 ghost use Rattle.report_lines.specs.LineSinks.{BeginsList, put_behind};
 ghost use Rattle.node_core.specs.Quick.{IsPlaced, IsUntyped, quick_is_bad, quick_lines};
-ghost use Rattle.text_lines.specs.Text.{text};
-ghost use Rattle.report_lines.specs.Lent.{told_lines};
-ghost use Rattle.text_lines.specs.Writer.{writes_for};
+ghost use Rattle.report_lines.specs.Lent.{HasType, told_lines};
 ghost use Rattle.report_lines.specs.declared.line.Line.TheVariants.{Full};
-ghost use Rattle.node_run.specs.Tells.{Counts, HasTold, framed_lines};
+ghost use Rattle.node_run.specs.Forms.{Adds, Types};
+ghost use Rattle.node_run.specs.Tells.{AreTypesOf, Counts, HasTold, framed_lines};
 
+use crate::log::report_writer::ReportWriter;
 use crate::log::tally::Seen;
 use cy_bits::{NoMemory, ShortList};
 use line_text::TextBuffer;
@@ -17,19 +18,19 @@ use node_core::{FullLine, LineRef, LineSink, Node, Quick};
 use rx_session::Step;
 use rx_table::Met;
 use tail_frame::{Record, frame_of};
-use text_lines::LineWriter;
 
 /// Gathers the text of a line, if there is one, and hands the line to the sink.
 #[inline(always)]
-pub(crate) fn tell<K: LineSink>(
-    writer: &mut LineWriter,
+pub(crate) fn tell<W: ReportWriter, K: LineSink>(
+    writer: &mut W,
     lines: &mut K,
     gathered: &mut TextBuffer,
     told: Option<LineRef<'_>>,
 ) -> Result<(), NoMemory>
-    ensures buses { writes_for writer.new ≡ writes_for writer.old }
-    ensures text { let said = text (writes_for writer.old) (told_lines told.entry) in
-        OnOk result (text_of gathered.new ≡ text_of gathered.old ++ said) }
+    ensures style { W.style writer.new ≡ W.style writer.old }
+    ensures text { OnOk result ((types : Types) → IfSome told.entry (HasType types)
+        → Adds (W.style writer.old) types (told_lines told.entry)
+        (text_of gathered.old) (text_of gathered.new)) }
     ensures adds { OnOk result
         (K.lines lines.new ≡ put_behind (K.lines lines.old) (told_lines told.entry)) }
     ensures err { OnErr result (K.lines lines.new ≡ K.lines lines.old) }
@@ -47,9 +48,9 @@ pub(crate) fn tell<K: LineSink>(
 /// Tells the line on a message that the node heard last, by its record, if there is one, and what
 /// is counted of it.
 #[inline(always)]
-pub(crate) fn tell_quick<K: LineSink>(
+pub(crate) fn tell_quick<W: ReportWriter, K: LineSink>(
     node: &Node,
-    writer: &mut LineWriter,
+    writer: &mut W,
     lines: &mut K,
     gathered: &mut TextBuffer,
     rec: &Record,
@@ -57,9 +58,10 @@ pub(crate) fn tell_quick<K: LineSink>(
 ) -> Result<Seen, NoMemory>
     requires placed { IsPlaced node.now quick.now }
     requires of { frame_of rec.now ≡ Some (seen quick.now.frame) }
-    ensures buses { writes_for writer.new ≡ writes_for writer.old }
+    ensures style { W.style writer.new ≡ W.style writer.old }
     ensures told { let said = quick_lines node.now quick.now in
-        IfOk result (λ _. HasTold (writes_for writer.old) said (text_of gathered.old)
+        IfOk result (λ _. (types : Types) → AreTypesOf types node.now
+        → HasTold (W.style writer.old) types said (text_of gathered.old)
         (text_of gathered.new) (K.lines lines.old) (K.lines lines.new)) }
     ensures counts { IfOk result (λ counted.
         Counts counted (quick_lines node.now quick.now) (quick_is_bad node.now quick.now)) }
@@ -78,9 +80,9 @@ pub(crate) fn tell_quick<K: LineSink>(
 
 /// The same of one that ended a transfer.
 #[inline(always)]
-fn tell_ended<K: LineSink>(
+fn tell_ended<W: ReportWriter, K: LineSink>(
     node: &Node,
-    writer: &mut LineWriter,
+    writer: &mut W,
     lines: &mut K,
     gathered: &mut TextBuffer,
     rec: &Record,
@@ -89,9 +91,10 @@ fn tell_ended<K: LineSink>(
     requires placed { IsPlaced node.now quick.now }
     requires of { frame_of rec.now ≡ Some (seen quick.now.frame) }
     requires good { quick_is_bad node.now quick.now ≡ false }
-    ensures buses { writes_for writer.new ≡ writes_for writer.old }
+    ensures style { W.style writer.new ≡ W.style writer.old }
     ensures told { let said = quick_lines node.now quick.now in
-        IfOk result (λ _. HasTold (writes_for writer.old) said (text_of gathered.old)
+        IfOk result (λ _. (types : Types) → AreTypesOf types node.now
+        → HasTold (W.style writer.old) types said (text_of gathered.old)
         (text_of gathered.new) (K.lines lines.old) (K.lines lines.new)) }
     ensures counts { IfOk result (λ counted.
         Counts counted (quick_lines node.now quick.now) false) }
@@ -108,16 +111,17 @@ fn tell_ended<K: LineSink>(
 
 /// Gathers the text of a line that is of no port with a type, and hands the line to the sink.
 #[inline(always)]
-fn tell_untyped<K: LineSink>(
-    writer: &mut LineWriter,
+fn tell_untyped<W: ReportWriter, K: LineSink>(
+    writer: &mut W,
     lines: &mut K,
     gathered: &mut TextBuffer,
     told: Option<LineRef<'_>>,
 ) -> Result<(), NoMemory>
     requires { IfSome told IsUntyped }
-    ensures buses { writes_for writer.new ≡ writes_for writer.old }
+    ensures style { W.style writer.new ≡ W.style writer.old }
     ensures told { let said = told_lines told.entry in
-        OnOk result (HasTold (writes_for writer.old) said (text_of gathered.old)
+        OnOk result ((types : Types) → IfSome told.entry (HasType types)
+        → HasTold (W.style writer.old) types said (text_of gathered.old)
         (text_of gathered.new) (K.lines lines.old) (K.lines lines.new)) }
     ensures err { OnErr result (K.lines lines.new ≡ K.lines lines.old) }
     ensures untold { K.failed lines.new ≡ K.failed lines.old }
@@ -134,15 +138,16 @@ fn tell_untyped<K: LineSink>(
 /// Tells a line that is none of a transfer, apart from where that is told.
 #[cold]
 #[inline(never)]
-fn tell_other<K: LineSink>(
-    writer: &mut LineWriter,
+fn tell_other<W: ReportWriter, K: LineSink>(
+    writer: &mut W,
     lines: &mut K,
     gathered: &mut TextBuffer,
     told: Option<LineRef<'_>>,
 ) -> Result<(), NoMemory>
-    ensures buses { writes_for writer.new ≡ writes_for writer.old }
+    ensures style { W.style writer.new ≡ W.style writer.old }
     ensures told { let said = told_lines told.entry in
-        OnOk result (HasTold (writes_for writer.old) said (text_of gathered.old)
+        OnOk result ((types : Types) → IfSome told.entry (HasType types)
+        → HasTold (W.style writer.old) types said (text_of gathered.old)
         (text_of gathered.new) (K.lines lines.old) (K.lines lines.new)) }
     ensures err { OnErr result (K.lines lines.new ≡ K.lines lines.old) }
     ensures untold { K.failed lines.new ≡ K.failed lines.old }
@@ -154,18 +159,19 @@ fn tell_other<K: LineSink>(
 /// counted of it. The frame is read from its record again: then one on a port without a type
 /// isn't put into memory for it.
 #[inline(never)]
-fn tell_typed<K: LineSink>(
+fn tell_typed<W: ReportWriter, K: LineSink>(
     node: &Node,
-    writer: &mut LineWriter,
+    writer: &mut W,
     lines: &mut K,
     gathered: &mut TextBuffer,
     rec: &Record,
     met: Met,
 ) -> Result<Seen, NoMemory>
-    ensures buses { writes_for writer.new ≡ writes_for writer.old }
-    ensures told { IfOk result (λ _. let said = framed_lines node.now rec.now met in
-        HasTold (writes_for writer.old) said (text_of gathered.old) (text_of gathered.new)
-        (K.lines lines.old) (K.lines lines.new)) }
+    ensures style { W.style writer.new ≡ W.style writer.old }
+    ensures told { let said = framed_lines node.now rec.now met in
+        IfOk result (λ _. (types : Types) → AreTypesOf types node.now
+        → HasTold (W.style writer.old) types said (text_of gathered.old)
+        (text_of gathered.new) (K.lines lines.old) (K.lines lines.new)) }
     ensures counts { IfOk result (λ counted.
         Counts counted (framed_lines node.now rec.now met) false) }
     ensures err { OnErr result (K.lines lines.new ≡ K.lines lines.old) }
@@ -180,14 +186,15 @@ fn tell_typed<K: LineSink>(
 }
 
 /// Tells on which buses there was no room for a transfer.
-pub(crate) fn tell_fulls<K: LineSink>(
-    writer: &mut LineWriter,
+pub(crate) fn tell_fulls<W: ReportWriter, K: LineSink>(
+    writer: &mut W,
     lines: &mut K,
     gathered: &mut TextBuffer,
     fulls: &ShortList<FullLine, 3>,
 ) -> Result<(), NoMemory>
-    ensures buses { writes_for writer.new ≡ writes_for writer.old }
-    ensures told { OnOk result (HasTold (writes_for writer.old) (map Full fulls.now)
+    ensures style { W.style writer.new ≡ W.style writer.old }
+    ensures told { OnOk result ((types : Types)
+        → HasTold (W.style writer.old) types (map Full fulls.now)
         (text_of gathered.old) (text_of gathered.new) (K.lines lines.old) (K.lines lines.new)) }
     ensures err { OnErr result
         (BeginsList (map Full fulls.now) (K.lines lines.old) (K.lines lines.new)) }

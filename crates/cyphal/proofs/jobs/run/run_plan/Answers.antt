@@ -1,9 +1,10 @@
-use Rattle.std.proofs.Common.{◌≡◌, false, inl, inr, ℕ, Option, refl, ap, subst}
+use Rattle.std.proofs.Common.{◌≡◌, ◌∙◌, false, inl, inr, ℕ, Option, refl, sym, ap, subst}
 use Rattle.cy_outside.specs.Files.{Files}
 use Rattle.node_run.specs.Failures.{failures}
 use Rattle.node_run.specs.HasRun.{HasRun}
 use Rattle.node_run.specs.ValueLines.{flow}
 use Rattle.node_run.specs.Ran.{reported}
+use Rattle.node_run.specs.declared.status.Status.TheVariants as status
 use Rattle.cyphal.specs.Job.{is_settled}
 use Rattle.cyphal.specs.MayEnd.{of_log, of_plan}
 use Rattle.cyphal.specs.jobs.Run.{over, run_job}
@@ -19,7 +20,7 @@ returns-in-Err-clause-done g c =
     let path = c.args.path.now in
     let stat = c.in-Err.status in
     let err = c.in-Err.ensures in
-    read_out (run_job root path) _ stat _ _ refl c.nothing.result c.nothing.ensures g.L.Source.left _ _ _ ⊥ refl
+    read_out (run_job c.args.form root path) _ stat _ _ refl c.nothing.result c.nothing.ensures g.L.Source.left _ _ _ ⊥ refl
     (λ h. refused_at (over (g.L.Source.left c.args.input.now)) root path (g.T.Tree.files c.args.tree.now) stat (err.answer h))
     (of_first (of_plan stat) (of_log stat) err.among)
     (record {
@@ -37,30 +38,31 @@ pub returns-in-Err-clause-needed : goal.returns-in-Err-clause-needed
 returns-in-Err-clause-needed g c = λ fault input. c.in-Err.ensures.calls
 
 pub returns-clause-needed : goal.returns-clause-needed
-returns-clause-needed g c = λ fault input. absurd (input (c.run_over-status.ensures.read fault))
+returns-clause-needed g c = λ fault input. absurd (input (c.run_in-status.ensures.read fault))
 
 pub returns-clause-done : goal.returns-clause-done
 returns-clause-done g c =
     let root = c.args.root.now in
     let path = c.args.path.now in
+    let form = c.args.form in
     let plan = c.in-Ok.plan in
-    let run = c.run_over-status in
+    let run = c.run_in-status in
     let done = run.ensures in
     let files = g.T.Tree.files c.args.tree.now in
     let told = flow (g.L.Source.left c.args.input.now) (g.L.Source.left run.new.input) (g.O.Sink.written c.args.out.now) (g.O.Sink.written run.new.out) in
     let put = reported (g.K.LineSink.lines c.args.lines.now) (g.K.LineSink.lines run.new.lines) run.new.numbers in
     let failed = λ (faults : ℕ). failures (g.K.LineSink.failed c.args.lines.now) (g.K.LineSink.failed run.new.lines) faults (g.T.Tree.faults run.new.tree) in
-    let ran = subst (λ (f : Option Files). HasRun plan f told run.result put (failed (g.T.Tree.faults c.args.tree.now))) c.in-Ok.ensures.files
-    (subst (λ (n : ℕ). HasRun plan (g.T.Tree.files c.plan_at.new.tree) told run.result put (failed n)) c.in-Ok.ensures.kept done.ran) in
+    let ran = subst (λ (f : Option Files). HasRun form plan f told run.result put (failed (g.T.Tree.faults c.args.tree.now))) c.in-Ok.ensures.files
+    (subst (λ (n : ℕ). HasRun form plan (g.T.Tree.files c.plan_at.new.tree) told run.result put (failed n)) c.in-Ok.ensures.kept done.ran) in
     record {
-      answer = λ h. good_at (over (g.L.Source.left c.args.input.now)) root path files run.result plan c.in-Ok.ensures.plan (plan_answer plan _ _ run.result _ _ ran h) h;
-      among = of_second (of_plan run.result) (of_log run.result) (run_among plan _ _ run.result _ _ ran);
+      answer = λ h. good_at (over (g.L.Source.left c.args.input.now)) root path files run.result plan c.in-Ok.ensures.plan (plan_answer form plan _ _ run.result _ _ ran h) h;
+      among = of_second (of_plan run.result) (of_log run.result) (run_among form plan _ _ run.result _ _ ran);
       cause = record {
         read = λ e. inr (done.read e);
         unread = λ e. absurd cc;
-        refused = λ e. absurd (run_not_refused plan _ _ run.result _ _ ran e);
+        refused = λ e. absurd (run_not_refused form plan _ _ run.result _ _ ran e);
         write = done.write;
-        kept = done.kept;
+        kept = λ e. (done.unread (λ read. let other : status.Ok ≡ status.ReadFault = sym e ∙ read in cc), done.unwritten (λ write. let other : status.Ok ≡ status.WriteFault = sym e ∙ write in cc));
         unserved = λ e. absurd cc;
       };
       ran = inr (record { plan = plan; is = c.in-Ok.ensures.plan; run = ran; bound = done.bound });

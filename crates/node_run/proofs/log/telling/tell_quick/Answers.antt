@@ -1,7 +1,6 @@
 use Rattle.std.proofs.Common.{◌≡◌, Bool, true, false, IfOk, sym, subst}
 use Rattle.line_text.specs.Buffer.{text_of}
 use Rattle.node_core.specs.Quick.{quick_is_bad, quick_lines}
-use Rattle.text_lines.specs.Writer.{writes_for}
 use Rattle.node_core.proofs.Messages.{ignored_says, held_says, bad_says, whole_good, delivered_good}
 use Rattle.node_run.specs.Tells.{Counts}
 use Rattle.node_run.proofs.Tells.{told_silent, counts_silent}
@@ -17,7 +16,7 @@ tell_ended-requires-clause-good g c =
 
 pub returns-in-Ignored-clause-told : goal.returns-in-Ignored-clause-told
 returns-in-Ignored-clause-told g c =
-    told_silent (writes_for c.args.writer.now) _ (text_of c.args.gathered.now) (g.K.LineSink.lines c.args.lines.now) (ignored_says c.args.node.now c.args.quick.now c.in-Ignored.is).lines
+    λ types same. told_silent (g.W.ReportWriter.style c.args.writer.now) types _ (text_of c.args.gathered.now) (g.K.LineSink.lines c.args.lines.now) (ignored_says c.args.node.now c.args.quick.now c.in-Ignored.is).lines
 
 pub returns-in-Ignored-clause-counts : goal.returns-in-Ignored-clause-counts
 returns-in-Ignored-clause-counts g c =
@@ -26,7 +25,7 @@ returns-in-Ignored-clause-counts g c =
 
 pub returns-in-Held-clause-told : goal.returns-in-Held-clause-told
 returns-in-Held-clause-told g c =
-    told_silent (writes_for c.args.writer.now) _ (text_of c.args.gathered.now) (g.K.LineSink.lines c.args.lines.now) (held_says c.args.node.now c.args.quick.now c.in-Held.is).lines
+    λ types same. told_silent (g.W.ReportWriter.style c.args.writer.now) types _ (text_of c.args.gathered.now) (g.K.LineSink.lines c.args.lines.now) (held_says c.args.node.now c.args.quick.now c.in-Held.is).lines
 
 pub returns-in-Held-clause-counts : goal.returns-in-Held-clause-counts
 returns-in-Held-clause-counts g c =
@@ -35,7 +34,7 @@ returns-in-Held-clause-counts g c =
 
 pub returns-in-BadCrc-clause-told : goal.returns-in-BadCrc-clause-told
 returns-in-BadCrc-clause-told g c =
-    told_silent (writes_for c.args.writer.now) _ (text_of c.args.gathered.now) (g.K.LineSink.lines c.args.lines.now) (bad_says c.args.node.now c.args.quick.now c.requires.placed c.in-BadCrc.is).lines
+    λ types same. told_silent (g.W.ReportWriter.style c.args.writer.now) types _ (text_of c.args.gathered.now) (g.K.LineSink.lines c.args.lines.now) (bad_says c.args.node.now c.args.quick.now c.requires.placed c.in-BadCrc.is).lines
 
 pub returns-in-BadCrc-clause-counts : goal.returns-in-BadCrc-clause-counts
 returns-in-BadCrc-clause-counts g c =

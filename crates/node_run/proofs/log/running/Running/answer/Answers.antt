@@ -5,7 +5,7 @@ use Rattle.node_core.specs.Keeps.{keeps}
 use Rattle.report_lines.specs.LineSinks.{BeginsList, put_behind}
 use Rattle.node_core.specs.Queues.{leaving}
 use Rattle.node_core.specs.Steps.{Kept, left}
-use Rattle.text_lines.specs.Writer.{writes_for}
+use Rattle.node_core.specs.Types.{type_on}
 use Rattle.report_lines.specs.declared.line.Line.{Line}
 use Rattle.report_lines.specs.declared.numbers.Numbers.{Numbers}
 use Rattle.node_core.proofs.Steps.{on_err}
@@ -21,9 +21,8 @@ returns-in_err-file-clause-followed g c =
     let self = c.args.self.now in
     let lines = g.K.LineSink.lines self.lines.now in record {
       same = record {
-        over = record { lines = refl; tree = refl; told = c.serve.ensures.files };
+        over = record { lines = refl; tree = refl; told = c.serve.ensures.files; style = refl };
         node = still self.node.now;
-        buses = refl;
         records = refl;
         number = refl;
         next = refl;
@@ -48,9 +47,8 @@ returns-in_err-full-clause-followed g c =
     let lines = g.K.LineSink.lines self.lines.now in
     let file = c.in_ok-file.file in record {
       same = record {
-        over = record { lines = refl; tree = refl; told = c.serve.ensures.files };
+        over = record { lines = refl; tree = refl; told = c.serve.ensures.files; style = refl };
         node = same_by c.reply.ensures.plan c.reply.ensures.latest c.reply.ensures.stands;
-        buses = refl;
         records = refl;
         number = refl;
         next = refl;
@@ -77,9 +75,8 @@ returns-in_err-sent-clause-followed g c =
     let reply = c.in_ok-full.ensures in
     let all = ap₂ (λ (ls : List Line) (k : Kept). ls ++ leaving m k.queues) reply.fulls reply.keeps in record {
       same = record {
-        over = record { lines = refl; tree = refl; told = c.serve.ensures.files };
+        over = record { lines = refl; tree = refl; told = c.serve.ensures.files; style = c.send.ensures.style };
         node = same_then (same_by c.reply.ensures.plan c.reply.ensures.latest c.reply.ensures.stands) c.send.ensures.same;
-        buses = c.send.ensures.buses;
         records = refl;
         number = refl;
         next = refl;
@@ -108,9 +105,8 @@ returns-in_err-tell_failed-clause-followed g c =
     let due = following self.node.now.plan m (asked (Some c.args.request) file) (keeps self.node.now) in
     let all = ap₂ (λ (ls : List Line) (k : Kept). ls ++ leaving m k.queues) reply.fulls reply.keeps in record {
       same = record {
-        over = record { lines = refl; tree = refl; told = c.serve.ensures.files };
+        over = record { lines = refl; tree = refl; told = c.serve.ensures.files; style = c.send.ensures.style };
         node = same_then (same_by c.reply.ensures.plan c.reply.ensures.latest c.reply.ensures.stands) c.send.ensures.same;
-        buses = c.send.ensures.buses;
         records = refl;
         number = refl;
         next = refl;
@@ -121,7 +117,7 @@ returns-in_err-tell_failed-clause-followed g c =
           file = file;
           served = c.in_ok-file.ensures.served;
           part = record {
-            told = record { front = due; rest = []; whole = sym (append-nil due); put = c.tell_failed.ensures.lines ∙ (c.in_ok-sent.ensures.told.put ∙ ap (put_behind (lines self.lines.now)) all) };
+            told = record { front = due; rest = []; whole = sym (append-nil due); put = c.tell_failed.ensures.lines ∙ ((c.in_ok-sent.ensures.told (type_on self.node.now.plan)).put ∙ ap (put_behind (lines self.lines.now)) all) };
             uncounted = refl;
           };
         };
@@ -132,6 +128,7 @@ returns-in_err-tell_failed-clause-followed g c =
 pub returns-clause-followed : goal.returns-clause-followed
 returns-clause-followed g c =
     let self = c.args.self.now in
+    let style = g.W.ReportWriter.style in
     let lines = g.K.LineSink.lines in
     let m = c.args.rec.now.moment in
     let line = c.args.rec.now.line in
@@ -139,11 +136,10 @@ returns-clause-followed g c =
     let sent = c.in_ok-sent.ensures in
     let reply = c.in_ok-full.ensures in
     let all = ap₂ (λ (ls : List Line) (k : Kept). ls ++ leaving m k.queues) reply.fulls reply.keeps in
-    let told = subst (λ (ls : List Line). HasTold (writes_for self.writer.now) ls (text_of c.args.gathered.now) (text_of c.send.new.gathered) (lines self.lines.now) (lines c.send.new.lines)) all sent.told in record {
+    let told = subst (λ (ls : List Line). HasTold (style self.writer.now) (type_on self.node.now.plan) ls (text_of c.args.gathered.now) (text_of c.send.new.gathered) (lines self.lines.now) (lines c.send.new.lines)) all (sent.told (type_on self.node.now.plan)) in record {
       same = record {
-        over = record { lines = refl; tree = refl; told = c.serve.ensures.files };
+        over = record { lines = refl; tree = refl; told = c.serve.ensures.files; style = c.send.ensures.style };
         node = same_then (same_by c.reply.ensures.plan c.reply.ensures.latest c.reply.ensures.stands) c.send.ensures.same;
-        buses = c.send.ensures.buses;
         records = ap (λ (n : Numbers). n.records) c.send-2.ensures;
         number = refl;
         next = refl;

@@ -1,7 +1,7 @@
 use Rattle.std.proofs.Common.{◌∙◌, ◌<◌, ◌^◌, refl, sym, arith}
 use Rattle.line_text.specs.Buffer.{text_of}
 use Rattle.node_core.specs.Keeps.{keeps}
-use Rattle.text_lines.specs.Writer.{writes_for}
+use Rattle.node_core.specs.Types.{type_on}
 use Rattle.node_core.specs.declared.file_reply.FileReply.TheVariants.{NoFile}
 use Rattle.node_run.proofs.Goes.{none_kept, none_sent, none_told}
 use Rattle.node_run.proofs.SameNodes.{still}
@@ -17,9 +17,8 @@ returns-then-waiting-eq0-clause-followed g c =
     let quiet = sym c.waiting.ensures ∙ c.if-waiting-eq0.true in
     let low : self.tally.numbers.sent < 2 ^ 64 = omega arith in record {
       same = record {
-        over = record { lines = refl; tree = refl; told = refl };
+        over = record { lines = refl; tree = refl; told = refl; style = refl };
         node = still self.node.now;
-        buses = refl;
         records = refl;
         number = refl;
         next = refl;
@@ -29,7 +28,7 @@ returns-then-waiting-eq0-clause-followed g c =
         served = refl;
         follows = record {
           keeps_are = none_kept k quiet;
-          told = none_told (writes_for self.writer.now) m k.queues (text_of c.args.gathered.now) (lines self.lines.now) quiet;
+          told = none_told (g.W.ReportWriter.style self.writer.now) (type_on self.node.now.plan) m k.queues (text_of c.args.gathered.now) (lines self.lines.now) quiet;
           counted = none_sent m k.queues self.tally.numbers low quiet;
         };
         fails = record { told = put_none (g.K.LineSink.failed self.lines.now); cause = refl };

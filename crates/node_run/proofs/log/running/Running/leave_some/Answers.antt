@@ -3,7 +3,7 @@ use Rattle.line_text.specs.Buffer.{text_of}
 use Rattle.node_core.specs.Keeps.{keeps}
 use Rattle.report_lines.specs.LineSinks.{BeginsList}
 use Rattle.node_core.specs.Queues.{leaving}
-use Rattle.text_lines.specs.Writer.{writes_for}
+use Rattle.node_core.specs.Types.{type_on}
 use Rattle.node_core.specs.declared.file_reply.FileReply.TheVariants.{NoFile}
 use Rattle.report_lines.specs.declared.line.FullLine.{FullLine}
 use Rattle.report_lines.specs.declared.line.Line.{Line}
@@ -22,9 +22,8 @@ returns-in_err-sent-clause-followed g c =
     let out = leaving c.args.rec.now.moment (keeps self.node.now).queues in
     let all = ap (λ (fs : List FullLine). map Full fs ++ out) c.new-full.ensures in record {
       same = record {
-        over = record { lines = refl; tree = refl; told = refl };
+        over = record { lines = refl; tree = refl; told = refl; style = c.send.ensures.style };
         node = c.send.ensures.same;
-        buses = c.send.ensures.buses;
         records = refl;
         number = refl;
         next = refl;
@@ -52,9 +51,8 @@ returns-clause-followed g c =
     let all = ap (λ (fs : List FullLine). map Full fs ++ out) c.new-full.ensures in
     let sent = c.in_ok-sent.ensures in record {
       same = record {
-        over = record { lines = refl; tree = refl; told = refl };
+        over = record { lines = refl; tree = refl; told = refl; style = c.send.ensures.style };
         node = c.send.ensures.same;
-        buses = c.send.ensures.buses;
         records = ap (λ (n : Numbers). n.records) c.send-2.ensures;
         number = refl;
         next = refl;
@@ -64,7 +62,7 @@ returns-clause-followed g c =
         served = refl;
         follows = record {
           keeps_are = sent.keeps;
-          told = subst (λ (ls : List Line). HasTold (writes_for self.writer.now) ls (text_of c.args.gathered.now) (text_of c.send.new.gathered) (lines self.lines.now) (lines c.send.new.lines)) all sent.told;
+          told = subst (λ (ls : List Line). HasTold (g.W.ReportWriter.style self.writer.now) (type_on self.node.now.plan) ls (text_of c.args.gathered.now) (text_of c.send.new.gathered) (lines self.lines.now) (lines c.send.new.lines)) all (sent.told (type_on self.node.now.plan));
           counted = c.send-2.ensures ∙ ap (with_sent self.tally.numbers) sent.sent;
         };
         fails = record { told = c.send.ensures.untold ∙ put_none (failed self.lines.now); cause = refl };

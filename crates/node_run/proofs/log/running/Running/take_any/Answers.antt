@@ -7,15 +7,16 @@ use Rattle.node_core.specs.Came.{came_lines, came_request}
 use Rattle.report_lines.specs.LineSinks.{put_behind}
 use Rattle.node_core.specs.Sending.{IsRequestTo}
 use Rattle.node_core.specs.Steps.{Heard, failed_at}
+use Rattle.node_core.specs.Types.{type_at}
 use Rattle.report_lines.specs.Lent.{told_lines}
-use Rattle.text_lines.specs.Writer.{writes_for}
 use Rattle.node_core.specs.declared.came.Heard.{Heard as HeardFrame}
 use Rattle.node_core.proofs.Steps.{on_err}
 use Rattle.node_run.specs.Follows.{request_ended}
 use Rattle.node_run.specs.Goes.{state, state_in}
-use Rattle.node_run.specs.Tells.{HasTold}
-use Rattle.node_run.proofs.Takes.{broke_following, broke_untold, came_to, came_to_none, runs_behind, served_by, text_behind}
-use Rattle.node_run.proofs.Tells.{put_none, told_none}
+use Rattle.node_run.specs.Forms.{Types}
+use Rattle.node_run.specs.Tells.{AreTypesOf, HasTold}
+use Rattle.node_run.proofs.Takes.{broke_following, broke_untold, came_to, came_to_none, goes_behind, served_by}
+use Rattle.node_run.proofs.Tells.{put_none, told_none, typed_by}
 use Rattle.node_run.proofs.log.running.Running.take_any.Goals as goal
 
 is_none_so : (o : Option HeardFrame) → is_some o ≡ false → o ≡ None
@@ -24,11 +25,12 @@ is_none_so (Some r) e = absurd cc
 
 pub returns-in_err-came-clause-err : goal.returns-in_err-came-clause-err
 returns-in_err-came-clause-err g c =
+    let style = g.W.ReportWriter.style in
     let lines = g.K.LineSink.lines in
     let self = c.args.self.now in
     let files = g.T.Tree.files self.tree.now in
-    let old = state_in lines self in
-    let new = state c.step.new.self (writes_for self.writer.now) (lines self.lines.now) self.tally.numbers in
+    let old = state_in style lines self in
+    let new = state c.step.new.self (style self.writer.now) (lines self.lines.now) self.tally.numbers in
     on_err _ c.from_residual.result (record {
       breaks = λ plan before past since h failed. broke_untold files plan before c.args.rec.now past old new since h failed refl refl;
       untold = record { told = refl; count = omega arith };
@@ -41,6 +43,7 @@ returns-in_err-leave-clause-count g c = let same = c.leave.ensures.followed.same
 
 pub returns-in_err-leave-clause-err : goal.returns-in_err-leave-clause-err
 returns-in_err-leave-clause-err g c =
+    let style = g.W.ReportWriter.style in
     let lines = g.K.LineSink.lines in
     let self = c.args.self.now in
     let files = g.T.Tree.files self.tree.now in
@@ -54,12 +57,13 @@ returns-in_err-leave-clause-err g c =
     let put = lines self.lines.now in
     on_err _ c.from_residual-in_err-leave.result (record {
       breaks = λ plan before past since h failed.
-          broke_following plan before rec past (state_in lines self) h node [] None came.badcrc to files (writes_for self.writer.now) put (state_in lines c.leave.new.self) _ since failed (put_none put) part;
+          broke_following plan before rec past (state_in style lines self) h node [] None came.badcrc to files (style self.writer.now) put (state_in style lines c.leave.new.self) _ since failed (put_none put) part;
       untold = part.untold;
     })
 
 pub returns-then-is_none-clause-ok : goal.returns-then-is_none-clause-ok
 returns-then-is_none-clause-ok g c =
+    let style = g.W.ReportWriter.style in
     let lines = g.K.LineSink.lines in
     let self = c.args.self.now in
     let files = g.T.Tree.files self.tree.now in
@@ -69,21 +73,18 @@ returns-then-is_none-clause-ok g c =
     let came = c.in_ok-came.came in
     let none = is_none_so came.heard (c.if-is_none.ensures {u = tt}) in
     let to = came_to_none rec self.node.now node came c.step.ensures.plan c.step.ensures.keeps step.stands step.lines step.badcrc none in
-    let buses = writes_for self.writer.now in
+    let written = style self.writer.now in
     let put = lines self.lines.now in
     let text = text_of c.args.gathered.now in
     let after = text_of c.leave.new.gathered in
-    let fin = state_in lines c.leave.new.self in
+    let fin = state_in style lines c.leave.new.self in
     let same = c.leave.ensures.followed.same in
-    let first = told_none buses text put in
     let x = c.in_ok-leave.ensures.followed.ok in record {
       file = x.file;
       served = served_by files rec self.node.now node [] None came.badcrc x.file to x.served;
-      goes = λ plan before past few h. (
-        runs_behind plan before rec past (state_in lines self) h node [] None came.badcrc to x.file buses put text text after refl first fin same.node same.buses x.follows few c.of-seen.result c.held.result _
-            c.of-seen.ensures.delivered c.of-seen.ensures.badcrc c.of-seen.ensures.nosession c.held.ensures.held c.held.ensures.bound c.count.ensures,
-        text_behind plan before rec past (state_in lines self) h node [] None came.badcrc to x.file buses put text text after refl first fin same.node same.buses x.follows,
-      );
+      goes = λ plan before past few h.
+          goes_behind plan before rec past (state_in style lines self) h node [] None came.badcrc to x.file written put text text after refl (λ types are. told_none written types text put) fin same.node same.over.style x.follows few c.of-seen.result c.held.result _
+          c.of-seen.ensures.delivered c.of-seen.ensures.badcrc c.of-seen.ensures.nosession c.held.ensures.held c.held.ensures.bound c.count.ensures;
       fails = record { told = x.fails.told; cause = x.fails.cause };
     }
 
@@ -91,12 +92,13 @@ returns-then-is_none-clause-ok g c =
 
 pub returns-in_err-tell-clause-err : goal.returns-in_err-tell-clause-err
 returns-in_err-tell-clause-err g c =
+    let style = g.W.ReportWriter.style in
     let lines = g.K.LineSink.lines in
     let self = c.args.self.now in
     let files = g.T.Tree.files self.tree.now in
-    let new = state c.step.new.self (writes_for c.tell.new.writer) (lines c.tell.new.lines) self.tally.numbers in
+    let new = state c.step.new.self (style c.tell.new.writer) (lines c.tell.new.lines) self.tally.numbers in
     on_err _ c.from_residual-in_err-tell.result (record {
-      breaks = λ plan before past since h failed. broke_untold files plan before c.args.rec.now past (state_in lines self) new since h failed c.in_err-tell.ensures.err refl;
+      breaks = λ plan before past since h failed. broke_untold files plan before c.args.rec.now past (state_in style lines self) new since h failed c.in_err-tell.ensures.err refl;
       untold = record { told = c.tell.ensures.untold; count = omega arith };
     })
 
@@ -111,6 +113,7 @@ returns-in_err-follow-clause-count g c = let same = c.follow.ensures.followed.sa
 
 pub returns-in_err-follow-clause-err : goal.returns-in_err-follow-clause-err
 returns-in_err-follow-clause-err g c =
+    let style = g.W.ReportWriter.style in
     let lines = g.K.LineSink.lines in
     let self = c.args.self.now in
     let files = g.T.Tree.files self.tree.now in
@@ -124,12 +127,13 @@ returns-in_err-follow-clause-err g c =
     let part = c.in_err-follow.ensures.followed.err in
     on_err _ c.from_residual-in_err-follow.result (record {
       breaks = λ plan before past since h failed.
-          broke_following plan before rec past (state_in lines self) h node told request came.badcrc to files (writes_for c.tell.new.writer) (lines c.tell.new.lines) (state_in lines c.follow.new.self) _ since failed c.in_ok-tell.ensures.adds part;
+          broke_following plan before rec past (state_in style lines self) h node told request came.badcrc to files (style c.tell.new.writer) (lines c.tell.new.lines) (state_in style lines c.follow.new.self) _ since failed c.in_ok-tell.ensures.adds part;
       untold = record { told = part.untold.told ∙ c.tell.ensures.untold; count = part.untold.count };
     })
 
 pub returns-clause-ok : goal.returns-clause-ok
 returns-clause-ok g c =
+    let style = g.W.ReportWriter.style in
     let lines = g.K.LineSink.lines in
     let self = c.args.self.now in
     let files = g.T.Tree.files self.tree.now in
@@ -140,21 +144,22 @@ returns-clause-ok g c =
     let told = told_lines c.told-told.result in
     let request = request_ended node rec came in
     let to = came_to rec self.node.now node came told request c.step.ensures.plan c.step.ensures.keeps step.stands step.lines step.badcrc step.request c.told-told.ensures.line (ap (came_request came) (sym c.told-told.ensures.line)) in
-    let buses = writes_for c.tell.new.writer in
+    let written = style c.tell.new.writer in
     let put = lines c.tell.new.lines in
     let text = text_of c.args.gathered.now in
     let now = text_of c.tell.new.gathered in
     let after = text_of c.follow.new.gathered in
-    let fin = state_in lines c.follow.new.self in
+    let fin = state_in style lines c.follow.new.self in
     let same = c.follow.ensures.followed.same in
-    let first : HasTold (writes_for self.writer.now) told text now (lines self.lines.now) put = record { gathered = c.in_ok-tell.ensures.text; put = c.in_ok-tell.ensures.adds } in
+    let first : (types : Types) → AreTypesOf types node → HasTold (style self.writer.now) types told text now (lines self.lines.now) put = λ types are. record {
+      gathered = c.in_ok-tell.ensures.text types (typed_by types (type_at node.table) c.told-told.result are c.told-told.ensures.typed);
+      put = c.in_ok-tell.ensures.adds;
+    } in
     let x = c.in_ok-follow.ensures.followed.ok in record {
       file = x.file;
       served = served_by files rec self.node.now node told request came.badcrc x.file to x.served;
-      goes = λ plan before past few h. (
-        runs_behind plan before rec past (state_in lines self) h node told request came.badcrc to x.file buses put text now after c.tell.ensures.buses first fin same.node same.buses x.follows few c.of-seen-2.result c.held-2.result _
-            c.of-seen-2.ensures.delivered c.of-seen-2.ensures.badcrc c.of-seen-2.ensures.nosession c.held-2.ensures.held c.held-2.ensures.bound c.count-2.ensures,
-        text_behind plan before rec past (state_in lines self) h node told request came.badcrc to x.file buses put text now after c.tell.ensures.buses first fin same.node same.buses x.follows,
-      );
+      goes = λ plan before past few h.
+          goes_behind plan before rec past (state_in style lines self) h node told request came.badcrc to x.file written put text now after c.tell.ensures.style first fin same.node same.over.style x.follows few c.of-seen-2.result c.held-2.result _
+          c.of-seen-2.ensures.delivered c.of-seen-2.ensures.badcrc c.of-seen-2.ensures.nosession c.held-2.ensures.held c.held-2.ensures.bound c.count-2.ensures;
       fails = record { told = x.fails.told ∙ ap (λ o. put_behind o (failed_at (Heard rec x.file))) c.tell.ensures.untold; cause = x.fails.cause };
     }

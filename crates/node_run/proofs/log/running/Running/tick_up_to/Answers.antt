@@ -8,6 +8,7 @@ use Rattle.node_run.proofs.log.running.Running.tick_up_to.Goals as goal
 
 pub returns-clause-ok : goal.returns-clause-ok
 returns-clause-ok g c =
+    let style = g.W.ReportWriter.style in
     let lines = g.K.LineSink.lines in
     let self = c.args.self.now in
     let after = c.ticks.new.self in
@@ -17,5 +18,5 @@ returns-clause-ok g c =
     let test = c.if-moment-self.false in
     let due : next ≤ moment = omega arith in
     on_ok_by c.ticks.result (λ goes first from.
-    subst (λ n. GoesOn (ticks_from first number n) (state_in lines self) (state_in lines after) (text_of c.args.gathered.now) (text_of c.ticks.new.gathered))
+    subst (λ n. GoesOn (ticks_from first number n) (state_in style lines self) (state_in style lines after) (text_of c.args.gathered.now) (text_of c.ticks.new.gathered))
     (sym (left_due number next moment due)) (goes first (from due))) c.ticks.ensures.ok

@@ -11,6 +11,7 @@ use Rattle.node_run.proofs.log.running.Running.ticks.Goals as goal
 pub loop-tick-preserved : goal.loop-tick-preserved
 loop-tick-preserved g c =
     let i = c.loop-tick.invariant in
+    let style = g.W.ReportWriter.style in
     let lines = g.K.LineSink.lines in
     let fn = c.args.self.now in
     let now = c.loop-tick.self in
@@ -18,9 +19,9 @@ loop-tick-preserved g c =
     let number = fn.clock.number in
     let n = c.loop-tick.tick in
     let next = begun_next number fn.clock.next c.args.moment in
-    let old = state_in lines fn in
-    let mid = state_in lines now in
-    let new = state_in lines after in
+    let old = state_in style lines fn in
+    let mid = state_in style lines now in
+    let new = state_in style lines after in
     let text = text_of c.args.gathered.now in
     let tick = c.in_ok-tick.ensures in record {
       asks = asks_then i.asks c.tick.ensures.asks;
@@ -38,6 +39,7 @@ loop-tick-preserved g c =
 pub returns-in_err-tick-clause-err : goal.returns-in_err-tick-clause-err
 returns-in_err-tick-clause-err g c =
     let i = c.loop-tick.invariant in
+    let style = g.W.ReportWriter.style in
     let lines = g.K.LineSink.lines in
     let fn = c.args.self.now in
     let now = c.loop-tick.self in
@@ -46,9 +48,9 @@ returns-in_err-tick-clause-err g c =
     let n = c.loop-tick.tick in
     let next = begun_next number fn.clock.next c.args.moment in
     let due = ticks_due next c.args.moment in
-    let old = state_in lines fn in
-    let mid = state_in lines now in
-    let new = state_in lines after in
+    let old = state_in style lines fn in
+    let mid = state_in style lines now in
+    let new = state_in style lines after in
     on_err _ c.from_residual.result (λ first e.
     let at : now.clock.next ≡ first + (number + n) * 1000000 = omega (arith, i.next_is, e) in
     let below = subst (λ m. n < m) i.due c.loop-tick-test.true in
@@ -57,6 +59,7 @@ returns-in_err-tick-clause-err g c =
 pub returns-clause-ok : goal.returns-clause-ok
 returns-clause-ok g c first e =
     let i = c.loop-tick.invariant in
+    let style = g.W.ReportWriter.style in
     let lines = g.K.LineSink.lines in
     let fn = c.args.self.now in
     let now = c.loop-tick.self in
@@ -65,4 +68,4 @@ returns-clause-ok g c first e =
     let test = c.loop-tick-test.false in
     let end = c.loop-tick.auto.tick-end in
     let all : c.loop-tick.tick ≡ ticks_due next c.args.moment = let d = i.due in omega arith in
-    subst (λ m. GoesOn (ticks_from first number m) (state_in lines fn) (state_in lines now) (text_of c.args.gathered.now) (text_of c.loop-tick.gathered)) all (i.ok first e)
+    subst (λ m. GoesOn (ticks_from first number m) (state_in style lines fn) (state_in style lines now) (text_of c.args.gathered.now) (text_of c.loop-tick.gathered)) all (i.ok first e)

@@ -6,8 +6,8 @@ use Rattle.node_run.specs.Listens.{AsksNone}
 use Rattle.node_run.proofs.log.running.Running.ticks.Given as goal
 
 abbrev pub invariant-loop-tick : goal.invariant-loop-tick
-invariant-loop-tick g l = let K = g.K.LineSink in let fn = l.fn.self in let next = begun_next fn.clock.number fn.clock.next l.moment in record {
-  asks : AsksNone K.failed fn l.self;
+invariant-loop-tick g l = let K = g.K.LineSink in let style = g.W.ReportWriter.style in let fn = l.fn.self in let next = begun_next fn.clock.number fn.clock.next l.moment in record {
+  asks : AsksNone style K.failed fn l.self;
   latest : l.self.node.now.latest ≡ fn.node.now.latest;
   records : l.self.tally.numbers.records ≡ fn.tally.numbers.records;
   due : l.due ≡ ticks_due next l.moment;
@@ -15,7 +15,7 @@ invariant-loop-tick g l = let K = g.K.LineSink in let fn = l.fn.self in let next
   next_is : l.self.clock.next ≡ next + l.tick * 1000000;
   ok : (first : ℕ) → next ≡ first + fn.clock.number * 1000000
       → GoesOn (ticks_from first fn.clock.number l.tick)
-      (state_in K.lines fn)
-      (state_in K.lines l.self)
+      (state_in style K.lines fn)
+      (state_in style K.lines l.self)
       (text_of l.fn.gathered) (text_of l.gathered);
 }

@@ -1,90 +1,104 @@
-use Rattle.std.proofs.Common.{◌≡◌, ◌∙◌, ◌++◌, ◌≤◌, ◌^◌, [], List, length, sym, ap, ap₂, subst, append-nil, append_assoc, arith}
+use Rattle.std.proofs.Common.{◌∙◌, ◌≤◌, ◌^◌, [], List, length, sym, ap, ap₂, subst, append-nil, arith}
 use Rattle.line_text.specs.Buffer.{text_of}
-use Rattle.node_plan.specs.declared.plan.BusPlan.{BusPlan}
 use Rattle.report_lines.specs.declared.line.Line.{Line}
 use Rattle.report_lines.specs.declared.numbers.Numbers.{Numbers}
 use Rattle.report_lines.specs.LineSinks.{BeginsList, put_behind}
-use Rattle.node_core.specs.Queues.{rounds, waiting}
-use Rattle.node_core.specs.Steps.{Kept, emptying, end_numbers, failed_lines, lines, steps}
-use Rattle.text_lines.specs.Text.{end_text, text}
+use Rattle.node_core.specs.Steps.{emptying, failed_lines, lines, steps}
+use Rattle.node_core.specs.Types.{type_on}
 use Rattle.node_core.proofs.Steps.{on_err}
 use Rattle.node_run.specs.Failures.{failures}
+use Rattle.node_run.specs.Goes.{state_in}
+use Rattle.node_run.specs.Hears.{mets_of}
 use Rattle.node_run.specs.Ran.{reported}
 use Rattle.node_run.proofs.Counts.{sent_at_end}
 use Rattle.node_run.proofs.Fails.{failed_stay}
 use Rattle.node_run.proofs.Goes.{first_cut}
+use Rattle.node_run.proofs.Leaving.{ends_with, leaving_heard}
 use Rattle.node_run.proofs.Tells.{put_more}
 use Rattle.node_run.proofs.log.running.RunningListener.finish.Goals as goal
 
 pub returns-in_err-emptied-clause-cut_short : goal.returns-in_err-emptied-clause-cut_short
 returns-in_err-emptied-clause-cut_short g c =
+    let W = g.W.ReportWriter.style in
     let K = g.K.LineSink.lines in
     let self = c.args.self.now in
     on_err _ c.from_residual.result (λ first past hh.
-    let h = hh.hears in
+    let h = hh.met.hears in
     let plan = first.node.now.plan in
-    let all = steps plan past in
-    let same : _ ≡ emptying plan all = ap (λ (k : Kept). rounds (waiting k.queues) self.clock.last k.queues) h.runs.keeps_are ∙ h.clock_is.last in record {
-      over = record { lines = hh.over.lines; tree = hh.over.tree; told = hh.over.told };
-      cut = record {
-        first = first_cut plan all (reported (K first.lines.now) (K c.empty.new.lines) self.tally.numbers) (failures (g.K.LineSink.failed first.lines.now) (g.K.LineSink.failed c.empty.new.lines) (g.T.Tree.faults first.tree.now) (g.T.Tree.faults self.tree.now))
-            (K self.lines.now) h.runs.at.reported
-            (subst (λ (ls : List Line). BeginsList ls (K self.lines.now) (K c.empty.new.lines)) same c.in_err-emptied.ensures.err) h.runs.at.counted
-            (failed_stay (failed_lines all) (g.K.LineSink.failed first.lines.now) (g.K.LineSink.failed self.lines.now) (g.K.LineSink.failed c.empty.new.lines) (g.T.Tree.faults first.tree.now) (g.T.Tree.faults self.tree.now) c.empty.ensures.untold hh.failed).tells;
-        within = h.runs.within;
+    let all = steps plan (mets_of past) in
+    let same = leaving_heard plan (K first.lines.now) (state_in W K self) self.clock (mets_of past) h in record {
+      met = record {
+        over = record { lines = hh.met.over.lines; tree = hh.met.over.tree; told = hh.met.over.told; style = c.empty.ensures.style ∙ hh.met.over.style };
+        cut = record {
+          first = first_cut plan all (reported (K first.lines.now) (K c.empty.new.lines) self.tally.numbers) (failures (g.K.LineSink.failed first.lines.now) (g.K.LineSink.failed c.empty.new.lines) (g.T.Tree.faults first.tree.now) (g.T.Tree.faults self.tree.now))
+              (K self.lines.now) h.runs.at.reported
+              (subst (λ (ls : List Line). BeginsList ls (K self.lines.now) (K c.empty.new.lines)) same c.in_err-emptied.ensures.err) h.runs.at.counted
+              (failed_stay (failed_lines all) (g.K.LineSink.failed first.lines.now) (g.K.LineSink.failed self.lines.now) (g.K.LineSink.failed c.empty.new.lines) (g.T.Tree.faults first.tree.now) (g.T.Tree.faults self.tree.now) c.empty.ensures.untold hh.met.failed).tells;
+          within = h.runs.within;
+        };
       };
+      said = hh.said;
     })
 
 pub returns-in_err-push_end-clause-cut_short : goal.returns-in_err-push_end-clause-cut_short
 returns-in_err-push_end-clause-cut_short g c =
+    let W = g.W.ReportWriter.style in
     let K = g.K.LineSink.lines in
     let self = c.args.self.now in
     on_err _ c.from_residual-in_err-push_end.result (λ first past hh.
-    let h = hh.hears in
+    let h = hh.met.hears in
     let plan = first.node.now.plan in
-    let all = steps plan past in
-    let same : _ ≡ emptying plan all = ap (λ (k : Kept). rounds (waiting k.queues) self.clock.last k.queues) h.runs.keeps_are ∙ h.clock_is.last in record {
-      over = record { lines = hh.over.lines; tree = hh.over.tree; told = hh.over.told };
-      cut = record {
-        first = first_cut plan all (reported (K first.lines.now) (K c.empty.new.lines) self.tally.numbers) (failures (g.K.LineSink.failed first.lines.now) (g.K.LineSink.failed c.empty.new.lines) (g.T.Tree.faults first.tree.now) (g.T.Tree.faults self.tree.now))
-            (K self.lines.now) h.runs.at.reported
-            (record { front = emptying plan all; rest = []; whole = sym (append-nil (emptying plan all)); put = c.in_ok-emptied.ensures.told.put ∙ ap (put_behind (K self.lines.now)) same }) h.runs.at.counted
-            (failed_stay (failed_lines all) (g.K.LineSink.failed first.lines.now) (g.K.LineSink.failed self.lines.now) (g.K.LineSink.failed c.empty.new.lines) (g.T.Tree.faults first.tree.now) (g.T.Tree.faults self.tree.now) c.empty.ensures.untold hh.failed).tells;
-        within = h.runs.within;
+    let all = steps plan (mets_of past) in
+    let same = leaving_heard plan (K first.lines.now) (state_in W K self) self.clock (mets_of past) h in
+    let put = (c.in_ok-emptied.ensures.told (type_on plan)).put in record {
+      met = record {
+        over = record { lines = hh.met.over.lines; tree = hh.met.over.tree; told = hh.met.over.told; style = c.empty.ensures.style ∙ hh.met.over.style };
+        cut = record {
+          first = first_cut plan all (reported (K first.lines.now) (K c.empty.new.lines) self.tally.numbers) (failures (g.K.LineSink.failed first.lines.now) (g.K.LineSink.failed c.empty.new.lines) (g.T.Tree.faults first.tree.now) (g.T.Tree.faults self.tree.now))
+              (K self.lines.now) h.runs.at.reported
+              (record { front = emptying plan all; rest = []; whole = sym (append-nil (emptying plan all)); put = put ∙ ap (put_behind (K self.lines.now)) same }) h.runs.at.counted
+              (failed_stay (failed_lines all) (g.K.LineSink.failed first.lines.now) (g.K.LineSink.failed self.lines.now) (g.K.LineSink.failed c.empty.new.lines) (g.T.Tree.faults first.tree.now) (g.T.Tree.faults self.tree.now) c.empty.ensures.untold hh.met.failed).tells;
+          within = h.runs.within;
+        };
       };
+      said = hh.said;
     })
 
 pub returns-clause-ended : goal.returns-clause-ended
 returns-clause-ended g c first past hh =
+    let W = g.W.ReportWriter.style in
     let K = g.K.LineSink.lines in
     let self = c.args.self.now in
-    let h = hh.hears in
+    let h = hh.met.hears in
     let plan = first.node.now.plan in
-    let all = steps plan past in
-    let same : _ ≡ emptying plan all = ap (λ (k : Kept). rounds (waiting k.queues) self.clock.last k.queues) h.runs.keeps_are ∙ h.clock_is.last in
-    let put = c.in_ok-emptied.ensures.told.put ∙ ap (put_behind (K self.lines.now)) same in
+    let all = steps plan (mets_of past) in
+    let same = leaving_heard plan (K first.lines.now) (state_in W K self) self.clock (mets_of past) h in
+    let put = (c.in_ok-emptied.ensures.told (type_on plan)).put ∙ ap (put_behind (K self.lines.now)) same in
     let few : length all ≤ 2 ^ 50 = omega (arith, h.few, h.few_records, h.few_ticks) in
     let sent = sent_at_end plan all h.runs.is few self.tally.numbers.sent (ap (λ (n : Numbers). n.sent) h.runs.at.counted) c.in_ok-emptied.emptied (c.in_ok-emptied.ensures.sent ∙ ap length same) in record {
-      over = record { lines = hh.over.lines; tree = hh.over.tree; told = hh.over.told };
-      failed = failed_stay (failed_lines all) (g.K.LineSink.failed first.lines.now) (g.K.LineSink.failed self.lines.now) (g.K.LineSink.failed c.empty.new.lines) (g.T.Tree.faults first.tree.now) (g.T.Tree.faults self.tree.now) c.empty.ensures.untold hh.failed;
-      ended = record {
-        at = record { reported = put ∙ (ap (λ o. put_behind o (emptying plan all)) h.runs.at.reported ∙ put_more (K first.lines.now) (lines plan all) (emptying plan all)); counted = h.runs.at.counted };
-        sent_is = c.saturating_add-sent.ensures ∙ sent;
-        within = h.runs.within;
+      met = record {
+        over = record { lines = hh.met.over.lines; tree = hh.met.over.tree; told = hh.met.over.told; style = c.empty.ensures.style ∙ hh.met.over.style };
+        failed = failed_stay (failed_lines all) (g.K.LineSink.failed first.lines.now) (g.K.LineSink.failed self.lines.now) (g.K.LineSink.failed c.empty.new.lines) (g.T.Tree.faults first.tree.now) (g.T.Tree.faults self.tree.now) c.empty.ensures.untold hh.met.failed;
+        ended = record {
+          at = record { reported = put ∙ (ap (λ o. put_behind o (emptying plan all)) h.runs.at.reported ∙ put_more (K first.lines.now) (lines plan all) (emptying plan all)); counted = h.runs.at.counted };
+          sent_is = c.saturating_add-sent.ensures ∙ sent;
+          within = h.runs.within;
+        };
       };
+      said = hh.said;
     }
 
 pub returns-clause-text : goal.returns-clause-text
 returns-clause-text g c first past hh =
+    let W = g.W.ReportWriter.style in
     let K = g.K.LineSink.lines in
     let self = c.args.self.now in
-    let h = hh.hears in
+    let h = hh.met.hears in
     let plan = first.node.now.plan in
-    let all = steps plan past in
-    let old = text_of c.args.gathered.now in
-    let same : _ ≡ emptying plan all = ap (λ (k : Kept). rounds (waiting k.queues) self.clock.last k.queues) h.runs.keeps_are ∙ h.clock_is.last in
+    let all = steps plan (mets_of past) in
+    let same = leaving_heard plan (K first.lines.now) (state_in W K self) self.clock (mets_of past) h in
     let few : length all ≤ 2 ^ 50 = omega (arith, h.few, h.few_records, h.few_ticks) in
     let sent = sent_at_end plan all h.runs.is few self.tally.numbers.sent (ap (λ (n : Numbers). n.sent) h.runs.at.counted) c.in_ok-emptied.emptied (c.in_ok-emptied.ensures.sent ∙ ap length same) in
-    let last = ap₂ (λ (n : Numbers) m. end_text (record n { sent = m })) h.runs.at.counted (c.saturating_add-sent.ensures ∙ sent) in
-    let front : text_of c.empty.new.gathered ≡ old ++ text plan.buses (emptying plan all) = c.in_ok-emptied.ensures.told.gathered ∙ ap₂ (λ (b : List BusPlan) (ls : List Line). old ++ text b ls) h.runs.names same in
-    c.in_ok-push_end.ensures.ok ∙ (ap₂ (λ x y. x ++ y) front last ∙ append_assoc old (text plan.buses (emptying plan all)) (end_text (end_numbers plan all)))
+    let numbers = ap₂ (λ (n : Numbers) m. record n { sent = m }) h.runs.at.counted (c.saturating_add-sent.ensures ∙ sent) in
+    ends_with (W first.writer.now) (W self.writer.now) hh.met.over.style plan all (text_of c.args.gathered.now) (text_of c.empty.new.gathered) _ _ same
+    (c.in_ok-emptied.ensures.told (type_on plan)).gathered _ numbers (W c.empty.new.writer) c.empty.ensures.style c.in_ok-push_end.ensures.ok
