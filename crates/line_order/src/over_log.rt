@@ -1,4 +1,4 @@
-ghost use Rattle.std.specs.Prelude.{◌≡◌};
+ghost use Rattle.std.specs.Prelude.{◌≡◌, ◌≢◌};
 ghost use Rattle.cy_outside.specs.Outside.{Rose};
 ghost use Rattle.line_loop.specs.Gone.{HasGone};
 ghost use Rattle.line_loop.specs.Streamed.{IsStreamed};
@@ -34,8 +34,8 @@ pub fn order_log<L: Source, O: Sink>(
         (O.written out.old) (O.written out.new) }
     ensures read { result ≡ LinesEnded.ReadFault → Rose (L.faults input.old) (L.faults input.new) }
     ensures write { result ≡ LinesEnded.WriteFault → Rose (O.faults out.old) (O.faults out.new) }
-    ensures kept { result ≡ LinesEnded.Ok
-        → (L.faults input.new ≡ L.faults input.old) × (O.faults out.new ≡ O.faults out.old) }
+    ensures unread { result ≢ LinesEnded.ReadFault → L.faults input.new ≡ L.faults input.old }
+    ensures unwritten { result ≢ LinesEnded.WriteFault → O.faults out.new ≡ O.faults out.old }
 {
     let mut orderer = Orderer::new(alloc, window);
     listen_lines(alloc, &mut orderer, bounds(), input, out)
