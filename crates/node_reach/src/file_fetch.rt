@@ -46,8 +46,8 @@ pub fn fetch<L: Source, O: Sink>(
         (L.left input.old) result (O.written out.old) (O.written out.new) }
     ensures read { result ≡ Ended.ReadFault → Rose (L.faults input.old) (L.faults input.new) }
     ensures write { result ≡ Ended.WriteFault → Rose (O.faults out.old) (O.faults out.new) }
-    ensures kept { result ≡ Ended.Ok
-        → (L.faults input.new ≡ L.faults input.old) × (O.faults out.new ≡ O.faults out.old) }
+    ensures unread { result ≢ Ended.ReadFault → L.faults input.new ≡ L.faults input.old }
+    ensures unwritten { result ≢ Ended.WriteFault → O.faults out.new ≡ O.faults out.old }
 {
     fetch_laws();
     let Ok(path) = Bytes::from_slice(alloc, path) else {

@@ -1,5 +1,5 @@
 //! Who is online in a log, and the network's time.
-ghost use Rattle.std.specs.Prelude.{◌≡◌, ◌≤◌};
+ghost use Rattle.std.specs.Prelude.{◌≡◌, ◌≢◌, ◌≤◌};
 ghost use Rattle.cy_outside.specs.Outside.{Rose};
 ghost use Rattle.tail_frame.specs.declared.logged.Record.{Record};
 ghost use Rattle.log_loop.specs.Gone.{any_stages};
@@ -22,8 +22,8 @@ pub fn monitor<L: Source, O: Sink>(alloc: Global, own: u8, input: &mut L, out: &
         (L.left input.old) (L.left input.new) result (O.written out.old) (O.written out.new) }
     ensures read { result ≡ Ended.ReadFault → Rose (L.faults input.old) (L.faults input.new) }
     ensures write { result ≡ Ended.WriteFault → Rose (O.faults out.old) (O.faults out.new) }
-    ensures kept { result ≡ Ended.Ok
-        → (L.faults input.new ≡ L.faults input.old) × (O.faults out.new ≡ O.faults out.old) }
+    ensures unread { result ≢ Ended.ReadFault → L.faults input.new ≡ L.faults input.old }
+    ensures unwritten { result ≢ Ended.WriteFault → O.faults out.new ≡ O.faults out.old }
 {
     let Ok(mut monitoring) = Monitoring::new(alloc, own) else {
         return Ended::NoMemory;
