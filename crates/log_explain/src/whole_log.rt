@@ -1,5 +1,5 @@
 //! Why the frames of a log came to what they did.
-ghost use Rattle.std.specs.Prelude.{◌≡◌, ◌≤◌};
+ghost use Rattle.std.specs.Prelude.{◌≡◌, ◌≢◌, ◌≤◌};
 ghost use Rattle.cy_outside.specs.Outside.{Rose};
 ghost use Rattle.tail_frame.specs.declared.logged.Record.{Record};
 ghost use Rattle.log_loop.specs.Gone.{any_stages};
@@ -28,8 +28,8 @@ pub fn explain_log<L: Source, O: Sink>(
         (L.left input.old) (L.left input.new) result (O.written out.old) (O.written out.new) }
     ensures read { result ≡ Ended.ReadFault → Rose (L.faults input.old) (L.faults input.new) }
     ensures write { result ≡ Ended.WriteFault → Rose (O.faults out.old) (O.faults out.new) }
-    ensures kept { result ≡ Ended.Ok
-        → (L.faults input.new ≡ L.faults input.old) × (O.faults out.new ≡ O.faults out.old) }
+    ensures unread { result ≢ Ended.ReadFault → L.faults input.new ≡ L.faults input.old }
+    ensures unwritten { result ≢ Ended.WriteFault → O.faults out.new ≡ O.faults out.old }
 {
     let names = names_of(&plan);
     let own = names_of(&plan);
