@@ -1,5 +1,5 @@
 //! The memory bound of a plan, port by port.
-ghost use Rattle.std.specs.Prelude.{◌≡◌, ◌++◌, OnOk, IfOk};
+ghost use Rattle.std.specs.Prelude.{◌≡◌, ◌≢◌, ◌++◌, OnOk, IfOk};
 ghost use Rattle.cy_outside.specs.Outside.{Rose};
 ghost use Rattle.std.specs.Prelude.{map};
 ghost use Rattle.std.specs.List.{flat_map};
@@ -20,7 +20,7 @@ pub fn bound<O: Sink>(alloc: Global, plan: &Plan, out: &mut O) -> Status
     requires { IsPlan plan.now }
     ensures written { HasBound plan.now result (O.written out.old) (O.written out.new) }
     ensures write { result ≡ Status.WriteFault → Rose (O.faults out.old) (O.faults out.new) }
-    ensures kept { result ≡ Status.Ok → O.faults out.new ≡ O.faults out.old }
+    ensures unwritten { result ≢ Status.WriteFault → O.faults out.new ≡ O.faults out.old }
 {
     let Ok(text) = text_of(alloc, plan) else {
         return Status::NoMemory;

@@ -1,5 +1,5 @@
 //! A log that is made of a number, and what its run comes to.
-ghost use Rattle.std.specs.Prelude.{◌≡◌, IfOk};
+ghost use Rattle.std.specs.Prelude.{◌≡◌, ◌≢◌, IfOk};
 ghost use Rattle.cy_outside.specs.Outside.{Rose};
 ghost use Rattle.node_plan.specs.IsPlan.{IsPlan};
 ghost use Rattle.node_run.specs.Generated.{HasGenerated, generated_numbers};
@@ -26,7 +26,7 @@ use std::alloc::Global;
 pub fn run_gen<O: Sink>(alloc: Global, number: u32, out: &mut O) -> Status
     ensures written { HasGenerated number result (O.written out.old) (O.written out.new) }
     ensures write { result ≡ Status.WriteFault → Rose (O.faults out.old) (O.faults out.new) }
-    ensures kept { result ≡ Status.Ok → O.faults out.new ≡ O.faults out.old }
+    ensures unwritten { result ≢ Status.WriteFault → O.faults out.new ≡ O.faults out.old }
 {
     let Ok(numbers) = numbers_of(alloc, number) else {
         return Status::NoMemory;

@@ -1,5 +1,5 @@
 //! Whether one type of a namespace is newer than another.
-ghost use Rattle.std.specs.Prelude.{◌≡◌, ◌↔◌, IfOk, codes};
+ghost use Rattle.std.specs.Prelude.{◌≡◌, ◌≢◌, ◌↔◌, IfOk, codes};
 ghost use Rattle.cy_outside.specs.Outside.{Rose};
 ghost use Rattle.dsdl_types.specs.Definitions.{IsNamespace};
 ghost use Rattle.dsdl_types.specs.Difference.{difference};
@@ -37,7 +37,7 @@ pub fn compat<O: Sink>(
     ensures newer { (compared names.now new.now old.now ≡ Status.Ok)
         ↔ IsNewer names.now new.now old.now }
     ensures write { result ≡ Status.WriteFault → Rose (O.faults out.old) (O.faults out.new) }
-    ensures kept { result ≡ Status.Ok → O.faults out.new ≡ O.faults out.old }
+    ensures unwritten { result ≢ Status.WriteFault → O.faults out.new ≡ O.faults out.old }
 {
     let new_type = match found(alloc, names, new) {
         Ok(found) => found,

@@ -1,5 +1,5 @@
 //! The layouts of a namespace.
-ghost use Rattle.std.specs.Prelude.{◌≡◌};
+ghost use Rattle.std.specs.Prelude.{◌≡◌, ◌≢◌};
 ghost use Rattle.cy_outside.specs.Outside.{Rose};
 ghost use Rattle.dsdl_types.specs.Definitions.{IsNamespace};
 ghost use Rattle.node_run.specs.Layouts.{HasLayouts};
@@ -16,7 +16,7 @@ pub fn compile<O: Sink>(alloc: Global, names: &Namespace, out: &mut O) -> Status
     requires { IsNamespace names.now }
     ensures written { HasLayouts names.now result (O.written out.old) (O.written out.new) }
     ensures write { result ≡ Status.WriteFault → Rose (O.faults out.old) (O.faults out.new) }
-    ensures kept { result ≡ Status.Ok → O.faults out.new ≡ O.faults out.old }
+    ensures unwritten { result ≢ Status.WriteFault → O.faults out.new ≡ O.faults out.old }
 {
     let Ok(text) = namespace_text(alloc, names) else {
         return Status::NoMemory;

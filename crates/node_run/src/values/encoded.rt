@@ -1,5 +1,5 @@
 //! The texts of values of a type as the hex of their bytes.
-ghost use Rattle.std.specs.Prelude.{◌≡◌, None};
+ghost use Rattle.std.specs.Prelude.{◌≡◌, ◌≢◌, None};
 ghost use Rattle.cy_outside.specs.Outside.{Rose};
 ghost use Rattle.dsdl_types.specs.Definitions.{IsNamespace};
 ghost use Rattle.value_lines.specs.Encoded.{Encodes};
@@ -39,11 +39,11 @@ pub fn encode<L: Source, O: Sink>(
     ensures streamed { let told = flow (L.left input.old) (L.left input.new)
         (O.written out.old) (O.written out.new) in
         AreStreamed Encodes (message_named names.now name.now) told }
-    ensures unread { message_named names.now name.now ≡ None → input.new ≡ input.old }
+    ensures untaken { message_named names.now name.now ≡ None → input.new ≡ input.old }
     ensures read { result ≡ Status.ReadFault → Rose (L.faults input.old) (L.faults input.new) }
     ensures write { result ≡ Status.WriteFault → Rose (O.faults out.old) (O.faults out.new) }
-    ensures kept { result ≡ Status.Ok
-        → (L.faults input.new ≡ L.faults input.old) × (O.faults out.new ≡ O.faults out.old) }
+    ensures unread { result ≢ Status.ReadFault → L.faults input.new ≡ L.faults input.old }
+    ensures unwritten { result ≢ Status.WriteFault → O.faults out.new ≡ O.faults out.old }
 {
     let schema = match message(alloc, names, name) {
         Ok(schema) => schema,
