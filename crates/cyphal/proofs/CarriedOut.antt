@@ -41,11 +41,12 @@ module _ (job : Job) (told : Told) (stat : Status) (lines : Option (List Line)) 
       among = among;
       cause = record {
         read = λ e. inl (cause.read e, source);
-        unread = λ _. source;
+        untaken = λ _. source;
         refused = λ _. source;
         write = cause.write;
-        kept = λ e. (input, (cause.kept e).1);
-        unserved = λ _ e. (cause.kept e).0;
+        unread = λ _. input;
+        unwritten = cause.unwritten;
+        unserved = λ _ e. cause.kept e;
       };
       ran = by_work ran;
       held = omega arith;

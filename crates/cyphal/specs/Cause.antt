@@ -1,5 +1,5 @@
 -- Why a command ended as it did.
-use Rattle.std.specs.Prelude.{◌≡◌, ◌⊎◌, ℕ, Bool, true, false}
+use Rattle.std.specs.Prelude.{◌≡◌, ◌≢◌, ◌⊎◌, ℕ, Bool, true, false}
 use Rattle.cy_outside.specs.Outside.{Rose}
 use Rattle.node_run.specs.declared.status.Status.{Status}
 use Rattle.node_run.specs.declared.status.Status.TheVariants as status
@@ -12,13 +12,14 @@ pub record Counts : Type 0 where
 abbrev pub counts : ℕ → ℕ → Counts
 counts tree out = record { tree = tree; out = out }
 
--- of a command that is given no input: a fault comes only where a count rose, and each stays where
--- all was done
+-- of a command that is given no input: a fault comes only where a count rose, that of the output
+-- rises at a write fault alone, and that of the tree stays where all was done
 pub record HasCause (stat : Status) (old new : Counts) : Type 0 where
   pub usage : ¬ (stat ≡ status.Usage)
   pub read : stat ≡ status.ReadFault → Rose old.tree new.tree
   pub write : stat ≡ status.WriteFault → Rose old.out new.out
-  pub kept : stat ≡ status.Ok → (new.tree ≡ old.tree) × (new.out ≡ old.out)
+  pub unwritten : stat ≢ status.WriteFault → new.out ≡ old.out
+  pub kept : stat ≡ status.Ok → new.tree ≡ old.tree
 
 -- the counts of a tree, an input and an output, and the input
 pub record Outside (L : Type 0) : Type 0 where
@@ -39,18 +40,19 @@ is_refused (status.NotNewer path why) = true
 is_refused (status.NoFile path) = true
 is_refused other = false
 
--- The same of any command, by whether it takes of the input: where it does not, where it is
--- refused, or where the tree failed, the input stays as it was. And by whether it serves files:
--- where it does not, the tree's count stays where all was done. That the tree fails in a request of
--- a file is no status.
+-- The same of any command: the count of the input rises at a read fault alone. By whether it takes
+-- of the input: where it does not, where it is refused, or where the tree failed, the input stays
+-- as it was. And by whether it serves files: where it does not, the tree's count stays where all
+-- was done. That the tree fails in a request of a file is no status.
 pub record HasCauseOver {L : Type 0} (takes serves : Bool) (stat : Status)
     (old new : Outside L) : Type 0 where
   pub read : stat ≡ status.ReadFault
       → (Rose old.tree new.tree × (new.source ≡ old.source)) ⊎ Rose old.input new.input
-  pub unread : takes ≡ false → new.source ≡ old.source
+  pub untaken : takes ≡ false → new.source ≡ old.source
   pub refused : is_refused stat ≡ true → new.source ≡ old.source
   pub write : stat ≡ status.WriteFault → Rose old.out new.out
-  pub kept : stat ≡ status.Ok → (new.input ≡ old.input) × (new.out ≡ old.out)
+  pub unread : stat ≢ status.ReadFault → new.input ≡ old.input
+  pub unwritten : stat ≢ status.WriteFault → new.out ≡ old.out
   pub unserved : serves ≡ false → stat ≡ status.Ok → new.tree ≡ old.tree
 
 -- the tree failed before any of the input was taken

@@ -1,5 +1,5 @@
 -- The status of a command that hears a log without a plan is that of the log's end.
-use Rattle.std.proofs.Common.{◌≡◌, ◌∙◌, inr, ℕ, true, false, List, Option, Some, None, refl, sym, ap}
+use Rattle.std.proofs.Common.{◌≡◌, ◌≢◌, ◌∙◌, inr, ℕ, true, false, List, Option, Some, None, refl, sym, ap}
 use Rattle.cy_outside.specs.Outside.{Rose}
 use Rattle.frame_log.specs.Log.{log_of}
 use Rattle.frame_log.specs.declared.error.LogError.{LogError}
@@ -63,25 +63,18 @@ write_end end.ReadFault e = absurd cc
 write_end end.WriteFault e = refl
 write_end end.NoMemory e = absurd cc
 
-whole_end : (ended : Ended) → status_of ended ≡ status.Ok → ended ≡ end.Ok
-whole_end end.Ok e = refl
-whole_end (end.Log line w) e = absurd cc
-whole_end end.LogLong e = absurd cc
-whole_end end.ReadFault e = absurd cc
-whole_end end.WriteFault e = absurd cc
-whole_end end.NoMemory e = absurd cc
-
 pub no_usage : (ended : Ended) (stat : Status) → stat ≡ status_of ended → stat ≡ status.Usage → ⊥
 no_usage ended stat e u = no_refusal ended (sym (ap is_refused e) ∙ ap is_refused u)
 
 -- the cause of a command that is given no tree
 pub cause_of : {L : Type 0} (ended : Ended) (stat : Status) → stat ≡ status_of ended → (old new : Outside L) → new.tree ≡ old.tree → (ended ≡ end.ReadFault → Rose old.input new.input)
-    → (ended ≡ end.WriteFault → Rose old.out new.out) → (ended ≡ end.Ok → (new.input ≡ old.input) × (new.out ≡ old.out)) → HasCauseOver true false stat old new
-cause_of ended stat e old new tree read write kept = record {
+    → (ended ≡ end.WriteFault → Rose old.out new.out) → (ended ≢ end.ReadFault → new.input ≡ old.input) → (ended ≢ end.WriteFault → new.out ≡ old.out) → HasCauseOver true false stat old new
+cause_of ended stat e old new tree read write unread unwritten = record {
   read = λ s. inr (read (read_end ended (sym e ∙ s)));
-  unread = λ s. absurd cc;
+  untaken = λ s. absurd cc;
   refused = λ s. absurd (no_refusal ended (sym (ap is_refused e) ∙ s));
   write = λ s. write (write_end ended (sym e ∙ s));
-  kept = λ s. kept (whole_end ended (sym e ∙ s));
+  unread = λ s. unread (λ f. s (e ∙ ap status_of f));
+  unwritten = λ s. unwritten (λ f. s (e ∙ ap status_of f));
   unserved = λ _ s. tree;
 }

@@ -1,5 +1,5 @@
 //! `order MICROS`: the lines of a log in the order of their moments.
-ghost use Rattle.std.specs.Prelude.{◌≡◌, ℕ, true, false};
+ghost use Rattle.std.specs.Prelude.{◌≡◌, ◌≢◌, ℕ, true, false};
 ghost use Rattle.cy_outside.specs.Outside.{Rose};
 ghost use Rattle.node_run.specs.ValueLines.{flow};
 ghost use Rattle.cyphal.specs.Cause.{outside, HasCauseOver};
@@ -42,8 +42,8 @@ fn ordered<L: Source, O: Sink>(alloc: Global, window: u32, input: &mut L, out: &
         IsOrderedUntil window result told }
     ensures read { result ≡ Ended.ReadFault → Rose (L.faults input.old) (L.faults input.new) }
     ensures write { result ≡ Ended.WriteFault → Rose (O.faults out.old) (O.faults out.new) }
-    ensures kept { result ≡ Ended.Ok
-        → (L.faults input.new ≡ L.faults input.old) × (O.faults out.new ≡ O.faults out.old) }
+    ensures unread { result ≢ Ended.ReadFault → L.faults input.new ≡ L.faults input.old }
+    ensures unwritten { result ≢ Ended.WriteFault → O.faults out.new ≡ O.faults out.old }
 {
     match order_log(alloc, u64::from(window), input, out) {
         LinesEnded::Ok => Ended::Ok,

@@ -1,6 +1,6 @@
 //! `monitor NODE` and `allocate NODE`: what a node does with the log of the input that it hears
 //! without a plan.
-ghost use Rattle.std.specs.Prelude.{◌≡◌, ℕ, true, false};
+ghost use Rattle.std.specs.Prelude.{◌≡◌, ◌≢◌, ℕ, true, false};
 ghost use Rattle.cy_outside.specs.Outside.{Rose};
 ghost use Rattle.tail_frame.specs.declared.logged.Record.{Record};
 ghost use Rattle.log_loop.specs.Gone.{any_stages};
@@ -61,8 +61,8 @@ fn heard<L: Source, O: Sink>(
         (L.left input.old) (L.left input.new) result (O.written out.old) (O.written out.new) }
     ensures read { result ≡ Ended.ReadFault → Rose (L.faults input.old) (L.faults input.new) }
     ensures write { result ≡ Ended.WriteFault → Rose (O.faults out.old) (O.faults out.new) }
-    ensures kept { result ≡ Ended.Ok
-        → (L.faults input.new ≡ L.faults input.old) × (O.faults out.new ≡ O.faults out.old) }
+    ensures unread { result ≢ Ended.ReadFault → L.faults input.new ≡ L.faults input.old }
+    ensures unwritten { result ≢ Ended.WriteFault → O.faults out.new ≡ O.faults out.old }
 {
     match hearing {
         Hearing::Monitor => monitor(alloc, own.number, input, out),

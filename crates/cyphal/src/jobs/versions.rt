@@ -1,5 +1,5 @@
 //! `versions ROOT`: whether each version of a type below a root is newer than the one before it.
-ghost use Rattle.std.specs.Prelude.{◌≡◌, ◌⊎◌, false};
+ghost use Rattle.std.specs.Prelude.{◌≡◌, ◌≢◌, ◌⊎◌, false};
 ghost use Rattle.cy_outside.specs.Outside.{Rose};
 ghost use Rattle.node_run.specs.Compared.{ended};
 ghost use Rattle.node_run.specs.Loaded.{calls_of};
@@ -44,7 +44,7 @@ fn write_versions<O: Sink>(alloc: Global, names: &Namespace, out: &mut O) -> Sta
     ensures written { HasVersions names.now result (O.written out.old) (O.written out.new) }
     ensures ends { is_fault result ≡ false → VersionsEnd names.now result }
     ensures write { result ≡ Status.WriteFault → Rose (O.faults out.old) (O.faults out.new) }
-    ensures kept { result ≡ Status.Ok → O.faults out.new ≡ O.faults out.old }
+    ensures unwritten { result ≢ Status.WriteFault → O.faults out.new ≡ O.faults out.old }
 {
     let Ok(versions) = versions_of(alloc, names) else {
         return Status::NoMemory;

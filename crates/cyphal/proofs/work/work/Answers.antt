@@ -14,10 +14,11 @@ returns-in-Err-clause-done g c =
     (memory_among (command_of words))
     (record {
       read = λ e. absurd cc;
-      unread = λ e. refl;
+      untaken = λ e. refl;
       refused = λ e. refl;
       write = λ e. absurd cc;
-      kept = λ e. absurd cc;
+      unread = λ _. refl;
+      unwritten = λ _. refl;
       unserved = λ s e. refl;
     })
     (inl (record { nothing = record { written = refl; not_settled = refl; not_write = λ e. cc }; source = refl; tree = λ e. absurd cc }))

@@ -24,5 +24,6 @@ returns-clause-cause g c =
       usage = compared_usage c.in-Ok.names c.args.new.now c.args.old.now c.compat.result (written c.args.out.now) (written c.compat.new.out) c.compat.ensures.compared;
       read = λ e. absurd (compared_read c.in-Ok.names c.args.new.now c.args.old.now c.compat.result (written c.args.out.now) (written c.compat.new.out) c.compat.ensures.compared e);
       write = c.compat.ensures.write;
-      kept = λ e. (c.in-Ok.ensures.cause, c.compat.ensures.kept e);
+      unwritten = c.compat.ensures.unwritten;
+      kept = λ e. c.in-Ok.ensures.cause;
     }

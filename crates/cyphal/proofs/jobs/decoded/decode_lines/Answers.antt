@@ -33,9 +33,10 @@ returns-clause-cause g c =
     let name = c.args.name.now in
     let told = flow (g.L.Source.left c.args.input.now) (g.L.Source.left c.decode.new.input) (g.O.Sink.written c.args.out.now) (g.O.Sink.written c.decode.new.out) in record {
       read = λ e. inr (c.decode.ensures.read e);
-      unread = λ e. absurd cc;
-      refused = λ e. c.decode.ensures.unread (refused_none Decodes (message_named names name) name told c.decode.result e c.decode.ensures.did);
+      untaken = λ e. absurd cc;
+      refused = λ e. c.decode.ensures.untaken (refused_none Decodes (message_named names name) name told c.decode.result e c.decode.ensures.did);
       write = c.decode.ensures.write;
-      kept = c.decode.ensures.kept;
+      unread = c.decode.ensures.unread;
+      unwritten = c.decode.ensures.unwritten;
       unserved = λ _ e. c.in-Ok.ensures.cause;
     }

@@ -33,9 +33,10 @@ returns-clause-cause g c =
     let name = c.args.name.now in
     let told = flow (g.L.Source.left c.args.input.now) (g.L.Source.left c.encode.new.input) (g.O.Sink.written c.args.out.now) (g.O.Sink.written c.encode.new.out) in record {
       read = λ e. inr (c.encode.ensures.read e);
-      unread = λ e. absurd cc;
-      refused = λ e. c.encode.ensures.unread (refused_none Encodes (message_named names name) name told c.encode.result e c.encode.ensures.did);
+      untaken = λ e. absurd cc;
+      refused = λ e. c.encode.ensures.untaken (refused_none Encodes (message_named names name) name told c.encode.result e c.encode.ensures.did);
       write = c.encode.ensures.write;
-      kept = c.encode.ensures.kept;
+      unread = c.encode.ensures.unread;
+      unwritten = c.encode.ensures.unwritten;
       unserved = λ _ e. c.in-Ok.ensures.cause;
     }

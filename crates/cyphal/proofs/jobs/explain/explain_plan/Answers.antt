@@ -31,7 +31,7 @@ returns-clause-usage g c = no_usage c.explain_log.result c.status_of.result c.st
 
 pub returns-clause-cause : goal.returns-clause-cause
 returns-clause-cause g c =
-    cause_of c.explain_log.result c.status_of.result c.status_of.ensures _ _ c.in-Ok.ensures.kept c.explain_log.ensures.read c.explain_log.ensures.write c.explain_log.ensures.kept
+    cause_of c.explain_log.result c.status_of.result c.status_of.ensures _ _ c.in-Ok.ensures.kept c.explain_log.ensures.read c.explain_log.ensures.write c.explain_log.ensures.unread c.explain_log.ensures.unwritten
 
 pub returns-clause-ran : goal.returns-clause-ran
 returns-clause-ran g c = inr (record {

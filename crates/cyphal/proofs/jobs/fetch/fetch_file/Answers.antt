@@ -16,7 +16,7 @@ returns-clause-usage g c = no_usage c.fetch.result c.status_of.result c.status_o
 
 pub returns-clause-cause : goal.returns-clause-cause
 returns-clause-cause g c tree =
-    cause_of c.fetch.result c.status_of.result c.status_of.ensures _ _ refl c.fetch.ensures.read c.fetch.ensures.write c.fetch.ensures.kept
+    cause_of c.fetch.result c.status_of.result c.status_of.ensures _ _ refl c.fetch.ensures.read c.fetch.ensures.write c.fetch.ensures.unread c.fetch.ensures.unwritten
 
 pub returns-clause-ran : goal.returns-clause-ran
 returns-clause-ran g c =

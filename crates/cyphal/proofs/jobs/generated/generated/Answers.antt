@@ -13,5 +13,6 @@ returns-clause-cause g c tree =
       usage = no_usage c.run_gen.result o;
       read = λ e. absurd (no_read c.run_gen.result o e);
       write = c.run_gen.ensures.write;
-      kept = λ e. (refl, c.run_gen.ensures.kept e);
+      unwritten = c.run_gen.ensures.unwritten;
+      kept = λ e. refl;
     }

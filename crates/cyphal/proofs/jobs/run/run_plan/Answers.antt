@@ -1,11 +1,9 @@
-use Rattle.std.proofs.Common.{◌≡◌, ◌∙◌, false, inl, inr, ℕ, Option, refl, sym, ap, subst}
+use Rattle.std.proofs.Common.{inl, inr, ℕ, Option, refl, subst}
 use Rattle.cy_outside.specs.Files.{Files}
 use Rattle.node_run.specs.Failures.{failures}
 use Rattle.node_run.specs.HasRun.{HasRun}
 use Rattle.node_run.specs.ValueLines.{flow}
 use Rattle.node_run.specs.Ran.{reported}
-use Rattle.node_run.specs.declared.status.Status.TheVariants as status
-use Rattle.cyphal.specs.Job.{is_settled}
 use Rattle.cyphal.specs.MayEnd.{of_log, of_plan}
 use Rattle.cyphal.specs.jobs.Run.{over, run_job}
 use Rattle.cyphal.proofs.CarriedOut.{read_out}
@@ -25,10 +23,11 @@ returns-in-Err-clause-done g c =
     (of_first (of_plan stat) (of_log stat) err.among)
     (record {
       read = λ e. inl (err.read e, refl);
-      unread = λ e. absurd cc;
+      untaken = λ e. absurd cc;
       refused = λ _. refl;
       write = λ e. absurd (err.write e);
-      kept = λ e. (let early : is_settled stat ≡ false = err.early in absurd (let ends = ap is_settled e in cc));
+      unread = λ _. refl;
+      unwritten = λ _. refl;
       unserved = λ e. absurd cc;
     })
     (inl (record { nothing = record { written = refl; not_settled = err.early; not_write = err.write }; source = refl; tree = err.read }))
@@ -59,10 +58,11 @@ returns-clause-done g c =
       among = of_second (of_plan run.result) (of_log run.result) (run_among form plan _ _ run.result _ _ ran);
       cause = record {
         read = λ e. inr (done.read e);
-        unread = λ e. absurd cc;
+        untaken = λ e. absurd cc;
         refused = λ e. absurd (run_not_refused form plan _ _ run.result _ _ ran e);
         write = done.write;
-        kept = λ e. (done.unread (λ read. let other : status.Ok ≡ status.ReadFault = sym e ∙ read in cc), done.unwritten (λ write. let other : status.Ok ≡ status.WriteFault = sym e ∙ write in cc));
+        unread = done.unread;
+        unwritten = done.unwritten;
         unserved = λ e. absurd cc;
       };
       ran = inr (record { plan = plan; is = c.in-Ok.ensures.plan; run = ran; bound = done.bound });

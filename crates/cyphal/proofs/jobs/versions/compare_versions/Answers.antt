@@ -12,5 +12,6 @@ returns-clause-cause g c =
       usage = versions_usage c.in-Ok.names c.write_versions.result (written c.args.out.now) (written c.write_versions.new.out) c.write_versions.ensures.written;
       read = λ e. absurd (versions_read c.in-Ok.names c.write_versions.result (written c.args.out.now) (written c.write_versions.new.out) c.write_versions.ensures.written e);
       write = c.write_versions.ensures.write;
-      kept = λ e. (c.in-Ok.ensures.cause, c.write_versions.ensures.kept e);
+      unwritten = c.write_versions.ensures.unwritten;
+      kept = λ e. c.in-Ok.ensures.cause;
     }
