@@ -1,5 +1,6 @@
 pub mod GcdLemmas
 pub mod PartLemmas
+pub mod WholeLemmas
 pub mod PowerLemmas
 pub mod OrderLemmas
 pub mod ValueLemmas

@@ -1,10 +1,16 @@
--- Comparing fractions by their whole parts and their rests.
-use Rattle.std.proofs.Common.{◌≡◌, ◌≢◌, ℕ, zero, suc, ◌+◌, ◌*◌, ◌/◌, ◌%◌, ◌<◌, ◌≤◌, refl, sym, ap, ◌∙◌, arith, Less, Equal, Greater}
-use Rattle.std.specs.Ordering.{nat_cmp, MatchOrdering}
+-- Comparing fractions by their numerators, by their whole parts and by their rests.
+use Rattle.std.proofs.Common.{◌≡◌, ◌≢◌, ℕ, zero, suc, ◌+◌, ◌*◌, ◌/◌, ◌%◌, ◌<◌, ◌≤◌, ℤ, pos, ◌*ℤ◌, refl, sym, ap, ◌∙◌, arith, Less, Equal, Greater}
+use Rattle.std.specs.Ordering.{nat_cmp, int_cmp, MatchOrdering}
 use Rattle.std.specs.declared.cmp.Ordering.{Ordering}
 use Rattle.std.specs.Cmp.{nat_cmp_is, ranked}
 use Rattle.std.proofs.Math.Nat.{mul-le-mul_right, mul_assoc, mul_comm, add-mul}
+use Rattle.cy_ratio.specs.Order.{scale_cmp}
 use Rattle.cy_ratio.proofs.PartLemmas.{positive_product}
+
+-- fractions of one denominator compare as their numerators
+pub by_numerators : (a c : ℤ) (b d : ℕ) → 0 < b → b ≡ d → int_cmp a c ≡ int_cmp (a *ℤ pos d) (c *ℤ pos b)
+by_numerators a c zero d p e = absurd (omega arith)
+by_numerators a c (suc k) d p e = scale_cmp a c k ∙ ap (λ n. int_cmp (a *ℤ pos n) (c *ℤ pos (suc k))) e
 
 -- a is below q times b, and q times d is at most c
 below_across : (a b c d q : ℕ) → a < q * b → q * d ≤ c → 0 < d → a * d < c * b

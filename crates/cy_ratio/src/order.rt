@@ -36,6 +36,10 @@ pub fn compare(a: i128, b: u128, c: i128, d: u128) -> Ordering
     requires { (0 < b) × (0 < d) }
     ensures { result ≡ int_cmp (a *ℤ pos d) (c *ℤ pos b) }
 {
+    // Fractions of one denominator compare as their numerators.
+    if b == d {
+        return a.cmp(&c);
+    }
     if a < 0 {
         if c < 0 {
             compare_sizes(c.unsigned_abs(), d, a.unsigned_abs(), b)

@@ -1,7 +1,7 @@
 //! The fraction and its operations.
 
-ghost use Rattle.std.specs.Prelude.{◌≡◌, ◌*◌, ◌/◌, ◌^◌, ◌<◌, pos, ◌+ℤ◌, ◌*ℤ◌, neg_ℤ, unsigned_abs, int_div};
-ghost use Rattle.cy_ratio.specs.Fraction.{IsReduced, fraction_of, lowest, sum_of, difference_of, product_of, reciprocal_of, quotient_of, floor_of, remainder_of, power_of, raised};
+ghost use Rattle.std.specs.Prelude.{◌≡◌, ◌*◌, ◌/◌, ◌^◌, ◌<◌, ℤ, pos, ◌+ℤ◌, ◌*ℤ◌, neg_ℤ, unsigned_abs, int_div};
+ghost use Rattle.cy_ratio.specs.Fraction.{IsReduced, named, fraction_of, lowest, sum_of, difference_of, product_of, reciprocal_of, quotient_of, floor_of, remainder_of, power_of, raised};
 
 use crate::RatioError;
 use crate::named::{denominator, denominators, gcd, minus, plus, quotient, scaled, signed, times};
@@ -37,6 +37,9 @@ impl Ratio {
         if den == 0 {
             return Err(RatioError::Zero);
         }
+        if den == 1 {
+            return Ok(Ratio { num, den: 1 });
+        }
         let size = den.unsigned_abs();
         let g = gcd(num.unsigned_abs(), size);
         let above = signed((num < 0) != (den < 0), num.unsigned_abs() / g)?;
@@ -52,6 +55,9 @@ impl Ratio {
     pub fn add(self, o: Ratio) -> Result<Ratio, RatioError>
         ensures { result ≡ sum_of self o }
     {
+        if self.den == 1 && o.den == 1 {
+            return whole(plus(self.num, o.num));
+        }
         sum(self.num, self.den, o.num, o.den)
     }
 
@@ -60,6 +66,9 @@ impl Ratio {
     pub fn sub(self, o: Ratio) -> Result<Ratio, RatioError>
         ensures { result ≡ difference_of self o }
     {
+        if self.den == 1 && o.den == 1 {
+            return whole(minus(self.num, o.num));
+        }
         difference(self.num, self.den, o.num, o.den)
     }
 
@@ -68,6 +77,9 @@ impl Ratio {
     pub fn mul(self, o: Ratio) -> Result<Ratio, RatioError>
         ensures { result ≡ product_of self o }
     {
+        if self.den == 1 && o.den == 1 {
+            return whole(times(self.num, o.num));
+        }
         product(self.num, self.den, o.num, o.den)
     }
 
@@ -193,6 +205,13 @@ impl Ord for Ratio {
     fn cmp(&self, other: &Ratio) -> Ordering {
         compare(self.num, self.den, other.num, other.den)
     }
+}
+
+/// A whole number that a rule names, as a fraction.
+fn whole(n: Result<i128, RatioError>) -> Result<Ratio, RatioError>
+    ensures { (z : ℤ) → n ≡ named z → result ≡ fraction_of z (pos 1) }
+{
+    Ratio::new(n?, 1)
 }
 
 /// a/b + c/d, for denominators from 1 to 2^127 - 1.
