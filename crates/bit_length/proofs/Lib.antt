@@ -2,6 +2,7 @@ pub mod AscendingLemmas
 pub mod MemberLemmas
 pub mod RunLemmas
 pub mod SetLemmas
+pub mod MovedLemmas
 pub mod CountLemmas
 pub mod MergeLemmas
 pub mod SumLemmas

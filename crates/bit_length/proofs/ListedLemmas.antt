@@ -4,9 +4,11 @@ use Rattle.std.proofs.lemmas.List.Elements.{Contains-append_left, Contains-appen
 use Rattle.bit_length.specs.declared.run.Run.{Run}
 use Rattle.bit_length.specs.Lengths.{Numbers, Has, Same, Joins}
 use Rattle.bit_length.specs.Ascending.{Ascend}
+use Rattle.bit_length.specs.Moved.{Moved, moved}
 use Rattle.bit_length.specs.Runs.{InRun, InSome, AreRuns, members_of}
 use Rattle.bit_length.proofs.AscendingLemmas.{one_list}
-use Rattle.bit_length.proofs.SetLemmas.{front, front_more, no_run, value_parts}
+use Rattle.bit_length.proofs.MovedLemmas.{has_moved, moved_ascends, moved_same, moved_more}
+use Rattle.bit_length.proofs.SetLemmas.{front, front_more, no_run, only_run, same_join, value_parts}
 
 only_of : (k n : ℕ) → Has (k ∷ []) n → n ≡ k
 only_of k n (zero, lt, e) = sym e
@@ -45,26 +47,32 @@ listed_same xs ys S T e same n = (
   λ h. (same n).1 (elim h as (λ _. Has xs n ⊎ S n) [ inl k ↦ inl k | inr k ↦ inr ((e n).1 k) ]),
 )
 
--- the members of the first run
-pub listed_first : (ys : List ℕ) (s : ℕ) (last : Run) → Same (Has ys) (Joins (Has []) (InRun s last)) → Same (Has ys) (InSome s (last ∷ []))
-listed_first ys s last same n = (
-  λ h. elim ((same n).0 h) [ inl (k, lt, e) ↦ absurd (omega arith) | inr k ↦ inl k ],
-  λ h. (same n).1 (inr (only h)),
-)
+-- the members of the first run, moved up
+pub listed_first : (ys : List ℕ) (by s : ℕ) (last first : Run) → Same (InRun s first) (Moved by (InRun s last)) → Same (Has ys) (Joins (Has []) (InRun s first)) → Same (Has ys) (Moved by (InSome s (last ∷ [])))
+listed_first ys by s last first e same =
+    same_join (Has ys) (InRun s first) (Moved by (InSome s (last ∷ []))) only
+    (same_join (InRun s first) (Moved by (InRun s last)) (Moved by (InSome s (last ∷ []))) e (moved_same by (InRun s last) (InSome s (last ∷ [])) (only_run s last)))
   where
-    only : {n : ℕ} → InRun s last n ⊎ ⊥ → InRun s last n
-    only (inl h) = h
-    only (inr h) = absurd h
+    only : Same (Has ys) (InRun s first)
+    only n = (
+      λ h. elim ((same n).0 h) [ inl (k, lt, f) ↦ absurd (omega arith) | inr k ↦ k ],
+      λ h. (same n).1 (inr h),
+    )
 
 -- those of one run more
-pub listed_run : (s : ℕ) (others : List Run) (last : Run) (i : ℕ) (xs ys : List ℕ) → i < length others → Same (Has xs) (InSome s (front others last i)) → Same (Has ys) (Joins (Has xs) (InRun s (get_or others i no_run))) → Same (Has ys) (InSome s (front others last (i + 1)))
-listed_run s others last i xs ys lt before same n = (
-  λ h. (front_more s others last i no_run lt n).1 (elim ((same n).0 h) as (λ _. InSome s (front others last i) n ⊎ InRun s (get_or others i no_run) n) [ inl k ↦ inl ((before n).0 k) | inr k ↦ inr k ]),
-  λ h. (same n).1 (elim ((front_more s others last i no_run lt n).0 h) as (λ _. Has xs n ⊎ InRun s (get_or others i no_run) n) [ inl k ↦ inl ((before n).1 k) | inr k ↦ inr k ]),
+pub listed_run : (by s : ℕ) (others : List Run) (last next : Run) (i : ℕ) (xs ys : List ℕ) → i < length others → Same (InRun s next) (Moved by (InRun s (get_or others i no_run))) → Same (Has xs) (Moved by (InSome s (front others last i))) → Same (Has ys) (Joins (Has xs) (InRun s next)) →
+    Same (Has ys) (Moved by (InSome s (front others last (i + 1))))
+listed_run by s others last next i xs ys lt e before same n = (
+  λ h. (more n).1 (elim ((same n).0 h) as (λ _. Moved by (InSome s (front others last i)) n ⊎ InRun s next n) [ inl k ↦ inl ((before n).0 k) | inr k ↦ inr k ]),
+  λ h. (same n).1 (elim ((more n).0 h) as (λ _. Has xs n ⊎ InRun s next n) [ inl k ↦ inl ((before n).1 k) | inr k ↦ inr k ]),
 )
+  where
+    more : (n : ℕ) → Moved by (InSome s (front others last (i + 1))) n ↔ (Moved by (InSome s (front others last i)) n ⊎ InRun s next n)
+    more = moved_more by (InSome s (front others last i)) (InRun s (get_or others i no_run)) (InRun s next) (InSome s (front others last (i + 1))) (front_more s others last i no_run lt) e
 
--- the members of a set
-pub listed_value : (s : ℕ) (others : List Run) (last : Run) (v ns : List ℕ) → AreRuns s (others ++ last ∷ []) → members_of s (others ++ last ∷ []) ≡ v → Ascend v → Ascend ns → Same (Has ns) (InSome s (last ∷ others)) → ns ≡ v
-listed_value s others last v ns set view up down same =
-    let parts = value_parts s others last v set view in
-    one_list ns v down up (λ n h. (parts n).1 ((same n).0 h)) (λ n h. (same n).1 ((parts n).0 h))
+-- the members of a set, moved up
+pub listed_value : (by s : ℕ) (others : List Run) (last : Run) (v ns : List ℕ) → AreRuns s (others ++ last ∷ []) → members_of s (others ++ last ∷ []) ≡ v → Ascend v → Ascend ns → Same (Has ns) (Moved by (InSome s (last ∷ others))) → ns ≡ moved by v
+listed_value by s others last v ns set view up down same =
+    let parts = moved_same by (Has v) (InSome s (last ∷ others)) (value_parts s others last v set view) in
+    let has = has_moved by v in
+    one_list ns (moved by v) down (moved_ascends by v up) (λ n h. (has n).1 ((parts n).1 ((same n).0 h))) (λ n h. (same n).1 ((parts n).0 ((has n).0 h)))

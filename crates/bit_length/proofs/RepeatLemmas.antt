@@ -2,7 +2,7 @@
 use Rattle.std.proofs.Common.{◌≡◌, ℕ, zero, suc, ◌+◌, ◌-◌, ◌*◌, ◌/◌, ◌^◌, ◌<◌, ◌≤◌, ◌↔◌, inl, inr, refl, subst, arith, max}
 use Rattle.std.proofs.lemmas.Bool.{cases_lt}
 use Rattle.std.proofs.Math.Nat.{mul-le-mul_left}
-use Rattle.bit_length.specs.Lengths.{Numbers, Same, Only, Sums, Joins, Repeats, UpTo, Pads, padded, IsGreatest}
+use Rattle.bit_length.specs.Lengths.{Numbers, Same, Only, Multiples, Sums, Joins, Repeats, UpTo, Pads, padded, IsGreatest}
 use Rattle.bit_length.proofs.SetLemmas.{same_join, greatest_same, greatest_either, repeats_alike}
 
 pub repeats_sum : (S : Numbers) (a b c : ℕ) → a + b ≡ c → Same (Sums (Repeats S a) (Repeats S b)) (Repeats S c)
@@ -57,6 +57,20 @@ up_to_is S (suc n) k = (there (λ z. (up_to_is S n z).0), back (λ z. (up_to_is 
     back : ((z : ℕ) → UpTo S n z → Repeats (Joins S (Only 0)) n z) → UpTo S (suc n) k → Repeats (Joins S (Only 0)) (suc n) k
     back f (zero, le, r) = (0, 0, inr refl, f 0 (0, omega arith, refl), omega arith)
     back f (suc m, le, (a, b, x, r, e)) = (a, b, inl x, f b (m, omega arith, r), e)
+
+-- so many of one number, and at most so many
+repeats_one_number : (b m : ℕ) → Same (Repeats (Only b) m) (Only (b * m))
+repeats_one_number b zero n = (λ e. omega arith, λ e. omega arith)
+repeats_one_number b (suc m) n = (
+  λ (x, y, e, r, f). let g = (repeats_one_number b m y).0 r in omega arith,
+  λ e. (b, b * m, refl, (repeats_one_number b m (b * m)).1 refl, omega arith),
+)
+
+pub up_to_one_number : (b most : ℕ) (S : Numbers) → Same (Only b) S → Same (Multiples b most) (UpTo S most)
+up_to_one_number b most S one n = (
+  λ (m, le, e). (m, le, (repeats_alike (Only b) S one m n).0 ((repeats_one_number b m n).1 e)),
+  λ (m, le, r). (m, le, (repeats_one_number b m n).0 ((repeats_alike (Only b) S one m n).1 r)),
+)
 
 -- ---- the greatest members
 

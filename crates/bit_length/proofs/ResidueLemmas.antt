@@ -7,6 +7,7 @@ use Rattle.std.proofs.lemmas.List.Folds.{Any-from_list_any, list_any-from_Any}
 use Rattle.std.proofs.Math.Nat.{add-mod_right, mul-le-mul_left}
 use Rattle.bit_length.specs.declared.run.Run.{Run}
 use Rattle.bit_length.specs.Lengths.{Numbers, Has, Same, SomeLeaves}
+use Rattle.bit_length.specs.Moved.{Moved}
 use Rattle.bit_length.specs.Residues.{AreResidues, residues_of, is_marked, marked_of, Marks, AreMarkedOf, AreFull, AreNone}
 use Rattle.bit_length.specs.Runs.{InRun, InSome, numbers_below}
 use Rattle.bit_length.proofs.AscendingLemmas.{same_test, below_same}
@@ -130,12 +131,12 @@ none_full full marks none class lt e = absurd (none class e)
 
 -- ---- one more run
 
-pub marks_nothing : (s : ℕ) (marks : List Bool) → Marks marks marks (InSome s [])
-marks_nothing s marks r lt = (λ h. inl h, back)
+pub marks_nothing : (by s : ℕ) (marks : List Bool) → Marks marks marks (Moved by (InSome s []))
+marks_nothing by s marks r lt = (λ h. inl h, back)
   where
-    back : (is_marked marks r ≡ true) ⊎ SomeLeaves (InSome s []) (length marks) r → is_marked marks r ≡ true
+    back : (is_marked marks r ≡ true) ⊎ SomeLeaves (Moved by (InSome s [])) (length marks) r → is_marked marks r ≡ true
     back (inl h) = h
-    back (inr (n, h, f)) = absurd h
+    back (inr (n, (m, h, e), f)) = absurd h
 
 pub marks_then : (old mid new : List Bool) (S T U : Numbers) → length mid ≡ length old → ((n : ℕ) → U n ↔ (S n ⊎ T n)) → Marks old mid S → Marks mid new T → Marks old new U
 marks_then old mid new S T U len u first second r lt = (
@@ -176,7 +177,7 @@ marks_same marks k S T same (size, are) = (
   ),
 )
 
-pub marked_residues : (s : ℕ) (last : Run) (others : List Run) (old mid new : List Bool) → length mid ≡ length old → length new ≡ length mid → AreNone old → Marks old mid (InRun s last) → Marks mid new (InSome s others) → (numbers : List ℕ) → numbers ≡ marked_of new → AreResidues numbers (length old) (InSome s (last ∷ others))
-marked_residues s last others old mid new a b none first second numbers e ns same =
-    let whole = marks_then old mid new (InRun s last) (InSome s others) (InSome s (last ∷ others)) a (λ n. (λ h. h, λ h. h)) first second in
-    e ∙ marked_is new (length old) ns (marks_same new (length old) (InSome s (last ∷ others)) (Has ns) (λ n. let w = same n in (w.1, w.0)) (marks_only old new (InSome s (last ∷ others)) (b ∙ a) none whole))
+pub marked_residues : (S T U : Numbers) (old mid new : List Bool) → ((n : ℕ) → U n ↔ (S n ⊎ T n)) → length mid ≡ length old → length new ≡ length mid → AreNone old → Marks old mid S → Marks mid new T → (numbers : List ℕ) → numbers ≡ marked_of new → AreResidues numbers (length old) U
+marked_residues S T U old mid new u a b none first second numbers e ns same =
+    let whole = marks_then old mid new S T U a u first second in
+    e ∙ marked_is new (length old) ns (marks_same new (length old) U (Has ns) (λ n. let w = same n in (w.1, w.0)) (marks_only old new U (b ∙ a) none whole))

@@ -6,7 +6,7 @@ use Rattle.std.proofs.lemmas.List.{take_more, take_all, get_or_append_left}
 use Rattle.std.proofs.lemmas.List.Elements.{All-append, All-get_or, All-tail, All-head, All-nil, All-cons}
 use Rattle.std.proofs.Math.Nat.{mul-le-mul_left}
 use Rattle.bit_length.specs.declared.run.Run.{Run}
-use Rattle.bit_length.specs.Lengths.{Numbers, Has, Same, Only, Delimited, IsNext, IsLeast, IsGreatest, IsLongBeyond, Joins, Sums, Repeats, Pads, padded, SomeLeaves}
+use Rattle.bit_length.specs.Lengths.{Numbers, Has, Same, Only, Delimited, Multiples, IsNext, IsLeast, IsGreatest, IsLongBeyond, Joins, Sums, Repeats, Pads, padded, SomeLeaves}
 use Rattle.bit_length.specs.declared.LengthError.{LengthError}
 use Rattle.bit_length.specs.declared.LengthError.TheVariants as error
 use Rattle.bit_length.specs.Members.{lesser_of}
@@ -14,7 +14,7 @@ use Rattle.bit_length.specs.Runs.{in_run, IsRun, IsBefore, InRun, InSome, member
 use Rattle.bit_length.specs.Ascending.{Ascend}
 use Rattle.std.specs.List.{list_any}
 use Rattle.bit_length.proofs.AscendingLemmas.{below_ascends}
-use Rattle.bit_length.proofs.MemberLemmas.{members_are, InSome-push, InRun-from_test, test_from_InRun}
+use Rattle.bit_length.proofs.MemberLemmas.{members_are, below-has, InSome-push, InRun-from_test, test_from_InRun}
 
 -- the last run, and the first others
 abbrev pub front : List Run → Run → ℕ → List Run
@@ -146,6 +146,9 @@ same_join S T U a b n = (λ h. (b n).0 ((a n).0 h), λ h. (a n).1 ((b n).1 h))
 
 pub of_run : (n : ℕ) → Same (InRun 1 (record { residue = 0; first = n; last = n })) (Only n)
 of_run n k = (λ (q, low, high, e). omega arith, λ e. (n, omega arith, omega arith, omega arith))
+
+pub multiples_run : (step most : ℕ) → Same (InRun step (record { residue = 0; first = 0; last = most })) (Multiples step most)
+multiples_run step most n = (λ (q, low, high, e). (q, high, omega arith), λ (q, high, e). (q, omega arith, high, omega arith))
 
 pub delimited_run : (e : ℕ) → e % 8 ≡ 0 → Same (InRun 8 (record { residue = 0; first = 4; last = (32 + e) / 8 })) (Delimited e)
 delimited_run e whole k = (λ (q, low, high, f). (q - 4, omega arith, omega arith), λ (q, le, f). (q + 4, omega arith, omega arith, omega arith))
@@ -322,6 +325,13 @@ other_member s others last v i set e lt n h =
 pub members_ascend : (step : ℕ) (rs : List Run) → Ascend (members_of step rs)
 unfolding members_of
 members_ascend step rs = below_ascends (2 ^ 32 + 1) (λ k. list_any (in_run step k) rs)
+
+-- and none is above 2^32
+pub members_short : (step : ℕ) (rs : List Run) (v : List ℕ) → members_of step rs ≡ v → (n : ℕ) → Has v n → 0 + n ≤ 2 ^ 32
+unfolding members_of
+members_short step rs v e n h =
+    let w = below-has (2 ^ 32 + 1) (λ k. list_any (in_run step k) rs) n (subst (λ l. Has l n) (sym e) h) in
+    omega (arith, w.0)
 
 -- ---- the others by themselves
 

@@ -216,7 +216,7 @@ padded_multiple to n p m =
     let f : n + (to - 1) ≡ to - 1 + to * (n / to) = omega arith in
     ap (λ t. t * to) (quotient_of (to - 1) to (n / to) (n + (to - 1)) (omega arith) f) ∙ omega arith
 
-all_multiples : (s to : ℕ) (runs : List Run) → s % to ≡ 0 → ((k : ℕ) → k < length runs → (get_or runs k no_run).residue % to ≡ 0) → (n : ℕ) → InSome s runs n → n % to ≡ 0
+pub all_multiples : (s to : ℕ) (runs : List Run) → s % to ≡ 0 → ((k : ℕ) → k < length runs → (get_or runs k no_run).residue % to ≡ 0) → (n : ℕ) → InSome s runs n → n % to ≡ 0
 all_multiples s to [] a each n h = absurd h
 all_multiples s to (r ∷ runs) a each n (inl (q, low, high, e)) =
     ap (λ x. x % to) e ∙ multiple_of s to r.residue q a (each 0 (omega arith))
@@ -229,12 +229,12 @@ pads_nothing S to p all n = (
   λ (m, h, e). subst S (sym (e ∙ padded_multiple to m p (all m h))) h,
 )
 
+pub residues_behind : (to : ℕ) (last : Run) (others : List Run) → last.residue % to ≡ 0 → ((k : ℕ) → k < length others → (get_or others k no_run).residue % to ≡ 0) → (k : ℕ) → k < length (last ∷ others) → (get_or (last ∷ others) k no_run).residue % to ≡ 0
+residues_behind to last others b each zero lt = b
+residues_behind to last others b each (suc k) lt = each k (omega arith)
+
 -- where the step and all residues are multiples of `to`
 pub all_padded : (s to : ℕ) (others : List Run) (last : Run) (v : List ℕ) → AreRuns s (others ++ last ∷ []) → members_of s (others ++ last ∷ []) ≡ v → 0 < to → s % to ≡ 0 → last.residue % to ≡ 0 →
     ((k : ℕ) → k < length others → (get_or others k no_run).residue % to ≡ 0) → Same (Has v) (Pads (Has v) to)
 all_padded s to others last v set view p a b each =
-    pads_nothing (Has v) to p (λ n h. all_multiples s to (last ∷ others) a every n ((value_parts s others last v set view n).0 h))
-  where
-    every : (k : ℕ) → k < length (last ∷ others) → (get_or (last ∷ others) k no_run).residue % to ≡ 0
-    every zero lt = b
-    every (suc k) lt = each k (omega arith)
+    pads_nothing (Has v) to p (λ n h. all_multiples s to (last ∷ others) a (residues_behind to last others b each) n ((value_parts s others last v set view n).0 h))

@@ -24,6 +24,10 @@ Only k n = n ≡ k
 abbrev pub Delimited : ℕ → Numbers
 Delimited extent n = (k : ℕ) × (8 * k ≤ extent) × (n ≡ 32 + 8 * k)
 
+-- each multiple of a step from 0 to `most` of it: the bits of up to so many items of one length
+abbrev pub Multiples : ℕ → ℕ → Numbers
+Multiples step most n = (k : ℕ) × (k ≤ most) × (n ≡ step * k)
+
 -- all sums of a member each
 abbrev pub Sums : Numbers → Numbers → Numbers
 Sums S T n = (a : ℕ) × (b : ℕ) × S a × T b × (n ≡ a + b)

@@ -1,6 +1,6 @@
 -- A set of lengths as its members.
 use Rattle.std.specs.Prelude.{ℕ, List, [], ◌∷◌, ◌++◌, Option, Some, None, min}
-use Rattle.bit_length.specs.declared.set.LengthSet.TheInside.{Inside}
+use Rattle.bit_length.specs.declared.run_set.RunSet.TheInside.{Inside}
 use Rattle.bit_length.specs.declared.run.Run.{Run}
 use Rattle.bit_length.specs.Runs.{members_of, AreRuns}
 

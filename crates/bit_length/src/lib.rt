@@ -1,17 +1,21 @@
 //! Sets of bit lengths: the numbers of bits that the serialized values of a type can have.
 //!
-//! A set is kept as runs of one common step, so the lengths of a large array or of a delimited
-//! type take one run and not a list of their own.
+//! A set is kept as a number and runs of one common step, so the lengths of a large array or of a
+//! delimited type take one run and not a list of their own. Many runs are shared by all sets that
+//! differ by a number alone, as where a field of one length stands behind irregular ones.
 #![tactic(auto)]
 
 ghost use Rattle.std.specs.Prelude.{◌≡◌};
 
 mod coarse;
+mod kept;
 mod listed;
 mod merge;
 mod parts;
 mod residues;
 mod run;
+mod run_set;
+mod runs;
 mod search;
 mod set;
 mod steps;

@@ -2,6 +2,7 @@
 ghost use Rattle.std.specs.Prelude.{◌<◌, ◌∷◌, IfOk, OnOk, All};
 ghost use Rattle.bit_length.specs.Ascending.{Ascend};
 ghost use Rattle.bit_length.specs.Lengths.{Has, Same, Joins};
+ghost use Rattle.bit_length.specs.Moved.{Moved, IsShortAt};
 ghost use Rattle.bit_length.specs.Runs.{IsRun, InRun, InSome};
 
 use crate::run::Run;
@@ -20,22 +21,25 @@ fn push_members(members: &mut Vec<u64>, run: &Run, step: u64) -> Result<(), NoMe
     Ok(())
 }
 
-/// The members of some runs, in the order of the runs, in room for so many.
+/// The members of some runs, moved up by a number, in the order of the runs, in room for so many.
 fn members_of(
     alloc: Global,
     others: &[Run],
     last: &Run,
     step: u64,
+    by: u64,
     room: usize,
 ) -> Result<Vec<u64>, NoMemory>
     requires others { All (IsRun step) others.now }
     requires last { IsRun step last.now }
-    ensures { IfOk result (λ m. Same (Has m.items) (InSome step (last.now ∷ others.now))) }
+    requires short { IsShortAt by (InSome step (last.now ∷ others.now)) }
+    ensures { IfOk result
+        (λ m. Same (Has m.items) (Moved by (InSome step (last.now ∷ others.now)))) }
 {
     let mut members = Vec::with_capacity(alloc, room)?;
-    push_members(&mut members, last, step)?;
+    push_members(&mut members, &last.moved(step, by), step)?;
     for run in others {
-        push_members(&mut members, run, step)?;
+        push_members(&mut members, &run.moved(step, by), step)?;
     }
     Ok(members)
 }
@@ -50,18 +54,21 @@ fn in_order(mut members: Vec<u64>) -> List<u64>
     List::new(members)
 }
 
-/// The members of some runs, ascending, in room for so many.
+/// The members of some runs, moved up by a number, ascending, in room for so many.
 pub fn listed(
     alloc: Global,
     others: &[Run],
     last: &Run,
     step: u64,
+    by: u64,
     room: usize,
 ) -> Result<List<u64>, NoMemory>
     requires others { All (IsRun step) others.now }
     requires last { IsRun step last.now }
+    requires short { IsShortAt by (InSome step (last.now ∷ others.now)) }
     ensures order { IfOk result Ascend }
-    ensures same { IfOk result (λ m. Same (Has m) (InSome step (last.now ∷ others.now))) }
+    ensures same { IfOk result
+        (λ m. Same (Has m) (Moved by (InSome step (last.now ∷ others.now)))) }
 {
-    Ok(in_order(members_of(alloc, others, last, step, room)?))
+    Ok(in_order(members_of(alloc, others, last, step, by, room)?))
 }

@@ -1,5 +1,6 @@
 //! Remainders of a set's members.
 ghost use Rattle.std.specs.Prelude.{◌≡◌, ℕ, ◌+◌, ◌%◌, ◌^◌, ◌<◌, ◌≤◌, IfOk, IsTrue, length, All, ◌∷◌};
+ghost use Rattle.bit_length.specs.Moved.{Moved, IsShortAt};
 ghost use Rattle.bit_length.specs.Residues.{AreFull, AreNone, AreResidues, AreMarkedOf, Marks, marked_of};
 ghost use Rattle.bit_length.specs.Runs.{IsRun, InRun, InSome};
 
@@ -75,19 +76,20 @@ fn mark(marks: &mut [bool], full: &mut [bool], run: &Run, step: u64)
     }
 }
 
-/// Marks what the members of some runs leave modulo the number of marks.
-fn mark_all(marks: &mut [bool], full: &mut [bool], runs: &[Run], step: u64)
+/// Marks what the members of some runs, moved up by a number, leave modulo the number of marks.
+fn mark_all(marks: &mut [bool], full: &mut [bool], runs: &[Run], step: u64, by: u64)
     requires runs { All (IsRun step) runs.now }
+    requires short { IsShortAt by (InSome step runs.now) }
     requires some { 0 < length marks.old }
     requires small { length marks.old ≤ 2 ^ 32 }
     requires classes { 0 < length full.old }
     requires step { step % length full.old ≡ 0 }
     requires divisor { length marks.old % length full.old ≡ 0 }
     requires full { AreFull full.old marks.old }
-    ensures marks { Marks marks.old marks.new (InSome step runs.now) }
+    ensures marks { Marks marks.old marks.new (Moved by (InSome step runs.now)) }
 {
     for run in runs {
-        mark(marks, full, run, step);
+        mark(marks, full, &run.moved(step, by), step);
     }
 }
 
@@ -104,8 +106,8 @@ fn marked(alloc: Global, marks: &[bool]) -> Result<List<u64>, NoMemory>
     Ok(numbers)
 }
 
-/// What the members of some runs leave modulo the number of marks, ascending. Nothing is marked
-/// before.
+/// What the members of some runs, moved up by a number, leave modulo the number of marks,
+/// ascending. Nothing is marked before.
 pub fn residues(
     alloc: Global,
     marks: &mut [bool],
@@ -113,9 +115,11 @@ pub fn residues(
     others: &[Run],
     last: &Run,
     step: u64,
+    by: u64,
 ) -> Result<List<u64>, NoMemory>
     requires others { All (IsRun step) others.now }
     requires last { IsRun step last.now }
+    requires short { IsShortAt by (InSome step (last.now ∷ others.now)) }
     requires some { 0 < length marks.old }
     requires small { length marks.old ≤ 2 ^ 32 }
     requires classes { 0 < length full.old }
@@ -124,9 +128,10 @@ pub fn residues(
     requires marks { AreNone marks.old }
     requires full { AreNone full.old }
     ensures { IfOk result (λ residues.
-        AreResidues residues (length marks.old) (InSome step (last.now ∷ others.now))) }
+        AreResidues residues (length marks.old)
+        (Moved by (InSome step (last.now ∷ others.now)))) }
 {
-    mark(marks, full, last, step);
-    mark_all(marks, full, others, step);
+    mark(marks, full, &last.moved(step, by), step);
+    mark_all(marks, full, others, step, by);
     marked(alloc, marks)
 }

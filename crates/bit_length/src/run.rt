@@ -1,5 +1,6 @@
 ghost use Rattle.std.specs.Prelude.{◌≡◌, ℕ, ◌+◌, ◌*◌, ◌%◌, ◌^◌, ◌<◌, ◌≤◌, IsTrue, ◌↔◌, if◌then◌else◌, IfSome};
 ghost use Rattle.bit_length.specs.Runs.{in_run, is_same, starts_by, IsRun, InRun};
+ghost use Rattle.bit_length.specs.Moved.{Moved};
 ghost use Rattle.bit_length.specs.Lengths.{Same, Only, Sums, Repeats, Pads, IsNext, SomeLeaves, padded as padded_of};
 
 use crate::LONGEST;
@@ -121,6 +122,16 @@ impl Run {
             first: self.first + o.first + carry,
             last: self.last + o.last + carry,
         }
+    }
+
+    /// The run of each member, moved up by a number.
+    pub fn moved(&self, step: u64, by: u64) -> Run
+        requires run { IsRun step self.now }
+        requires short { by + (self.now.residue + step * self.now.last) ≤ 2 ^ 32 }
+        ensures run { IsRun step result }
+        ensures moved { Same (InRun step result) (Moved by (InRun step self.now)) }
+    {
+        Run::single(step, by).plus(step, self)
     }
 
     /// The run of all sums of a member of this run and of one of the step `step * many`, where this

@@ -1,32 +1,44 @@
-use Rattle.std.proofs.Common.{◌++◌, inl}
+use Rattle.std.proofs.Common.{arith}
 use Rattle.bit_length.specs.Lengths.{Has, Joins}
-use Rattle.bit_length.specs.Runs.{InRun, InSome}
-use Rattle.bit_length.proofs.SetLemmas.{done, some_of, runs_joined, same_join, zero_and}
+use Rattle.bit_length.specs.Moved.{Moved}
+use Rattle.bit_length.proofs.SetLemmas.{done, same_join}
+use Rattle.bit_length.proofs.MovedLemmas.{value_moved, joins_short, joins_are, joins_turned}
 use Rattle.bit_length.proofs.set.LengthSet.join_within.Goals as goal
 
-pub from_runs-requires-clause-some : goal.from_runs-requires-clause-some
-from_runs-requires-clause-some c =
-    let s = c.common_step-step.result in
-    let a = c.in_ok-runs.runs.items in
-    let b = c.in_ok-runs_at.field-0.items in
-    rw (c.in_ok-extend_from_slice.ensures.items, c.as_slice.ensures.value) (some_of s (a ++ b) (Joins (Has c.args.self.now) (Has c.args.o.now)) (runs_joined s a b (Has c.args.self.now) (Has c.args.o.now) c.in_ok-runs.ensures.runs c.in_ok-runs_at.ensures.runs) (c.in_ok-runs.ensures.some.0, inl c.in_ok-runs.ensures.some.1))
+pub join_moved-requires : goal.join_moved-requires
+join_moved-requires c =
+    rw c.get-b.ensures.value (λ n h. let l = c.o.invariant n h in omega arith)
 
-pub returns : goal.returns
-returns c =
-    let s = c.common_step-step.result in
-    let a = c.in_ok-runs.runs.items in
-    let b = c.in_ok-runs_at.field-0.items in
-    let made = rw (c.in_ok-extend_from_slice.ensures.items, c.as_slice.ensures.value) at c.from_runs.ensures in
-    done c.from_runs.result (InSome s (a ++ b)) (Joins (Has c.args.self.now) (Has c.args.o.now)) (runs_joined s a b (Has c.args.self.now) (Has c.args.o.now) c.in_ok-runs.ensures.runs c.in_ok-runs_at.ensures.runs).same made
+pub at-requires : goal.at-requires
+at-requires c =
+    let joined = rw (c.get-a.ensures.value, c.get-b.ensures.value) at c.in_ok-join_moved.ensures in
+    joins_short c.self.inside.shift c.o.inside.shift (Has c.in_ok-join_moved.field-0) (Has c.self.inside.runs) (Has c.o.inside.runs) (omega arith) joined c.self.invariant c.o.invariant
 
-pub from_runs-requires-clause-each : goal.from_runs-requires-clause-each
-from_runs-requires-clause-each c =
-    let s = c.common_step-step.result in
-    let a = c.in_ok-runs.runs.items in
-    let b = c.in_ok-runs_at.field-0.items in
-    rw (c.in_ok-extend_from_slice.ensures.items, c.as_slice.ensures.value) (runs_joined s a b (Has c.args.self.now) (Has c.args.o.now) c.in_ok-runs.ensures.runs c.in_ok-runs_at.ensures.runs).each
+pub join_moved-requires-else-self-o : goal.join_moved-requires-else-self-o
+join_moved-requires-else-self-o c =
+    rw c.get-a.ensures.value (λ n h. let l = c.self.invariant n h in omega arith)
 
-pub returns-in-Some : goal.returns-in-Some
-returns-in-Some c =
-    same_join (Has c.one.result) (InRun c.in-Some.n (record { residue = 0; first = 0; last = 1 })) (Joins (Has c.args.self.now) (Has c.args.o.now)) c.one.ensures
-    (zero_and c.in-Some.n (Has c.args.self.now) (Has c.args.o.now) c.in-Some.ensures.member c.in-Some.ensures.zero)
+pub at-requires-else-self-o : goal.at-requires-else-self-o
+at-requires-else-self-o c =
+    let joined = rw (c.get-a.ensures.value, c.get-b.ensures.value) at c.in_ok-join_moved-2.ensures in
+    joins_short c.o.inside.shift c.self.inside.shift (Has c.in_ok-join_moved-2.field-0) (Has c.o.inside.runs) (Has c.self.inside.runs) (omega arith) joined c.o.invariant c.self.invariant
+
+pub returns-in_ok-join_moved : goal.returns-in_ok-join_moved
+returns-in_ok-join_moved c =
+    let k = c.self.inside.shift in
+    let j = c.o.inside.shift in
+    let own = Has c.args.self.now in
+    let other = Has c.args.o.now in
+    let runs = Has c.in_ok-join_moved.field-0 in
+    let joined = rw (c.get-a.ensures.value, c.get-b.ensures.value) at c.in_ok-join_moved.ensures in
+    done c.at.result (Moved k runs) (Joins own other) (joins_are k j runs (Has c.self.inside.runs) (Has c.o.inside.runs) own other (omega arith) joined (value_moved k c.self.inside.runs c.args.self.now c.self.view_is) (value_moved j c.o.inside.runs c.args.o.now c.o.view_is)) c.at.ensures
+
+pub returns-in_ok-join_moved-2 : goal.returns-in_ok-join_moved-2
+returns-in_ok-join_moved-2 c =
+    let k = c.self.inside.shift in
+    let j = c.o.inside.shift in
+    let own = Has c.args.self.now in
+    let other = Has c.args.o.now in
+    let runs = Has c.in_ok-join_moved-2.field-0 in
+    let joined = rw (c.get-a.ensures.value, c.get-b.ensures.value) at c.in_ok-join_moved-2.ensures in
+    done c.at-else-self-o.result (Moved j runs) (Joins own other) (same_join (Moved j runs) (Joins other own) (Joins own other) (joins_are j k runs (Has c.o.inside.runs) (Has c.self.inside.runs) other own (omega arith) joined (value_moved j c.o.inside.runs c.args.o.now c.o.view_is) (value_moved k c.self.inside.runs c.args.self.now c.self.view_is)) (joins_turned other own)) c.at-else-self-o.ensures

@@ -1,20 +1,19 @@
-use Rattle.std.proofs.Common.{◌+◌, arith, get_or}
+use Rattle.std.proofs.Common.{◌+◌, arith}
 use Rattle.bit_length.specs.Lengths.{Has}
-use Rattle.bit_length.specs.Runs.{InSome, InRun}
-use Rattle.bit_length.proofs.SetLemmas.{front, front_more, greatest_either, greatest_of, greatest_same, value_at, other_run, no_run}
+use Rattle.bit_length.specs.Moved.{Moved}
+use Rattle.bit_length.proofs.MovedLemmas.{moved_greatest, value_moved}
+use Rattle.bit_length.proofs.SetLemmas.{greatest_same}
 use Rattle.bit_length.proofs.set.LengthSet.max.Goals as goal
 
-pub loop-run-preserved : goal.loop-run-preserved
-loop-run-preserved c =
-    let s = c.self.inside.step in
-    let others = c.self.inside.others.items in
-    let last = c.self.inside.last in
-    let i = c.loop-run.run-index in
-    let lt = rw c.deref-run-items.ensures.value at c.loop-run-test.true in
-    let m = rw c.deref-run-items.ensures.value at c.member.ensures.value in
-    (greatest_either (InSome s (front others last i)) (InRun s (get_or others i no_run)) (InSome s (front others last (i + 1))) c.loop-run.greatest c.member.result c.max-greatest.result (front_more s others last i no_run lt) c.loop-run.invariant.0 (rw m (greatest_of s (get_or others i no_run) (other_run s others last i c.self.invariant lt))) c.max-greatest.ensures, omega (arith, c.member.ensures.short))
+pub overflow_add-result : goal.overflow_add-result
+overflow_add-result c =
+    let short = c.self.invariant c.max.result c.max.ensures.greatest.0 in omega arith
 
 pub returns-clause-greatest : goal.returns-clause-greatest
 returns-clause-greatest c =
-    let done = rw c.deref-run-items.ensures.value at c.loop-run-test.false in
-    greatest_same (InSome c.self.inside.step (front c.self.inside.others.items c.self.inside.last c.loop-run.run-index)) (Has c.args.self.now) c.loop-run.greatest (value_at c.self.inside.step c.self.inside.others.items c.self.inside.last c.args.self.now c.loop-run.run-index c.self.invariant c.self.view_is done) c.loop-run.invariant.0
+    let k = c.self.inside.shift in
+    let xs = c.self.inside.runs in
+    greatest_same (Moved k (Has xs)) (Has c.args.self.now) (k + c.max.result) (value_moved k xs c.args.self.now c.self.view_is) (moved_greatest k (Has xs) c.max.result c.max.ensures.greatest)
+
+pub returns-clause-short : goal.returns-clause-short
+returns-clause-short c = c.self.invariant c.max.result c.max.ensures.greatest.0

@@ -1,29 +1,28 @@
-use Rattle.std.proofs.Common.{[], ◌∷◌, ◌+◌, get_or}
+use Rattle.std.proofs.Common.{◌+◌, Some, None, arith}
 use Rattle.bit_length.specs.Lengths.{Has}
-use Rattle.bit_length.specs.Runs.{InSome, InRun}
-use Rattle.bit_length.proofs.SetLemmas.{front, front_more, next_either, next_same, value_at, other_run, no_run, only_run}
+use Rattle.bit_length.specs.Moved.{Moved}
+use Rattle.bit_length.proofs.SetLemmas.{next_same}
+use Rattle.bit_length.proofs.MovedLemmas.{value_moved, moved_next, moved_no_next}
 use Rattle.bit_length.proofs.set.LengthSet.next.Goals as goal
 
-pub loop-run-init : goal.loop-run-init
-loop-run-init c =
-    next_same (InRun c.self.inside.step c.self.inside.last) (InSome c.self.inside.step (c.self.inside.last ∷ [])) c.args.n c.next-least.result (only_run c.self.inside.step c.self.inside.last) c.next-least.ensures
+pub overflow_add-result : goal.overflow_add-result
+overflow_add-result c =
+    let next = rw c.get.ensures.value at c.in-Some.ensures in
+    let short = c.self.invariant c.in-Some.next next.0 in
+    omega arith
 
-pub next-requires : goal.next-requires
-next-requires c =
-    let lt = rw c.deref-run-items.ensures.value at c.loop-run-test.true in
-    rw c.deref-run-items.ensures.value (other_run c.self.inside.step c.self.inside.others.items c.self.inside.last c.loop-run.run-index c.self.invariant lt)
+pub returns-in-Some : goal.returns-in-Some
+returns-in-Some c =
+    let k = c.self.inside.shift in
+    let xs = c.self.inside.runs in
+    let n = c.args.n in
+    let next = rw (c.get.ensures.value, c.saturating_sub.ensures) at c.in-Some.ensures in
+    next_same (Moved k (Has xs)) (Has c.args.self.now) n (Some (k + c.in-Some.next)) (value_moved k xs c.args.self.now c.self.view_is) (moved_next k (Has xs) n c.in-Some.next next)
 
-pub loop-run-preserved : goal.loop-run-preserved
-loop-run-preserved c =
-    let s = c.self.inside.step in
-    let others = c.self.inside.others.items in
-    let last = c.self.inside.last in
-    let i = c.loop-run.run-index in
-    let lt = rw c.deref-run-items.ensures.value at c.loop-run-test.true in
-    let m = rw c.deref-run-items.ensures.value at c.next.ensures in
-    rw c.lesser-least.ensures (next_either (InSome s (front others last i)) (InRun s (get_or others i no_run)) (InSome s (front others last (i + 1))) c.args.n c.loop-run.least c.next.result (front_more s others last i no_run lt) c.loop-run.invariant m)
-
-pub returns : goal.returns
-returns c =
-    let done = rw c.deref-run-items.ensures.value at c.loop-run-test.false in
-    next_same (InSome c.self.inside.step (front c.self.inside.others.items c.self.inside.last c.loop-run.run-index)) (Has c.args.self.now) c.args.n c.loop-run.least (value_at c.self.inside.step c.self.inside.others.items c.self.inside.last c.args.self.now c.loop-run.run-index c.self.invariant c.self.view_is done) c.loop-run.invariant
+pub returns-in-None : goal.returns-in-None
+returns-in-None c =
+    let k = c.self.inside.shift in
+    let xs = c.self.inside.runs in
+    let n = c.args.n in
+    let none = rw (c.get.ensures.value, c.saturating_sub.ensures) at c.in-None.ensures in
+    next_same (Moved k (Has xs)) (Has c.args.self.now) n None (value_moved k xs c.args.self.now c.self.view_is) (moved_no_next k (Has xs) n none)

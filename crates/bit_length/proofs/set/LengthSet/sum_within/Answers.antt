@@ -1,53 +1,51 @@
-use Rattle.std.proofs.Common.{◌+◌, ◌*◌, refl, arith}
+use Rattle.std.proofs.Common.{◌+◌, arith}
 use Rattle.bit_length.specs.Lengths.{Has, Only, Sums}
-use Rattle.bit_length.specs.Runs.{InRun, InSome}
-use Rattle.bit_length.proofs.SetLemmas.{done, some_of, sums_alike, some_member, some_sum, same_join, sums_only, sums_only_right}
+use Rattle.bit_length.specs.Moved.{Moved}
+use Rattle.bit_length.proofs.SetLemmas.{done, same_join, sums_turned}
+use Rattle.bit_length.proofs.MovedLemmas.{sums_beside, sums_short, sums_are, short_same}
 use Rattle.bit_length.proofs.set.LengthSet.sum_within.Goals as goal
 
-pub from_runs-requires-clause-some : goal.from_runs-requires-clause-some
-from_runs-requires-clause-some c =
-    let self = Has c.args.self.now in
-    let other = Has c.args.o.now in
-    some_of c.common_step-step.result c.in_ok-runs.runs.items (Sums self other) c.in_ok-runs.ensures
-    (some_sum self other (some_member c.self.inside.step c.self.inside.others.items c.self.inside.last c.args.self.now c.self.invariant c.self.view_is)
-    (some_member c.o.inside.step c.o.inside.others.items c.o.inside.last c.args.o.now c.o.invariant c.o.view_is))
-
-pub returns : goal.returns
-returns c =
-    done c.from_runs.result (InSome c.common_step-step.result c.in_ok-runs.runs.items) (Sums (Has c.args.self.now) (Has c.args.o.now)) c.in_ok-runs.ensures.same c.from_runs.ensures
-
-pub plus-requires-clause-short : goal.plus-requires-clause-short
-plus-requires-clause-short c =
-    let a = c.in-Some-Some.a in
-    let b = c.in-Some-Some.b in
-    let m = a.residue + c.common_step-step.result * a.last in
-    let n = b.residue + c.common_step-step.result * b.last in
-    c.requires (m + n)
-    (m, n, (c.in-Some-Some.ensures.members m).0 (a.last, c.in-Some-Some.ensures.run.1, omega arith, refl), (c.in-Some-Some.ensures'.members n).0 (b.last, c.in-Some-Some.ensures'.run.1, omega arith, refl), refl)
-
-pub returns-in-Some-Some : goal.returns-in-Some-Some
-returns-in-Some-Some c =
-    let s = c.common_step-step.result in
-    let a = c.in-Some-Some.a in
-    let b = c.in-Some-Some.b in
-    same_join (Has c.one.result) (InRun s c.plus.result) (Sums (Has c.args.self.now) (Has c.args.o.now)) c.one.ensures
-    (same_join (InRun s c.plus.result) (Sums (InRun s a) (InRun s b)) (Sums (Has c.args.self.now) (Has c.args.o.now)) c.plus.ensures.sums
-    (sums_alike (InRun s a) (Has c.args.self.now) (InRun s b) (Has c.args.o.now) c.in-Some-Some.ensures.members c.in-Some-Some.ensures'.members))
-
-pub moved-requires-clause-short : goal.moved-requires-clause-short
-moved-requires-clause-short c = λ m h. c.requires m ((sums_only_right c.in-Some.n (Has c.args.self.now) (Has c.args.o.now) c.in-Some.ensures.member m).0 h)
+pub shifted-requires : goal.shifted-requires
+shifted-requires c = λ m (a, b, x, y, e). c.requires m (a, b, x, (c.in-Some.ensures b).0 y, e)
 
 pub returns-in-Some : goal.returns-in-Some
 returns-in-Some c =
-    let self = Has c.args.self.now in
+    let own = Has c.args.self.now in
     let other = Has c.args.o.now in
-    done c.moved.result (Sums (Only c.in-Some.n) self) (Sums self other) (sums_only_right c.in-Some.n self other c.in-Some.ensures.member) c.moved.ensures
+    let one = Only c.in-Some.n in
+    done c.shifted.result (Sums own one) (Sums own other) (sums_beside own one other c.in-Some.ensures) c.shifted.ensures
 
-pub moved-requires-in-Some-single-clause-short : goal.moved-requires-in-Some-single-clause-short
-moved-requires-in-Some-single-clause-short c = λ m h. c.requires m ((sums_only c.in-Some-single.n (Has c.args.o.now) (Has c.args.self.now) c.in-Some-single.ensures.member m).0 h)
+pub shifted-requires-in-Some-number_beside : goal.shifted-requires-in-Some-number_beside
+shifted-requires-in-Some-number_beside c = λ m (a, b, x, y, e). c.requires m (b, a, (c.in-Some-number_beside.ensures b).0 y, x, omega arith)
 
-pub returns-in-Some-single : goal.returns-in-Some-single
-returns-in-Some-single c =
-    let self = Has c.args.self.now in
+pub returns-in-Some-number_beside : goal.returns-in-Some-number_beside
+returns-in-Some-number_beside c =
+    let own = Has c.args.self.now in
     let other = Has c.args.o.now in
-    done c.moved-in-Some-single.result (Sums (Only c.in-Some-single.n) other) (Sums self other) (sums_only c.in-Some-single.n other self c.in-Some-single.ensures.member) c.moved-in-Some-single.ensures
+    let one = Only c.in-Some-number_beside.n in
+    done c.shifted-in-Some-number_beside.result (Sums other one) (Sums own other) (same_join (Sums other one) (Sums other own) (Sums own other) (sums_beside other one own c.in-Some-number_beside.ensures) (sums_turned other own)) c.shifted-in-Some-number_beside.ensures
+
+pub sum_within-requires : goal.sum_within-requires
+sum_within-requires c = rw (c.get.ensures.value, c.get-2.ensures.value) (λ n h.
+    let l = sums_short c.self.inside.shift c.o.inside.shift c.self.inside.runs c.o.inside.runs c.args.self.now c.args.o.now c.self.view_is c.o.view_is c.requires n h in omega arith)
+
+pub overflow_add-self-inside : goal.overflow_add-self-inside
+overflow_add-self-inside c =
+    let (m, h) = c.get.ensures.some in
+    let (n, g) = c.get-2.ensures.some in
+    let k = c.self.invariant m h in
+    let j = c.o.invariant n g in
+    omega arith
+
+pub at-requires : goal.at-requires
+at-requires c =
+    let same = rw (c.get.ensures.value, c.get-2.ensures.value) at c.in_ok-runs.ensures in
+    short_same (c.self.inside.shift + c.o.inside.shift) (Has c.in_ok-runs.runs) (Sums (Has c.self.inside.runs) (Has c.o.inside.runs)) same (sums_short c.self.inside.shift c.o.inside.shift c.self.inside.runs c.o.inside.runs c.args.self.now c.args.o.now c.self.view_is c.o.view_is c.requires)
+
+pub returns : goal.returns
+returns c =
+    let k = c.self.inside.shift in
+    let j = c.o.inside.shift in
+    let runs = Has c.in_ok-runs.runs in
+    let same = rw (c.get.ensures.value, c.get-2.ensures.value) at c.in_ok-runs.ensures in
+    done c.at.result (Moved (k + j) runs) (Sums (Has c.args.self.now) (Has c.args.o.now)) (sums_are k j runs c.self.inside.runs c.o.inside.runs c.args.self.now c.args.o.now c.self.view_is c.o.view_is same) c.at.ensures

@@ -1,0 +1,20 @@
+use Rattle.std.proofs.Common.{◌+◌, get_or}
+use Rattle.bit_length.specs.Lengths.{Has}
+use Rattle.bit_length.specs.Runs.{InSome, InRun}
+use Rattle.bit_length.proofs.SetLemmas.{front, front_more, least_either, least_of, least_same, value_at, other_run, no_run}
+use Rattle.bit_length.proofs.run_set.RunSet.min.Goals as goal
+
+pub loop-run-preserved : goal.loop-run-preserved
+loop-run-preserved c =
+    let s = c.self.inside.step in
+    let others = c.self.inside.others.items in
+    let last = c.self.inside.last in
+    let i = c.loop-run.run-index in
+    let lt = rw c.deref-run-items.ensures.value at c.loop-run-test.true in
+    let m = rw c.deref-run-items.ensures.value at c.member.ensures.value in
+    least_either (InSome s (front others last i)) (InRun s (get_or others i no_run)) (InSome s (front others last (i + 1))) c.loop-run.least c.member.result c.min-least.result (front_more s others last i no_run lt) c.loop-run.invariant (rw m (least_of s (get_or others i no_run) (other_run s others last i c.self.invariant lt))) c.min-least.ensures
+
+pub returns : goal.returns
+returns c =
+    let done = rw c.deref-run-items.ensures.value at c.loop-run-test.false in
+    least_same (InSome c.self.inside.step (front c.self.inside.others.items c.self.inside.last c.loop-run.run-index)) (Has c.args.self.now) c.loop-run.least (value_at c.self.inside.step c.self.inside.others.items c.self.inside.last c.args.self.now c.loop-run.run-index c.self.invariant c.self.view_is done) c.loop-run.invariant

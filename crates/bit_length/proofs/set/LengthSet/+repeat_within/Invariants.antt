@@ -1,4 +1,0 @@
-use Rattle.bit_length.proofs.set.LengthSet.+repeat_within.Given as goal
-
-abbrev pub decreases-repeat_within : goal.decreases-repeat_within
-decreases-repeat_within l = l.n
