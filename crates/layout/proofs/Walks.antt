@@ -1,6 +1,6 @@
 -- What is known on the way through the fields of a composite.
-use Rattle.std.specs.Prelude.{◌≡◌, ℕ, ◌+◌, ◌-◌, ◌^◌, ◌≤◌, ◌↔◌, ◌⊎◌, List, [], ◌++◌, length, Option, MatchOption}
-use Rattle.bit_length.specs.Lengths.{Has}
+use Rattle.std.specs.Prelude.{◌≡◌, ℕ, ◌+◌, ◌^◌, ◌≤◌, ◌↔◌, ◌⊎◌, List, [], ◌++◌, length, Option, MatchOption}
+use Rattle.bit_length.specs.Lengths.{Has, Same, Only, Sums}
 use Rattle.dsdl_types.specs.Schemas.{Sch, Flds, Outline, Struct, Union, tag_bits, variants}
 use Rattle.dsdl_types.specs.Greatest.{longest_fields, longest_variant}
 use Rattle.dsdl_types.specs.Lengths.{EndsAt, VariantLength, StandsAt}
@@ -39,3 +39,10 @@ pub record Passes (fs rest : Flds) (ends : List ℕ) : Type 0 where
   pub within : (p : ℕ) → Has ends p → p ≤ farthest
   pub short : longest_fields rest farthest ≤ 2 ^ 32
   pub formed : AreFormed rest
+
+-- The rest begins so many bits behind some places.
+pub record PassesBehind (fs rest : Flds) (places : List ℕ) (behind : ℕ) : Type 0 where
+  pub ends : List ℕ
+  pub are : Same (Has ends) (Sums (Has places) (Only behind))
+  pub passes : Passes fs rest ends
+  pub small : behind ≤ 2 ^ 32

@@ -8,25 +8,34 @@ ghost use Rattle.dsdl_types.specs.Rules.{IsFormed};
 ghost use Rattle.layout.specs.Bodies.{struct_of, union_of};
 
 use crate::ends::ends_after;
+use crate::fixed::bits_with;
 use crate::lengths::{part_lengths, tag_bits};
-use crate::within::{join, only, pad, sum};
+use crate::within::{join, moved, only, pad, sum};
 use bit_length::LengthSet;
 use cy_bits::NoMemory;
 use dsdl_types::Body;
 use std::alloc::Global;
 
 /// The lengths that a structure can have by itself. Zeros bring its end to a multiple of 8 bits.
+/// Fields of one length each add to a number alone: a set is made only where another field comes.
 #[cycle(lengths)]
 pub fn lengths_of_struct(alloc: Global, body: &Body) -> Result<LengthSet, NoMemory>
     requires formed { IsFormed (struct_of body.now) }
     requires short { longest (struct_of body.now) ≤ 2 ^ 32 }
     ensures { IfOk result (λ s. Same (Has s) (Length (struct_of body.now))) }
 {
-    let mut ends = only(alloc, 0)?;
+    let mut places = only(alloc, 0)?;
+    let mut behind = 0;
     for field in body.fields.as_slice() {
-        ends = ends_after(alloc, &ends, field)?;
+        match bits_with(behind, field) {
+            Some(bits) => behind = bits,
+            None => {
+                places = ends_after(alloc, &moved(alloc, places, behind)?, field)?;
+                behind = 0;
+            }
+        }
     }
-    pad(&ends)
+    pad(&moved(alloc, places, behind)?)
 }
 
 /// The lengths that a union can have by itself. Each variant stands behind the tag, and zeros bring

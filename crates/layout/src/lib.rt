@@ -6,6 +6,7 @@ mod bodies;
 mod composite;
 mod ends;
 pub mod error;
+mod fixed;
 mod layout;
 mod lengths;
 mod of_schema;

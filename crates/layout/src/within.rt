@@ -44,6 +44,18 @@ pub fn sum(a: &LengthSet, b: &LengthSet) -> Result<LengthSet, NoMemory>
     short(a.sum(b))
 }
 
+/// Each member with so many bits more.
+pub fn moved(alloc: Global, a: LengthSet, bits: u64) -> Result<LengthSet, NoMemory>
+    requires small { bits ≤ 2 ^ 32 }
+    requires short { IsShort (Sums (Has a) (Only bits)) }
+    ensures { IfOk result (λ s. Same (Has s) (Sums (Has a) (Only bits))) }
+{
+    if bits == 0 {
+        return Ok(a);
+    }
+    sum(&a, &only(alloc, bits)?)
+}
+
 /// All sums of so many members.
 pub fn repeat(a: &LengthSet, n: u32) -> Result<LengthSet, NoMemory>
     requires { IsShort (Repeats (Has a.now) n) }

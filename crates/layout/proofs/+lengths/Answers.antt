@@ -7,13 +7,15 @@ use Rattle.dsdl_types.specs.Views.{body_of, named, type_of, sch, flds}
 use Rattle.dsdl_types.specs.declared.schema.Schema.TheFolds.{the_lemmas}
 use Rattle.layout.specs.declared.row.Row.{Row}
 use Rattle.layout.specs.Layouts.{cast_of}
-use Rattle.layout.proofs.Walks.{Joins}
+use Rattle.layout.proofs.Walks.{Joins, PassesBehind}
 use Rattle.layout.proofs.OneMore as one
 use Rattle.layout.proofs.Sets as sets
 use Rattle.layout.proofs.Types as types
 use Rattle.layout.proofs.Passing as passing
+use Rattle.layout.proofs.Behind as behind
 use Rattle.layout.proofs.Variants as variant
 use Rattle.layout.proofs.+lengths.Goals as goal
+use Rattle.layout.proofs.+lengths.Goals.{bodies::lengths_of_struct-in-Some, bodies::lengths_of_struct-in-None+in_ok-moved-in-None+in_ok-places-in-None}
 
 -- ---- a type by itself
 
@@ -148,14 +150,18 @@ ends::ends_after-returns t c =
 pub bodies::lengths_of_struct-loop-field-init : goal.bodies::lengths_of_struct-loop-field-init
 bodies::lengths_of_struct-loop-field-init t c =
     let b = c.args.body.now in
-    passing.passes_start (body_of b).0 (body_of b).1 _ _ c.requires.formed c.requires.short c.in_ok-ends.ensures (types.body_fields b _ c.as_slice-field-items.ensures)
+    behind.behind_start _ _ _ (passing.passes_start (body_of b).0 (body_of b).1 _ _ c.requires.formed c.requires.short c.in_ok-places.ensures (types.body_fields b _ c.as_slice-field-items.ensures))
+
+pub bodies::lengths_of_struct-moved-requires-clause-short : goal.bodies::lengths_of_struct-moved-requires-clause-short
+bodies::lengths_of_struct-moved-requires-clause-short t c = behind.behind_short _ _ _ _ c.loop-field.invariant
 
 pub bodies::lengths_of_struct-ends_after-requires : goal.bodies::lengths_of_struct-ends_after-requires
 bodies::lengths_of_struct-ends_after-requires t c =
     let items = c.as_slice-field-items.result.now in
     let i = c.loop-field.field-index in
     let f = named c.field-item.result in
-    let w = passing.at_field _ _ items i c.field-item.result c.loop-field.invariant c.loop-field-test.true c.field-item.is in
+    let before = behind.behind_passes _ _ _ _ c.loop-field.invariant c.in_ok-moved-in-None.field-0 c.in_ok-moved-in-None.ensures in
+    let w = passing.at_field _ _ items i c.field-item.result before c.loop-field-test.true c.field-item.is in
     let rest = flds (drop (i + 1) items) in (
       search (rules, the_lemmas),
       (
@@ -170,19 +176,39 @@ bodies::lengths_of_struct-loop-field-preserved t c =
     let items = c.as_slice-field-items.result.now in
     let i = c.loop-field.field-index in
     let f = named c.field-item.result in
-    let w = passing.at_field _ _ items i c.field-item.result c.loop-field.invariant c.loop-field-test.true c.field-item.is in
-    passing.passes_field _ f.0 f.1 (flds (drop (i + 1) items)) _ w _ c.in_ok-ends-2.ensures
+    let fs = (body_of c.args.body.now).0 in
+    let rest = flds (drop (i + 1) items) in
+    let is_next = types.flds_next items i c.field-item.result c.loop-field-test.true c.field-item.is in
+    elim c.match-bits_with.branch [
+      | bodies::lengths_of_struct-in-Some w ↦
+          let (k, e, is) = w.in-Some.ensures.one in
+          let here = subst (λ r. PassesBehind fs r c.loop-field.places c.loop-field.behind) is_next c.loop-field.invariant in
+          let more = behind.behind_more fs f.0 f.1 rest c.loop-field.places c.loop-field.behind k w.in-Some.bits here is e w.in-Some.ensures.short in
+          subst (λ b. PassesBehind fs rest c.match-bits_with.places b) (sym w.behind-is)
+          (subst (λ p. PassesBehind fs rest p w.in-Some.bits) (sym w.places-is) more)
+      | bodies::lengths_of_struct-in-None+in_ok-moved-in-None+in_ok-places-in-None w ↦
+          let before = behind.behind_passes _ _ _ _ c.loop-field.invariant w.in_ok-moved-in-None.field-0 w.in_ok-moved-in-None.ensures in
+          let at = passing.at_field _ _ items i c.field-item.result before c.loop-field-test.true c.field-item.is in
+          let next = passing.passes_field _ f.0 f.1 rest _ at _ w.in_ok-places-in-None.ensures in
+          subst (λ b. PassesBehind fs rest c.match-bits_with.places b) (sym w.behind-is)
+          (subst (λ p. PassesBehind fs rest p 0) (sym w.places-is) (behind.behind_start fs rest w.in_ok-places-in-None.places next))
+    ]
+
+pub bodies::lengths_of_struct-moved-requires-2-clause-short : goal.bodies::lengths_of_struct-moved-requires-2-clause-short
+bodies::lengths_of_struct-moved-requires-2-clause-short t c = behind.behind_short _ _ _ _ c.loop-field.invariant
 
 pub bodies::lengths_of_struct-pad-requires : goal.bodies::lengths_of_struct-pad-requires
 bodies::lengths_of_struct-pad-requires t c =
-    passing.end_short _ _ (passing.at_end _ _ c.as_slice-field-items.result.now c.loop-field.field-index c.loop-field.invariant c.loop-field-test.false)
+    let last = behind.behind_passes _ _ _ _ c.loop-field.invariant c.in_ok-moved.field-0 c.in_ok-moved.ensures in
+    passing.end_short _ _ (passing.at_end _ _ c.as_slice-field-items.result.now c.loop-field.field-index last c.loop-field-test.false)
 
 pub bodies::lengths_of_struct-returns : goal.bodies::lengths_of_struct-returns
 bodies::lengths_of_struct-returns t c =
     let b = c.args.body.now in
-    let w = passing.at_end _ _ c.as_slice-field-items.result.now c.loop-field.field-index c.loop-field.invariant c.loop-field-test.false in
+    let last = behind.behind_passes _ _ _ _ c.loop-field.invariant c.in_ok-moved.field-0 c.in_ok-moved.ensures in
+    let w = passing.at_end _ _ c.as_slice-field-items.result.now c.loop-field.field-index last c.loop-field-test.false in
     let s = Struct (body_of b).0 (body_of b).1 in
-    sets.lengths_are c.pad.result (Pads (Has c.loop-field.ends) 8) s s c.pad.ensures (passing.end_lengths (body_of b).0 (body_of b).1 _ w) refl
+    sets.lengths_are c.pad-2.result (Pads (Has c.in_ok-moved.field-0) 8) s s c.pad-2.ensures (passing.end_lengths (body_of b).0 (body_of b).1 _ w) refl
 
 -- ---- a union
 
