@@ -4,6 +4,7 @@ pub mod SetLemmas
 pub mod SetChanges
 pub mod WithinLemmas
 pub mod Wholes
+pub mod ShiftLemmas
 pub mod CompareLemmas
 pub mod ResidueLemmas
 pub mod LiteralLemmas

@@ -1,5 +1,5 @@
 -- Sets of constants: where a member is, and where one goes in.
-use Rattle.std.proofs.Common.{◌≡◌, ◌≢◌, ◌⊎◌, inl, inr, ℕ, zero, suc, ◌+◌, ◌<◌, ◌≤◌, Bool, true, false, ◌||◌, List, [], ◌∷◌, length, get_or, filter, All, Some, None, refl, sym, ap, ◌∙◌, arith, Less, Equal, Greater}
+use Rattle.std.proofs.Common.{◌≡◌, ◌≢◌, ◌⊎◌, inl, inr, ℕ, zero, suc, ◌+◌, ◌-◌, ◌<◌, ◌≤◌, Bool, true, false, ◌||◌, List, [], ◌∷◌, length, get_or, filter, All, Some, None, refl, sym, ap, ◌∙◌, arith, Less, Equal, Greater}
 use Rattle.std.specs.List.{insert}
 use Rattle.std.specs.Ordering.{is_eq, ordering_reverse}
 use Rattle.std.specs.declared.cmp.Ordering.{Ordering}
@@ -116,6 +116,22 @@ behind_greater xs x y m asc lt is e k d h = earlier (side k m)
     earlier (inl lower) = reverse_at (get_or xs k d) x Less
         (const_order_total.trans (get_or xs k d) (get_or xs m d) x (asc k m d lower lt) (reverse_at x (get_or xs m d) Greater here))
     earlier (inr upper) = let same : m ≡ k = omega arith in ap (λ j. const_order x (get_or xs j d)) (sym same) ∙ here
+
+-- the constants before place n ascend
+abbrev pub AscendTo : List Const → ℕ → Type 0
+AscendTo xs n = (i j : ℕ) (d : Const) → i < j → j < n → const_order (get_or xs i d) (get_or xs j d) ≡ Less
+
+-- one more that stands behind the last of them
+pub one_more_ascends : (xs : List Const) (n : ℕ) → AscendTo xs n → ((d : Const) → const_order (get_or xs (n - 1) d) (get_or xs n d) ≡ Less) → AscendTo xs (n + 1)
+one_more_ascends xs n before next i j d lt h = by (side j n)
+  where
+    by_last : (i < n - 1) ⊎ (n - 1 ≤ i) → j ≡ n → const_order (get_or xs i d) (get_or xs n d) ≡ Less
+    by_last (inl lower) e = const_order_total.trans (get_or xs i d) (get_or xs (n - 1) d) (get_or xs n d) (before i (n - 1) d lower (omega arith)) (next d)
+    by_last (inr upper) e = let same : i ≡ n - 1 = omega arith in ap (λ k. const_order (get_or xs k d) (get_or xs n d)) same ∙ next d
+
+    by : (j < n) ⊎ (n ≤ j) → const_order (get_or xs i d) (get_or xs j d) ≡ Less
+    by (inl lower) = before i j d lt lower
+    by (inr upper) = let same : j ≡ n = omega arith in ap (λ k. const_order (get_or xs i d) (get_or xs k d)) same ∙ by_last (side i (n - 1)) same
 
 -- what holds of a constant and of each member holds of each member with it
 all_one : (P : Const → Type 0) (x : Const) (xs : List Const) → P x → All P xs → All P (with_one x xs)

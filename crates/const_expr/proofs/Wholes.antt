@@ -1,28 +1,14 @@
--- Whole numbers as fractions and as constants.
-use Rattle.std.proofs.Common.{◌≡◌, ℕ, zero, suc, ◌<◌, ℤ, pos, negsuc, neg_ℤ, ◌*ℤ◌, int_div, FitsSigned, true, List, [], ◌∷◌, AllPairs, All, Ok, refl, sym, ap, ◌∙◌, subst, arith, rules, Less}
-use Rattle.std.proofs.Math.Nat.{div-one, mul-one}
+-- Whole numbers as constants.
+use Rattle.std.proofs.Common.{◌≡◌, ℕ, zero, suc, ◌<◌, ℤ, pos, ◌*ℤ◌, List, [], ◌∷◌, AllPairs, All, sym, ap, ◌∙◌, subst, arith, Less}
+use Rattle.std.proofs.Math.Nat.{mul-one}
 use Rattle.std.proofs.lemmas.Grind.{common_steps}
 use Rattle.std.proofs.lemmas.List.Kept.{AllPairs-cons}
-use Rattle.std.specs.Int.{w128}
 use Rattle.std.specs.Ordering.{int_cmp}
-use Rattle.cy_ratio.specs.Fraction.{fraction_of, gcd, divisor_by, fits}
 use Rattle.const_expr.specs.declared.constant.Const.{Const}
 use Rattle.const_expr.specs.Constants.{whole, natural, naturals, const_order, IsAscending, IsConst}
 use Rattle.const_expr.specs.declared.constant.Const.TheVariants as c
 use Rattle.const_expr.proofs.Keeps.{set_keeps}
 use Rattle.const_expr.proofs.Layers.{number_layer}
-
-quotient_one : (n : ℤ) → int_div n (pos 1) ≡ n
-quotient_one (pos m) = ap pos (div-one m)
-quotient_one (negsuc m) = ap (λ k. neg_ℤ (pos k)) (div-one (suc m))
-
-pub fits_is : (n : ℤ) → FitsSigned w128 n → fits n ≡ true
-fits_is (pos m) h = search (rules, common_steps)
-fits_is (negsuc m) h = search (rules, common_steps)
-
-pub whole_fraction : (n : ℤ) → FitsSigned w128 n → fraction_of n (pos 1) ≡ Ok (whole n)
-unfolding gcd divisor_by
-whole_fraction n h = rw (quotient_one n, fits_is n h) refl
 
 -- whole numbers in their order
 below : (m n : ℕ) → m < n → int_cmp (pos m *ℤ pos 1) (pos n *ℤ pos 1) ≡ Less

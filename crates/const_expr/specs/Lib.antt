@@ -6,6 +6,7 @@ pub mod Operands
 pub mod Literal
 pub mod Compare
 pub mod Binary
+pub mod Shifts
 pub mod Unary
 pub mod Sizes
 pub mod Names

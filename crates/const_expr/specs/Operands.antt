@@ -5,10 +5,12 @@ use Rattle.const_expr.specs.declared.constant.Const.TheVariants as c
 use Rattle.const_expr.specs.declared.operand.Operand.{Operand}
 use Rattle.const_expr.specs.declared.operand.Operand.TheVariants as operand
 use Rattle.const_expr.specs.Constants.{IsConst}
+use Rattle.const_expr.specs.Shifts.{wholes}
 
 abbrev pub constant_of : Operand → Const
 constant_of (operand.Constant u) = u
 constant_of (operand.Members set) = c.Set set.keys
+constant_of (operand.Shifted zs) = c.Set (wholes zs)
 
 -- what every operand keeps
 abbrev pub IsOperand : Operand → Type 0

@@ -81,9 +81,7 @@ fn by_kinds(alloc: Global, op: Operator, left: Operand, right: Const) -> Result<
             as_operand(compare(relation, &left.into_const(alloc)?, &right))
         }
         Operator::Bits(sign) => bits(alloc, sign, left, right),
-        Operator::Arithmetic(sign) => {
-            as_operand(arithmetic(alloc, sign, left.into_const(alloc)?, &right))
-        }
+        Operator::Arithmetic(sign) => arithmetic(alloc, sign, left, &right),
         Operator::Power => as_operand(power(&left.into_const(alloc)?, &right)),
     }
 }
@@ -97,6 +95,7 @@ fn listed_operand(alloc: Global, left: Operand) -> Result<Operand, Why>
     match left {
         Operand::Constant(constant) => as_operand(listed(alloc, constant)),
         Operand::Members(set) => Ok(Operand::Members(set)),
+        Operand::Shifted(numbers) => Ok(Operand::Shifted(numbers)),
     }
 }
 

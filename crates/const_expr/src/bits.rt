@@ -132,6 +132,10 @@ fn with_set(alloc: Global, sign: Bits, left: Operand, ys: List<Const>) -> Result
 {
     match left {
         Operand::Members(xs) => on_sets(alloc, sign, xs, ys),
+        Operand::Shifted(numbers) => {
+            let xs = numbers.into_members(alloc)?;
+            on_sets(alloc, sign, ordered(alloc, xs)?, ys)
+        }
         Operand::Constant(constant) => match constant {
             Const::Set(xs) => on_sets(alloc, sign, ordered(alloc, xs)?, ys),
             Const::Number(_) | Const::Truth(_) | Const::Str(_) => Err(Why::Kind),
@@ -149,7 +153,7 @@ fn with_number(sign: Bits, left: Operand, y: Ratio) -> Result<Operand, Why>
     ensures kept { IfOk result IsOperand }
 {
     match left {
-        Operand::Members(_) => Err(Why::Kind),
+        Operand::Members(_) | Operand::Shifted(_) => Err(Why::Kind),
         Operand::Constant(constant) => match constant {
             Const::Number(x) => as_operand(on_wholes(sign, x, y)),
             Const::Truth(_) | Const::Str(_) | Const::Set(_) => Err(Why::Kind),

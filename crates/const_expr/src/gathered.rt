@@ -1,5 +1,5 @@
 //! Sets of constants: ascending, each member once.
-ghost use Rattle.std.specs.Prelude.{◌≡◌, ◌<◌, ◌≤◌, length, IfOk, OnOk};
+ghost use Rattle.std.specs.Prelude.{◌≡◌, ◌<◌, ◌≤◌, length, IfOk, OnOk, true};
 ghost use Rattle.const_expr.specs.Binary.{without};
 ghost use Rattle.const_expr.specs.Constants.{IsAscending, IsPlace, has, with_all, gathered};
 
@@ -92,10 +92,26 @@ pub fn ordered(alloc: Global, constants: List<Const>) -> Result<BTreeSet<Ranked>
     Ok(set)
 }
 
-/// The set of some constants.
+/// Whether each constant stands before the next one, and so before all next ones.
+fn is_ascending(constants: &[Const]) -> bool
+    ensures { result ≡ true → IsAscending constants.now }
+{
+    for place in 1..constants.len() {
+        if order(&constants[place - 1], &constants[place]) != Ordering::Less {
+            return false;
+        }
+    }
+    true
+}
+
+/// The set of some constants. Those that ascend are the set.
+#[tactic(auto, using(crate::proofs::SetChanges::set_of_ascending))]
 pub fn gathered(alloc: Global, constants: List<Const>) -> Result<List<Const>, NoMemory>
     ensures set { IfOk result (λ set. set ≡ gathered constants) }
     ensures ascending { IfOk result (λ set. IsAscending set) }
 {
+    if is_ascending(constants.as_slice()) {
+        return Ok(constants);
+    }
     in_a_row(alloc, ordered(alloc, constants)?)
 }

@@ -22,6 +22,7 @@ mod referred;
 mod residues;
 mod scope;
 mod set;
+mod shifted;
 mod text;
 mod type_member;
 mod unary;

@@ -6,18 +6,21 @@ ghost use Rattle.const_expr.specs.Operands.{IsOperand, constant_of, worth};
 use crate::constant::Const;
 use crate::gathered::in_a_row;
 use crate::ranked::Ranked;
+use crate::shifted::Shifted;
 use crate::why::Why;
 use cy_bits::NoMemory;
 use std::alloc::Global;
 use std::collections::BTreeSet;
 
-/// A constant, or a set that operators change member by member.
+/// A constant, or a set that operators change member by member or all members alike.
 #[derive(Drop)]
 pub enum Operand {
     /// A constant.
     Constant(Const),
     /// The members of a set.
     Members(BTreeSet<Ranked>),
+    /// A set of whole numbers to which others are added.
+    Shifted(Shifted),
 }
 
 impl Operand {
@@ -31,6 +34,7 @@ impl Operand {
         match self {
             Operand::Constant(constant) => Ok(constant),
             Operand::Members(set) => Ok(Const::Set(in_a_row(alloc, set)?)),
+            Operand::Shifted(numbers) => Ok(Const::Set(numbers.into_members(alloc)?)),
         }
     }
 }

@@ -8,7 +8,7 @@ use cy_ratio::Ratio;
 use std::alloc::Global;
 
 /// A whole number as a fraction.
-#[tactic(auto, using(crate::proofs::Wholes::whole_fraction))]
+#[tactic(auto, using(cy_ratio::proofs::WholeLemmas::whole_fraction))]
 pub fn whole(n: i128) -> Ratio
     ensures { result ≡ whole n }
 {

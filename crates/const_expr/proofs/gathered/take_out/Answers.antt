@@ -67,3 +67,11 @@ loop-constant-preserved c =
     let present : c.remove.result ≡ true = search rules in
     let g = member_out _ _ _ _ _ (record { set_up = c.loop-constant.invariant.set; rest_up = c.loop-constant.invariant.rest; left = c.loop-constant.invariant.left; whole = c.loop-constant.invariant.others }) y _ _ next c.remove.ensures.keys (sym c.remove.ensures.test ∙ present) in
     record { set = g.set_up; rest = g.rest_up; left = g.left; others = g.whole }
+
+pub loop-constant-preserved-else-not-remove-5 : goal.loop-constant-preserved-else-not-remove-5
+loop-constant-preserved-else-not-remove-5 c =
+    let y = c.in-Some.constant in
+    let next : c.loop-constant.constant-iterator.rest.items ≡ y ∷ c.next.new.self.rest.items = c.in-Some.ensures.steps.0 in
+    let present : c.remove.result ≡ true = search rules in
+    let g = member_out _ _ _ _ _ (record { set_up = c.loop-constant.invariant.set; rest_up = c.loop-constant.invariant.rest; left = c.loop-constant.invariant.left; whole = c.loop-constant.invariant.others }) y _ _ next c.remove.ensures.keys (sym c.remove.ensures.test ∙ present) in
+    record { set = g.set_up; rest = g.rest_up; left = g.left; others = g.whole }
