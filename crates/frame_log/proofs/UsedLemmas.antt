@@ -1,5 +1,5 @@
 -- Lemmas on the bytes that a reader uses.
-use Rattle.std.proofs.Common.{◌≡◌, ◌∙◌, ◌==◌, ◌≤◌, ℕ, Bool, true, false, List, [], ◌∷◌, ◌++◌, Option, Some, Err, refl, sym, ap, ap₂, subst, length, append-nil, append_assoc}
+use Rattle.std.proofs.Common.{◌≡◌, ◌∙◌, ◌==◌, ◌≤◌, ◌+◌, ℕ, Bool, true, false, List, [], ◌∷◌, ◌++◌, Option, Some, Err, refl, sym, ap, ap₂, subst, length, append-nil, append_assoc, length-append, arith}
 use Rattle.std.proofs.lemmas.Bool.{eqb-true}
 use Rattle.tail_frame.specs.declared.logged.Record.{Record}
 use Rattle.frame_log.specs.declared.reader.step.Step.{Step}
@@ -14,8 +14,8 @@ use Rattle.frame_log.specs.Input.{Took}
 use Rattle.frame_log.specs.Line.{cut, ◌>>=◌}
 use Rattle.frame_log.specs.Log.{Place, Given, Skip, Take, Refuse, given, followed, lines_of, log_of_lines, with_byte}
 use Rattle.frame_log.specs.Steps.{IsGiven}
-use Rattle.frame_log.specs.Used.{Passes, Uses, IsBefore}
-use Rattle.frame_log.specs.UsedSteps.{IsUsed, IsBeforeTurn}
+use Rattle.frame_log.specs.Used.{Passes, Uses, IsBefore, beyond}
+use Rattle.frame_log.specs.UsedSteps.{IsUsed, IsBeforeTurn, beyond_turn}
 use Rattle.frame_log.proofs.LineLemmas.{yes, no, some_is}
 use Rattle.frame_log.proofs.CutLemmas.{longer, cut-other}
 use Rattle.frame_log.proofs.LogLemmas.{with_line, further, lines_of-newline, lines_of-byte, lines_of-line, Took-more}
@@ -147,21 +147,33 @@ before-refused (error.TooFar n) new at bytes h = tt
 before-refused error.LogLong new at bytes h = tt
 before-refused error.Failed new at bytes h = absurd (h refl)
 
--- what came behind bytes that were passed is used
-pub came-uses : (a b c : Option (List ℕ)) (buses : List (List ℕ)) (at mid : Place) (kept rest : List ℕ) (There : Place → List ℕ → Type 0)
-    → ((x : List ℕ) × Took a b x × Passes buses at (kept ++ x) mid rest) → ((y : List ℕ) × Took b c y × Uses buses mid (rest ++ y) There) → (z : List ℕ) × Took a c z × Uses buses at (kept ++ z) There
-came-uses a b c buses at mid kept rest There x y = (
+-- a refusal lets a call take what it lets a turn take
+pub beyond-refused : (e : LogError) → beyond_turn (turn.Refused e) ≤ beyond (Err e)
+beyond-refused (error.BadLine n) = omega arith
+beyond-refused (error.TimeBack n) = omega arith
+beyond-refused (error.UnknownBus n) = omega arith
+beyond-refused (error.TooFar n) = omega arith
+beyond-refused error.LogLong = omega arith
+beyond-refused error.Failed = omega arith
+
+-- what came behind bytes that were passed is used, and taken off the room
+pub came-uses : (a b c : Option (List ℕ)) (buses : List (List ℕ)) (at mid : Place) (kept rest : List ℕ) (There : Place → List ℕ → Type 0) (room left last more : ℕ)
+    → ((x : List ℕ) × Took a b x × Passes buses at (kept ++ x) mid rest × (length x + left ≤ room)) → ((y : List ℕ) × Took b c y × Uses buses mid (rest ++ y) There × (length y + last ≤ left + more))
+    → (z : List ℕ) × Took a c z × Uses buses at (kept ++ z) There × (length z + last ≤ room + more)
+came-uses a b c buses at mid kept rest There room left last more x y = (
   x.0 ++ y.0,
   Took-more a b c x.0 y.0 x.1 y.1,
   subst (λ (t : List ℕ). Uses buses at t There) (append_assoc kept x.0 y.0)
       (uses-later buses at mid ((kept ++ x.0) ++ y.0) (rest ++ y.0) There (passes-came buses at mid (kept ++ x.0) rest y.0 x.2) y.2),
+  omega (arith, length-append x.0 y.0, x.3, y.3),
 )
 
 -- the same, of a reader with the same buses, where what holds there is less
-pub came-later : (a b c : Option (List ℕ)) (buses same : List (List ℕ)) (at mid : Place) (kept rest : List ℕ) (P Q : Place → List ℕ → Type 0) → same ≡ buses
-    → ((x : List ℕ) × Took a b x × Passes buses at (kept ++ x) mid rest) → ((y : List ℕ) × Took b c y × Uses same mid (rest ++ y) P) → ((p : Place) (t : List ℕ) → P p t → Q p t) → (z : List ℕ) × Took a c z × Uses buses at (kept ++ z) Q
-came-later a b c buses same at mid kept rest P Q e x y f =
-    came-uses a b c buses at mid kept rest Q x (y.0, y.1, uses-same buses mid (rest ++ y.0) P Q f (subst (λ (d : List (List ℕ)). Uses d mid (rest ++ y.0) P) e y.2))
+pub came-later : (a b c : Option (List ℕ)) (buses same : List (List ℕ)) (at mid : Place) (kept rest : List ℕ) (P Q : Place → List ℕ → Type 0) (room left last more most : ℕ) → more ≤ most → same ≡ buses
+    → ((x : List ℕ) × Took a b x × Passes buses at (kept ++ x) mid rest × (length x + left ≤ room)) → ((y : List ℕ) × Took b c y × Uses same mid (rest ++ y) P × (length y + last ≤ left + more)) → ((p : Place) (t : List ℕ) → P p t → Q p t)
+    → (z : List ℕ) × Took a c z × Uses buses at (kept ++ z) Q × (length z + last ≤ room + most)
+came-later a b c buses same at mid kept rest P Q room left last more most h e x y f =
+    came-uses a b c buses at mid kept rest Q room left last most x (y.0, y.1, uses-same buses mid (rest ++ y.0) P Q f (subst (λ (d : List (List ℕ)). Uses d mid (rest ++ y.0) P) e y.2), omega (arith, h, y.3))
 
 -- a step by what its line gives
 pub used-given : (g : Given) (q : Step) (w : Record) (buses : List (List ℕ)) (at new : Place) (bytes line behind : List ℕ) → cut 10 bytes ≡ Some (line, behind) → given buses at line ≡ g → IsGiven g q w new → IsUsed buses at bytes q w new behind

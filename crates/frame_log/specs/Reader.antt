@@ -27,6 +27,10 @@ kept_bytes_of r = r.kept_bytes
 abbrev pub bytes_left : LogReader → ℕ
 bytes_left r = r.room + length r.kept_bytes
 
+-- how many bytes it may still take of the input
+abbrev pub room_of : LogReader → ℕ
+room_of r = r.room
+
 -- whether a read gave the end of the input
 abbrev pub saw_end : LogReader → Bool
 saw_end r = r.is_ended

@@ -1,6 +1,6 @@
 -- Which bytes a reader has used for an answer, and which stand behind them.
-use Rattle.std.specs.Prelude.{◌≡◌, ◌≤◌, ◌++◌, ℕ, false, List, [], Option, Some, None, Result, Ok}
-use Rattle.std.specs.Prelude.{Err, length, ⊤}
+use Rattle.std.specs.Prelude.{◌≡◌, ◌≤◌, ◌+◌, ◌++◌, ℕ, false, List, [], Option, Some, None}
+use Rattle.std.specs.Prelude.{Result, Ok, Err, length, ⊤}
 use Rattle.tail_frame.specs.declared.logged.Record.{Record}
 use Rattle.frame_log.specs.declared.error.LogError.{LogError}
 use Rattle.frame_log.specs.declared.error.LogError.TheVariants as error
@@ -8,7 +8,7 @@ use Rattle.frame_log.specs.declared.reader.LogReader.{LogReader}
 use Rattle.frame_log.specs.Input.{Took}
 use Rattle.frame_log.specs.Line.{cut}
 use Rattle.frame_log.specs.Log.{Place, Take, given, lines_of, log_of_lines}
-use Rattle.frame_log.specs.Reader.{buses_of, place_of, kept_bytes_of, saw_end}
+use Rattle.frame_log.specs.Reader.{buses_of, place_of, kept_bytes_of, room_of, saw_end}
 
 -- these lines give no record, and lead from one place to another: whatever lines come behind them
 -- give the same log there
@@ -57,13 +57,19 @@ IsBeforeKept (Ok (Some r)) new at bytes = Gives (buses_of new) at bytes r (place
 IsBeforeKept (Ok None) new at bytes = (at ≡ place_of new) × (bytes ≡ kept_bytes_of new)
 IsBeforeKept (Err e) new at bytes = ⊤
 
--- what was kept and what came are whole lines that give no record, and behind them at most 8,192
--- bytes
+-- one byte is taken beyond the room where it shows that the log is too long, and none otherwise
+abbrev pub beyond : Result (Option Record) LogError → ℕ
+beyond (Err error.LogLong) = 1
+beyond answer = 0
+
+-- What was kept and what came are whole lines that give no record, and behind them at most 8,192
+-- bytes. What came is taken off the room.
 abbrev pub UsesNext : (old new : LogReader) (before after : Option (List ℕ))
     → Result (Option Record) LogError → Type 0
 UsesNext old new before after answer =
     (came : List ℕ) × Took before after came
     × Uses (buses_of old) (place_of old) (kept_bytes_of old ++ came) (IsBefore answer new)
+    × (length came + room_of new ≤ room_of old + beyond answer)
 
 -- the same of what was kept alone
 abbrev pub UsesKept : (old new : LogReader) → Result (Option Record) LogError → Type 0

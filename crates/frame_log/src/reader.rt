@@ -60,7 +60,7 @@ impl LogReader {
     ghost use Rattle.frame_log.specs.Line.{cut};
     ghost use Rattle.frame_log.specs.Log.{log_of, start};
     ghost use Rattle.frame_log.specs.Order.{IsFit, StandsBehind};
-    ghost use Rattle.frame_log.specs.Reader.{buses_of, place_of, kept_bytes_of, bytes_left, saw_end, settled_answer, log_behind, settled, settled_kept, answered, given, AnswersNext, AnswersAtEnd, AnswersKept, IfRecord, HasNoLine};
+    ghost use Rattle.frame_log.specs.Reader.{buses_of, place_of, kept_bytes_of, bytes_left, room_of, saw_end, settled_answer, log_behind, settled, settled_kept, answered, given, AnswersNext, AnswersAtEnd, AnswersKept, IfRecord, HasNoLine};
     ghost use Rattle.frame_log.specs.Steps.{IsAt};
     ghost use Rattle.frame_log.specs.Used.{UsesNext, UsesKept};
     ghost use Rattle.frame_log.specs.declared.error.LogError.TheVariants as error;
@@ -207,6 +207,7 @@ impl LogReader {
             (λ _. bytes_left self.new < bytes_left self.old) }
         ensures within { bytes_left self.new ≤ bytes_left self.old }
         ensures near { length (kept_bytes_of self.new) ≤ 8192 }
+        ensures room { room_of self.new ≡ room_of self.old }
         ensures same { buses_of self.new ≡ buses_of self.old }
     {
         if let Some(answer) = self.done {

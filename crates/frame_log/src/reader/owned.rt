@@ -4,7 +4,7 @@ ghost use Rattle.cy_outside.specs.Outside.{Rose};
 ghost use Rattle.frame_log.specs.Input.{IsAtEnd};
 ghost use Rattle.frame_log.specs.Line.{cut};
 ghost use Rattle.frame_log.specs.Order.{IsFit, StandsBehind};
-ghost use Rattle.frame_log.specs.Reader.{buses_of, place_of, kept_bytes_of, bytes_left, saw_end, settled_answer, settled, settled_kept, answered, AnswersNext, AnswersAtEnd, AnswersKept, IfRecord, HasNoLine};
+ghost use Rattle.frame_log.specs.Reader.{buses_of, place_of, kept_bytes_of, bytes_left, room_of, saw_end, settled_answer, settled, settled_kept, answered, AnswersNext, AnswersAtEnd, AnswersKept, IfRecord, HasNoLine};
 ghost use Rattle.frame_log.specs.Steps.{IsAt};
 ghost use Rattle.frame_log.specs.Used.{UsesNext, UsesKept};
 ghost use Rattle.frame_log.specs.declared.error.LogError.TheVariants as error;
@@ -109,6 +109,7 @@ impl LogReader {
         ensures less { IfRecord result (λ _. bytes_left self.new < bytes_left self.old) }
         ensures within { bytes_left self.new ≤ bytes_left self.old }
         ensures near { length (kept_bytes_of self.new) ≤ 8192 }
+        ensures room { room_of self.new ≡ room_of self.old }
         ensures same { buses_of self.new ≡ buses_of self.old }
     {
         let mut written = blank();

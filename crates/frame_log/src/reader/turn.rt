@@ -73,6 +73,7 @@ impl LogReader {
         ensures less { result ≡ turn.Record → bytes_left self.new < bytes_left self.old }
         ensures within { bytes_left self.new ≤ bytes_left self.old }
         ensures at { result ≡ turn.Record → IsAt written.new (place_of self.new) }
+        ensures room { self.new.room ≡ self.old.room }
         ensures same { (self.new.buses ≡ self.old.buses) × (self.new.is_ended ≡ self.old.is_ended)
             × (self.new.done ≡ self.old.done) }
     {

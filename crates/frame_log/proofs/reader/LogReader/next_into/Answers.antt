@@ -1,14 +1,14 @@
-use Rattle.std.proofs.Common.{◌≡◌, ◌++◌, List, [], ℕ, arith, Bool, true, false, Ok, Some, refl, inl, inr, ◌∙◌, ap, sym, subst}
+use Rattle.std.proofs.Common.{◌≡◌, ◌++◌, List, [], ℕ, arith, Bool, true, false, Ok, Err, Some, refl, inl, inr, ◌∙◌, ap, sym, subst}
 use Rattle.frame_log.specs.declared.reader.LogReader.{LogReader}
 use Rattle.frame_log.specs.declared.reader.turn.Turn.{Turn}
 use Rattle.frame_log.specs.declared.reader.turn.Turn.TheVariants as turn
 use Rattle.frame_log.specs.Log.{with_record}
 use Rattle.frame_log.specs.Steps.{IsTurn}
-use Rattle.frame_log.specs.Reader.{log_behind, place_of, buses_of, kept_bytes_of, bytes_left}
-use Rattle.frame_log.specs.Used.{IsBefore}
-use Rattle.frame_log.specs.UsedSteps.{IsBeforeTurn}
+use Rattle.frame_log.specs.Reader.{log_behind, place_of, buses_of, kept_bytes_of, bytes_left, room_of}
+use Rattle.frame_log.specs.Used.{IsBefore, beyond}
+use Rattle.frame_log.specs.UsedSteps.{IsBeforeTurn, beyond_turn}
 use Rattle.frame_log.proofs.LogLemmas.{came-turn}
-use Rattle.frame_log.proofs.UsedLemmas.{passes-to, came-later, before-refused}
+use Rattle.frame_log.proofs.UsedLemmas.{passes-to, came-later, before-refused, beyond-refused}
 use Rattle.frame_log.proofs.OrderLemmas.{ahead-first, ahead-from}
 use Rattle.frame_log.proofs.FitLemmas.{fit-first, fit-from}
 use Rattle.frame_log.proofs.reader.LogReader.next_into.Goals as goal
@@ -28,9 +28,9 @@ turns-preserved g c =
     c.turns.invariant.next c.turn.ensures.next in
     let mid = c.turns.self in
     let u = came-later (s.left c.args.input.now) (s.left c.turns.input) (s.left c.turn.new.input) (buses_of c.args.self.now) (buses_of mid) (place_of c.args.self.now) (place_of mid) (kept_bytes_of c.args.self.now) (kept_bytes_of mid)
-    (IsBeforeTurn turn.Again w c.turn.new.self) (IsBeforeTurn turn.Again w c.turn.new.self) c.turns.invariant.buses c.turns.invariant.used c.in-Again.ensures.used (λ at bytes t. t) in record {
+    (IsBeforeTurn turn.Again w c.turn.new.self) (IsBeforeTurn turn.Again w c.turn.new.self) (room_of c.args.self.now) (room_of mid) (room_of c.turn.new.self) 0 0 (omega arith) c.turns.invariant.buses c.turns.invariant.used c.in-Again.ensures.used (λ at bytes t. t) in record {
       next = (m.0, m.1, λ rest. subst (λ (t : Turn). IsTurn (old (m.0 ++ rest)) t w (new rest)) c.in-Again.is (m.2 rest (open_rest c.turn.new.self.is_ended rest again.1)));
-      used = (u.0, u.1, passes-to (buses_of c.args.self.now) (place_of c.args.self.now) (place_of c.turn.new.self) (kept_bytes_of c.args.self.now ++ u.0) (kept_bytes_of c.turn.new.self) u.2);
+      used = (u.0, u.1, passes-to (buses_of c.args.self.now) (place_of c.args.self.now) (place_of c.turn.new.self) (kept_bytes_of c.args.self.now ++ u.0) (kept_bytes_of c.turn.new.self) u.2, omega (arith, u.3));
       ended = λ is_ended. let fixed = c.turns.invariant.ended is_ended in
           let here : c.turns.self.is_ended ≡ true = ap (λ (r : LogReader). r.is_ended) fixed.0 ∙ is_ended in
           let bad : true ≡ false = sym (c.turn.ensures.ended here).1 ∙ again.1 in absurd cc;
@@ -115,7 +115,7 @@ returns-in-Record-clause-used g c _ =
     let new = c.turn.new.self in
     let w = c.turn.new.written in
     came-later (left c.args.input.now) (left c.turns.input) (left c.turn.new.input) (buses_of old) (buses_of mid) (place_of old) (place_of mid) (kept_bytes_of old) (kept_bytes_of mid)
-    (IsBeforeTurn turn.Record w new) (IsBefore (Ok (Some w)) new) c.turns.invariant.buses c.turns.invariant.used c.in-Record.ensures.used
+    (IsBeforeTurn turn.Record w new) (IsBefore (Ok (Some w)) new) (room_of old) (room_of mid) (room_of new) 0 0 (omega arith) c.turns.invariant.buses c.turns.invariant.used c.in-Record.ensures.used
     (λ at bytes t. t)
 
 pub returns-in-Whole-turn-clause-used : goal.returns-in-Whole-turn-clause-used
@@ -126,7 +126,7 @@ returns-in-Whole-turn-clause-used g c _ =
     let new = c.turn.new.self in
     let w = c.turn.new.written in
     came-later (left c.args.input.now) (left c.turns.input) (left c.turn.new.input) (buses_of old) (buses_of mid) (place_of old) (place_of mid) (kept_bytes_of old) (kept_bytes_of mid)
-    (IsBeforeTurn turn.Whole w new) _ c.turns.invariant.buses c.turns.invariant.used c.in-Whole-turn.ensures.used
+    (IsBeforeTurn turn.Whole w new) _ (room_of old) (room_of mid) (room_of new) 0 0 (omega arith) c.turns.invariant.buses c.turns.invariant.used c.in-Whole-turn.ensures.used
     (λ at bytes t. tt)
 
 pub returns-in-Refused-turn-clause-used : goal.returns-in-Refused-turn-clause-used
@@ -136,9 +136,10 @@ returns-in-Refused-turn-clause-used g c _ =
     let mid = c.turns.self in
     let new = c.turn.new.self in
     let w = c.turn.new.written in
+    let e = c.in-Refused-turn.e in
     came-later (left c.args.input.now) (left c.turns.input) (left c.turn.new.input) (buses_of old) (buses_of mid) (place_of old) (place_of mid) (kept_bytes_of old) (kept_bytes_of mid)
-    (IsBeforeTurn (turn.Refused c.in-Refused-turn.e) w new) _ c.turns.invariant.buses c.turns.invariant.used c.in-Refused-turn.ensures.used
-    (λ at bytes t. before-refused c.in-Refused-turn.e _ at bytes (λ e. c.turn.ensures.input (c.in-Refused-turn.is ∙ ap turn.Refused e)))
+    (IsBeforeTurn (turn.Refused e) w new) _ (room_of old) (room_of mid) (room_of new) (beyond_turn (turn.Refused e)) (beyond (Err e)) (beyond-refused e) c.turns.invariant.buses c.turns.invariant.used c.in-Refused-turn.ensures.used
+    (λ at bytes t. before-refused e _ at bytes (λ same. c.turn.ensures.input (c.in-Refused-turn.is ∙ ap turn.Refused same)))
 
 pub returns-in-Failed-clause-used : goal.returns-in-Failed-clause-used
 returns-in-Failed-clause-used g c _ =
@@ -148,5 +149,5 @@ returns-in-Failed-clause-used g c _ =
     let new = c.turn.new.self in
     let w = c.turn.new.written in
     came-later (left c.args.input.now) (left c.turns.input) (left c.turn.new.input) (buses_of old) (buses_of mid) (place_of old) (place_of mid) (kept_bytes_of old) (kept_bytes_of mid)
-    (IsBeforeTurn turn.Failed w new) _ c.turns.invariant.buses c.turns.invariant.used c.in-Failed.ensures.used
+    (IsBeforeTurn turn.Failed w new) _ (room_of old) (room_of mid) (room_of new) 0 0 (omega arith) c.turns.invariant.buses c.turns.invariant.used c.in-Failed.ensures.used
     (λ at bytes t. t)

@@ -1,12 +1,12 @@
-use Rattle.std.proofs.Common.{◌≡◌, ◌∙◌, ◌<◌, ◌≤◌, ◌++◌, List, [], ℕ, None, refl, subst, sym, length, length-append, append-nil, arith}
+use Rattle.std.proofs.Common.{◌≡◌, ◌∙◌, ◌<◌, ◌≤◌, ◌+◌, ◌++◌, List, [], ℕ, None, refl, subst, sym, length, length-append, append-nil, arith}
 use Rattle.frame_log.specs.Input.{Took}
 use Rattle.frame_log.specs.Line.{cut}
 use Rattle.frame_log.specs.Log.{Log, Place}
 use Rattle.frame_log.specs.declared.reader.step.Step.{Step}
-use Rattle.frame_log.specs.Reader.{place_of, buses_of, log_behind}
+use Rattle.frame_log.specs.Reader.{place_of, buses_of, room_of, log_behind}
 use Rattle.frame_log.specs.Steps.{IsTurn}
 use Rattle.frame_log.specs.Used.{Passes, Gives, Uses}
-use Rattle.frame_log.specs.UsedSteps.{IsBeforeStep, IsBeforeTurn}
+use Rattle.frame_log.specs.UsedSteps.{IsBeforeStep, IsBeforeTurn, beyond_turn}
 use Rattle.frame_log.proofs.LogLemmas.{log_from-long, step-no_line, is_no_line, Took-none}
 use Rattle.frame_log.proofs.UsedLemmas.{uses-here, uses-same, uses-none, passes-to, came-uses}
 use Rattle.frame_log.proofs.reader.LogReader.turn.Goals as goal
@@ -52,13 +52,14 @@ returns-in-Record-clause-used g c =
       [],
       Took-none (g.L.Source.left c.args.input.now),
       uses-none (buses_of old) (place_of old) old.kept_bytes _ (uses-same (buses_of old) (place_of old) old.kept_bytes There _ (λ at bytes gives _. gives) c.in-Record.ensures.used),
+      omega (arith, c.from_kept.ensures.same.1),
     )
 
 pub returns-in-Refused-clause-used : goal.returns-in-Refused-clause-used
 returns-in-Refused-clause-used g c =
     let old = c.args.self.now in
     let near : length (old.kept_bytes ++ []) ≤ 8192 = omega (arith, length-append old.kept_bytes [], old.near) in
-    ([], Took-none (g.L.Source.left c.args.input.now), uses-here (buses_of old) (place_of old) (old.kept_bytes ++ []) _ near tt)
+    ([], Took-none (g.L.Source.left c.args.input.now), uses-here (buses_of old) (place_of old) (old.kept_bytes ++ []) _ near tt, omega (arith, c.from_kept.ensures.same.1))
 
 pub returns-clause-used : goal.returns-clause-used
 returns-clause-used g c =
@@ -70,7 +71,9 @@ returns-clause-used g c =
     let none = is_no_line step c.in-Skipped.is c.from_kept.ensures.whole in
     let passes = passes-to (buses_of old) (place_of old) (place_of mid) old.kept_bytes mid.kept_bytes
     (subst (λ (s : Step). Uses (buses_of old) (place_of old) old.kept_bytes (IsBeforeStep s c.from_kept.new.written mid)) none c.from_kept.ensures.used) in
-    let read = subst (λ (b : List (List ℕ)). (came : List ℕ) × Took (left c.args.input.now) (left c.read_turn.new.input) came × Uses b (place_of mid) (mid.kept_bytes ++ came) (IsBeforeTurn c.read_turn.result c.read_turn.new.written new))
+    let read = subst (λ (b : List (List ℕ)). (came : List ℕ) × Took (left c.args.input.now) (left c.read_turn.new.input) came × Uses b (place_of mid) (mid.kept_bytes ++ came) (IsBeforeTurn c.read_turn.result c.read_turn.new.written new)
+    × (length came + room_of new ≤ room_of mid + beyond_turn c.read_turn.result))
     c.from_kept.ensures.same.0 c.read_turn.ensures.used in
     came-uses (left c.args.input.now) (left c.args.input.now) (left c.read_turn.new.input) (buses_of old) (place_of old) (place_of mid) old.kept_bytes mid.kept_bytes (IsBeforeTurn c.read_turn.result c.read_turn.new.written new)
-    ([], Took-none (left c.args.input.now), subst (λ (b : List ℕ). Passes (buses_of old) (place_of old) b (place_of mid) mid.kept_bytes) (sym (append-nil old.kept_bytes)) passes) read
+    (room_of old) (room_of mid) (room_of new) (beyond_turn c.read_turn.result)
+    ([], Took-none (left c.args.input.now), subst (λ (b : List ℕ). Passes (buses_of old) (place_of old) b (place_of mid) mid.kept_bytes) (sym (append-nil old.kept_bytes)) passes, omega (arith, c.from_kept.ensures.same.1)) read
