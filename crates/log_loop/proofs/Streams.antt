@@ -8,8 +8,8 @@ use Rattle.cy_outside.specs.Written.{behind, Begins}
 use Rattle.frame_log.specs.Input.{Took}
 use Rattle.frame_log.specs.Line.{cut}
 use Rattle.frame_log.specs.Log.{Log, Place, Given, Skip, Take, Refuse, followed, given, lines_of, log_of_lines, with_byte, start}
-use Rattle.frame_log.specs.Reader.{buses_of, place_of, kept_bytes_of, saw_end}
-use Rattle.frame_log.specs.Used.{Passes, Gives, Uses, IsBefore}
+use Rattle.frame_log.specs.Reader.{buses_of, place_of, kept_bytes_of, room_of, saw_end}
+use Rattle.frame_log.specs.Used.{Passes, Gives, Uses, IsBefore, beyond}
 use Rattle.frame_log.specs.declared.error.LogError.{LogError}
 use Rattle.frame_log.specs.declared.error.LogError.TheVariants as error
 use Rattle.frame_log.specs.declared.reader.LogReader.{LogReader}
@@ -188,9 +188,20 @@ pub record Used (names : List (List ℕ)) (taken : List ℕ) (reader : LogReader
 pub record Streams {E : Type 0} (names : List (List ℕ)) (v : Voice E) (told left : Option (List ℕ)) (reader : LogReader) (past : List E) (before after : Option (List ℕ)) : Type 0 where
   pub taken : List ℕ
   pub took : Took told left taken
+  pub few : length taken + room_of reader ≤ 2 ^ 28
   pub buses : buses_of reader ≡ names
   pub used : saw_end reader ≡ false → Used names taken reader (map v.record_of past)
   pub far : AllFar names v taken past before after
+
+-- one byte at most is taken beyond the room
+one_beyond : (answer : Result (Option Record) LogError) → beyond answer ≤ 1
+one_beyond (Ok answer) = omega arith
+one_beyond (Err (error.BadLine n)) = omega arith
+one_beyond (Err (error.TimeBack n)) = omega arith
+one_beyond (Err (error.UnknownBus n)) = omega arith
+one_beyond (Err (error.TooFar n)) = omega arith
+one_beyond (Err error.LogLong) = omega arith
+one_beyond (Err error.Failed) = omega arith
 
 -- no bytes have such a front
 pub no_front : (front more : List ℕ) → [] ≡ front ++ more → 8192 < length more → ⊥
@@ -199,10 +210,11 @@ no_front front more e long =
     let sum : length (front ++ more) ≡ length front + length more = length-append front more in omega arith
 
 -- at the start nothing was taken
-pub streams_none : {E : Type 0} (names : List (List ℕ)) (v : Voice E) (left : Option (List ℕ)) (reader : LogReader) (before : Option (List ℕ)) → (buses_of reader ≡ names) × (place_of reader ≡ start) × (kept_bytes_of reader ≡ []) → Streams names v left left reader [] before before
-streams_none names v left reader before h = record {
+pub streams_none : {E : Type 0} (names : List (List ℕ)) (v : Voice E) (left : Option (List ℕ)) (reader : LogReader) (before : Option (List ℕ)) → (buses_of reader ≡ names) × (place_of reader ≡ start) × (kept_bytes_of reader ≡ []) → room_of reader ≤ 2 ^ 28 → Streams names v left left reader [] before before
+streams_none names v left reader before h room = record {
   taken = [];
   took = Took-none left;
+  few = omega (arith, room);
   buses = h.0;
   used = λ e. record { used = []; parts = sym h.2; whole = record { whole = refl; leads = λ refusal ls. ap (log_of_lines names refusal ls) (sym h.1) } };
   far = λ front more e long. absurd (no_front front more e long);
@@ -288,6 +300,7 @@ module _ {E : Type 0} (names : List (List ℕ)) (v : Voice E) (told left next_le
   streams_next rec event is s c still buses g w = record {
     taken = s.taken ++ c.came;
     took = took_more told left next_left s.taken c.came s.took c.took;
+    few = omega (arith, length-append s.taken c.came, s.few, c.few);
     buses = buses ∙ s.buses;
     used = λ e. subst (λ (r : Record). Used names (s.taken ++ c.came) new (r ∷ records)) (sym is) (used_next (still e) e);
     far = λ front more e long. far_next names v front past event before after (far_comes (Ok (Some rec)) s c g w front more e long);
@@ -347,10 +360,11 @@ module _ {E : Type 0} (names : List (List ℕ)) (v : Voice E) (s : Stages E) (ev
     hears = record { newer = f.newer; first = subst (FirstOf events) f.parts first; hears = subst (HeardOrEnded s) f.parts k };
   }
 
-  streamed : (stat : Ended) → FirstOf events past → Took told left taken → ((stat ≡ end.NoMemory → ⊥) → HeardOrEnded s past) → AllFar names v taken past before after → IsStreamed names v s events told left stat before after
-  streamed stat first t k far = record {
+  streamed : (stat : Ended) → FirstOf events past → Took told left taken → length taken ≤ 2 ^ 28 + 1 → ((stat ≡ end.NoMemory → ⊥) → HeardOrEnded s past) → AllFar names v taken past before after → IsStreamed names v s events told left stat before after
+  streamed stat first t few k far = record {
     taken = taken;
     took = t;
+    few = few;
     written = λ front more e long. has_said first front (far front more e long);
     hears = λ n front more e long. hears_bytes first (k n) front (far front more e long);
   }
@@ -360,6 +374,7 @@ pub streamed_none : {E : Type 0} (names : List (List ℕ)) (v : Voice E) (s : St
 streamed_none names v s events left stat before after = record {
   taken = [];
   took = Took-none left;
+  few = omega arith;
   written = λ front more e long. absurd (no_front front more e long);
   hears = λ n front more e long. absurd (no_front front more e long);
 }
@@ -375,25 +390,28 @@ module _ {E : Type 0} (names : List (List ℕ)) (v : Voice E) (stages : Stages E
   took_given : (answer : Result (Option Record) LogError) → (s : Streams names v told left old past before mid) → (c : Comes old new left next_left rest answer) → Took told next_left (s.taken ++ c.came)
   took_given answer s c = took_more told left next_left s.taken c.came s.took c.took
 
+  few_given : (answer : Result (Option Record) LogError) → (s : Streams names v told left old past before mid) → (c : Comes old new left next_left rest answer) → length (s.taken ++ c.came) ≤ 2 ^ 28 + 1
+  few_given answer s c = omega (arith, length-append s.taken c.came, s.few, c.few, one_beyond answer)
+
   pub streamed_stopped : (halt : Stop) → Streams names v told left old past before mid → ComesBehind old new left next_left rest (Err halt) → stages.heard past → Gathered all_text gathered before mid → Writes gathered rest mid after (Err halt)
       → (events : List E) → FirstOf events past → IsStreamed names v stages events told next_left (stopped halt) before after
   streamed_stopped (stop.Log error) s c k g w events first =
-      streamed names v stages events past told next_left (s.taken ++ c.came) before after (stopped (stop.Log error)) first (took_given (Err error) s c) (λ n. inl k) (far_given (Err error) s c g w.0)
+      streamed names v stages events past told next_left (s.taken ++ c.came) before after (stopped (stop.Log error)) first (took_given (Err error) s c) (few_given (Err error) s c) (λ n. inl k) (far_given (Err error) s c g w.0)
   streamed_stopped stop.Write s c k g w events first =
-      streamed names v stages events past told next_left s.taken before after end.WriteFault first (subst (λ (o : Option (List ℕ)). Took told o s.taken) (sym c) s.took) (λ n. inl k)
+      streamed names v stages events past told next_left s.taken before after end.WriteFault first (subst (λ (o : Option (List ℕ)). Took told o s.taken) (sym c) s.took) (omega (arith, s.few)) (λ n. inl k)
       (λ front more e long. far_later names v front past before mid after (s.far front more e long) (grew_begins gathered mid after w))
 
   pub streamed_wanting : (rec : Record) (event : E) → Streams names v told left old past before mid → Comes old new left next_left rest (Ok (Some rec)) → Gathered all_text gathered before mid → Gathered gathered rest mid after
       → (events : List E) → FirstOf events (event ∷ past) → IsStreamed names v stages events told next_left end.NoMemory before after
   streamed_wanting rec event s c g w events first =
-      streamed names v stages events past told next_left (s.taken ++ c.came) before after end.NoMemory (first_of events (event ∷ past) (event ∷ []) past first refl) (took_given (Ok (Some rec)) s c) (λ n. absurd (n refl))
+      streamed names v stages events past told next_left (s.taken ++ c.came) before after end.NoMemory (first_of events (event ∷ past) (event ∷ []) past first refl) (took_given (Ok (Some rec)) s c) (few_given (Ok (Some rec)) s c) (λ n. absurd (n refl))
       (far_given (Ok (Some rec)) s c g w)
 
   pub streamed_finished : (stat : Ended) (last : Option (List ℕ)) (tail : List ℕ) → Streams names v told left old past before mid → Comes old new left next_left rest (Ok None) → (stat ≢ end.NoMemory → stages.ended past) → Gathered all_text gathered before mid
       → Gathered gathered rest mid after → IsFinish stat → (stat ≡ end.Ok → last ≡ behind after tail) → (stat ≡ end.WriteFault → Begins tail after last) → (stat ≡ end.NoMemory → last ≡ after)
       → (events : List E) → FirstOf events past → IsStreamed names v stages events told next_left stat before last
   streamed_finished stat last tail s c k g w f ok write memory events first =
-      streamed names v stages events past told next_left (s.taken ++ c.came) before last stat first (took_given (Ok None) s c) (λ n. inr (k n))
+      streamed names v stages events past told next_left (s.taken ++ c.came) before last stat first (took_given (Ok None) s c) (few_given (Ok None) s c) (λ n. inr (k n))
       (λ front more e long. far_later names v front past before after last (far_given (Ok None) s c g w front more e long) (grew_last stat f ok write memory))
     where
       grew_last : (stat : Ended) → IsFinish stat → (stat ≡ end.Ok → last ≡ behind after tail) → (stat ≡ end.WriteFault → Begins tail after last) → (stat ≡ end.NoMemory → last ≡ after) → Grew after last

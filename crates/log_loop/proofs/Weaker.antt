@@ -41,7 +41,7 @@ module _ {E : Type 0} (names : List (List ℕ)) (v : Voice E) (s : Stages E) (ev
   hears_bytes bytes h = record { came = h.came; are = h.are; hears = record { newer = h.hears.newer; first = h.hears.first; hears = inl tt } }
 
   streamed : (told new : Option (List ℕ)) (how : Ended) → IsStreamed names v s events told new how before after → IsStreamed names v (any_stages E) events told new how before after
-  streamed told new how t = record { taken = t.taken; took = t.took; written = t.written; hears = λ n front more e long. hears_bytes front (t.hears n front more e long) }
+  streamed told new how t = record { taken = t.taken; took = t.took; few = t.few; written = t.written; hears = λ n front more e long. hears_bytes front (t.hears n front more e long) }
 
 pub has_listened : {E : Type 0} (names : List (List ℕ)) (v : Voice E) (s : Stages E) (told new : Option (List ℕ)) (how : Ended) (before after : Option (List ℕ)) → HasListened names v s told new how before after
     → HasListened names v (any_stages E) told new how before after

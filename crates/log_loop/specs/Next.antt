@@ -1,13 +1,13 @@
 -- What a call for the next record does to the reader, the input, and what is gathered and written.
-use Rattle.std.specs.Prelude.{◌≡◌, ◌<◌, ◌++◌, ◌⊎◌, ℕ, Bool, true, false, List, [], Option, Some}
-use Rattle.std.specs.Prelude.{None, Result, Ok, Err, ⊤}
+use Rattle.std.specs.Prelude.{◌≡◌, ◌<◌, ◌≤◌, ◌+◌, ◌++◌, ◌⊎◌, ℕ, Bool, true, false, List, []}
+use Rattle.std.specs.Prelude.{Option, Some, None, Result, Ok, Err, length, ⊤}
 use Rattle.tail_frame.specs.declared.logged.Record.{Record}
 use Rattle.cy_outside.specs.Outside.{Rose}
 use Rattle.cy_outside.specs.Written.{Begins}
 use Rattle.frame_log.specs.Input.{Took}
-use Rattle.frame_log.specs.Reader.{buses_of, place_of, kept_bytes_of, bytes_left, saw_end}
+use Rattle.frame_log.specs.Reader.{buses_of, place_of, kept_bytes_of, bytes_left, room_of, saw_end}
 use Rattle.frame_log.specs.Reader.{settled_answer, log_behind, IsNext}
-use Rattle.frame_log.specs.Used.{Uses, IsBefore}
+use Rattle.frame_log.specs.Used.{Uses, IsBefore, beyond}
 use Rattle.frame_log.specs.declared.error.LogError.{LogError}
 use Rattle.frame_log.specs.declared.error.LogError.TheVariants as error
 use Rattle.frame_log.specs.declared.reader.LogReader.{LogReader}
@@ -37,7 +37,8 @@ GoesOn old new before after (Ok answer) = Goes old new before after (Ok answer)
 GoesOn old new before after (Err (stop.Log error)) = Goes old new before after (Err error)
 GoesOn old new before after (Err stop.Write) = ⊤
 
--- bytes came only where nothing was gathered any more, and all but the last 8,192 at most were used
+-- Bytes came only where nothing was gathered any more, and are taken off the room. All but the
+-- last 8,192 at most were used.
 pub record Comes (old new : LogReader) (before after : Option (List ℕ)) (gathered : List ℕ)
     (answer : Result (Option Record) LogError) : Type 0 where
   pub came : List ℕ
@@ -45,6 +46,7 @@ pub record Comes (old new : LogReader) (before after : Option (List ℕ)) (gathe
   pub ended : saw_end old ≡ true → came ≡ []
   pub flushed : (came ≡ []) ⊎ (gathered ≡ [])
   pub used : saw_end old ≡ false → Uses (buses_of old) (place_of old) (kept_bytes_of old ++ came) (IsBefore answer new)
+  pub few : length came + room_of new ≤ room_of old + beyond answer
 
 -- the same; where the output failed, nothing came
 abbrev pub ComesBehind : LogReader → LogReader → Option (List ℕ) → Option (List ℕ) → List ℕ

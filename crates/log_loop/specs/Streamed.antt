@@ -1,5 +1,5 @@
 -- How far the input was taken before what is said on what it gave was written.
-use Rattle.std.specs.Prelude.{◌≡◌, ◌<◌, ◌++◌, ℕ, List, Option, length}
+use Rattle.std.specs.Prelude.{◌≡◌, ◌<◌, ◌≤◌, ◌+◌, ◌^◌, ◌++◌, ℕ, List, Option, length}
 use Rattle.cy_outside.specs.Written.{behind}
 use Rattle.frame_log.specs.Input.{Took}
 use Rattle.log_loop.specs.Gone.{FirstOf, Stages, HeardOrEnded}
@@ -33,13 +33,14 @@ pub record HearsBytes {E : Type 0} (names : List (List ℕ)) (v : Voice E) (s : 
   pub are : AreOfBytes names v events bytes came
   pub hears : IsHeard s events came
 
--- However it ended: of each front of the bytes that were taken, behind which more than 8,192 bytes
--- were taken, no line is refused, and what is said is written. Its events were heard too, unless
--- memory was wanting.
+-- However it ended: at most 2 ^ 28 bytes and one more are taken. Of each front of the bytes that
+-- were taken, behind which more than 8,192 bytes were taken, no line is refused, and what is said
+-- is written. Its events were heard too, unless memory was wanting.
 pub record IsStreamed {E : Type 0} (names : List (List ℕ)) (v : Voice E) (s : Stages E) (events : List E)
     (left new : Option (List ℕ)) (how : Ended) (before after : Option (List ℕ)) : Type 0 where
   pub taken : List ℕ
   pub took : Took left new taken
+  pub few : length taken ≤ 2 ^ 28 + 1
   pub written : (front more : List ℕ) → taken ≡ front ++ more → 8192 < length more
       → HasSaid names v events front before after
   pub hears : (how ≡ end.NoMemory → ⊥) → (front more : List ℕ) → taken ≡ front ++ more

@@ -22,13 +22,13 @@ returns-in-Ok-clause-log g c =
 
 pub returns-in-Ok-clause-came : goal.returns-in-Ok-clause-came
 returns-in-Ok-clause-came g c =
-    comes_kept c.args.reader.now c.next_kept_into.new.self (g.L.Source.left c.args.input.now) _ c.next_kept_into.new.written (rw c.in-Ok-true.field-0-test at c.in-Ok-true.ensures.used c.requires)
+    comes_kept c.args.reader.now c.next_kept_into.new.self (g.L.Source.left c.args.input.now) _ c.next_kept_into.new.written (rw c.in-Ok-true.field-0-test at c.in-Ok-true.ensures.used c.requires) c.next_kept_into.ensures.room
 
 pub returns-in-Ok-false-clause-came : goal.returns-in-Ok-false-clause-came
 returns-in-Ok-false-clause-came g c =
     let left = g.L.Source.left in
     comes_later c.args.reader.now c.next_kept_into.new.self c.next_read.new.reader (left c.args.input.now) (left c.next_read.new.input) _ (handed c.next_read.new.written c.next_read.result)
-    (rw c.in-Ok-false.field-0-test at c.in-Ok-false.ensures.used c.requires) c.next_kept_into.ensures.same c.next_kept_into.ensures.end c.next_read.ensures.came
+    (rw c.in-Ok-false.field-0-test at c.in-Ok-false.ensures.used c.requires) c.next_kept_into.ensures.same c.next_kept_into.ensures.end c.next_kept_into.ensures.room c.next_read.ensures.came
 
 pub returns-in-Ok-flush-clause-log : goal.returns-in-Ok-flush-clause-log
 returns-in-Ok-flush-clause-log g c =
@@ -36,4 +36,4 @@ returns-in-Ok-flush-clause-log g c =
 
 pub returns-in-Ok-flush-clause-came : goal.returns-in-Ok-flush-clause-came
 returns-in-Ok-flush-clause-came g c =
-    comes_refused c.args.reader.now c.next_kept_into.new.self (g.L.Source.left c.args.input.now) _ c.in-Err.error (λ e. c.in-Err.ensures.input c.requires (ap Err e)) (c.in-Err.ensures.used c.requires)
+    comes_refused c.args.reader.now c.next_kept_into.new.self (g.L.Source.left c.args.input.now) _ c.in-Err.error (λ e. c.in-Err.ensures.input c.requires (ap Err e)) (c.in-Err.ensures.used c.requires) c.next_kept_into.ensures.room
