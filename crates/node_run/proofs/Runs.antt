@@ -274,6 +274,7 @@ module _ (form : Form) (told : Option Files) (plan : Plan) (before : Option (Lis
   has_streamed events refusal left new how before_text after may g x = record {
     taken = x.taken;
     took = x.took;
+    few = x.few;
     written = λ front more same long.
         let w = x.written front more same long in
         held_in form told plan (status_of how) w.came _ (may_first voice events w.came w.are.first may)

@@ -1,5 +1,5 @@
 -- How far a run took its input.
-use Rattle.std.proofs.Common.{ℕ, List, [], Option}
+use Rattle.std.proofs.Common.{ℕ, List, [], Option, arith}
 use Rattle.frame_log.proofs.LogLemmas.{Took-none}
 use Rattle.log_loop.proofs.Streams.{no_front}
 use Rattle.node_plan.specs.declared.plan.Plan.{Plan}
@@ -20,6 +20,7 @@ pub streamed_none : (form : Form) (plan : Plan) (mets : List Met) (left before :
 streamed_none form plan mets left before stat r = record {
   taken = [];
   took = Took-none left;
+  few = omega arith;
   written = λ front more e long. held_any form stat _ (absurd (no_front front more e long));
   reported = λ n front more e long. absurd (no_front front more e long);
 }

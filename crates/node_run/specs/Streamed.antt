@@ -1,5 +1,5 @@
 -- How far the input was taken before the lines on what it gave were written.
-use Rattle.std.specs.Prelude.{◌≡◌, ◌<◌, ◌⊎◌, ◌++◌, ℕ, List, Option, length}
+use Rattle.std.specs.Prelude.{◌≡◌, ◌<◌, ◌≤◌, ◌+◌, ◌^◌, ◌⊎◌, ◌++◌, ℕ, List, Option, length}
 use Rattle.frame_log.specs.Input.{Took}
 use Rattle.log_loop.specs.Gone.{FirstOf}
 use Rattle.log_loop.specs.Streamed.{HasWritten}
@@ -54,12 +54,14 @@ pub record ReportsBytes (plan : Plan) (mets : List Met) (r : Reported)
   pub first : FirstOf mets (newer ++ came)
   pub reported : IsReported plan (steps plan (newer ++ came)) r
 
--- However a run ended: of each front of the bytes that it took, behind which it took more than
--- 8,192 bytes, the lines are written. They are reported and counted too, unless memory was wanting.
+-- However a run ended: it took at most 2 ^ 28 bytes and one more. Of each front of the bytes that it
+-- took, behind which it took more than 8,192 bytes, the lines are written. They are reported and
+-- counted too, unless memory was wanting.
 pub record IsStreamed (form : Form) (plan : Plan) (mets : List Met) (flow : Flow) (stat : Status)
     (r : Reported) : Type 0 where
   pub taken : List ℕ
   pub took : Took flow.left flow.new taken
+  pub few : length taken ≤ 2 ^ 28 + 1
   pub written : (front more : List ℕ) → taken ≡ front ++ more → 8192 < length more
       → Holds form stat (WritesBytes form plan mets flow front)
   pub reported : (stat ≡ status.NoMemory → ⊥) → (front more : List ℕ) → taken ≡ front ++ more
