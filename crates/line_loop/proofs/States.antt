@@ -9,11 +9,12 @@ use Rattle.cy_outside.specs.Written.{behind, Begins}
 use Rattle.memchr.specs.Find.{IsFirstByte, is_byte}
 use Rattle.gathered_text.specs.Gathered.{Gathered}
 use Rattle.line_loop.specs.Gone.{AreFirst, Begun, Gone, HasGone}
+use Rattle.line_loop.specs.Heard.{Met}
 use Rattle.line_loop.specs.Input.{IsTaken, Took, IsEnd}
 use Rattle.line_loop.specs.Lines.{Lines, lines_of, last_line, with_last}
 use Rattle.line_loop.specs.Reply.{Voice, Answers, AreAnswered, AreEnded, IsReply, heard_lines, end_of}
 use Rattle.line_loop.specs.Steps.{Answered, Goes, IsBroken, IsCut, IsRefused, Stops, IsOverlong, IsLastReply, EndsBy, in_front}
-use Rattle.line_loop.specs.Streamed.{HasAnswered, IsStreamed}
+use Rattle.line_loop.specs.Streamed.{HasAnswered, HasHeardTaken, IsStreamed}
 use Rattle.line_loop.specs.declared.ended.LinesEnded.{LinesEnded}
 use Rattle.line_loop.specs.declared.ended.LinesEnded.TheVariants as end
 use Rattle.line_loop.proofs.Hearing.{FirstAnswers, onto_append, are_append, are_first, answered_none, answered_more, answered_behind}
@@ -320,6 +321,17 @@ calm_failed v left mid now past held room before after c e =
       written = c.written;
     })
     (streams_end v left mid past held room before after c))
+
+-- the listener then
+pub failed_heard : {R S : Type 0} (v : Voice R) (met : Met S) (first listener : S) (left mid now : Option (List ℕ)) (past : List (List ℕ)) (held : List ℕ) (room : ℕ) (before after : Option (List ℕ))
+    → Calm v left mid past held room before after → now ≡ mid → met first listener past → HasHeardTaken met first listener left now
+failed_heard v met first listener left mid now past held room before after c e h =
+    let lines = calm_lines v left mid past held room before after c in
+    subst (λ (o : Option (List ℕ)). HasHeardTaken met first listener left o) (sym e) (record {
+      taken = c.taken;
+      took = c.took;
+      heard = subst (met first listener) (c.answered.all ∙ sym (ap (λ (l : Lines). reverse_aux l.ended []) lines)) h;
+    })
 
 take_all : (n : ℕ) (s t : List ℕ) → length s ≡ n → take n (s ++ t) ≡ s
 take_all n s t e = grind (arith, common_steps)

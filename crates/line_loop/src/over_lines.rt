@@ -6,7 +6,7 @@ ghost use Rattle.line_loop.specs.Gone.{HasGone};
 ghost use Rattle.line_loop.specs.Reader.{held_of, count_of, left_of};
 ghost use Rattle.line_loop.specs.Reply.{voices, IsReply, HasOneAnswer};
 ghost use Rattle.line_loop.specs.Steps.{Comes, EndsBy, Goes, IsOverlong, IsWhole, Stays, Stops};
-ghost use Rattle.line_loop.specs.Streamed.{IsStreamed};
+ghost use Rattle.line_loop.specs.Streamed.{HasHeardTaken, IsStreamed};
 
 use crate::answer::{answer, close, ended_by, refuse};
 use crate::reader::{Came, LineReader};
@@ -23,6 +23,8 @@ use std::alloc::Global;
 /// Lines end with a newline, which the last may lack; a newline at the end begins none. A line with
 /// more bytes than `bounds.line` is refused. Where the input has more than `bounds.all` bytes, the
 /// lines whose newline is among these are answered before it is refused.
+///
+/// Where the input fails, the listener has heard exactly the lines whose newline was taken.
 pub fn listen_lines<M: LineListener, L: Source, O: Sink>(
     alloc: Global,
     listener: &mut M,
@@ -36,6 +38,8 @@ pub fn listen_lines<M: LineListener, L: Source, O: Sink>(
         (O.written out.new) }
     ensures streamed { let v = voices M.answers M.last M.long bounds listener.old in
         IsStreamed v (L.left input.old) (L.left input.new) (O.written out.old) (O.written out.new) }
+    ensures heard { result ≡ LinesEnded.ReadFault
+        → HasHeardTaken M.heard listener.old listener.new (L.left input.old) (L.left input.new) }
     ensures read { result ≡ LinesEnded.ReadFault → Rose (L.faults input.old) (L.faults input.new) }
     ensures write { result ≡ LinesEnded.WriteFault → Rose (O.faults out.old) (O.faults out.new) }
     ensures unread { result ≢ LinesEnded.ReadFault → L.faults input.new ≡ L.faults input.old }

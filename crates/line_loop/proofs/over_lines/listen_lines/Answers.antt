@@ -2,7 +2,7 @@ use Rattle.std.proofs.Common.{◌∙◌, ℕ, List, [], refl, sym, subst, arith}
 use Rattle.line_text.specs.Buffer.{text_of}
 use Rattle.line_loop.specs.Reader.{held_of, left_of}
 use Rattle.line_loop.specs.Reply.{voices}
-use Rattle.line_loop.proofs.States.{Open, open_start, open_stopped, settled, calm_bytes, calm_failed, calm_wanting, calm_over, calm_last_end}
+use Rattle.line_loop.proofs.States.{Open, open_start, open_stopped, settled, calm_bytes, calm_failed, failed_heard, calm_wanting, calm_over, calm_last_end}
 use Rattle.line_loop.proofs.over_lines.listen_lines.Goals as goal
 
 pub returns-in-Err-clause-gone : goal.returns-in-Err-clause-gone
@@ -54,6 +54,20 @@ returns-in-Failed-clause-streamed g c =
     let calm = settled v (left c.args.input.now) (left c.reads.input) i.state.past all.past (held_of old) (held_of new) (left_of old) (left_of new) (text_of c.reads.gathered) (text_of c.settle.new.gathered)
     (written c.args.out.now) (written c.reads.out) (written c.settle.new.out) i.state.goes i.none all.goes c.in_default.ensures.written c.in_default.ensures.none c.in_default.ensures.short c.settle.ensures.room in
     (calm_failed v (left c.args.input.now) (left c.reads.input) (left c.read.new.input) all.past (held_of new) (left_of new) (written c.args.out.now) (written c.settle.new.out) calm c.in-Failed.ensures.reads).streamed
+
+pub returns-in-Failed-clause-heard : goal.returns-in-Failed-clause-heard
+returns-in-Failed-clause-heard g c _ =
+    let i = c.reads.invariant in
+    let m = g.M.LineListener in
+    let v = voices m.answers m.last m.long c.args.bounds c.args.listener.now in
+    let left = g.L.Source.left in
+    let written = g.O.Sink.written in
+    let old = c.reads.reader in
+    let new = c.settle.new.reader in
+    let all = c.in_default.ensures.goes c.args.listener.now i.state.past i.state.hears in
+    let calm = settled v (left c.args.input.now) (left c.reads.input) i.state.past all.past (held_of old) (held_of new) (left_of old) (left_of new) (text_of c.reads.gathered) (text_of c.settle.new.gathered)
+    (written c.args.out.now) (written c.reads.out) (written c.settle.new.out) i.state.goes i.none all.goes c.in_default.ensures.written c.in_default.ensures.none c.in_default.ensures.short c.settle.ensures.room in
+    failed_heard v m.heard c.args.listener.now c.settle.new.listener (left c.args.input.now) (left c.reads.input) (left c.read.new.input) all.past (held_of new) (left_of new) (written c.args.out.now) (written c.settle.new.out) calm c.in-Failed.ensures.reads all.hears.heard
 
 pub returns-in-NoMemory-clause-gone : goal.returns-in-NoMemory-clause-gone
 returns-in-NoMemory-clause-gone g c =
