@@ -7,8 +7,8 @@ ghost use Rattle.register_service.specs.Kept.{AllowsBy, AreKept, AreRegisters, I
 ghost use Rattle.register_service.specs.RegisterMap.{IsAccess, access_reply, after_access, entry, is_alike, name_at, reply, takes};
 ghost use Rattle.register_service.specs.Within.{is_within, limits_of};
 
-use crate::values::{copy_value, count, is_text, variant};
-use cy_bits::NoMemory;
+use crate::values::{count, is_text, variant};
+use cy_bits::{NoMemory, TryCopy};
 use std::alloc::Global;
 use std_types::register::AccessReply;
 use std_types::register_value::RegisterValue;
@@ -49,9 +49,9 @@ pub fn access<G: Fn(u16, &RegisterValue) -> bool>(
     };
     let mutable = register.mutable;
     if !takes(guard, number, register, &value) {
-        return Ok(reply(mutable, copy_value(alloc, &register.value)?));
+        return Ok(reply(mutable, register.value.copy(alloc)?));
     }
-    let copy = copy_value(alloc, &value)?;
+    let copy = value.copy(alloc)?;
     list[number as usize].value = value;
     Ok(reply(mutable, copy))
 }

@@ -1,4 +1,4 @@
-//! What is asked of a register's value, and its copy.
+//! What is asked of a register's value, and copies of registers.
 ghost use Rattle.std.specs.Prelude.{◌≡◌, IfOk};
 ghost use Rattle.register_service.specs.Variants.{count, is_text, variant};
 
@@ -62,55 +62,13 @@ pub fn count(value: &RegisterValue) -> usize
     }
 }
 
-/// An equal list.
-fn copy_items<T: Copy>(alloc: Global, items: &List<T>) -> Result<List<T>, NoMemory>
-    ensures { IfOk result (λ l. l ≡ items.now) }
-{
-    Ok(List::new(Vec::from_slice(alloc, items.as_slice())?))
-}
-
-/// An equal value.
-pub fn copy_value(alloc: Global, value: &RegisterValue) -> Result<RegisterValue, NoMemory>
-    ensures { IfOk result (λ v. v ≡ value.now) }
-{
-    Ok(match value {
-        RegisterValue::Empty => RegisterValue::Empty,
-        RegisterValue::String(bytes) => RegisterValue::String(bytes.copy(alloc)?),
-        RegisterValue::Unstructured(bytes) => RegisterValue::Unstructured(bytes.copy(alloc)?),
-        RegisterValue::Bit(items) => RegisterValue::Bit(copy_items(alloc, items)?),
-        RegisterValue::Integer64(items) => RegisterValue::Integer64(copy_items(alloc, items)?),
-        RegisterValue::Integer32(items) => RegisterValue::Integer32(copy_items(alloc, items)?),
-        RegisterValue::Integer16(items) => RegisterValue::Integer16(copy_items(alloc, items)?),
-        RegisterValue::Integer8(items) => RegisterValue::Integer8(copy_items(alloc, items)?),
-        RegisterValue::Natural64(items) => RegisterValue::Natural64(copy_items(alloc, items)?),
-        RegisterValue::Natural32(items) => RegisterValue::Natural32(copy_items(alloc, items)?),
-        RegisterValue::Natural16(items) => RegisterValue::Natural16(copy_items(alloc, items)?),
-        RegisterValue::Natural8(items) => RegisterValue::Natural8(copy_items(alloc, items)?),
-        RegisterValue::Real64(items) => RegisterValue::Real64(copy_items(alloc, items)?),
-        RegisterValue::Real32(items) => RegisterValue::Real32(copy_items(alloc, items)?),
-        RegisterValue::Real16(items) => RegisterValue::Real16(copy_items(alloc, items)?),
-    })
-}
-
-/// An equal register.
-fn copy_register(alloc: Global, register: &Register) -> Result<Register, NoMemory>
-    ensures { IfOk result (λ r. r ≡ register.now) }
-{
-    Ok(Register {
-        name: register.name.copy(alloc)?,
-        mutable: register.mutable,
-        value: copy_value(alloc, &register.value)?,
-        limits: register.limits,
-    })
-}
-
 /// An equal list of registers.
 pub fn copy_registers(alloc: Global, registers: &[Register]) -> Result<List<Register>, NoMemory>
     ensures { IfOk result (λ l. l ≡ registers.now) }
 {
     let mut list = Vec::new(alloc);
     for register in registers {
-        list.push(copy_register(alloc, register)?)?;
+        list.push(register.copy(alloc)?)?;
     }
     Ok(List::new(list))
 }

@@ -5,7 +5,8 @@ use crate::held::{
     alone, bytes, bytes_value, number, number_value, numbers, numbers_value, part, structure,
     unique_id,
 };
-use cy_bits::{Bytes, List, NoMemory};
+use crate::register_value::copy_items;
+use cy_bits::{Bytes, List, NoMemory, TryCopy};
 use dsdl_types::Value;
 use std::alloc::Global;
 
@@ -73,6 +74,21 @@ pub struct NodeInfo {
     pub software_image_crc: List<u64>,
     /// A certificate, of at most 222 bytes.
     pub certificate_of_authenticity: Bytes,
+}
+
+impl TryCopy for NodeInfo {
+    fn copy(&self, alloc: Global) -> Result<NodeInfo, NoMemory> {
+        Ok(NodeInfo {
+            protocol_version: self.protocol_version,
+            hardware_version: self.hardware_version,
+            software_version: self.software_version,
+            software_vcs_revision_id: self.software_vcs_revision_id,
+            unique_id: self.unique_id,
+            name: self.name.copy(alloc)?,
+            software_image_crc: copy_items(alloc, &self.software_image_crc)?,
+            certificate_of_authenticity: self.certificate_of_authenticity.copy(alloc)?,
+        })
+    }
 }
 
 impl Standard for Health {

@@ -9,7 +9,7 @@ use crate::held::{
     byte_array, byte_array_value, float_array_value, floats, number_array_value, numbers, part,
     structure, truth_array_value, truths,
 };
-use cy_bits::{Boxed, Bytes, List, NoMemory};
+use cy_bits::{Boxed, Bytes, List, NoMemory, TryCopy};
 use dsdl_types::Value;
 use std::alloc::Global;
 
@@ -77,6 +77,35 @@ impl Standard for RegisterValue {
             _ => Ok(RegisterValue::Empty),
         }
     }
+}
+
+impl TryCopy for RegisterValue {
+    fn copy(&self, alloc: Global) -> Result<RegisterValue, NoMemory> {
+        Ok(match self {
+            RegisterValue::Empty => RegisterValue::Empty,
+            RegisterValue::String(bytes) => RegisterValue::String(bytes.copy(alloc)?),
+            RegisterValue::Unstructured(bytes) => RegisterValue::Unstructured(bytes.copy(alloc)?),
+            RegisterValue::Bit(items) => RegisterValue::Bit(copy_items(alloc, items)?),
+            RegisterValue::Integer64(items) => RegisterValue::Integer64(copy_items(alloc, items)?),
+            RegisterValue::Integer32(items) => RegisterValue::Integer32(copy_items(alloc, items)?),
+            RegisterValue::Integer16(items) => RegisterValue::Integer16(copy_items(alloc, items)?),
+            RegisterValue::Integer8(items) => RegisterValue::Integer8(copy_items(alloc, items)?),
+            RegisterValue::Natural64(items) => RegisterValue::Natural64(copy_items(alloc, items)?),
+            RegisterValue::Natural32(items) => RegisterValue::Natural32(copy_items(alloc, items)?),
+            RegisterValue::Natural16(items) => RegisterValue::Natural16(copy_items(alloc, items)?),
+            RegisterValue::Natural8(items) => RegisterValue::Natural8(copy_items(alloc, items)?),
+            RegisterValue::Real64(items) => RegisterValue::Real64(copy_items(alloc, items)?),
+            RegisterValue::Real32(items) => RegisterValue::Real32(copy_items(alloc, items)?),
+            RegisterValue::Real16(items) => RegisterValue::Real16(copy_items(alloc, items)?),
+        })
+    }
+}
+
+/// An equal list.
+pub fn copy_items<T: Copy>(alloc: Global, items: &List<T>) -> Result<List<T>, NoMemory>
+    ensures { IfOk result (λ l. l ≡ items.now) }
+{
+    Ok(List::new(Vec::from_slice(alloc, items.as_slice())?))
 }
 
 /// The tag of a variant, which is its number in the union.
