@@ -70,7 +70,7 @@ some_row (d ∷ ds) all =
     let (rest, are) = some_row ds (All-tail IsDefinition d ds all) in
     (own ++ rest, (own, rest, is, are, refl))
 
-some_order : (ds : List Definition) → IsByName ds (sort before ds)
+pub some_order : (ds : List Definition) → IsByName ds (sort before ds)
 some_order ds = record {
   same = sort_moves before ds;
   ascending = sort_sorts before before_ranks ds;

@@ -11,7 +11,7 @@ use Rattle.type_versions.specs.Pairs.{version_pairs}
 use Rattle.type_versions.specs.declared.versions.Versions.{Versions}
 use Rattle.type_versions.proofs.Loops.{all_newer}
 
-are_versions : (names : Namespace) (lines : List ℕ) (first : Verdict) (sorted : List Definition) (pairs : List (Definition × Definition)) → IsByName names.definitions sorted → pairs ≡ version_pairs sorted
+pub are_versions : (names : Namespace) (lines : List ℕ) (first : Verdict) (sorted : List Definition) (pairs : List (Definition × Definition)) → IsByName names.definitions sorted → pairs ≡ version_pairs sorted
     → lines ≡ flat_map pair_line pairs → first ≡ first_refusal (map pair_verdict pairs) → AreVersions names lines first
 are_versions names lines first sorted pairs order is told refused =
     let r : first ≡ first_refusal (map pair_verdict (version_pairs sorted)) = refused ∙ ap (λ ps. first_refusal (map pair_verdict ps)) is in

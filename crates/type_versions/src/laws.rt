@@ -1,4 +1,4 @@
-//! Laws of the versions of a namespace.
+//! Laws of the versions of a namespace: it has an answer on them, and one alone.
 ghost use Rattle.std.specs.Prelude.{◌≡◌, ◌↔◌, ℕ, List};
 ghost use Rattle.dsdl_names.specs.declared.TypeId.{TypeId};
 ghost use Rattle.dsdl_types.specs.declared.definition.Definition.{Definition};
@@ -8,6 +8,12 @@ ghost use Rattle.compat_check.specs.declared.verdict.Verdict.{Verdict};
 ghost use Rattle.type_versions.specs.Laws.{HasPair, IsVersionBefore};
 ghost use Rattle.type_versions.specs.Lines.{AreVersions};
 ghost use Rattle.type_versions.specs.Pairs.{version_pairs};
+
+/// A namespace has an answer on its versions, whatever its definitions are.
+pub fn some_answer()
+    ensures { (names : Namespace)
+        → (lines : List ℕ) × (first : Verdict) × AreVersions names lines first }
+{}
 
 /// A namespace has at most one answer on its versions.
 pub fn one_answer()
