@@ -7,7 +7,7 @@ use Rattle.std.proofs.Math.Dec.{eqb}
 use Rattle.std.specs.Float.{Float}
 use Rattle.value_json.specs.Floats.{IsNumberOf}
 use Rattle.value_json.specs.Pieces.{Adds, Begins, Exact, Number, Piece, Spells, exact}
-use Rattle.value_json.specs.Words.{following, lead, separated}
+use Rattle.value_json.specs.Words.{following, lead, rest_of}
 
 pub on_ok : {T E : Type 0} (r : Result T E) {A B : Type 0} → (A → B) → OnOk r A → OnOk r B
 on_ok (Ok x) f h = f h
@@ -63,11 +63,6 @@ pub towards_end : (whole : List Piece) (old now : List ℕ) → Towards whole []
 towards_end whole old now t = subst (λ x. Adds x old now) (sym (append-nil t.done) ∙ t.is) t.put
 
 -- ---- parts with a comma between each two
-
--- those that are left, where the next is the first of all or not
-abbrev pub rest_of : Bool → List (List Piece) → List Piece
-rest_of true texts = separated texts
-rest_of false texts = following texts
 
 pub rest_next : (b : Bool) (t : List Piece) (ts : List (List Piece)) → rest_of b (t ∷ ts) ≡ lead b ++ (t ++ following ts)
 rest_next true t ts = refl

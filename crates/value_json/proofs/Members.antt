@@ -19,8 +19,8 @@ use Rattle.value_text.proofs.Left.{fields_are, fixed_is, flds_end, flds_next, un
 use Rattle.value_text.specs.Texts.{are_bytes, is_uint8}
 use Rattle.value_json.specs.Json.{HasRawBits, array_json, bytes_of, field_members, json_of, simple_json, texts, variant_member}
 use Rattle.value_json.specs.Pieces.{Adds, Piece, exact}
-use Rattle.value_json.specs.Words.{bytes_json, in_braces, in_brackets, lead, member, separated}
-use Rattle.value_json.proofs.Adding.{Towards, adds_exact, on_ok, parts_end, parts_next, rest_of}
+use Rattle.value_json.specs.Words.{bytes_json, in_braces, in_brackets, lead, member, rest_of, separated}
+use Rattle.value_json.proofs.Adding.{Towards, adds_exact, on_ok, parts_end, parts_next}
 
 -- ---- items
 

@@ -14,6 +14,11 @@ abbrev pub separated : List (List Piece) → List Piece
 separated [] = []
 separated (text ∷ texts) = text ++ following texts
 
+-- texts that are left, of which the next is the first of all or not
+abbrev pub rest_of : Bool → List (List Piece) → List Piece
+rest_of true texts = separated texts
+rest_of false texts = following texts
+
 -- what is in front of a text, as the first one or a later one
 abbrev pub lead : Bool → List Piece
 lead true = []

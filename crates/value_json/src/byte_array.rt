@@ -116,7 +116,7 @@ fn are_printable(values: &[Value]) -> bool
 }
 
 /// Whether a byte is 20 to 7E hex.
-fn is_printable(byte: u8) -> bool
+pub fn is_printable(byte: u8) -> bool
     ensures { result ≡ (nat_le 32 byte && nat_le byte 126) }
 {
     byte >= 0x20 && byte <= 0x7e

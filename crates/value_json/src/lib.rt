@@ -9,4 +9,7 @@ mod simple;
 mod value;
 mod words;
 
+pub use byte_array::is_printable;
+pub use float::put_float;
 pub use value::put_value;
+pub use words::is_escaped;

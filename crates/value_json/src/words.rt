@@ -40,7 +40,7 @@ pub fn put_name(field: &Field, text: &mut TextBuffer) -> Result<(), NoMemory>
 }
 
 /// Whether a byte stands behind `\` in a string: `"` and `\`.
-fn is_escaped(byte: u8) -> bool
+pub fn is_escaped(byte: u8) -> bool
     ensures { result ≡ is_escaped byte }
 {
     byte == b'"' || byte == b'\\'

@@ -16,11 +16,11 @@ use Rattle.value_text.specs.Words.{hex_digits, in_brackets, separated}
 use Rattle.value_put.specs.Parts.{array_told}
 use Rattle.value_put.specs.Told.{AreBytes, Yes, told, after}
 
-abbrev bytes_vals : List ℕ → Vals
+abbrev pub bytes_vals : List ℕ → Vals
 bytes_vals [] = Empty
 bytes_vals (x ∷ xs) = More (Num (pos x)) (bytes_vals xs)
 
-are_all : (xs : List ℕ) → AreBytes xs → are_bytes (bytes_vals xs) ≡ true
+pub are_all : (xs : List ℕ) → AreBytes xs → are_bytes (bytes_vals xs) ≡ true
 are_all [] h = refl
 are_all (x ∷ xs) h = ap (λ b. b && are_bytes (bytes_vals xs)) (lt-ltb x 256 h.0) ∙ are_all xs h.1
 
@@ -39,7 +39,7 @@ bytes_text (x ∷ xs) h = ap (λ t. t ++ in_a_row byte_text (bytes_vals xs)) (by
 bits_front : (x : ℕ) (xs : List ℕ) (tail : List Bool) → bits (x ∷ xs) ++ tail ≡ bits_of 8 x ++ (bits xs ++ tail)
 bits_front x xs tail = simp append_assoc
 
-row_bytes : (c : Bool) (xs : List ℕ) (tail : List Bool) (i p : ℕ) → AreBytes xs →
+pub row_bytes : (c : Bool) (xs : List ℕ) (tail : List Bool) (i p : ℕ) → AreBytes xs →
     row (part (Simple (PUint 8 c))) (length xs) i p (bits xs ++ tail) ≡ Got (bytes_vals xs) (p + 8 * length xs) tail
 row_bytes c [] tail i p h = let e : p ≡ p + 8 * 0 = omega arith in ap (λ q. Got Empty q tail) e
 row_bytes c (x ∷ xs) tail i p h =

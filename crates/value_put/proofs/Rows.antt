@@ -42,7 +42,7 @@ told_brackets s n old front mid new p q x y other e inner f =
     ∙ ap (λ b. Yes (old ++ array_text b (λ v. value_text s v) r.value) q y) other
     ∙ ap (λ u. Yes u q y) (enclosed (codes "[") (codes "]") old front mid new (separated (texts (λ v. value_text s v) r.value)) e r.text f)
 
-later_index : (i : ℕ) → (suc i == 0) ≡ false
+pub later_index : (i : ℕ) → (suc i == 0) ≡ false
 later_index i = search rules
 
 -- one more item

@@ -8,7 +8,7 @@ mod byte_array;
 mod marks;
 mod name;
 mod own;
-mod parts;
+pub mod parts;
 mod primitive;
 mod stop;
 mod structure;
@@ -16,5 +16,7 @@ mod variant;
 mod word;
 
 pub use bits::Bits;
-pub use own::put_own;
+pub use marks::{ROOM, put_mark};
+pub use own::{go_to_begin, put_own};
+pub use primitive::{Primitive, Signed, Truth, Unsigned};
 pub use stop::Stop;

@@ -4,8 +4,8 @@ use Rattle.dsdl_types.specs.Views.{flds, sch, val, vals}
 use Rattle.line_text.specs.Buffer.{text_of}
 use Rattle.value_json.specs.Json.{field_members, json_of, texts, variant_member}
 use Rattle.value_json.specs.Pieces.{Begins}
-use Rattle.value_json.specs.Words.{separated}
-use Rattle.value_json.proofs.Adding.{Towards, rest_of}
+use Rattle.value_json.specs.Words.{rest_of, separated}
+use Rattle.value_json.proofs.Adding.{Towards}
 use Rattle.value_json.proofs.value.+json.Given as goal
 
 -- the fields so far were put, and others are left
