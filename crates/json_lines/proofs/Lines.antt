@@ -53,12 +53,24 @@ bad_put r buses rx s path why old new e f h =
     (adds_then (exact error) (exact line_end) (old ++ front) ((old ++ front) ++ error) new (adds_exact (old ++ front) ((old ++ front) ++ error) error refl)
     (adds_exact ((old ++ front) ++ error) new line_end (a ∙ simp append_assoc))))) h
 
+-- whose payload is read as a type
+pub typed_put : {T E : Type 0} (r : Result T E) (buses : List BusPlan) (rx : RxRef) (s : Sch) (old now front new : List ℕ) → port_type rx ≡ Some s → now ≡ old → front ≡ now ++ front_of buses rx →
+    OnOk r (Adds (reading_json (Some s) (reading_of (Some s) rx.payload.now) ++ exact line_end) front new) → OnOk r (Adds (line_json (type_in (lent.Rx rx)) buses (owned (lent.Rx rx))) old new)
+typed_put r buses rx s old now front new e same f h =
+    let reading = reading_of (Some s) rx.payload.now in
+    on_ok r (λ a. subst (λ ps. Adds ps old new) (sym (rx_line buses rx (Some s) reading e refl))
+    (adds_then (exact (front_of buses rx)) (reading_json (Some s) reading ++ exact line_end) old front new (adds_exact old front (front_of buses rx) (f ∙ ap (λ t. t ++ front_of buses rx) same)) a)) h
+
 -- the front, the member's name, and the rest
 pub valued_put : {T E : Type 0} (r : Result T E) (buses : List BusPlan) (rx : RxRef) (s : Sch) (v : Val) (old now front named new : List ℕ) → now ≡ old → front ≡ now ++ front_of buses rx → named ≡ front ++ 44 ∷ name_text (codes "value") →
     OnOk r (Adds (json_of s v ++ exact line_end) named new) → OnOk r (Adds (valued_json buses rx s v) old new)
 valued_put r buses rx s v old now front named new same f g h =
     on_ok r (λ a. adds_then (exact (front_of buses rx)) (Exact (44 ∷ name_text (codes "value")) ∷ (json_of s v ++ exact line_end)) old front new (adds_exact old front (front_of buses rx) (f ∙ ap (λ t. t ++ front_of buses rx) same))
     (adds_then (exact (44 ∷ name_text (codes "value"))) (json_of s v ++ exact line_end) front named new (adds_exact front named (44 ∷ name_text (codes "value")) g) a)) h
+
+-- a name between quotes, and a colon
+pub name_written : (comma name old a b new : List ℕ) → a ≡ old ++ (comma ++ codes "\"") → b ≡ a ++ name → new ≡ b ++ codes "\":" → new ≡ (old ++ comma) ++ name_text name
+name_written comma name old a b new e f g = g ∙ ap (λ t. t ++ codes "\":") (f ∙ ap (λ t. t ++ name) e) ∙ simp append_assoc
 
 -- four parts, one behind the other
 pub four_written : (w x y z old now a b c new : List ℕ) → now ≡ old → a ≡ now ++ w → b ≡ a ++ x → c ≡ b ++ y → new ≡ c ++ z → new ≡ old ++ (w ++ (x ++ (y ++ z)))

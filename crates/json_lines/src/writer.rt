@@ -6,12 +6,14 @@ ghost use Rattle.dsdl_types.specs.Views.{sch, val};
 ghost use Rattle.line_text.specs.Buffer.{Puts as PutsBytes, room_of, text_of};
 ghost use Rattle.value_json.specs.Pieces.{Begins, Puts, exact};
 ghost use Rattle.value_json.specs.Json.{json_of};
+ghost use Rattle.value_put.specs.Told.{Begins as Began};
 ghost use Rattle.json_lines.specs.Text.{end_json, line_end};
 
 use crate::members::{
     put_error, put_key, put_label, put_node, put_payload, put_place, put_received, put_transfer,
 };
 use crate::said::{Said, read_payload};
+use crate::typed_json::put_typed;
 use cy_bits::{NoMemory, ShortList};
 use dsdl_types::{ReadWhy, Schema, Value};
 use line_text::TextBuffer;
@@ -20,6 +22,7 @@ use node_plan::buses::copy_of;
 use report_lines::{CompiledShape, FullLine, LineRef, Numbers, Refused, RxRef, TxRef};
 use std::alloc::Global;
 use value_json::put_value;
+use value_put::Stop;
 
 /// The most bytes of a line besides those of its payload and of what that says.
 const LINE: usize = 512;
@@ -31,6 +34,8 @@ pub struct JsonWriter {
     alloc: Global,
     /// The buses whose names lines have.
     buses: ShortList<BusPlan, 3>,
+    /// The bytes of the last payload that was read, and some behind them that don't count.
+    bytes: TextBuffer,
 }
 
 #[tactic(auto, unfolding(crate::specs::Writer::writes_for))]
@@ -45,6 +50,7 @@ impl JsonWriter {
         JsonWriter {
             alloc,
             buses: copy_of(buses),
+            bytes: TextBuffer::new(alloc),
         }
     }
 
@@ -78,8 +84,9 @@ impl JsonWriter {
     }
 
     /// Appends the text of a transfer that was received.
-    fn push_rx(&self, text: &mut TextBuffer, rx: &RxRef<'_>) -> Result<(), NoMemory>
-        ensures ok { OnOk result (Writes self.now (LineRef.Rx rx.now) text.old text.new) }
+    fn push_rx(&mut self, text: &mut TextBuffer, rx: &RxRef<'_>) -> Result<(), NoMemory>
+        ensures buses { writes_for self.new ≡ writes_for self.old }
+        ensures ok { OnOk result (Writes self.old (LineRef.Rx rx.now) text.old text.new) }
         ensures err { OnErr result (text_of text.new ≡ text_of text.old) }
     {
         match rx.port_type {
@@ -103,6 +110,49 @@ impl JsonWriter {
 
     /// Appends the text of a transfer on a port with a type.
     fn push_typed(
+        &mut self,
+        text: &mut TextBuffer,
+        rx: &RxRef<'_>,
+        shape: &CompiledShape,
+    ) -> Result<(), NoMemory>
+        requires { port_type rx.now ≡ Some (sch shape.now.schema) }
+        ensures buses { writes_for self.new ≡ writes_for self.old }
+        ensures ok { OnOk result (Writes self.old (LineRef.Rx rx.now) text.old text.new) }
+        ensures err { OnErr result (text_of text.new ≡ text_of text.old) }
+    {
+        let start = text.len();
+        match self.push_at_once(text, rx, shape) {
+            Ok(()) => Ok(()),
+            Err(_) => {
+                text.cut(start);
+                self.push_by_value(text, rx, shape)
+            }
+        }
+    }
+
+    /// The same without a value. Where it stops, nothing is said of the payload, and some of the
+    /// text may be appended.
+    #[inline(always)]
+    fn push_at_once(
+        &mut self,
+        text: &mut TextBuffer,
+        rx: &RxRef<'_>,
+        shape: &CompiledShape,
+    ) -> Result<(), Stop>
+        requires { port_type rx.now ≡ Some (sch shape.now.schema) }
+        ensures buses { writes_for self.new ≡ writes_for self.old }
+        ensures put { OnOk result (Writes self.old (LineRef.Rx rx.now) text.old text.new) }
+        ensures front { Began (text_of text.old) (text_of text.new) }
+    {
+        reserve_for(text, rx.payload, &[])?;
+        self.put_front(text, rx);
+        put_typed(shape, rx.payload, &mut self.bytes, text)
+    }
+
+    /// The same by the value: it names the path and the cause where the payload can't be read.
+    #[cold]
+    #[inline(never)]
+    fn push_by_value(
         &self,
         text: &mut TextBuffer,
         rx: &RxRef<'_>,

@@ -4,7 +4,7 @@ use Rattle.line_text.specs.Buffer.{text_of}
 use Rattle.json_lines.specs.Said.{FitsSaid, reading_as}
 use Rattle.json_lines.specs.Writer.{refused_text, writes_for}
 use Rattle.json_lines.proofs.Lines.{bad_put, good_put}
-use Rattle.json_lines.proofs.writer.JsonWriter.push_typed.Goals as goal
+use Rattle.json_lines.proofs.writer.JsonWriter.push_by_value.Goals as goal
 
 pub push_good-requires : goal.push_good-requires
 push_good-requires c = subst (λ x. FitsSaid (sch c.args.shape.now.schema) x) c.in-Value.is c.in_ok-said.ensures.fits
