@@ -1,21 +1,16 @@
 -- No two lists of lines have one text.
-use Rattle.std.proofs.Common.{◌≡◌, ◌∙◌, inl, inr, ℕ, zero, suc, ◌+◌, ◌*◌, ◌/◌, ◌%◌, ◌<◌, ◌^◌, true, List, [], ◌∷◌, ◌++◌, length, get_or, Option, Some, None, Ok, refl, sym, ap, subst, arith}
+use Rattle.std.proofs.Common.{◌≡◌, ◌∙◌, inl, inr, ℕ, suc, ◌+◌, ◌*◌, ◌<◌, ◌^◌, true, List, [], ◌∷◌, ◌++◌, length, get_or, Option, Some, None, refl, sym, ap, arith}
 use Rattle.std.specs.Prelude.{decimal, codes, slice_index, nat_le}
 use Rattle.std.specs.List.{list_all}
 use Rattle.std.specs.Option.{ForSome}
-use Rattle.std.proofs.lemmas.Bool.{and_parts, true≢false, cases_order}
 use Rattle.std.proofs.lemmas.Fmt.{decimal_injective}
 use Rattle.std.proofs.lemmas.List.{append_cancel_left}
-use Rattle.std.proofs.lemmas.Option.{slice_get-get_or}
-use Rattle.hex.specs.Hex.{IsBytes, decode_of, encode_upper, encode_with, upper_digits}
-use Rattle.hex.proofs.HexLemmas.{length-encode_with, decode_of-encode_upper}
+use Rattle.hex.specs.Hex.{IsBytes, encode_upper, upper_digits}
+use Rattle.hex.proofs.HexLemmas.{length-encode_with}
 use Rattle.can_id.specs.declared.key.Key.{Key}
-use Rattle.can_id.specs.declared.key.Kind.{Kind}
-use Rattle.can_id.specs.declared.key.Kind.TheVariants.{Message, Request, Response}
-use Rattle.line_text.specs.Text.{digit, six_digits, moment_text, ident_text}
+use Rattle.line_text.specs.Text.{moment_text, ident_text}
 use Rattle.node_plan.specs.declared.plan.BusPlan.{BusPlan}
 use Rattle.node_plan.specs.declared.plan.Plan.{Plan}
-use Rattle.node_plan.specs.Names.{is_name_byte}
 use Rattle.report_lines.specs.declared.line.Line.{Line}
 use Rattle.report_lines.specs.declared.line.FullLine.{FullLine}
 use Rattle.report_lines.specs.declared.line.Line.TheVariants.{Rx, NoSession, Tx, Full}
@@ -23,116 +18,24 @@ use Rattle.report_lines.specs.declared.line.Refused.{Refused}
 use Rattle.report_lines.specs.declared.line.Rx.{Rx as Received}
 use Rattle.report_lines.specs.declared.line.Tx.{Tx as SentFrame}
 use Rattle.report_lines.specs.Readings.{reading_of}
-use Rattle.text_lines.specs.Text.{name_of, bus_text, kind_text, source_text, payload_text, reading_text, front_words, words_of, line_text, text}
+use Rattle.text_lines.specs.Text.{bus_text, kind_text, source_text, payload_text, reading_text, front_words, words_of, line_text, text}
 use Rattle.node_core.specs.Types.{type_on}
 use Rattle.session_lines.specs.OneReport.{AreNamed, IsKey, IsReceived, IsRefused, IsSentFrame, IsFullBus, IsLineOn, AreLinesOn, TextTellsLines}
-use Rattle.session_lines.proofs.Cuts.{unlike, Free, cut, free_append, IsEnd, AreWords, one_line, one_front, decimal_word, decimal_pointless, decimal_no_hyphen}
+use Rattle.session_lines.proofs.Cuts.{unlike, Free, IsEnd, AreWords, one_line, one_front, decimal_no_hyphen}
+use Rattle.session_lines.proofs.OneWord.{ArePlain, IsPlain, four, four_bytes, free_plain, one_bus, one_hex, one_ident, one_kind, one_moment, plain_bus, plain_bytes, plain_decimal, plain_hex, plain_kind, plain_moment}
 
--- ---- moments
+-- ---- words
 
-digit_word : (n : ℕ) → IsEnd (digit n) → ⊥
-digit_word n (inl e) = let k : 48 + n % 10 ≡ 32 = e in absurd (omega arith)
-digit_word n (inr e) = let k : 48 + n % 10 ≡ 10 = e in absurd (omega arith)
+plain_within : (c : ℕ) → IsPlain c → IsEnd c → ⊥
+plain_within c h (inl e) = absurd (omega (arith, h.0, e))
+plain_within c h (inr e) = absurd (omega (arith, h.0, e))
 
-six_word : (n : ℕ) → Free IsEnd (six_digits n)
-six_word n = (digit_word (n / 100000), (digit_word (n / 10000), (digit_word (n / 1000), (digit_word (n / 100), (digit_word (n / 10), (digit_word n, tt))))))
+word : (t : List ℕ) → ArePlain t → Free IsEnd t
+word = free_plain IsEnd plain_within
 
-moment_word : (m : ℕ) → m < 2 ^ 64 → Free IsEnd (moment_text m)
-moment_word m h = free_append IsEnd (decimal (m / 1000000)) (46 ∷ six_digits (m % 1000000)) (decimal_word (m / 1000000) (omega arith)) (point, six_word (m % 1000000))
-  where
-    point : IsEnd 46 → ⊥
-    point (inl e) = absurd (omega arith)
-    point (inr e) = absurd (omega arith)
-
--- a number by its quotient by ten and its last digit
-by_tens : (n m : ℕ) → n / 10 ≡ m / 10 → digit n ≡ digit m → n ≡ m
-by_tens n m e f = let k : 48 + n % 10 ≡ 48 + m % 10 = f in omega arith
-
-tenth : (n k : ℕ) → (n / 10) / 10 ≡ n / 100
-tenth n k = omega arith
-
-one_six : (n m : ℕ) → n < 1000000 → m < 1000000 → six_digits n ≡ six_digits m → n ≡ m
-one_six n m p q e =
-    let d5 : digit (n / 100000) ≡ digit (m / 100000) = cc in
-    let d4 : digit (n / 10000) ≡ digit (m / 10000) = cc in
-    let d3 : digit (n / 1000) ≡ digit (m / 1000) = cc in
-    let d2 : digit (n / 100) ≡ digit (m / 100) = cc in
-    let d1 : digit (n / 10) ≡ digit (m / 10) = cc in
-    let d0 : digit n ≡ digit m = cc in
-    let s5 : n / 100000 ≡ m / 100000 = by_tens (n / 100000) (m / 100000) (omega arith) d5 in
-    let s4 : n / 10000 ≡ m / 10000 = by_tens (n / 10000) (m / 10000) (omega (arith, s5)) d4 in
-    let s3 : n / 1000 ≡ m / 1000 = by_tens (n / 1000) (m / 1000) (omega (arith, s4)) d3 in
-    let s2 : n / 100 ≡ m / 100 = by_tens (n / 100) (m / 100) (omega (arith, s3)) d2 in
-    let s1 : n / 10 ≡ m / 10 = by_tens (n / 10) (m / 10) (omega (arith, s2)) d1 in
-    by_tens n m s1 d0
-
-one_moment : (m n : ℕ) → m < 2 ^ 64 → n < 2 ^ 64 → moment_text m ≡ moment_text n → m ≡ n
-one_moment m n p q e =
-    let s = cut (λ c. c ≡ 46) (decimal (m / 1000000)) (decimal (n / 1000000)) 46 46 (six_digits (m % 1000000)) (six_digits (n % 1000000))
-    (decimal_pointless (m / 1000000) (omega arith)) (decimal_pointless (n / 1000000) (omega arith)) refl refl e in
-    let high : m / 1000000 ≡ n / 1000000 = decimal_injective (m / 1000000) (n / 1000000) (omega arith) (omega arith) s.front in
-    let low : m % 1000000 ≡ n % 1000000 = one_six (m % 1000000) (n % 1000000) (omega arith) (omega arith) s.rest in
-    omega arith
-
--- ---- buses
-
-name_byte : (c : ℕ) → is_name_byte c ≡ true → IsEnd c → ⊥
-name_byte c h (inl e) = true≢false (sym h ∙ ap is_name_byte e)
-name_byte c h (inr e) = true≢false (sym h ∙ ap is_name_byte e)
-
-name_word : (name : List ℕ) → list_all is_name_byte name ≡ true → Free IsEnd name
-name_word [] h = tt
-name_word (c ∷ cs) h = let p = and_parts (is_name_byte c) (list_all is_name_byte cs) h in (name_byte c p.0, name_word cs p.1)
-
-abbrev no_bus : BusPlan
-no_bus = record { name = []; mtu = 0; rate = 0 }
-
-name_at : (buses : List BusPlan) (i : ℕ) → i < length buses → bus_text buses i ≡ (get_or buses i no_bus).name
-name_at buses i h = ap name_of (slice_get-get_or buses i no_bus h)
-
-bus_word : (buses : List BusPlan) (i : ℕ) → AreNamed buses → i < length buses → Free IsEnd (bus_text buses i)
-bus_word buses i named h =
-    let name = (get_or buses i no_bus).name in
-    let p = and_parts (nat_le (length name) 15) (list_all is_name_byte name) (named.names i no_bus h) in
-    subst (Free IsEnd) (sym (name_at buses i h)) (name_word name p.1)
-
-one_bus : (buses : List BusPlan) (i j : ℕ) → AreNamed buses → i < length buses → j < length buses → bus_text buses i ≡ bus_text buses j → i ≡ j
-one_bus buses i j named p q e =
-    let same : (get_or buses i no_bus).name ≡ (get_or buses j no_bus).name = sym (name_at buses i p) ∙ (e ∙ name_at buses j q) in
-    elim (cases_order i j) [
-      | inl is ↦ is
-      | inr (inl less) ↦ absurd (named.differ i j no_bus less q same)
-      | inr (inr more) ↦ absurd (named.differ j i no_bus more p (sym same))
-    ]
-
--- ---- ports, sources and payloads
-
-free_codes : (c : ℕ) → 33 < c → IsEnd c → ⊥
-free_codes c h (inl e) = absurd (omega arith)
-free_codes c h (inr e) = absurd (omega arith)
-
-kind_word : (kind : Kind) → Free IsEnd (kind_text kind)
-kind_word Message = (free_codes 109 (omega arith), (free_codes 115 (omega arith), (free_codes 103 (omega arith), tt)))
-kind_word Request = (free_codes 114 (omega arith), (free_codes 101 (omega arith), (free_codes 113 (omega arith), tt)))
-kind_word Response = (free_codes 114 (omega arith), (free_codes 101 (omega arith), (free_codes 115 (omega arith), tt)))
-
-one_kind : (a b : Kind) → kind_text a ≡ kind_text b → a ≡ b
-one_kind Message Message e = refl
-one_kind Message Request e = absurd (unlike 109 114 (inl (omega arith)) (ap (λ (t : List ℕ). slice_index t 0) e))
-one_kind Message Response e = absurd (unlike 109 114 (inl (omega arith)) (ap (λ (t : List ℕ). slice_index t 0) e))
-one_kind Request Message e = absurd (unlike 114 109 (inr (omega arith)) (ap (λ (t : List ℕ). slice_index t 0) e))
-one_kind Request Request e = refl
-one_kind Request Response e = absurd (unlike 113 115 (inl (omega arith)) (ap (λ (t : List ℕ). slice_index t 2) e))
-one_kind Response Message e = absurd (unlike 114 109 (inr (omega arith)) (ap (λ (t : List ℕ). slice_index t 0) e))
-one_kind Response Request e = absurd (unlike 115 113 (inr (omega arith)) (ap (λ (t : List ℕ). slice_index t 2) e))
-one_kind Response Response e = refl
-
-hyphen_word : Free IsEnd (codes "-")
-hyphen_word = (free_codes 45 (omega arith), tt)
-
-source_word : (source : Option ℕ) → ForSome source (λ s. s < 256) → Free IsEnd (source_text source)
-source_word None h = hyphen_word
-source_word (Some s) h = let l = h s refl in decimal_word s (omega arith)
+plain_source : (source : Option ℕ) → ArePlain (source_text source)
+plain_source None = plain_bytes (codes "-") refl refl
+plain_source (Some s) = plain_decimal s
 
 one_source : (a b : Option ℕ) → ForSome a (λ s. s < 256) → ForSome b (λ s. s < 256) → source_text a ≡ source_text b → a ≡ b
 one_source None None p q e = refl
@@ -142,35 +45,9 @@ one_source (Some a) (Some b) p q e =
     let l = p a refl in
     let r = q b refl in ap Some (decimal_injective a b (omega arith) (omega arith) e)
 
-digit_at : (t : List ℕ) (k : ℕ) → Free IsEnd t → IsEnd (slice_index t k) → ⊥
-digit_at [] k h (inl e) = absurd (unlike 0 32 (inl (omega arith)) e)
-digit_at [] k h (inr e) = absurd (unlike 0 10 (inl (omega arith)) e)
-digit_at (c ∷ t) zero h e = h.0 e
-digit_at (c ∷ t) (suc k) h e = digit_at t k h.1 e
-
-hex_free : (t bytes : List ℕ) → Free IsEnd t → Free IsEnd (encode_with t bytes)
-unfolding encode_with
-hex_free t [] h = tt
-hex_free t (b ∷ bytes) h = (digit_at t (b / 16) h, (digit_at t (b % 16) h, hex_free t bytes h))
-
-free_above : (t : List ℕ) → list_all (nat_le 34) t ≡ true → Free IsEnd t
-free_above [] h = tt
-free_above (c ∷ t) h = let p = and_parts (nat_le 34 c) (list_all (nat_le 34) t) h in (none c p.0, free_above t p.1)
-  where
-    none : (c : ℕ) → nat_le 34 c ≡ true → IsEnd c → ⊥
-    none c h (inl e) = true≢false (sym h ∙ ap (nat_le 34) e)
-    none c h (inr e) = true≢false (sym h ∙ ap (nat_le 34) e)
-
-hex_word : (bytes : List ℕ) → Free IsEnd (encode_upper bytes)
-hex_word bytes = hex_free upper_digits bytes (free_above upper_digits refl)
-
-one_hex : (a b : List ℕ) → IsBytes a → IsBytes b → encode_upper a ≡ encode_upper b → a ≡ b
-one_hex a b p q e =
-    let same : Ok a ≡ Ok b = sym (decode_of-encode_upper a p) ∙ (ap decode_of e ∙ decode_of-encode_upper b q) in cc
-
-payload_word : (bytes : List ℕ) → Free IsEnd (payload_text bytes)
-payload_word [] = hyphen_word
-payload_word (b ∷ bytes) = hex_word (b ∷ bytes)
+plain_payload : (bytes : List ℕ) → IsBytes bytes → ArePlain (payload_text bytes)
+plain_payload [] h = plain_bytes (codes "-") refl refl
+plain_payload (b ∷ bytes) h = plain_hex (b ∷ bytes) h
 
 one_payload : (a b : List ℕ) → IsBytes a → IsBytes b → payload_text a ≡ payload_text b → a ≡ b
 one_payload [] [] p q e = refl
@@ -192,28 +69,6 @@ one_key a b p q e f g =
 abbrev front_of : List BusPlan → Received → List (List ℕ)
 front_of buses rx = front_words buses rx ++ (payload_text rx.payload ∷ [])
 
--- ---- identifiers
-
--- the four bytes of an identifier, high first
-abbrev four : ℕ → List ℕ
-four n = n / 0x1000000 ∷ n / 0x10000 % 256 ∷ n / 256 % 256 ∷ n % 256 ∷ []
-
-four_bytes : (n : ℕ) → n < 2 ^ 32 → IsBytes (four n)
-four_bytes n h zero = let k : n / 0x1000000 < 256 = omega arith in k
-four_bytes n h (suc zero) = let k : n / 0x10000 % 256 < 256 = omega arith in k
-four_bytes n h (suc (suc zero)) = let k : n / 256 % 256 < 256 = omega arith in k
-four_bytes n h (suc (suc (suc zero))) = let k : n % 256 < 256 = omega arith in k
-four_bytes n h (suc (suc (suc (suc i)))) = let k : 0 < 256 = omega arith in k
-
-one_ident : (n m : ℕ) → n < 2 ^ 32 → m < 2 ^ 32 → ident_text n ≡ ident_text m → n ≡ m
-one_ident n m p q e =
-    let bytes : four n ≡ four m = one_hex (four n) (four m) (four_bytes n p) (four_bytes m q) e in
-    let b3 : n / 0x1000000 ≡ m / 0x1000000 = cc in
-    let b2 : n / 0x10000 % 256 ≡ m / 0x10000 % 256 = cc in
-    let b1 : n / 256 % 256 ≡ m / 256 % 256 = cc in
-    let b0 : n % 256 ≡ m % 256 = cc in
-    omega arith
-
 module _ (plan : Plan) (named : AreNamed plan.buses) where
   small : (n : ℕ) → n < 256 → n < 2 ^ 64
   small n h = omega arith
@@ -221,34 +76,31 @@ module _ (plan : Plan) (named : AreNamed plan.buses) where
   small_port : (n : ℕ) → n < 2 ^ 16 → n < 2 ^ 64
   small_port n h = omega arith
 
-  rx_word : Free IsEnd (codes "rx")
-  rx_word = (free_codes 114 (omega arith), (free_codes 120 (omega arith), tt))
-
-  nosession_word : Free IsEnd (codes "nosession")
-  nosession_word = free_above (codes "nosession") refl
+  constant : (t : List ℕ) → list_all (nat_le 45) t ≡ true → list_all (λ c. nat_le c 122) t ≡ true → Free IsEnd t
+  constant t h k = word t (plain_bytes t h k)
 
   front_are_words : (rx : Received) → IsReceived plan rx → AreWords (front_of plan.buses rx)
   front_are_words rx h = (
-    rx_word,
+    constant (codes "rx") refl refl,
     (
-      moment_word rx.moment h.moment,
+      word (moment_text rx.moment) (plain_moment rx.moment),
       (
-        bus_word plan.buses rx.bus named h.bus,
+        word (bus_text plan.buses rx.bus) (plain_bus plan.buses rx.bus named h.bus),
         (
-          kind_word rx.key.kind,
+          word (kind_text rx.key.kind) (plain_kind rx.key.kind),
           (
-            decimal_word rx.key.port (small_port rx.key.port h.key.port),
+            word (decimal rx.key.port) (plain_decimal rx.key.port),
             (
-              source_word rx.key.source h.key.source,
+              word (source_text rx.key.source) (plain_source rx.key.source),
               (
-                decimal_word rx.priority (small rx.priority h.priority),
+                word (decimal rx.priority) (plain_decimal rx.priority),
                 (
-                  decimal_word rx.tid (small rx.tid h.tid),
+                  word (decimal rx.tid) (plain_decimal rx.tid),
                   (
-                    decimal_word rx.first h.first,
+                    word (decimal rx.first) (plain_decimal rx.first),
                     (
-                      decimal_word rx.last h.last,
-                      (payload_word rx.payload, tt),
+                      word (decimal rx.last) (plain_decimal rx.last),
+                      (word (payload_text rx.payload) (plain_payload rx.payload h.payload), tt),
                     ),
                   ),
                 ),
@@ -262,18 +114,18 @@ module _ (plan : Plan) (named : AreNamed plan.buses) where
 
   refused_are_words : (r : Refused) → IsRefused plan r → AreWords (words_of plan.buses (NoSession r))
   refused_are_words r h = (
-    nosession_word,
+    constant (codes "nosession") refl refl,
     (
-      moment_word r.moment h.moment,
+      word (moment_text r.moment) (plain_moment r.moment),
       (
-        bus_word plan.buses r.bus named h.bus,
+        word (bus_text plan.buses r.bus) (plain_bus plan.buses r.bus named h.bus),
         (
-          kind_word r.key.kind,
+          word (kind_text r.key.kind) (plain_kind r.key.kind),
           (
-            decimal_word r.key.port (small_port r.key.port h.key.port),
+            word (decimal r.key.port) (plain_decimal r.key.port),
             (
-              source_word r.key.source h.key.source,
-              (decimal_word r.line h.line, tt),
+              word (source_text r.key.source) (plain_source r.key.source),
+              (word (decimal r.line) (plain_decimal r.line), tt),
             ),
           ),
         ),
@@ -283,26 +135,26 @@ module _ (plan : Plan) (named : AreNamed plan.buses) where
 
   tx_are_words : (tx : SentFrame) → IsSentFrame plan tx → AreWords (words_of plan.buses (Tx tx))
   tx_are_words tx h = (
-    free_above (codes "tx") refl,
+    constant (codes "tx") refl refl,
     (
-      moment_word tx.moment h.moment,
+      word (moment_text tx.moment) (plain_moment tx.moment),
       (
-        bus_word plan.buses tx.bus named h.bus,
-        (hex_word (four tx.ident), (hex_word tx.bytes, tt)),
+        word (bus_text plan.buses tx.bus) (plain_bus plan.buses tx.bus named h.bus),
+        (word (ident_text tx.ident) (plain_hex (four tx.ident) (four_bytes tx.ident h.ident)), (word (encode_upper tx.bytes) (plain_hex tx.bytes h.bytes), tt)),
       ),
     ),
   )
 
   full_are_words : (full : FullLine) → IsFullBus plan full → AreWords (words_of plan.buses (Full full))
   full_are_words full h = (
-    free_above (codes "full") refl,
+    constant (codes "full") refl refl,
     (
-      moment_word full.moment h.moment,
+      word (moment_text full.moment) (plain_moment full.moment),
       (
-        bus_word plan.buses full.bus named h.bus,
+        word (bus_text plan.buses full.bus) (plain_bus plan.buses full.bus named h.bus),
         (
-          decimal_word full.port (small_port full.port h.port),
-          (decimal_word full.needed h.needed, (decimal_word full.free h.free, tt)),
+          word (decimal full.port) (plain_decimal full.port),
+          (word (decimal full.needed) (plain_decimal full.needed), (word (decimal full.free) (plain_decimal full.free), tt)),
         ),
       ),
     ),

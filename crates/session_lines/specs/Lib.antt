@@ -3,3 +3,4 @@ pub mod Readings
 pub mod Values
 pub mod Example
 pub mod OneReport
+pub mod OneJson

@@ -1,6 +1,7 @@
 //! Laws of the lines of a session, each the contract of a call that does nothing.
 
 ghost use Rattle.session_lines.specs.Example.{ValuesExample};
+ghost use Rattle.session_lines.specs.OneJson.{JsonTellsLines};
 ghost use Rattle.session_lines.specs.OneReport.{TextTellsLines};
 ghost use Rattle.session_lines.specs.Readings.{LinesHaveReadings};
 ghost use Rattle.session_lines.specs.Reported.{EmptyingIsQuiet, Reported, StepsReportAll};
@@ -60,4 +61,10 @@ pub fn example()
 /// No two lists of lines of one plan have one text.
 pub fn text_tells_lines()
     ensures { TextTellsLines }
+{}
+
+/// No two lists of lines of one plan have one JSON text, whichever numbers their floats are written
+/// by.
+pub fn json_tells_lines()
+    ensures { JsonTellsLines }
 {}
