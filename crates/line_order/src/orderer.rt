@@ -21,7 +21,8 @@ use line_text::TextBuffer;
 use std::alloc::Global;
 
 /// Brings the lines of a log into the order of their moments, of equal ones into that of the input.
-/// A line is said as soon as the greatest moment is at least its own and the window together.
+/// A line is said as soon as the greatest moment is at least its own and the window together, and
+/// is held until then, and no longer.
 #[derive(Drop)]
 pub struct Orderer {
     /// Where memory comes from.

@@ -15,8 +15,6 @@ use std::alloc::Global;
 /// one space between their parts. Each is written as soon as the greatest moment is at least its own
 /// and the window together; those that are left are written at the end, or before a line is refused.
 ///
-/// Memory grows with the lines that are held at once: with those of the window, and not with the log.
-///
 /// `BadLine` comes with a line that has no form or more than 4,096 bytes, `TimeBack` with one whose
 /// moment and the window together are below the greatest moment before it, and `TooLong` where the
 /// input has more than 2^28 bytes.
