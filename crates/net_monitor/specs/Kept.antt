@@ -7,7 +7,7 @@ use Rattle.net_monitor.specs.declared.node_state.NodeState.{NodeState}
 abbrev pub restarts_after : NodeState → ℕ → ℕ
 restarts_after state uptime = if nat_lt uptime state.beat.uptime then min (state.restarts + 1) (2 ^ 64 - 1) else state.restarts
 
--- a state, where its last heartbeat is at most 3 seconds before the moment m
+-- a state, where its last heartbeat is at most 3 seconds before the moment m, or behind it
 abbrev pub if_online : ℕ → Option NodeState → Option NodeState
 if_online m None = None
 if_online m (Some state) = if nat_le m (state.last + 3000000) then Some state else None

@@ -11,7 +11,7 @@ pub record IsHeard (past : List Beat) (s : ℕ) : Type 0 where
   pub there : Contains past b
   pub of_it : b.node ≡ s
 
--- some heartbeat is one of the node s, at most 3 seconds before the moment m
+-- some heartbeat is one of the node s, at most 3 seconds before the moment m, or behind it
 pub record IsOnline (m : ℕ) (past : List Beat) (s : ℕ) : Type 0 where
   pub b : Beat
   pub there : Contains past b
@@ -49,8 +49,8 @@ pub record MonitorLaws : Type 0 where
   pub heard_are : (past : List Beat) (s : ℕ)
       → Contains (heard past) s ↔ ((s < 128) × IsHeard past s)
   pub heard_ascend : (past : List Beat) → Ascend (heard past)
-  -- online are those nodes below 128 with a heartbeat at most 3 seconds before, each once and
-  -- ascending
+  -- online are those nodes below 128 with a heartbeat at most 3 seconds before, or behind, each
+  -- once and ascending
   pub online_are : (m : ℕ) (past : List Beat) (x : NodeState)
       → Contains (online m past) x ↔ ((x.node < 128) × IsOnline m past x.node × Tells past x)
   pub online_ascend : (m : ℕ) (past : List Beat) → Ascend (nodes_of (online m past))

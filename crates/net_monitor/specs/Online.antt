@@ -9,7 +9,7 @@ abbrev pub is_heard : List Beat → ℕ → Bool
 is_heard [] s = false
 is_heard (e ∷ past) s = (e.node == s) || is_heard past s
 
--- whether the node s has a heartbeat at most 3 seconds before the moment m
+-- whether the node s has a heartbeat at most 3 seconds before the moment m, or behind it
 abbrev pub is_online : ℕ → List Beat → ℕ → Bool
 is_online m [] s = false
 is_online m (e ∷ past) s = ((e.node == s) && nat_le m (e.moment + 3000000)) || is_online m past s

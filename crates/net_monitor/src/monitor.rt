@@ -69,7 +69,7 @@ impl Monitor {
     }
 
     /// The nodes that are online at a moment in microseconds, ascending: those whose last heartbeat
-    /// is at most 3 seconds before it.
+    /// is at most 3 seconds before it, or behind it.
     pub fn online(&self, moment: u64) -> ShortList<NodeState, 128>
         ensures { (past : List Beat) → Stands past self.now → result ≡ online moment past }
     {

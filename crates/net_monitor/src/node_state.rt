@@ -47,7 +47,8 @@ impl NodeState {
         }
     }
 
-    /// Whether the last heartbeat is at most 3 seconds before this moment in microseconds.
+    /// Whether the last heartbeat is at most 3 seconds before this moment in microseconds, or
+    /// behind it.
     pub fn is_online(&self, moment: u64) -> bool
         ensures { result ≡ nat_le moment (self.now.last + 3000000) }
     {

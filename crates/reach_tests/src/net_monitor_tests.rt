@@ -23,7 +23,7 @@ type Online = Option<(u32, u64, u64)>;
 /// Three heartbeats as (moment, node, uptime), a moment, and the two nodes that are heard.
 type Row = ([(u64, u8, u32); 3], u64, [(u8, Online); 2]);
 
-const ROWS: [Row; 5] = [
+const ROWS: [Row; 6] = [
     // online up to 3 seconds after the last heartbeat
     (
         [(0, 42, 1), (0, 42, 1), (500_000, 127, 7)],
@@ -45,6 +45,12 @@ const ROWS: [Row; 5] = [
         [(0, 9, 5), (1, 8, 5), (2, 9, 5)],
         2,
         [(8, Some((5, 1, 0))), (9, Some((5, 2, 0)))],
+    ),
+    // a heartbeat behind the moment counts
+    (
+        [(0, 1, 0), (5_000_000, 2, 3), (5_000_000, 2, 2)],
+        1_000_000,
+        [(1, Some((0, 0, 0))), (2, Some((2, 5_000_000, 1)))],
     ),
     // nobody is late at the end of all moments
     (

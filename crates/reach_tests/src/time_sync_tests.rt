@@ -80,6 +80,7 @@ fn the_least_source_is_the_master(rt: HostRuntime) {
         source: 7,
         offset: -100_000,
     };
+    assert_eq!(rt; sync.estimate(0), Some(of_7));
     assert_eq!(rt; sync.estimate(2_500_000), Some(of_7));
     assert_eq!(rt; sync.estimate(5_500_000), Some(of_7));
     assert_eq!(rt; sync.estimate(5_500_001), None);

@@ -5,7 +5,7 @@ use Rattle.time_sync.specs.declared.sync.Estimate.{Estimate}
 use Rattle.time_sync.specs.declared.last.Last.{Last}
 use Rattle.time_sync.specs.Pairs.{Message, of_source, last_offset}
 
--- whether the source s has a message at most 3 seconds before the moment m
+-- whether the source s has a message at most 3 seconds before the moment m, or behind it
 abbrev pub is_online : ℕ → List Message → ℕ → Bool
 is_online m [] s = false
 is_online m (e ∷ past) s = ((e.source == s) && nat_le m (e.moment + 3000000)) || is_online m past s
@@ -38,7 +38,7 @@ estimate_by (Some s) past = estimate_of s (last_offset (of_source s past))
 abbrev pub estimate : ℕ → List Message → Option Estimate
 estimate m past = estimate_by (master m past) past
 
--- whether a kept message is at most 3 seconds before the moment m
+-- whether a kept message is at most 3 seconds before the moment m, or behind it
 abbrev pub is_recent : ℕ → Option Last → Bool
 is_recent m None = false
 is_recent m (Some l) = nat_le m (l.moment + 3000000)

@@ -33,7 +33,7 @@ impl Last {
         }
     }
 
-    /// Whether the message is at most 3 seconds before this moment in microseconds.
+    /// Whether the message is at most 3 seconds before this moment in microseconds, or behind it.
     pub fn is_recent(&self, moment: u64) -> bool
         ensures { result ≡ nat_le moment (self.now.moment + 3000000) }
     {

@@ -70,8 +70,8 @@ impl Sync {
     }
 
     /// The network's time at a moment in microseconds, told by the least source with a message at
-    /// most 3 seconds before it. `None` where there is no such source, or where no two messages of
-    /// it told an offset.
+    /// most 3 seconds before it, or behind it. `None` where there is no such source, or where no
+    /// two messages of it told an offset.
     pub fn estimate(&self, moment: u64) -> Option<Estimate>
         ensures { (past : List Message) → Stands past self.now → result ≡ estimate moment past }
     {
@@ -81,7 +81,7 @@ impl Sync {
         }
     }
 
-    /// The least source with a message at most 3 seconds before this moment.
+    /// The least source with a message at most 3 seconds before this moment, or behind it.
     fn master(&self, moment: u64) -> Option<u8>
         ensures least { result ≡ least (is_kept_recent moment self.now.sources) 128 }
         ensures below { IfSome result (λ s. s < 128) }
@@ -94,7 +94,7 @@ impl Sync {
         None
     }
 
-    /// Whether a source's last message is at most 3 seconds before this moment.
+    /// Whether a source's last message is at most 3 seconds before this moment, or behind it.
     fn is_recent(&self, source: u8, moment: u64) -> bool
         requires { source < 128 }
         ensures { result ≡ is_kept_recent moment self.now.sources source }
