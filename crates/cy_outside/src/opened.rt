@@ -43,27 +43,43 @@ pub struct Opened<F> {
     path: ArrayString<LONGEST_PATH>,
     /// Where the next read goes on, in bytes.
     offset: u64,
-    /// The version that was opened.
+    /// The version that stood there right before it was opened.
     version: Version,
 }
 
-/// Opens a file at an offset. Something else than a regular file is as if nothing stood there.
-pub fn open_at<R: Files>(rt: &R, path: &str, offset: u64) -> io::Result<Opened<R::File>> {
-    let mut file = fs::open(rt, path)?;
-    let metadata = file.metadata()?;
-    if !metadata.is_file() {
-        return Err(io::Error::from(ErrorKind::NotFound));
+/// What is found where a file is opened.
+#[derive(Drop)]
+pub enum Found<F> {
+    /// A regular file, which is open now.
+    File(Opened<F>),
+    /// A folder.
+    Folder,
+    /// Nothing, or something else than these, which isn't opened.
+    Absent,
+}
+
+/// Opens a regular file at an offset.
+pub fn open_at<R: Files>(rt: &R, path: &str, offset: u64) -> io::Result<Found<R::File>> {
+    let metadata = fs::metadata(rt, path)?;
+    if metadata.is_dir() {
+        return Ok(Found::Folder);
     }
-    let Ok(path) = ArrayString::from(path) else {
+    if !metadata.is_file() {
+        return Ok(Found::Absent);
+    }
+    let Ok(kept) = ArrayString::from(path) else {
         return Err(io::Error::from(ErrorKind::InvalidFilename));
     };
-    file.seek(SeekFrom::Start(offset))?;
-    Ok(Opened {
+    let mut file = fs::open(rt, path)?;
+    if offset > 0 {
+        file.seek(SeekFrom::Start(offset))?;
+    }
+    Ok(Found::File(Opened {
         file,
-        path,
+        path: kept,
         offset,
         version: Version::of(&metadata),
-    })
+    }))
 }
 
 impl<F> Opened<F> {
@@ -75,7 +91,7 @@ impl<F> Opened<F> {
 
 impl<F: Read + OpenFile> Opened<F> {
     /// Reads on until the buffer is full or the file ends. The rest of the buffer stays. That the file was
-    /// written since it was opened is an error.
+    /// written since it was found, or is another one, is an error.
     pub fn read_on(&mut self, buf: &mut [u8]) -> io::Result<usize>
         ensures within { IfOk result (λ n. n ≤ length buf.old) }
         ensures behind { IfOk result (λ n. drop n buf.new ≡ drop n buf.old) }

@@ -3,7 +3,7 @@ ghost use Rattle.std.specs.IoError.{error_kind};
 ghost use Rattle.cy_outside.specs.Absence.{is_absence};
 ghost use Rattle.cy_outside.specs.Calls.{one_more};
 
-use crate::opened::{Opened, open_at};
+use crate::opened::{Found, Opened, open_at};
 use crate::{Entry, Got, Listing, Size, Tree, TreeError};
 use cy_bits::{List, Text};
 use std::alloc::Global;
@@ -20,8 +20,9 @@ use std::rt::Files;
 /// is never opened. None of these is listed. Every other error counts as a fault, and so does a listing
 /// with a name that isn't UTF-8. A link that leads back to itself is listed, and a fault where it is read.
 ///
-/// The file that was read last is kept open, and a read that goes on where the last one ended reads that
-/// file, also where another has come to its path. That a file is written between its reads is a fault.
+/// The file that was read last is kept open, and a read that goes on where the last one ended reads
+/// that file, also where another has come to its path. That a file is written between its reads is a
+/// fault, and so is that another one comes to its path just as it is opened.
 #[derive(Drop)]
 pub struct RealTree<'a, R: Files> {
     /// The runtime, which reaches the files.
@@ -98,14 +99,10 @@ impl<'a, R: Files + Alloc + Clone + Drop> Tree for RealTree<'a, R> {
         self.count();
         if !self.goes_on(path, offset) {
             self.opened = None;
-            match standing(self.rt, path) {
-                Ok(Size::File(_)) => {}
-                Ok(Size::Folder) => return Ok(Got::Folder),
-                Ok(Size::Absent) => return Ok(Got::Absent),
-                Err(_) => return Err(self.fail()),
-            }
             match open_at(self.rt, path, offset) {
-                Ok(opened) => self.opened = Some(opened),
+                Ok(Found::File(opened)) => self.opened = Some(opened),
+                Ok(Found::Folder) => return Ok(Got::Folder),
+                Ok(Found::Absent) => return Ok(Got::Absent),
                 Err(error) if is_absence(&error) => return Ok(Got::Absent),
                 Err(_) => return Err(self.fail()),
             }
