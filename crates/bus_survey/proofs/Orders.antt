@@ -1,8 +1,9 @@
 -- The order of flows, as it is compared.
-use Rattle.std.proofs.Common.{◌≡◌, refl, ap₂, subst}
+use Rattle.std.proofs.Common.{◌≡◌, ℕ, Option, Some, None, Ordering, Equal, refl, ap, ap₂, subst, arith}
 use Rattle.std.specs.Cmp.{IsTotalOrder}
 use Rattle.std.specs.Option.{option_cmp}
 use Rattle.std.specs.Ordering.{nat_cmp, ordering_then}
+use Rattle.std.proofs.lemmas.Map.Lookups.{CmpEqualImpliesEq, exact_unsigned}
 use Rattle.bus_survey.specs.Flows.{kind_number, sender_order, flow_order}
 use Rattle.bus_survey.specs.contracts.flow.FlowOrd.TheImpl as flow_ord
 use Rattle.bus_survey.specs.contracts.flow.FlowOrd.TheImpl.Laws.{total-law}
@@ -41,3 +42,35 @@ order_is = λ i. λ a b. agrees a b i
 
 pub flow_order_total : IsTotalOrder flow_order
 flow_order_total = subst IsTotalOrder order_is total-law
+
+all_equal : (k p s d b : Ordering) → ordering_then k (ordering_then p (ordering_then s (ordering_then d b))) ≡ Equal → (k ≡ Equal) × (p ≡ Equal) × (s ≡ Equal) × (d ≡ Equal) × (b ≡ Equal)
+all_equal Equal Equal Equal Equal b e = (refl, refl, refl, refl, e)
+all_equal k p s d b e = cc
+
+same_kind : (a b : FlowKind) → kind_number a ≡ kind_number b → a ≡ b
+same_kind Message Message e = refl
+same_kind Request Request e = refl
+same_kind Response Response e = refl
+same_kind a b e = absurd (omega arith)
+
+same_sender : (a b : Sender) → sender_order a b ≡ Equal → a ≡ b
+same_sender (Node a) (Node b) e = ap Node (exact_unsigned a b e)
+same_sender Anonymous Anonymous e = refl
+same_sender a b e = cc
+
+same_receiver : (a b : Option ℕ) → option_cmp nat_cmp a b ≡ Equal → a ≡ b
+same_receiver (Some a) (Some b) e = ap Some (exact_unsigned a b e)
+same_receiver None None e = refl
+same_receiver a b e = cc
+
+-- flows that the order doesn't tell apart are the same
+pub flow_order_exact : CmpEqualImpliesEq flow_order
+flow_order_exact a b e =
+    let parts =
+    all_equal (nat_cmp (kind_number a.kind) (kind_number b.kind)) (nat_cmp a.port b.port) (sender_order a.sender b.sender) (option_cmp nat_cmp a.destination b.destination) (nat_cmp a.bus b.bus) e in
+    let kind = same_kind a.kind b.kind (exact_unsigned _ _ parts.0) in
+    let port = exact_unsigned a.port b.port parts.1 in
+    let sender = same_sender a.sender b.sender parts.2 in
+    let destination = same_receiver a.destination b.destination parts.3 in
+    let bus = exact_unsigned a.bus b.bus parts.4 in
+    λ i. record { kind = kind i; port = port i; sender = sender i; destination = destination i; bus = bus i }

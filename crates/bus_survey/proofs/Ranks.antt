@@ -1,19 +1,16 @@
--- Flows come in the order of their numbers, so a table by numbers is one by flows.
-use Rattle.std.proofs.Common.{◌≡◌, ◌∙◌, ℕ, ◌+◌, ◌*◌, ◌<◌, ◌==◌, nat_lt, Bool, true, false, cond, List, [], ◌∷◌, Option, Some, None, option_map, Ordering, Less, Equal, Greater, is_eq, unwrap_or, refl, sym, ap, ap₂, subst, arith}
-use Rattle.std.specs.BTreeMap.{insert_entry, is_at}
-use Rattle.std.specs.List.{AllByRecursion}
-use Rattle.std.specs.List.Sorted.{IsStrictlySortedBy}
-use Rattle.std.specs.Map.{keys_of, lookup, set_value, values_of}
+-- Flows come in the order of their numbers.
+use Rattle.std.proofs.Common.{◌≡◌, ◌∙◌, ℕ, ◌+◌, ◌*◌, ◌<◌, ◌==◌, nat_eq, nat_lt, true, false, Option, Some, None, Ordering, Less, Equal, Greater, is_eq, refl, sym, ap, ap₂, arith}
+use Rattle.std.specs.Cmp.{Equal-is}
 use Rattle.std.specs.Option.{option_cmp}
-use Rattle.std.specs.Ordering.{match_ordering, nat_cmp, ordering_then}
+use Rattle.std.specs.Ordering.{nat_cmp, ordering_then}
 use Rattle.std.proofs.lemmas.Bool.Decides.{nat_tests}
 use Rattle.std.proofs.lemmas.Cmp.{by_ranked, ranked}
 use Rattle.bus_survey.specs.Flows.{flow_order, kind_number, sender_order}
-use Rattle.bus_survey.specs.Ranks.{rank, receiver_number, sender_number, IsRanked, IsSender, StandsAtRank}
+use Rattle.bus_survey.specs.Ranks.{rank, receiver_number, sender_number, IsRanked, IsSender}
 use Rattle.bus_survey.specs.declared.flow.Flow.{Flow}
 use Rattle.bus_survey.specs.declared.flow.Sender.{Sender}
 use Rattle.bus_survey.specs.declared.flow.Sender.TheVariants.{Node, Anonymous}
-use Rattle.bus_survey.specs.declared.flow_counts.FlowCounts.{FlowCounts}
+use Rattle.bus_survey.proofs.Orders.{flow_order_exact}
 
 less : (x y : ℕ) → x < y → nat_cmp x y ≡ Less
 less x y lt = let t : nat_lt x y ≡ true = grind (arith, nat_tests) in rw t refl
@@ -82,95 +79,12 @@ ranks_agree a b p q =
     ∙ ap₂ (λ s d. ordering_then (nat_cmp (kind_number a.kind) (kind_number b.kind)) (ordering_then (nat_cmp a.port b.port) (ordering_then s (ordering_then d (nat_cmp a.bus b.bus)))))
     (senders a.sender b.sender p.1 q.1) (receivers a.destination b.destination)
 
-abbrev Entry : Type 0
-Entry = ℕ × (Flow × FlowCounts)
+pub eq_from_cmp : (x y : ℕ) → nat_eq x y ≡ is_eq (nat_cmp x y)
+eq_from_cmp x y = grind (arith, nat_tests)
 
-some_not_none : {X G : Type 0} (x : X) → Some x ≡ None → G
-some_not_none x e = cc
+-- two numbers are equal where the order doesn't tell their flows apart, and then the flows are too
+pub numbers_agree : (a b : Flow) → IsRanked a → IsRanked b → nat_eq (rank a) (rank b) ≡ is_eq (flow_order a b)
+numbers_agree a b p q = eq_from_cmp (rank a) (rank b) ∙ ap is_eq (ranks_agree a b p q)
 
--- flows ascend where their numbers do
-module _ where
-  above : (x : Entry) (es : List Entry) → StandsAtRank x → AllByRecursion StandsAtRank es → AllByRecursion (λ y. nat_cmp x.0 y ≡ Less) (keys_of es) → AllByRecursion (λ y. flow_order x.1.0 y ≡ Less) (keys_of (values_of es))
-  above x [] s w h = tt
-  above x (e ∷ es) s w h = (sym (ranks_agree x.1.0 e.1.0 s.1 w.0.1) ∙ ap₂ nat_cmp (sym s.0) (sym w.0.0) ∙ h.0, above x es s w.1 h.1)
-
-  pub ascend : (es : List Entry) → AllByRecursion StandsAtRank es → IsStrictlySortedBy nat_cmp (keys_of es) → IsStrictlySortedBy flow_order (keys_of (values_of es))
-  unfolding IsStrictlySortedBy
-  ascend [] w h = tt
-  ascend (e ∷ es) w h = (above e es w.0 w.1 h.0, ascend es w.1 h.1)
-
-module _ (k : Flow) (small : IsRanked k) where
-  at : (e : Entry) → StandsAtRank e → nat_cmp (rank k) e.0 ≡ flow_order k e.1.0
-  at e s = ap (nat_cmp (rank k)) s.0 ∙ ranks_agree k e.1.0 small s.1
-
-  by_choice : (b : Bool) (v : Flow × FlowCounts) (o : Option (Flow × FlowCounts)) → cond b (Some v.1) (option_map (λ v. v.1) o) ≡ option_map (λ v. v.1) (cond b (Some v) o)
-  by_choice true v o = refl
-  by_choice false v o = refl
-
-  -- what stands at the number of a flow is that flow's
-  pub looked_up : (es : List Entry) → AllByRecursion StandsAtRank es → lookup (is_at (flow_order k)) (values_of es) ≡ option_map (λ v. v.1) (lookup (is_at (nat_cmp (rank k))) es)
-  looked_up [] w = refl
-  looked_up (e ∷ es) w =
-      ap₂ (λ o r. cond (is_eq o) (Some e.1.1) r) (sym (at e w.0)) (looked_up es w.1)
-      ∙ by_choice (is_eq (nat_cmp (rank k) e.0)) e.1 (lookup (is_at (nat_cmp (rank k))) es)
-
-  module _ (v : Flow × FlowCounts) (c : FlowCounts) where
-    abbrev Stays : List Entry → Type 0
-    Stays es =
-        (values_of (set_value (is_at (nat_cmp (rank k))) es (v.0, c)) ≡ set_value (is_at (flow_order k)) (values_of es) c)
-        × AllByRecursion StandsAtRank (set_value (is_at (nat_cmp (rank k))) es (v.0, c))
-
-    -- its counts are changed
-    pub set_ranked : (es : List Entry) → AllByRecursion StandsAtRank es → lookup (is_at (nat_cmp (rank k))) es ≡ Some v → Stays es
-    set_ranked [] w e = (refl, tt)
-    set_ranked (x ∷ es) w e = step (is_eq (nat_cmp (rank k) x.0)) refl (set_ranked es w.1)
-      where
-        step : (b : Bool) → is_eq (nat_cmp (rank k) x.0) ≡ b → (lookup (is_at (nat_cmp (rank k))) es ≡ Some v → Stays es) → Stays (x ∷ es)
-        step true here rest =
-            let there : is_eq (flow_order k x.1.0) ≡ true = ap is_eq (sym (at x w.0)) ∙ here in
-            let is : x.1 ≡ v = ap (λ o. unwrap_or o v) (ap (λ b. cond b (Some x.1) (lookup (is_at (nat_cmp (rank k))) es)) (sym here) ∙ e) in (
-              ap (λ b. values_of (cond b ((x.0, (v.0, c)) ∷ es) (x ∷ set_value (is_at (nat_cmp (rank k))) es (v.0, c)))) here
-                  ∙ ap (λ (q : Flow × FlowCounts). (q.0, c) ∷ values_of es) (sym is)
-                  ∙ ap (λ b. cond b ((x.1.0, c) ∷ values_of es) (x.1 ∷ set_value (is_at (flow_order k)) (values_of es) c)) (sym there),
-              subst (λ b. AllByRecursion StandsAtRank (cond b ((x.0, (v.0, c)) ∷ es) (x ∷ set_value (is_at (nat_cmp (rank k))) es (v.0, c)))) (sym here)
-                  (subst (λ (q : Flow × FlowCounts). (x.0 ≡ rank q.0) × IsRanked q.0) is w.0, w.1),
-            )
-        step false here rest =
-            let there : is_eq (flow_order k x.1.0) ≡ false = ap is_eq (sym (at x w.0)) ∙ here in
-            let more = rest (ap (λ b. cond b (Some x.1) (lookup (is_at (nat_cmp (rank k))) es)) (sym here) ∙ e) in (
-              ap (λ b. values_of (cond b ((x.0, (v.0, c)) ∷ es) (x ∷ set_value (is_at (nat_cmp (rank k))) es (v.0, c)))) here
-                  ∙ ap (λ r. x.1 ∷ r) more.0
-                  ∙ ap (λ b. cond b ((x.1.0, c) ∷ values_of es) (x.1 ∷ set_value (is_at (flow_order k)) (values_of es) c)) (sym there),
-              subst (λ b. AllByRecursion StandsAtRank (cond b ((x.0, (v.0, c)) ∷ es) (x ∷ set_value (is_at (nat_cmp (rank k))) es (v.0, c)))) (sym here)
-                  (w.0, more.1),
-            )
-
-  module _ (c : FlowCounts) where
-    abbrev Comes : List Entry → Type 0
-    Comes es =
-        (values_of (insert_entry nat_cmp es (rank k) (k, c)) ≡ insert_entry flow_order (values_of es) k c)
-        × AllByRecursion StandsAtRank (insert_entry nat_cmp es (rank k) (k, c))
-
-    -- a flow that is new comes
-    pub insert_ranked : (es : List Entry) → AllByRecursion StandsAtRank es → lookup (is_at (nat_cmp (rank k))) es ≡ None → Comes es
-    insert_ranked [] w e = (refl, ((refl, small), tt))
-    insert_ranked (x ∷ es) w e = step (nat_cmp (rank k) x.0) refl (insert_ranked es w.1)
-      where
-        Come : Ordering → Ordering → Type 0
-        Come o p =
-            (values_of (match_ordering o ((rank k, (k, c)) ∷ x ∷ es) ((x.0, (k, c)) ∷ es) (x ∷ insert_entry nat_cmp es (rank k) (k, c)))
-            ≡ match_ordering p ((k, c) ∷ x.1 ∷ values_of es) ((x.1.0, c) ∷ values_of es) (x.1 ∷ insert_entry flow_order (values_of es) k c))
-            × AllByRecursion StandsAtRank (match_ordering o ((rank k, (k, c)) ∷ x ∷ es) ((x.0, (k, c)) ∷ es) (x ∷ insert_entry nat_cmp es (rank k) (k, c)))
-
-        both : (o : Ordering) → nat_cmp (rank k) x.0 ≡ o → Come o o → Comes (x ∷ es)
-        both o here h = subst (λ p. Come (nat_cmp (rank k) x.0) p) (at x w.0) (subst (λ p. Come p p) (sym here) h)
-
-        others : is_eq (nat_cmp (rank k) x.0) ≡ false → lookup (is_at (nat_cmp (rank k))) es ≡ None
-        others miss = ap (λ b. cond b (Some x.1) (lookup (is_at (nat_cmp (rank k))) es)) (sym miss) ∙ e
-
-        step : (o : Ordering) → nat_cmp (rank k) x.0 ≡ o → (lookup (is_at (nat_cmp (rank k))) es ≡ None → Comes es) → Comes (x ∷ es)
-        step Less here rest = both Less here (refl, ((refl, small), (w.0, w.1)))
-        step Equal here rest =
-            some_not_none x.1 (ap (λ b. cond b (Some x.1) (lookup (is_at (nat_cmp (rank k))) es)) (sym (ap is_eq here)) ∙ e)
-        step Greater here rest =
-            let more = rest (others (ap is_eq here)) in both Greater here (ap (λ r. x.1 ∷ r) more.0, (w.0, more.1))
+pub same_flow : (a b : Flow) → is_eq (flow_order a b) ≡ true → a ≡ b
+same_flow a b e = flow_order_exact a b ((Equal-is (flow_order a b)).0 e)

@@ -1,105 +1,134 @@
--- Tables of keys in their order, and what one entry more makes of them.
-use Rattle.std.proofs.Common.{◌≡◌, ◌∙◌, Bool, true, false, cond, List, [], ◌∷◌, map, Some, None, Ordering, Less, Equal, Greater, is_eq, unwrap_or, refl, sym, ap, subst}
-use Rattle.std.specs.BTreeMap.{insert_entry, is_at}
+-- Flows at their numbers, and what one flow more makes of them.
+use Rattle.std.proofs.Common.{◌≡◌, ◌∙◌, ℕ, nat_eq, Bool, true, false, cond, ◌&&◌, T, List, [], ◌∷◌, map, Some, None, Ordering, Less, Equal, Greater, is_eq, is_lt, eqb-true, refl, sym, ap, ap₂, subst}
 use Rattle.std.specs.BTreeSet.{insert_key}
-use Rattle.std.specs.Cmp.{IsTotalOrder, tied_itself}
+use Rattle.std.specs.Cmp.{IsTotalOrder}
+use Rattle.std.specs.FinMap.Entries.{below_all, is_sorted}
 use Rattle.std.specs.List.{AllByRecursion}
 use Rattle.std.specs.List.Sorted.{IsStrictlySortedBy}
-use Rattle.std.specs.Map.{keys_of, lookup, set_value}
-use Rattle.std.specs.Ordering.{match_ordering, ordering_reverse}
-use Rattle.std.proofs.lemmas.Map.{NonePasses, lookup-none}
+use Rattle.std.specs.Map.{keys_of, lookup}
+use Rattle.std.specs.Ordering.{match_ordering, nat_cmp, ordering_reverse}
+use Rattle.std.proofs.lemmas.Bool.{eqb-false}
+use Rattle.std.proofs.lemmas.Cmp.{nat_eq_equiv}
+use Rattle.std.proofs.lemmas.List.Elements.{All-from_recursion, All-weaker, recursion_from_All}
+use Rattle.std.proofs.lemmas.Map.Views.{All-insert_key}
+use Rattle.std.proofs.lemmas.Option.{none-some, same_Some}
+use Rattle.bus_survey.specs.Flows.{flow_order}
+use Rattle.bus_survey.specs.Ranks.{rank, IsRanked}
+use Rattle.bus_survey.specs.declared.flow.Flow.{Flow}
+use Rattle.bus_survey.specs.declared.flow_counts.FlowCounts.{FlowCounts}
+use Rattle.bus_survey.proofs.Orders.{flow_order_exact}
+use Rattle.bus_survey.proofs.Ranks.{numbers_agree, ranks_agree, same_flow}
 
--- keys with their values
-abbrev pub tab : {K X : Type 0} → (K → X) → List K → List (K × X)
-tab g ks = map (λ k. (k, g k)) ks
+-- what holds of each key holds of each with one more
+pub all_inserted : {K : Type 0} (cmp : K → K → Ordering) (P : K → Type 0) (k : K) (ks : List K) → P k → AllByRecursion P ks → AllByRecursion P (insert_key cmp ks k)
+all_inserted cmp P k ks new h = recursion_from_All P (insert_key cmp ks k) (All-insert_key cmp k P ks (All-from_recursion P ks h) new)
 
-pub keys_tab : {K X : Type 0} (g : K → X) (ks : List K) → keys_of (tab g ks) ≡ ks
-keys_tab g [] = refl
-keys_tab g (k ∷ ks) = ap (λ xs. k ∷ xs) (keys_tab g ks)
-
-sorted_parts : {K : Type 0} (cmp : K → K → Ordering) (k : K) (ks : List K) → IsStrictlySortedBy cmp (k ∷ ks) → AllByRecursion (λ y. cmp k y ≡ Less) ks × IsStrictlySortedBy cmp ks
-unfolding IsStrictlySortedBy
-sorted_parts cmp k ks s = s
-
-some_not_none : {X : Type 0} {G : Type 0} (w : X) → None ≡ Some w → G
-some_not_none w e = cc
-
-module _ {K X : Type 0} {cmp : K → K → Ordering} (total : IsTotalOrder cmp) (k : K) where
-  -- keys behind one that is above k, or that is k
-  below : (g : K → X) (q : K) (qs : List K) → cmp k q ≡ Less → AllByRecursion (λ y. cmp q y ≡ Less) qs → NonePasses (is_at (cmp k)) (tab g qs)
-  below g q [] e h = tt
-  below g q (x ∷ qs) e h = (ap is_eq (total.trans k q x e h.0), below g q qs e h.1)
-
-  behind : (g : K → X) (q : K) (qs : List K) → cmp k q ≡ Equal → AllByRecursion (λ y. cmp q y ≡ Less) qs → NonePasses (is_at (cmp k)) (tab g qs)
-  behind g q [] e h = tt
-  behind g q (x ∷ qs) e h = (ap is_eq (total.congr k q x e ∙ h.0), behind g q qs e h.1)
-
-  -- the value at k
-  pub found : (g : K → X) (u w : X) → ((q : K) → is_eq (cmp k q) ≡ true → g q ≡ u) → (qs : List K) → lookup (is_at (cmp k)) (tab g qs) ≡ Some w → u ≡ w
-  found g u w like [] e = some_not_none w e
-  found g u w like (q ∷ qs) e = at (is_eq (cmp k q)) refl (found g u w like qs)
+-- keys in their order stay so with one more
+module _ {K : Type 0} {cmp : K → K → Ordering} (total : IsTotalOrder cmp) (k : K) where
+  pub sorted_inserted : (ks : List K) → IsStrictlySortedBy cmp ks → IsStrictlySortedBy cmp (insert_key cmp ks k)
+  unfolding IsStrictlySortedBy
+  sorted_inserted [] s = (tt, tt)
+  sorted_inserted (q ∷ qs) s = at (cmp k q) refl (sorted_inserted qs s.1)
     where
-      at : (b : Bool) → is_eq (cmp k q) ≡ b → (lookup (is_at (cmp k)) (tab g qs) ≡ Some w → u ≡ w) → u ≡ w
-      at true here rest =
-          sym (like q here) ∙ ap (λ o. unwrap_or o w) (sym (ap (λ b. cond b (Some (g q)) (lookup (is_at (cmp k)) (tab g qs))) here) ∙ e)
-      at false there rest = rest (sym (ap (λ b. cond b (Some (g q)) (lookup (is_at (cmp k)) (tab g qs))) there) ∙ e)
+      at : (o : Ordering) → cmp k q ≡ o → IsStrictlySortedBy cmp (insert_key cmp qs k) → IsStrictlySortedBy cmp (match_ordering o (k ∷ q ∷ qs) (q ∷ qs) (q ∷ insert_key cmp qs k))
+      at Less e rest =
+          let above = All-weaker (λ y. cmp q y ≡ Less) (λ y. cmp k y ≡ Less) (λ y l. total.trans k q y e l) qs (All-from_recursion (λ y. cmp q y ≡ Less) qs s.0) in
+          ((e, recursion_from_All (λ y. cmp k y ≡ Less) qs above), s)
+      at Equal e rest = s
+      at Greater e rest = (all_inserted cmp (λ y. cmp q y ≡ Less) k qs (total.antisymm q k ∙ ap ordering_reverse e) s.0, rest)
 
-  module _ (g g' : K → X) (v : X) (others : (q : K) → is_eq (cmp k q) ≡ false → g q ≡ g' q) (same : (q : K) → is_eq (cmp k q) ≡ true → v ≡ g' q) where
-    unchanged : (qs : List K) → NonePasses (is_at (cmp k)) (tab g qs) → tab g qs ≡ tab g' qs
-    unchanged [] h = refl
-    unchanged (q ∷ qs) h = λ i. (q, others q h.0 i) ∷ unchanged qs h.1 i
+-- keys that ascend, as a test tells
+module _ {K X : Type 0} (cmp : K → K → Ordering) where
+  below : (k : K) (es : List (K × X)) → AllByRecursion (λ y. cmp k y ≡ Less) (keys_of es) → below_all cmp k es ≡ true
+  below k [] h = refl
+  below k (e ∷ es) h = ap₂ (λ o b. is_lt o && b) h.0 (below k es h.1)
 
-    -- a new key takes its place
-    pub inserted : (qs : List K) → IsStrictlySortedBy cmp qs → insert_entry cmp (tab g qs) k v ≡ tab g' (insert_key cmp qs k)
-    inserted [] s = λ i. (k, same k (ap is_eq (tied_itself total k)) i) ∷ []
-    inserted (q ∷ qs) s = let parts = sorted_parts cmp q qs s in at parts.0 (inserted qs parts.1) (cmp k q) refl
+  in_turn : (es : List (K × X)) → IsStrictlySortedBy cmp (keys_of es) → is_sorted cmp es ≡ true
+  unfolding IsStrictlySortedBy
+  in_turn [] s = refl
+  in_turn (e ∷ es) s = ap₂ (λ a b. a && b) (below e.0 es s.0) (in_turn es s.1)
+
+  pub rising : (es : List (K × X)) → IsStrictlySortedBy cmp (keys_of es) → T (is_sorted cmp es)
+  rising es s = subst T (sym (in_turn es s)) tt
+
+-- flows at their numbers, each with its counts
+abbrev pub at_ranks : (Flow → FlowCounts) → List Flow → List (ℕ × (Flow × FlowCounts))
+at_ranks counts ks = map (λ e. (rank e.0, e)) (map (λ k. (k, counts k)) ks)
+
+-- numbers ascend where flows do
+module _ (counts : Flow → FlowCounts) where
+  above : (k : Flow) (ks : List Flow) → IsRanked k → AllByRecursion IsRanked ks → AllByRecursion (λ q. flow_order k q ≡ Less) ks → AllByRecursion (λ n. nat_cmp (rank k) n ≡ Less) (keys_of (at_ranks counts ks))
+  above k [] small w h = tt
+  above k (q ∷ qs) small w h = (ranks_agree k q small w.0 ∙ h.0, above k qs small w.1 h.1)
+
+  pub ascend : (ks : List Flow) → AllByRecursion IsRanked ks → IsStrictlySortedBy flow_order ks → IsStrictlySortedBy nat_cmp (keys_of (at_ranks counts ks))
+  unfolding IsStrictlySortedBy
+  ascend [] w s = tt
+  ascend (k ∷ ks) w s = (above k ks w.0 w.1 s.0, ascend ks w.1 s.1)
+
+-- a flow at another number than k's is another flow
+other_flow : (k q : Flow) (n : ℕ) → nat_eq (rank k) n ≡ false → nat_eq n (rank q) ≡ true → is_eq (flow_order k q) ≡ false
+other_flow k q n miss at = by (is_eq (flow_order k q)) refl
+  where
+    by : (b : Bool) → is_eq (flow_order k q) ≡ b → is_eq (flow_order k q) ≡ false
+    by false e = e
+    by true e = absurd (eqb-false (rank k) n miss (ap rank (same_flow k q e) ∙ sym (eqb-true n (rank q) at)))
+
+module _ (k : Flow) where
+  module _ (counts : Flow → FlowCounts) where
+    -- what stands at the number of a flow that comes
+    pub looked_up_new : IsRanked k → (ks : List Flow) → AllByRecursion IsRanked ks → lookup (nat_eq (rank k)) (at_ranks counts (insert_key flow_order ks k)) ≡ Some (k, counts k)
+    looked_up_new small [] w = ap (λ b. cond b (Some (k, counts k)) None) (nat_eq_equiv.refl (rank k))
+    looked_up_new small (q ∷ qs) w = at (flow_order k q) refl (looked_up_new small qs w.1)
       where
-        Is : Ordering → Type 0
-        Is o =
-            match_ordering o ((k, v) ∷ (q, g q) ∷ tab g qs) ((q, v) ∷ tab g qs) ((q, g q) ∷ insert_entry cmp (tab g qs) k v)
-            ≡ tab g' (match_ordering o (k ∷ q ∷ qs) (q ∷ qs) (q ∷ insert_key cmp qs k))
+        Finds : List Flow → Type 0
+        Finds ks = lookup (nat_eq (rank k)) (at_ranks counts ks) ≡ Some (k, counts k)
 
-        at : AllByRecursion (λ y. cmp q y ≡ Less) qs → insert_entry cmp (tab g qs) k v ≡ tab g' (insert_key cmp qs k) → (o : Ordering) → cmp k q ≡ o → Is (cmp k q)
-        at above rest Less e = subst Is (sym e) (λ i. (k, same k (ap is_eq (tied_itself total k)) i) ∷ (q, others q (ap is_eq e) i) ∷ unchanged qs (below g q qs e above) i)
-        at above rest Equal e = subst Is (sym e) (λ i. (q, same q (ap is_eq e) i) ∷ unchanged qs (behind g q qs e above) i)
-        at above rest Greater e = subst Is (sym e) (λ i. (q, others q (ap is_eq e) i) ∷ rest i)
+        first : (ks : List Flow) → Finds (k ∷ ks)
+        first ks = ap (λ b. cond b (Some (k, counts k)) (lookup (nat_eq (rank k)) (at_ranks counts ks))) (nat_eq_equiv.refl (rank k))
 
-    -- a key that is there gets a value
-    pub replaced : (qs : List K) → IsStrictlySortedBy cmp qs → (w : X) → lookup (is_at (cmp k)) (tab g qs) ≡ Some w → set_value (is_at (cmp k)) (tab g qs) v ≡ tab g' (insert_key cmp qs k)
-    replaced [] s w e = some_not_none w e
-    replaced (q ∷ qs) s w e = let parts = sorted_parts cmp q qs s in at parts.0 (replaced qs parts.1 w) (cmp k q) refl
+        at : (o : Ordering) → flow_order k q ≡ o → Finds (insert_key flow_order qs k) → Finds (match_ordering o (k ∷ q ∷ qs) (q ∷ qs) (q ∷ insert_key flow_order qs k))
+        at Less e rest = first (q ∷ qs)
+        at Equal e rest = subst (λ x. Finds (x ∷ qs)) (flow_order_exact k q e) (first qs)
+        at Greater e rest =
+            ap (λ b. cond b (Some (q, counts q)) (lookup (nat_eq (rank k)) (at_ranks counts (insert_key flow_order qs k)))) (numbers_agree k q small w.0 ∙ ap is_eq e)
+            ∙ rest
+
+    -- and at another number, as if it hadn't come
+    passed_by : (n : ℕ) → nat_eq (rank k) n ≡ false → (ks : List Flow) → lookup (nat_eq n) (at_ranks counts (insert_key flow_order ks k)) ≡ lookup (nat_eq n) (at_ranks counts ks)
+    passed_by n miss [] = ap (λ b. cond b (Some (k, counts k)) None) (nat_eq_equiv.symm n (rank k) ∙ miss)
+    passed_by n miss (q ∷ qs) = at (flow_order k q) (passed_by n miss qs)
       where
-        Is : Ordering → Type 0
-        Is o =
-            cond (is_eq o) ((q, v) ∷ tab g qs) ((q, g q) ∷ set_value (is_at (cmp k)) (tab g qs) v)
-            ≡ tab g' (match_ordering o (k ∷ q ∷ qs) (q ∷ qs) (q ∷ insert_key cmp qs k))
+        Finds : List Flow → Type 0
+        Finds ks = lookup (nat_eq n) (at_ranks counts ks) ≡ lookup (nat_eq n) (at_ranks counts (q ∷ qs))
 
-        further : is_eq (cmp k q) ≡ false → lookup (is_at (cmp k)) (tab g qs) ≡ Some w
-        further there = sym (ap (λ b. cond b (Some (g q)) (lookup (is_at (cmp k)) (tab g qs))) there) ∙ e
+        at : (o : Ordering) → lookup (nat_eq n) (at_ranks counts (insert_key flow_order qs k)) ≡ lookup (nat_eq n) (at_ranks counts qs) → Finds (match_ordering o (k ∷ q ∷ qs) (q ∷ qs) (q ∷ insert_key flow_order qs k))
+        at Less rest =
+            ap (λ b. cond b (Some (k, counts k)) (lookup (nat_eq n) (at_ranks counts (q ∷ qs)))) (nat_eq_equiv.symm n (rank k) ∙ miss)
+        at Equal rest = refl
+        at Greater rest = ap (cond (nat_eq n (rank q)) (Some (q, counts q))) rest
 
-        at : AllByRecursion (λ y. cmp q y ≡ Less) qs → (lookup (is_at (cmp k)) (tab g qs) ≡ Some w → set_value (is_at (cmp k)) (tab g qs) v ≡ tab g' (insert_key cmp qs k)) → (o : Ordering) → cmp k q ≡ o → Is (cmp k q)
-        at above rest Less o = some_not_none w (sym (lookup-none (is_at (cmp k)) (tab g qs) (below g q qs o above)) ∙ further (ap is_eq o))
-        at above rest Equal o = subst Is (sym o) (λ i. (q, same q (ap is_eq o) i) ∷ unchanged qs (behind g q qs o above) i)
-        at above rest Greater o = subst Is (sym o) (λ i. (q, others q (ap is_eq o) i) ∷ rest (further (ap is_eq o)) i)
+    -- what stands at the number of a flow is that flow's
+    pub looked_up : IsRanked k → (ks : List Flow) → AllByRecursion IsRanked ks → (v : Flow × FlowCounts) → lookup (nat_eq (rank k)) (at_ranks counts ks) ≡ Some v → v ≡ (k, counts k)
+    looked_up small [] w v e = absurd (none-some v e)
+    looked_up small (q ∷ qs) w v e = at (is_eq (flow_order k q)) refl (looked_up small qs w.1 v)
+      where
+        found : (b : Bool) → is_eq (flow_order k q) ≡ b → cond b (Some (q, counts q)) (lookup (nat_eq (rank k)) (at_ranks counts qs)) ≡ Some v
+        found b is = ap (λ c. cond c (Some (q, counts q)) (lookup (nat_eq (rank k)) (at_ranks counts qs))) (sym (numbers_agree k q small w.0 ∙ is)) ∙ e
 
-reversed : (o : Ordering) → is_eq (ordering_reverse o) ≡ is_eq o
-reversed Less = refl
-reversed Equal = refl
-reversed Greater = refl
+        at : (b : Bool) → is_eq (flow_order k q) ≡ b → (lookup (nat_eq (rank k)) (at_ranks counts qs) ≡ Some v → v ≡ (k, counts k)) → v ≡ (k, counts k)
+        at true is rest = sym (ap (λ x. (x, counts x)) (same_flow k q is) ∙ same_Some (q, counts q) v (found true is))
+        at false is rest = rest (found false is)
 
-pub flipped : {K : Type 0} {cmp : K → K → Ordering} → IsTotalOrder cmp → (a b : K) → is_eq (cmp a b) ≡ is_eq (cmp b a)
-flipped {cmp = cmp} total a b = ap is_eq (total.antisymm a b) ∙ reversed (cmp b a)
+  module _ (before after : Flow → FlowCounts) (others : (q : Flow) → is_eq (flow_order k q) ≡ false → before q ≡ after q) where
+    kept : (n : ℕ) → nat_eq (rank k) n ≡ false → (ks : List Flow) → lookup (nat_eq n) (at_ranks after ks) ≡ lookup (nat_eq n) (at_ranks before ks)
+    kept n miss [] = refl
+    kept n miss (q ∷ qs) = at (nat_eq n (rank q)) refl (kept n miss qs)
+      where
+        at : (b : Bool) → nat_eq n (rank q) ≡ b → lookup (nat_eq n) (at_ranks after qs) ≡ lookup (nat_eq n) (at_ranks before qs) → cond b (Some (q, after q)) (lookup (nat_eq n) (at_ranks after qs)) ≡ cond b (Some (q, before q)) (lookup (nat_eq n) (at_ranks before qs))
+        at true here rest = ap (λ c. Some (q, c)) (sym (others q (other_flow k q n miss here)))
+        at false there rest = rest
 
-module _ {K X : Type 0} {cmp : K → K → Ordering} (total : IsTotalOrder cmp) (g : K → X) (k x : K) where
-  -- where k isn't among keys with one more, it is neither that one nor among the others
-  pub absent : (qs : List K) → NonePasses (is_at (cmp k)) (tab g (insert_key cmp qs x)) → (is_eq (cmp x k) ≡ false) × NonePasses (is_at (cmp k)) (tab g qs)
-  absent [] h = (flipped total x k ∙ h.0, tt)
-  absent (q ∷ qs) h = at (absent qs) (cmp x q) refl
-    where
-      Was : Ordering → Type 0
-      Was o = NonePasses (is_at (cmp k)) (tab g (match_ordering o (x ∷ q ∷ qs) (q ∷ qs) (q ∷ insert_key cmp qs x)))
-
-      at : (NonePasses (is_at (cmp k)) (tab g (insert_key cmp qs x)) → (is_eq (cmp x k) ≡ false) × NonePasses (is_at (cmp k)) (tab g qs)) → (o : Ordering) → cmp x q ≡ o → (is_eq (cmp x k) ≡ false) × NonePasses (is_at (cmp k)) (tab g (q ∷ qs))
-      at rest Less e = let was = subst Was e h in (flipped total x k ∙ was.0, was.1)
-      at rest Equal e = let was = subst Was e h in (ap is_eq (total.congr x q k e) ∙ (flipped total q k ∙ was.0), was)
-      at rest Greater e = let was = subst Was e h in let more = rest was.1 in (more.0, (was.0, more.1))
+    -- at another number stands what stood there, where only the counts of the flow that comes change
+    pub looked_up_other : (n : ℕ) → nat_eq (rank k) n ≡ false → (ks : List Flow) → lookup (nat_eq n) (at_ranks after (insert_key flow_order ks k)) ≡ lookup (nat_eq n) (at_ranks before ks)
+    looked_up_other n miss ks = passed_by after n miss ks ∙ kept n miss ks

@@ -1,10 +1,9 @@
 -- A number for each flow, so that flows come in the order of their numbers.
-use Rattle.std.specs.List.{AllByRecursion}
-use Rattle.std.specs.Map.{values_of}
+use Rattle.std.specs.List.Sorted.{IsPermutation}
 use Rattle.tail_frame.specs.Frames.{FrameOf}
 use Rattle.bus_survey.specs.Counts.{table}
-use Rattle.std.specs.Prelude.{◌≡◌, ◌<◌, ℕ, ◌+◌, ◌*◌, List, Option, Some, None, ⊤}
-use Rattle.bus_survey.specs.Flows.{kind_number}
+use Rattle.std.specs.Prelude.{◌<◌, ℕ, ◌+◌, ◌*◌, List, [], ◌∷◌, map, Option, Some, None, ⊤}
+use Rattle.bus_survey.specs.Flows.{flow_of, kind_number}
 use Rattle.bus_survey.specs.declared.flow.Flow.{Flow}
 use Rattle.bus_survey.specs.declared.flow.Sender.{Sender}
 use Rattle.bus_survey.specs.declared.flow.Sender.TheVariants.{Node, Anonymous}
@@ -32,10 +31,16 @@ IsSender Anonymous = ⊤
 abbrev pub IsRanked : Flow → Type 0
 IsRanked flow = (flow.port < 65536) × IsSender flow.sender × (receiver_number flow.destination < 512) × (flow.bus < 256)
 
--- an entry stands at the number of its flow
-abbrev pub StandsAtRank : ℕ × (Flow × FlowCounts) → Type 0
-StandsAtRank e = (e.0 ≡ rank e.1.0) × IsRanked e.1.0
+-- the same of the flow of each frame
+abbrev pub AreRanked : List FrameOf → Type 0
+AreRanked [] = ⊤
+AreRanked (f ∷ past) = IsRanked (flow_of f) × AreRanked past
 
--- entries by numbers tell of frames: each flow with what is kept of it
+-- each flow of frames at its number, in their order, with what is kept of it
+abbrev pub ranked_table : List FrameOf → List (ℕ × (Flow × FlowCounts))
+ranked_table past = map (λ e. (rank e.0, e)) (table past)
+
+-- entries by numbers tell of frames: they are those of the table, in any order, and no two flows
+-- have the same number
 abbrev pub IsTableOf : List FrameOf → List (ℕ × (Flow × FlowCounts)) → Type 0
-IsTableOf past entries = (values_of entries ≡ table past) × AllByRecursion StandsAtRank entries
+IsTableOf past entries = IsPermutation (ranked_table past) entries × AreRanked past

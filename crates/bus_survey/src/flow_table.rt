@@ -1,24 +1,26 @@
 ghost use Rattle.std.specs.Prelude.{◌≡◌, ◌<◌, ◌≤◌, ◌^◌, ◌∷◌, [], List, OnOk, length};
+ghost use Rattle.std.specs.Map.{values_of};
 ghost use Rattle.tail_frame.specs.Frames.{FrameOf, seen};
-ghost use Rattle.bus_survey.specs.Counts.{AreShort, kept_frames};
+ghost use Rattle.bus_survey.specs.Counts.{AreShort, kept_frames, table};
 ghost use Rattle.bus_survey.specs.Ranks.{IsTableOf};
 
 use crate::flow::{Flow, flow_of};
 use crate::flow_counts::FlowCounts;
 use crate::flow_rank::rank;
 use cy_bits::NoMemory;
+use indexmap::IndexMap;
 use std::alloc::Global;
-use std::collections::BTreeMap;
 use tail_frame::Frame;
 
 /// What is counted of each flow.
 ///
-/// It stands for a list of frames: those that `hear` was called with. It takes memory for each flow
-/// that is new, and for nothing else.
+/// It stands for a list of frames: those that `hear` was called with. `hear` takes memory for each
+/// flow that is new, and for nothing else.
 #[derive(Drop)]
 pub struct FlowTable {
-    /// The flows by their ranks, so in their order, each with what is counted of its frames.
-    pub counts: BTreeMap<u64, (Flow, FlowCounts)>,
+    /// The flows by their ranks, each with what is counted of its frames. They stand in the order in
+    /// which they came, until `sort` puts them in that of their lines.
+    pub counts: IndexMap<u64, (Flow, FlowCounts)>,
 }
 
 impl FlowTable {
@@ -27,7 +29,7 @@ impl FlowTable {
         ensures { IsTableOf [] result.counts.entries }
     {
         FlowTable {
-            counts: BTreeMap::new(alloc),
+            counts: IndexMap::new(alloc),
         }
     }
 
@@ -46,6 +48,17 @@ impl FlowTable {
                 self.counts.insert(rank, (flow, first_counts(frame)))?;
             }
         }
+        Ok(())
+    }
+
+    /// Puts the flows in the order of their lines. It takes memory for as long as it sorts.
+    pub fn sort(&mut self) -> Result<(), NoMemory>
+        ensures sorted { OnOk result ((past : List FrameOf) → IsTableOf past self.old.counts.entries
+            → values_of self.new.counts.entries ≡ table past) }
+        ensures stands { (past : List FrameOf) → IsTableOf past self.old.counts.entries
+            → IsTableOf past self.new.counts.entries }
+    {
+        self.counts.sort_unstable_keys()?;
         Ok(())
     }
 }

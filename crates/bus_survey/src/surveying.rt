@@ -87,6 +87,7 @@ impl Listener for Surveying {
 
     fn finish(&mut self, gathered: &mut TextBuffer) -> Result<(), NoMemory> {
         put_buses(gathered, &self.names, &self.buses)?;
+        self.flows.sort()?;
         put_flows(gathered, &self.names, &self.flows)?;
         put_end(gathered, self.records, self.discarded, self.sources.count())
     }
