@@ -8,8 +8,9 @@ ghost use Rattle.cyphal.specs.jobs.Compile.{Compiles, HasCompiledAt};
 use cy_outside::{Sink, Tree};
 use node_run::{Status, compile, load};
 use std::alloc::Global;
+use std::mem;
 
-/// Writes the layouts of the types below a root.
+/// Writes the layouts of the types below a root. The memory of the types isn't given back.
 pub fn compile_root<T: Tree, O: Sink>(
     alloc: Global,
     root: &str,
@@ -29,5 +30,8 @@ pub fn compile_root<T: Tree, O: Sink>(
         Ok(names) => names,
         Err(status) => return status,
     };
-    compile(alloc, &names, out)
+    let status = compile(alloc, &names, out);
+    // The program ends behind this, and the system takes its memory back at once.
+    mem::forget(names);
+    status
 }
