@@ -3,14 +3,10 @@ ghost use Rattle.std.specs.Prelude.{◌≡◌, ◌<◌, ◌≤◌, length, take,
 ghost use Rattle.std.specs.Io.KnownBytes.{Consumes, IsAtEnd};
 
 use crate::real::read_piece;
-use arrayvec::ArrayString;
 use std::fs::{self, Metadata, OpenFile};
 use std::io::{self, ErrorKind, Read, Seek, SeekFrom};
 use std::os::unix::fs::MetadataExt;
 use std::rt::Files;
-
-/// The longest path that the system takes, in bytes.
-const LONGEST_PATH: usize = 4096;
 
 /// What changes where a file is written.
 #[derive(Clone, Copy, PartialEq, Eq)]
@@ -39,8 +35,6 @@ impl Version {
 pub struct Opened<F> {
     /// The file.
     file: F,
-    /// The path that it was opened at.
-    path: ArrayString<LONGEST_PATH>,
     /// Where the next read goes on, in bytes.
     offset: u64,
     /// The version that stood there right before it was opened.
@@ -67,25 +61,36 @@ pub fn open_at<R: Files>(rt: &R, path: &str, offset: u64) -> io::Result<Found<R:
     if !metadata.is_file() {
         return Ok(Found::Absent);
     }
-    let Ok(kept) = ArrayString::from(path) else {
-        return Err(io::Error::from(ErrorKind::InvalidFilename));
-    };
     let mut file = fs::open(rt, path)?;
     if offset > 0 {
         file.seek(SeekFrom::Start(offset))?;
     }
     Ok(Found::File(Opened {
         file,
-        path: kept,
         offset,
         version: Version::of(&metadata),
     }))
 }
 
 impl<F> Opened<F> {
-    /// Whether a read of this path from this offset on goes on where the last one ended.
-    pub fn goes_on(&self, path: &str, offset: u64) -> bool {
-        self.offset == offset && self.path.as_str() == path
+    /// Whether a read from this offset on goes on where the last one ended.
+    pub fn goes_on(&self, offset: u64) -> bool {
+        self.offset == offset
+    }
+
+    /// How much of so much room the file fills from here on, as its size tells: a file isn't asked once
+    /// more whether it ends where it should. A file without a size, as the system makes up, may fill all.
+    fn told(&self, room: usize) -> usize
+        ensures { result ≤ room }
+    {
+        if self.version.len == 0 {
+            return room;
+        }
+        let left = self.version.len.saturating_sub(self.offset);
+        match usize::try_from(left) {
+            Ok(left) => left.min(room),
+            Err(_) => room,
+        }
     }
 }
 
@@ -96,7 +101,8 @@ impl<F: Read + OpenFile> Opened<F> {
         ensures within { IfOk result (λ n. n ≤ length buf.old) }
         ensures behind { IfOk result (λ n. drop n buf.new ≡ drop n buf.old) }
     {
-        let n = fill(&mut self.file, buf)?;
+        let told = self.told(buf.len());
+        let n = fill(&mut self.file, &mut buf[..told])?;
         if Version::of(&self.file.metadata()?) != self.version {
             return Err(io::Error::from(ErrorKind::ResourceBusy));
         }

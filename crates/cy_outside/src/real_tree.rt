@@ -5,12 +5,16 @@ ghost use Rattle.cy_outside.specs.Calls.{one_more};
 
 use crate::opened::{Found, Opened, open_at};
 use crate::{Entry, Got, Listing, Size, Tree, TreeError};
+use arrayvec::ArrayString;
 use cy_bits::{List, Text};
 use std::alloc::Global;
 use std::fs;
 use std::io::{self, ErrorKind};
 use std::path::AsPath;
 use std::rt::Files;
+
+/// The longest path that the system takes, in bytes.
+const LONGEST_PATH: usize = 4096;
 
 /// The files of the system. It tells nothing of them. Paths are taken as the system takes them,
 /// relative to the current folder, and links are followed.
@@ -33,6 +37,8 @@ pub struct RealTree<'a, R: Files> {
     pub calls: u64,
     /// The file that was read last.
     opened: Option<Opened<R::File>>,
+    /// The path that it was opened at.
+    path: ArrayString<LONGEST_PATH>,
 }
 
 impl<'a, R: Files> RealTree<'a, R> {
@@ -47,6 +53,7 @@ impl<'a, R: Files> RealTree<'a, R> {
             faults: 0,
             calls: 0,
             opened: None,
+            path: ArrayString::new(),
         }
     }
 
@@ -72,7 +79,7 @@ impl<'a, R: Files> RealTree<'a, R> {
     /// Whether a read goes on where the last one ended.
     fn goes_on(&self, path: &str, offset: u64) -> bool {
         match &self.opened {
-            Some(opened) => opened.goes_on(path, offset),
+            Some(opened) => opened.goes_on(offset) && self.path.as_str() == path,
             None => false,
         }
     }
@@ -100,7 +107,13 @@ impl<'a, R: Files + Alloc + Clone + Drop> Tree for RealTree<'a, R> {
         if !self.goes_on(path, offset) {
             self.opened = None;
             match open_at(self.rt, path, offset) {
-                Ok(Found::File(opened)) => self.opened = Some(opened),
+                Ok(Found::File(opened)) => {
+                    self.path.clear();
+                    if self.path.try_push_str(path).is_err() {
+                        return Err(self.fail());
+                    }
+                    self.opened = Some(opened);
+                }
                 Ok(Found::Folder) => return Ok(Got::Folder),
                 Ok(Found::Absent) => return Ok(Got::Absent),
                 Err(error) if is_absence(&error) => return Ok(Got::Absent),
