@@ -48,6 +48,15 @@ fn at_line(error: ReadError, line: u32) -> SyntaxError
     }
 }
 
+/// The same statements without room for more: they are kept until all files are valued.
+fn without_room(lines: List<Statement>) -> List<Statement>
+    ensures { result ≡ lines }
+{
+    let mut lines = lines.into_vec();
+    lines.shrink_to_fit();
+    List::new(lines)
+}
+
 /// The statements of a text, one a line (Cyphal Specification, section 3.2). Lines end with a
 /// newline, which the last one may lack; one `\r` before it isn't part of the line, and nothing
 /// behind the last newline is no line.
@@ -70,5 +79,7 @@ pub fn parse(alloc: Global, text: &[u8]) -> Result<Ast, SyntaxError>
         }
         rest = behind;
     }
-    Ok(Ast { lines })
+    Ok(Ast {
+        lines: without_room(lines),
+    })
 }

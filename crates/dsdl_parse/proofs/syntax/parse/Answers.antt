@@ -3,7 +3,7 @@ use Rattle.dsdl_parse.specs.declared.read_error.ReadError.{ReadError}
 use Rattle.dsdl_parse.specs.declared.read_error.ReadError.TheVariants as read
 use Rattle.dsdl_parse.specs.declared.syntax.SyntaxError.TheVariants.{Syntax}
 use Rattle.dsdl_parse.specs.LineAnswers.{at_line}
-use Rattle.dsdl_parse.specs.Ast.{FirstBad}
+use Rattle.dsdl_parse.specs.Ast.{FirstBad, IsAst}
 use Rattle.dsdl_parse.proofs.Parsed.{Going, begun, gone, ended, refused}
 use Rattle.dsdl_parse.proofs.syntax.parse.Goals as goal
 
@@ -27,4 +27,6 @@ returns-in-Err-clause-refused c line e =
     (refused c.args.text.now c.loop-line.rest.now c.in-Some.line.now c.in-Some.behind.now c.loop-line.lines c.loop-line.invariant c.in-Some.ensures (c.in-Err.ensures.refused (ap Err why)))
 
 pub returns-clause-ast : goal.returns-clause-ast
-returns-clause-ast c = ended c.args.text.now c.loop-line.rest.now c.loop-line.lines c.loop-line.invariant c.in_default.ensures
+returns-clause-ast c =
+    subst (IsAst c.args.text.now) (sym c.without_room.ensures)
+    (ended c.args.text.now c.loop-line.rest.now c.loop-line.lines c.loop-line.invariant c.in_default.ensures)
