@@ -18,8 +18,8 @@ use tail_frame::Frame;
 /// flow that is new, and for nothing else.
 #[derive(Drop)]
 pub struct FlowTable {
-    /// The flows by their ranks, each with what is counted of its frames. They stand in the order in
-    /// which they came, until `sort` puts them in that of their lines.
+    /// The flows by their ranks, each with what is counted of its frames. They stand in the order
+    /// in which they came, until `sort` puts them in that of their lines.
     pub counts: IndexMap<u64, (Flow, FlowCounts)>,
 }
 

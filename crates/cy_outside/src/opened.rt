@@ -78,8 +78,9 @@ impl<F> Opened<F> {
         self.offset == offset
     }
 
-    /// How much of so much room the file fills from here on, as its size tells: a file isn't asked once
-    /// more whether it ends where it should. A file without a size, as the system makes up, may fill all.
+    /// How much of so much room the file fills from here on, as its size tells: it isn't asked once
+    /// more whether it ends where it should. A file without a size, as the system makes up, may
+    /// fill all.
     fn told(&self, room: usize) -> usize
         ensures { result ≤ room }
     {
