@@ -8,8 +8,9 @@ use std::alloc::Global;
 
 /// The first `most` bytes of a file, or all that it has; `None` where there is no file.
 ///
-/// `Failed` comes only where a read of the tree failed. The tree is called once for each whole
-/// piece of 8,192 bytes that it gives, and at most once more.
+/// `Failed` comes only where a read of the tree failed. Where bytes are answered, the tree is
+/// called at most once for each whole piece of 8,192 of them, and once more. Where the tree tells
+/// its files, so it is with the first `most` bytes of the file, whatever is answered.
 pub fn read_file<T: Tree>(
     alloc: Global,
     tree: &mut T,
@@ -23,6 +24,8 @@ pub fn read_file<T: Tree>(
     ensures count { T.faults tree.old ≤ T.faults tree.new }
     ensures calls { T.calls tree.new
         ≤ T.calls tree.old + reads_of (front_length (T.files tree.old) path.now most) }
+    ensures given { IfOk result (λ file. IfSome file (λ bytes.
+        T.calls tree.new ≤ T.calls tree.old + reads_of (length bytes))) }
 {
     let mut piece = [0u8; PIECE];
     let mut bytes = Vec::new(alloc);
