@@ -96,9 +96,11 @@ impl<F> Opened<F> {
 }
 
 impl<F: Read + OpenFile> Opened<F> {
-    /// Reads on until the buffer is full or the file ends. The rest of the buffer stays. That the file was
-    /// written since it was found, or is another one, is an error.
+    /// Reads on until the buffer is full or the file ends. The rest of the buffer stays. That the
+    /// file was written since it was found, or is another one, is an error.
     pub fn read_on(&mut self, buf: &mut [u8]) -> io::Result<usize>
+        ensures bytes { IfOk result (λ n.
+            Consumes (F.remaining self.old.file) (F.remaining self.new.file) (take n buf.new)) }
         ensures within { IfOk result (λ n. n ≤ length buf.old) }
         ensures behind { IfOk result (λ n. drop n buf.new ≡ drop n buf.old) }
     {
