@@ -1,6 +1,7 @@
 -- What every call of a tree keeps, whether its files are told or not.
 use Rattle.std.specs.Prelude.{◌≡◌, ◌≤◌, ℕ, Bool, true, false, List, Result, Ok, Err, drop, ⊤}
 use Rattle.cy_outside.specs.Outside.{Rose}
+use Rattle.cy_outside.specs.Calls.{one_more}
 use Rattle.cy_outside.specs.declared.tree.TreeError.{TreeError}
 use Rattle.cy_outside.specs.declared.tree.TreeError.TheVariants.{Failed, NoMemory}
 use Rattle.cy_outside.specs.declared.tree.Got.{Got}
@@ -11,6 +12,12 @@ abbrev pub HasTreeCause : {T : Type 0} → ℕ → ℕ → Result T TreeError �
 HasTreeCause old new (Ok answer) = new ≡ old
 HasTreeCause old new (Err Failed) = Rose old new
 HasTreeCause old new (Err NoMemory) = new ≡ old
+
+-- a call that failed counted one fault, and every other answer leaves the count as it was
+abbrev pub CountsFault : {T : Type 0} → ℕ → ℕ → Result T TreeError → Type 0
+CountsFault old new (Ok answer) = new ≡ old
+CountsFault old new (Err Failed) = new ≡ one_more old
+CountsFault old new (Err NoMemory) = new ≡ old
 
 -- no more bytes than the buffer has room for
 abbrev pub IsWithin : Got → ℕ → Type 0

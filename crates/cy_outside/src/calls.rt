@@ -1,14 +1,14 @@
 ghost use Rattle.std.specs.Prelude.{◌≡◌, ◌≤◌, if◌then◌else◌};
 ghost use Rattle.cy_outside.specs.Calls.{one_more, is_failing};
 
-/// The calls of an object in memory: which of them are to fail, and how many have.
+/// The calls of an object in memory: which of them are to fail, and how many faults there were.
 #[derive(Drop)]
 pub struct Calls<'a> {
     /// The numbers of the calls that are to fail, counted from 0, in any order.
     pub failing: &'a [u64],
     /// The number of the next call, up to 2^64 - 1.
     pub next: u64,
-    /// How often a call has failed, up to 2^64 - 1.
+    /// How many faults were counted, up to 2^64 - 1.
     pub faults: u64,
 }
 

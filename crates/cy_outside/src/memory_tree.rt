@@ -1,6 +1,6 @@
 ghost use Rattle.std.specs.Prelude.{◌≡◌, ◌≤◌, true, Some, length, MatchOption, IfSome, IfOk, IfErr};
 ghost use Rattle.cy_outside.specs.Calls.{one_more, is_failing};
-ghost use Rattle.cy_outside.specs.Causes.{FailsWhere, HasTreeCause, IsWithin, IsLeft};
+ghost use Rattle.cy_outside.specs.Causes.{CountsFault, FailsWhere, HasTreeCause, IsWithin, IsLeft};
 ghost use Rattle.cy_outside.specs.Files.{has_clash, Lists, Reads, Sizes};
 ghost use Rattle.cy_outside.specs.Memory.{files_of};
 
@@ -37,6 +37,7 @@ impl<'a> MemTree<'a> {
     pub fn counted_list(&mut self, alloc: Global, path: &str) -> Result<Listing, TreeError>
         ensures fails { FailsWhere
             (is_failing self.old.calls.failing.now self.old.calls.next) result }
+        ensures faults { CountsFault self.old.calls.faults self.new.calls.faults result }
         ensures next { self.new.calls.next ≡ one_more self.old.calls.next }
         ensures failing { self.new.calls.failing.now ≡ self.old.calls.failing.now }
         ensures files { Some (files_of self.new.tree.files)
@@ -62,6 +63,7 @@ impl<'a> MemTree<'a> {
     ) -> Result<Got, TreeError>
         ensures fails { FailsWhere
             (is_failing self.old.calls.failing.now self.old.calls.next) result }
+        ensures faults { CountsFault self.old.calls.faults self.new.calls.faults result }
         ensures next { self.new.calls.next ≡ one_more self.old.calls.next }
         ensures failing { self.new.calls.failing.now ≡ self.old.calls.failing.now }
         ensures files { Some (files_of self.new.tree.files)
@@ -85,6 +87,7 @@ impl<'a> MemTree<'a> {
     pub fn counted_size(&mut self, path: &str) -> Result<Size, TreeError>
         ensures fails { FailsWhere
             (is_failing self.old.calls.failing.now self.old.calls.next) result }
+        ensures faults { CountsFault self.old.calls.faults self.new.calls.faults result }
         ensures next { self.new.calls.next ≡ one_more self.old.calls.next }
         ensures failing { self.new.calls.failing.now ≡ self.old.calls.failing.now }
         ensures files { Some (files_of self.new.tree.files)

@@ -1,7 +1,8 @@
-ghost use Rattle.std.specs.Prelude.{◌≡◌, ◌≤◌, None};
+ghost use Rattle.std.specs.Prelude.{◌≡◌, ◌≤◌, None, length, IfOk, IfErr};
 ghost use Rattle.std.specs.IoError.{error_kind};
 ghost use Rattle.cy_outside.specs.Absence.{is_absence};
 ghost use Rattle.cy_outside.specs.Calls.{one_more};
+ghost use Rattle.cy_outside.specs.Causes.{CountsFault, HasTreeCause, IsWithin, IsLeft};
 
 use crate::opened::{Found, Opened, open_at};
 use crate::{Entry, Got, Listing, Size, Tree, TreeError};
@@ -19,19 +20,20 @@ const LONGEST_PATH: usize = 4096;
 /// The files of the system. It tells nothing of them. Paths are taken as the system takes them,
 /// relative to the current folder, and links are followed.
 ///
-/// Where the system finds no such file, or a file where a path has a folder, nothing stands at the path;
-/// and so it is where something else than a regular file or a folder stands, as a pipe or a device, which
-/// is never opened. None of these is listed. Every other error counts as a fault, and so does a listing
-/// with a name that isn't UTF-8. A link that leads back to itself is listed, and a fault where it is read.
+/// Where the system finds no such file, or a file where a path has a folder, nothing stands at the
+/// path; and so it is where something else than a regular file or a folder stands, as a pipe or a
+/// device, which is never opened. None of these is listed. Every other error counts as a fault, but
+/// for want of memory where a folder is listed, and so does a listing with a name that isn't UTF-8.
+/// A link that leads back to itself is listed, and a fault where it is read.
 ///
 /// The file that was read last is kept open, and a read that goes on where the last one ended reads
-/// that file, also where another has come to its path. That a file is written between its reads is a
-/// fault, and so is that another one comes to its path just as it is opened.
+/// that file, also where another has come to its path. That a file is written between its reads is
+/// a fault, and so is that another one comes to its path just as it is opened.
 #[derive(Drop)]
 pub struct RealTree<'a, R: Files> {
     /// The runtime, which reaches the files.
     pub rt: &'a R,
-    /// How many calls failed, up to 2^64 - 1.
+    /// How many calls answered `TreeError::Failed`, up to 2^64 - 1.
     pub faults: u64,
     /// How many calls there were, up to 2^64 - 1.
     pub calls: u64,
@@ -85,14 +87,14 @@ impl<'a, R: Files> RealTree<'a, R> {
     }
 }
 
-impl<'a, R: Files + Alloc + Clone + Drop> Tree for RealTree<'a, R> {
-    ghost files = { λ _. None };
-
-    ghost faults = { λ t. t.faults };
-
-    ghost calls = { λ t. t.calls };
-
-    fn list(&mut self, alloc: Global, path: &str) -> Result<Listing, TreeError> {
+impl<'a, R: Files + Alloc + Clone + Drop> RealTree<'a, R> {
+    /// Lists a folder. `Tree::list` is this call.
+    pub fn counted_list(&mut self, alloc: Global, path: &str) -> Result<Listing, TreeError>
+        ensures calls { self.new.calls ≡ one_more self.old.calls }
+        ensures faults { CountsFault self.old.faults self.new.faults result }
+        ensures cause { HasTreeCause self.old.faults self.new.faults result }
+        ensures count { self.old.faults ≤ self.new.faults }
+    {
         self.count();
         match members(self.rt, alloc, path) {
             Ok(listing) => Ok(listing),
@@ -101,8 +103,24 @@ impl<'a, R: Files + Alloc + Clone + Drop> Tree for RealTree<'a, R> {
             Err(_) => Err(self.fail()),
         }
     }
+}
 
-    fn read_at(&mut self, path: &str, offset: u64, buf: &mut [u8]) -> Result<Got, TreeError> {
+impl<'a, R: Files> RealTree<'a, R> {
+    /// Reads a file. `Tree::read_at` is this call.
+    pub fn counted_read_at(
+        &mut self,
+        path: &str,
+        offset: u64,
+        buf: &mut [u8],
+    ) -> Result<Got, TreeError>
+        ensures calls { self.new.calls ≡ one_more self.old.calls }
+        ensures faults { CountsFault self.old.faults self.new.faults result }
+        ensures within { IfOk result (λ got. IsWithin got (length buf.old)) }
+        ensures behind { IfOk result (λ got. IsLeft got buf.old buf.new) }
+        ensures memory { IfErr result (λ error. error ≡ TreeError.Failed) }
+        ensures cause { HasTreeCause self.old.faults self.new.faults result }
+        ensures count { self.old.faults ≤ self.new.faults }
+    {
         self.count();
         if !self.goes_on(path, offset) {
             self.opened = None;
@@ -129,12 +147,39 @@ impl<'a, R: Files + Alloc + Clone + Drop> Tree for RealTree<'a, R> {
         Err(self.fail())
     }
 
-    fn size(&mut self, path: &str) -> Result<Size, TreeError> {
+    /// Finds a size. `Tree::size` is this call.
+    pub fn counted_size(&mut self, path: &str) -> Result<Size, TreeError>
+        ensures calls { self.new.calls ≡ one_more self.old.calls }
+        ensures faults { CountsFault self.old.faults self.new.faults result }
+        ensures memory { IfErr result (λ error. error ≡ TreeError.Failed) }
+        ensures cause { HasTreeCause self.old.faults self.new.faults result }
+        ensures count { self.old.faults ≤ self.new.faults }
+    {
         self.count();
         match standing(self.rt, path) {
             Ok(size) => Ok(size),
             Err(_) => Err(self.fail()),
         }
+    }
+}
+
+impl<'a, R: Files + Alloc + Clone + Drop> Tree for RealTree<'a, R> {
+    ghost files = { λ _. None };
+
+    ghost faults = { λ t. t.faults };
+
+    ghost calls = { λ t. t.calls };
+
+    fn list(&mut self, alloc: Global, path: &str) -> Result<Listing, TreeError> {
+        self.counted_list(alloc, path)
+    }
+
+    fn read_at(&mut self, path: &str, offset: u64, buf: &mut [u8]) -> Result<Got, TreeError> {
+        self.counted_read_at(path, offset, buf)
+    }
+
+    fn size(&mut self, path: &str) -> Result<Size, TreeError> {
+        self.counted_size(path)
     }
 }
 
