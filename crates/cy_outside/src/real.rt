@@ -10,8 +10,8 @@ use std::io::{self, Read, Write};
 /// The most bytes that one read of a real input or file takes.
 pub const PIECE: usize = 8192;
 
-/// A real input. It tells nothing of its bytes. A read that a signal interrupts is made again; each other
-/// error of a read counts as a fault, also that an input that doesn't block has nothing yet.
+/// A real input. It tells nothing of its bytes. A read that a signal interrupts is made again; each
+/// other error of a read counts as a fault, also that an input that doesn't block has nothing yet.
 #[derive(Drop)]
 pub struct RealSource<R> {
     /// Where the bytes come from.
@@ -41,8 +41,8 @@ impl<R> RealSource<R> {
 }
 
 impl<R: Read> RealSource<R> {
-    /// One read, of at most a piece. The bytes at the buffer's front are those that the reader gave.
-    /// `Source::read` is this call.
+    /// One read, of at most a piece. The bytes at the buffer's front are those that the reader
+    /// gave. `Source::read` is this call.
     pub fn counted_read(&mut self, buf: &mut [u8]) -> Result<usize, Failed>
         ensures bytes { ReadConsumes (R.remaining self.old.reader) (R.remaining self.new.reader)
             result buf.new }
@@ -60,7 +60,8 @@ impl<R: Read> RealSource<R> {
         }
     }
 
-    /// The same into the buffer itself, of which the rest may change. `Source::read_over` is this call.
+    /// The same into the buffer itself, of which the rest may change. `Source::read_over` is this
+    /// call.
     pub fn counted_read_over(&mut self, buf: &mut [u8]) -> Result<usize, Failed>
         ensures bytes { ReadConsumes (R.remaining self.old.reader) (R.remaining self.new.reader)
             result buf.new }
@@ -93,8 +94,8 @@ impl<R: Read> Source for RealSource<R> {
     }
 }
 
-/// Reads once, at most a piece. Nobody says what a reader leaves behind the bytes that it gave, so it
-/// reads into an array, and the rest of the buffer stays.
+/// Reads once, at most a piece. Nobody says what a reader leaves behind the bytes that it gave, so
+/// it reads into an array, and the rest of the buffer stays.
 pub(crate) fn read_piece<R: Read>(reader: &mut R, buf: &mut [u8]) -> io::Result<usize>
     ensures bytes { ReadConsumes (R.remaining reader.old) (R.remaining reader.new) result buf.new }
     ensures within { IfOk result (λ n. n ≤ length buf.old) }
@@ -107,8 +108,9 @@ pub(crate) fn read_piece<R: Read>(reader: &mut R, buf: &mut [u8]) -> io::Result<
     Ok(n)
 }
 
-/// A real output. It tells nothing of its bytes. A write that a signal interrupts is made again; each
-/// other error of a write counts as a fault, and so does a write that takes none of some bytes.
+/// A real output. It tells nothing of its bytes. A write that a signal interrupts is made again;
+/// each other error of a write counts as a fault, and so does a write that takes none of some
+/// bytes.
 #[derive(Drop)]
 pub struct RealSink<W> {
     /// Where the bytes go.

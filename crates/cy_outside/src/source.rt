@@ -11,8 +11,8 @@ pub trait Source {
     /// How often it has failed. The count stays at 2^64 - 1 once it is there.
     ghost faults: { Self → ℕ };
 
-    /// Puts the first bytes that are left at the buffer's front and answers their number, which is 0
-    /// only at the end of input or where the buffer is empty. The rest of the buffer stays.
+    /// Puts the first bytes that are left at the buffer's front and answers their number, which is
+    /// 0 only at the end of input or where the buffer is empty. The rest of the buffer stays.
     ///
     /// `Failed` leaves the bytes that are left as they were, and raises the count of faults.
     fn read(&mut self, buf: &mut [u8]) -> Result<usize, Failed>
