@@ -89,6 +89,34 @@ module _ (timeout source : ℕ) (r : KeyRecord) where
           ∙ (more k.0 k.1
           ∙ sym (cond-false (eqb e.source source) (advance crc_more 0xFFFF timeout e.session r).1 (outcome_at crc_more 0xFFFF timeout source r es) (swapped source e.source false t)))
 
+-- a source whose place was found stands there
+pub known-at : (source i : ℕ) (ks : List ℕ) → position (nat_eq source) ks ≡ Some i → slice_get ks i ≡ Some source
+known-at source i [] h = absurd cc
+known-at source i (k ∷ ks) h = go (λ j e. known-at source j ks e) (nat_eq source k) refl
+  where
+    go : ((j : ℕ) → position (nat_eq source) ks ≡ Some j → slice_get ks j ≡ Some source) → (b : Bool) → nat_eq source k ≡ b → slice_get (k ∷ ks) i ≡ Some source
+    go more true t =
+        let at : i ≡ 0 = let e : Some 0 ≡ Some i = sym (position-here (nat_eq source) k ks t) ∙ h in cc in
+        ap (slice_get (k ∷ ks)) at ∙ ap Some (sym (eqb-true source k t))
+    go more false t =
+        let e = position-lowered (position (nat_eq source) ks) i (sym (position-further (nat_eq source) k ks t) ∙ h) in
+        ap (slice_get (k ∷ ks)) e.2 ∙ more e.0 e.1
+
+-- a source that stands at no place
+pub absent-at : (source i : ℕ) (ks : List ℕ) → has source ks ≡ false → slice_get ks i ≡ Some source → ⊥
+absent-at source i ks a e = let h = at_some i ks e in cc
+  where
+    at_some : (i : ℕ) (ks : List ℕ) → slice_get ks i ≡ Some source → has source ks ≡ true
+    at_some i [] e = absurd cc
+    at_some zero (k ∷ ks) e = or_left (eqb k source) (has source ks) (eq-eqb k source (some_is _ _ e))
+    at_some (suc i) (k ∷ ks) e = or_right (eqb k source) (has source ks) (at_some i ks e)
+
+-- a step leaves each source at its place
+pub sources-step : (timeout : ℕ) (r : KeyRecord) (es : List Entry) (i : ℕ) → sources_of (step_nth timeout es i r) ≡ sources_of es
+sources-step timeout r [] i = refl
+sources-step timeout r (e ∷ es) zero = refl
+sources-step timeout r (e ∷ es) (suc i) = ap (λ (ss : List ℕ). e.source ∷ ss) (sources-step timeout r es i)
+
 -- the source at a place
 pub sources-get : {S : Type 0} (es : List (ℕ × Session S)) (i : ℕ) (e : ℕ × Session S) → slice_get es i ≡ Some e → slice_get (sources_of (entries_of es)) i ≡ Some e.0
 sources-get [] i e h = absurd cc

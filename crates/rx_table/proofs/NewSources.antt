@@ -1,5 +1,5 @@
 -- A source that goes behind a port's others.
-use Rattle.std.proofs.Common.{◌≡◌, ◌∙◌, ℕ, suc, ◌≤◌, ◌<◌, ◌&&◌, List, [], ◌∷◌, ◌++◌, true, false, cond, nat_lt, length, refl, sym, ap, ap₂, arith}
+use Rattle.std.proofs.Common.{◌≡◌, ◌∙◌, ℕ, suc, ◌≤◌, ◌<◌, ◌&&◌, List, [], ◌∷◌, ◌++◌, true, false, cond, nat_lt, length, slice_get, Some, refl, sym, ap, ap₂, arith}
 use Rattle.std.proofs.lemmas.Bool.{lt-ltb, cond-true, cond-false, and_from, and_right, cases_Bool, ltb-true}
 use Rattle.std.proofs.Common.{inl, inr}
 use Rattle.tail_frame.specs.Chains.{KeyRecord}
@@ -8,7 +8,7 @@ use Rattle.rx_session.specs.declared.session.Session.{Session}
 use Rattle.rx_session.specs.declared.outcome.Step as code
 use Rattle.rx_session.specs.Session.{Session as Kept, Ignored, advance}
 use Rattle.rx_session.specs.Seen.{kept, fresh, step_answer}
-use Rattle.rx_table.specs.Ports.{Port, Entry, Answer, NoSession, OfSession, open_session}
+use Rattle.rx_table.specs.Ports.{Port, Entry, Answer, NoSession, OfSession, sources_of, open_session}
 use Rattle.rx_table.specs.Places.{opened, opened_answer, buffer_nth}
 use Rattle.rx_table.specs.Table.{entries_of}
 
@@ -23,6 +23,10 @@ entries-append (e ∷ es) fs = ap (λ (r : List Entry). record { source = e.0; s
 buffer-last : {S : Type 0} (es : List (ℕ × Session S)) (k : ℕ) (s : Session S) → buffer_nth (entries_of (es ++ (k, s) ∷ [])) (length es) ≡ s.buffer
 buffer-last [] k s = refl
 buffer-last (e ∷ es) k s = buffer-last es k s
+
+source-last : {S : Type 0} (es : List (ℕ × Session S)) (k : ℕ) (s : Session S) → slice_get (sources_of (entries_of (es ++ (k, s) ∷ []))) (length es) ≡ Some k
+source-last [] k s = refl
+source-last (e ∷ es) k s = source-last es k s
 
 not_below : (m n : ℕ) → n ≤ m → nat_lt m n ≡ false
 not_below m n le = elim (cases_Bool (nat_lt m n)) [ inl y ↦ absurd (let l = ltb-true m n y in omega arith) | inr e ↦ e ]
@@ -58,6 +62,7 @@ module _ (timeout : ℕ) (p : Port) (r : KeyRecord) where
   pub record Last {S : Type 0} (es es' : List (ℕ × Session S)) (source index : ℕ) (step : code.Step) : Type 0 where
     pub entries : entries_of es' ≡ opened timeout p (entries_of es) source r
     pub answer : OfSession (step_answer (buffer_nth (entries_of es') index) r step) ≡ opened_answer timeout p (entries_of es) r
+    pub place : slice_get (sources_of (entries_of es')) index ≡ Some source
 
   pub put-last : {S : Type 0} (es es' : List (ℕ × Session S)) (source index : ℕ) (s w : Session S) (step : code.Step) → r.start ≡ true → index ≡ length es → index < p.sources
       → kept s ≡ fresh p.extent → kept w ≡ (advance crc_more 0xFFFF timeout (kept s) r).0 → step_answer w.buffer r step ≡ (advance crc_more 0xFFFF timeout (kept s) r).1
@@ -73,4 +78,5 @@ module _ (timeout : ℕ) (p : Port) (r : KeyRecord) where
             ap₂ (λ (t : List (ℕ × Session S)) (n : ℕ). OfSession (step_answer (buffer_nth (entries_of t) n) r step)) e at
             ∙ (ap (λ (b : List ℕ). OfSession (step_answer b r step)) (buffer-last es source w)
             ∙ (ap OfSession (answer ∙ ap (λ (x : Kept). (advance crc_more 0xFFFF timeout x r).1) new) ∙ sym (room-answer (entries_of es) start few)));
+        place = ap₂ (λ (t : List (ℕ × Session S)) (n : ℕ). slice_get (sources_of (entries_of t)) n) e at ∙ source-last es source w;
       }

@@ -1,10 +1,11 @@
 -- One port's change, by its place among a table's ports.
-use Rattle.std.proofs.Common.{◌≡◌, ◌∙◌, ℕ, ◌≤◌, List, [], ◌∷◌, zero, suc, Some, refl, sym, ap, subst, map, slice_get, slice_set, length, arith}
+use Rattle.std.proofs.Common.{◌≡◌, ◌∙◌, ℕ, ◌≤◌, List, [], ◌∷◌, zero, suc, Option, Some, refl, sym, ap, subst, map, slice_get, slice_set, length, arith}
+use Rattle.std.specs.Option.{option_and_then}
 use Rattle.tail_frame.specs.Chains.{KeyRecord}
 use Rattle.rx_table.specs.declared.port.Port as code
 use Rattle.rx_table.specs.declared.fed.PortMet as code_met
-use Rattle.rx_table.specs.Ports.{Port, Entry, PortState, NoPort, ports_of}
-use Rattle.rx_table.specs.Places.{fed_entries, port_answer, feed_nth, answer_nth, met_answer, met_nth, Adds, AddsNth}
+use Rattle.rx_table.specs.Ports.{Port, Entry, PortState, NoPort, ports_of, sources_of}
+use Rattle.rx_table.specs.Places.{fed_entries, port_answer, feed_nth, answer_nth, met_answer, met_nth, Adds, AddsNth, source_at, NamesSession}
 use Rattle.rx_table.specs.Table.{entries_of, port_of, state_of, states, EntriesHeard, HeardBy}
 
 some_is : {X : Type 0} (x y : X) → Some x ≡ Some y → x ≡ y
@@ -52,6 +53,32 @@ module _ {S : Type 0} (extent : S → ℕ) where
   met-none [] i rec met le = refl
   met-none (o ∷ ports) zero rec met le = absurd (omega arith)
   met-none (o ∷ ports) (suc i) rec met le = met-none ports i rec met (omega arith)
+
+  state-get : (ports : List (code.Port S)) (i : ℕ) (p : code.Port S) → slice_get ports i ≡ Some p → slice_get (states extent ports) i ≡ Some (state_of extent p)
+  state-get [] i p h = absurd cc
+  state-get (o ∷ ports) zero p h = ap (λ (s : code.Port S). Some (state_of extent s)) (some_is _ _ h)
+  state-get (o ∷ ports) (suc i) p h = state-get ports i p h
+
+  state-set : (ports : List (code.Port S)) (i : ℕ) (p q : code.Port S) → slice_get ports i ≡ Some p → slice_get (states extent (slice_set ports i q)) i ≡ Some (state_of extent q)
+  state-set [] i p q h = absurd cc
+  state-set (o ∷ ports) zero p q h = refl
+  state-set (o ∷ ports) (suc i) p q h = state-set ports i p q h
+
+  -- the source at a place of the port at a place
+  pub source-get : (ports : List (code.Port S)) (i index : ℕ) (p : code.Port S) → slice_get ports i ≡ Some p → source_at (states extent ports) i index ≡ slice_get (sources_of (entries p)) index
+  source-get ports i index p h = ap (option_and_then (λ (s : PortState). slice_get (sources_of s.entries) index)) (state-get ports i p h)
+
+  pub source-set : (ports : List (code.Port S)) (i index : ℕ) (p q : code.Port S) → slice_get ports i ≡ Some p → source_at (states extent (slice_set ports i q)) i index ≡ slice_get (sources_of (entries q)) index
+  source-set ports i index p q h = ap (option_and_then (λ (s : PortState). slice_get (sources_of s.entries) index)) (state-set ports i p q h)
+
+  -- what names a session of the port at a place names it among the ports
+  pub names-nth : (source : Option ℕ) (ports : List (code.Port S)) (i : ℕ) (p q : code.Port S) (met : code_met.PortMet) → slice_get ports i ≡ Some p
+      → NamesSession source (slice_get (sources_of (entries p))) (slice_get (sources_of (entries q))) met
+      → NamesSession source (source_at (states extent ports) i) (source_at (states extent (slice_set ports i q)) i) met
+  names-nth source ports i p q met h n =
+      let at : Option PortState → ℕ → Option ℕ = λ o index. option_and_then (λ (s : PortState). slice_get (sources_of s.entries) index) o in
+      subst (λ (o : Option PortState). NamesSession source (at o) (source_at (states extent (slice_set ports i q)) i) met) (sym (state-get ports i p h))
+      (subst (λ (o : Option PortState). NamesSession source (slice_get (sources_of (entries p))) (at o) met) (sym (state-set ports i p q h)) n)
 
   module _ (timeout source : ℕ) (r : KeyRecord) where
     abbrev fed : code.Port S → PortState

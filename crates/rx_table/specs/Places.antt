@@ -1,6 +1,7 @@
 -- What one session of a port does, by its place among the port's sources.
-use Rattle.std.specs.Prelude.{◌≡◌, ℕ, zero, suc, true, false, ◌<◌, nat_lt, ◌&&◌, List, [], ◌∷◌}
-use Rattle.std.specs.Prelude.{◌++◌, length, take, if◌then◌else◌, Option, Some, None}
+use Rattle.std.specs.Prelude.{◌≡◌, ◌≢◌, ℕ, zero, suc, Bool, true, false, ◌<◌, nat_lt, ◌&&◌, List}
+use Rattle.std.specs.Prelude.{[], ◌∷◌, ◌++◌, length, take, slice_get, if◌then◌else◌, Option, Some}
+use Rattle.std.specs.Prelude.{None, option_and_then}
 use Rattle.tail_frame.specs.Chains.{KeyRecord}
 use Rattle.transfer_crc.specs.Crc.{crc_more}
 use Rattle.rx_session.specs.Session.{Outcome, Ignored, Delivered, advance, with_body}
@@ -82,6 +83,28 @@ grown extent code_port_met.TheVariants.NoSession = 0
 grown extent code_port_met.TheVariants.Ignored = 0
 grown extent (code_port_met.TheVariants.Session index step) = 0
 grown extent (code_port_met.TheVariants.Opened index step) = extent
+
+-- whether a session was opened for a frame that met these
+abbrev pub is_opened : code_port_met.PortMet → Bool
+is_opened code_port_met.TheVariants.NoSession = false
+is_opened code_port_met.TheVariants.Ignored = false
+is_opened (code_port_met.TheVariants.Session index step) = false
+is_opened (code_port_met.TheVariants.Opened index step) = true
+
+-- what a frame of a source met names the place of the source's session, by the source at each place
+-- before it and after it: the session was there, it is new, or there is none
+abbrev pub NamesSession : Option ℕ → (before after : ℕ → Option ℕ) → code_port_met.PortMet → Type 0
+NamesSession source before after code_port_met.TheVariants.NoSession = (i : ℕ) → before i ≢ source
+NamesSession source before after code_port_met.TheVariants.Ignored = (i : ℕ) → before i ≢ source
+NamesSession source before after (code_port_met.TheVariants.Session index step) =
+    (before index ≡ source) × (after index ≡ source)
+NamesSession source before after (code_port_met.TheVariants.Opened index step) =
+    ((i : ℕ) → before i ≢ source) × (after index ≡ source)
+
+-- the source of a session, by its port's place among these and its own place among the port's
+abbrev pub source_at : List PortState → ℕ → ℕ → Option ℕ
+source_at ps place index =
+    option_and_then (λ (p : PortState). slice_get (sources_of p.entries) index) (slice_get ps place)
 
 abbrev pub met_nth : List PortState → ℕ → KeyRecord → code_port_met.PortMet → Answer
 met_nth [] i r met = NoPort

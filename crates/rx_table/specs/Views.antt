@@ -1,8 +1,9 @@
 -- A table of the code as the definitions see it, and what a frame does to it.
-use Rattle.std.specs.Prelude.{◌≡◌, ◌≤◌, ◌&&◌, ◌==◌, ℕ, false, List, Option, map, Result, IfOk, OnOk}
-use Rattle.std.specs.Prelude.{OnErr}
+use Rattle.std.specs.Prelude.{◌≡◌, ◌≤◌, ◌&&◌, ◌==◌, ℕ, false, List, Option, Some, None, map, Result}
+use Rattle.std.specs.Prelude.{IfOk, OnOk, OnErr}
 use Rattle.std.specs.List.{position}
 use Rattle.can_id.specs.declared.key.Kind.{Kind}
+use Rattle.can_id.specs.declared.key.Key.{Key}
 use Rattle.dsdl_types.specs.Schemas.{Sch}
 use Rattle.tail_frame.specs.Frames.{FrameOf, seen}
 use Rattle.tail_frame.specs.declared.frame.Frame.{Frame}
@@ -10,7 +11,8 @@ use Rattle.rx_session.specs.Extents.{extent_bytes}
 use Rattle.rx_session.specs.Seen.{record_of}
 use Rattle.rx_table.specs.Keys.{KeyedFrame, same_kind}
 use Rattle.rx_table.specs.Ports.{Port, PortState, Answer, ports_of, is_of_session}
-use Rattle.rx_table.specs.Places.{table_answer, feed_nth, answer_nth, AddsNth}
+use Rattle.rx_table.specs.Places.{table_answer, feed_nth, answer_nth, AddsNth, source_at}
+use Rattle.rx_table.specs.Places.{NamesSession}
 use Rattle.rx_table.specs.Table.{states, StandsFor, HeardBy, logged, fed_answer, Told, Opens}
 use Rattle.rx_table.specs.declared.table.Table.{Table}
 use Rattle.rx_table.specs.declared.fed.Fed as code_fed
@@ -51,6 +53,16 @@ module _ {S : Type 0} (shape : S → Sch) where
 
   abbrev pub OpensAtPlace : Table S → ℕ → ℕ → Frame → Type 0
   OpensAtPlace t place source frame = AddsNth (states_of t) place source (record_of frame)
+
+  -- what a frame with this key met names the place of its port, and there that of its source's
+  -- session
+  abbrev pub IsMetAt : Table S → Table S → Key → code_met.Met → Type 0
+  IsMetAt old new key code_met.TheVariants.NoPort = place_in key.kind key.port new ≡ None
+  IsMetAt old new key (code_met.TheVariants.Anonymous front) = key.source ≡ None
+  IsMetAt old new key (code_met.TheVariants.Port place met) =
+      (place_in key.kind key.port new ≡ Some place)
+      × NamesSession key.source (source_at (states_of old) place) (source_at (states_of new) place)
+      met
 
   -- the timeout, the subscriptions and their shapes stay
   pub record Keeps (old new : Table S) : Type 0 where

@@ -27,7 +27,7 @@ pub enum Met {
     Anonymous(Front),
     /// What it came to on the port at a place.
     Port {
-        /// The place among the table's ports.
+        /// The place of its kind and port among the table's ports.
         place: usize,
         /// What it came to there.
         met: PortMet,
@@ -41,16 +41,16 @@ pub enum PortMet {
     NoSession,
     /// It is a frame of a new source that isn't a start.
     Ignored,
-    /// What its session made of it.
+    /// What the session that its source had made of it.
     Session {
-        /// The place among the port's sources.
+        /// The place of its source among the port's sources.
         index: usize,
         /// What the session made of it.
         step: Step,
     },
     /// What a session made of it that was opened for it.
     Opened {
-        /// The place among the port's sources, which is the last one.
+        /// The place of its source among the port's sources, where it had none before.
         index: usize,
         /// What the session made of it.
         step: Step,

@@ -1,4 +1,4 @@
-ghost use Rattle.std.specs.Prelude.{◌≡◌, ◌<◌, IfOk, OnErr, OnOk, length, ◌==◌, ◌&&◌, nat_eq, None, true, ◌+◌, [], take, slice_get, Some, IfSome};
+ghost use Rattle.std.specs.Prelude.{◌≡◌, ◌↔◌, ◌<◌, IfOk, OnErr, OnOk, length, ◌==◌, ◌&&◌, nat_eq, None, true, false, ◌+◌, [], take, slice_get, Some, IfSome};
 ghost use Rattle.std.specs.List.{position, IsDistinct};
 ghost use Rattle.rx_table.specs.PortViews.{entries_in, sources_in, buffered_in, subscription, after_frame, answer_to, OpensFor, after_first, answer_to_first, bytes_for};
 ghost use Rattle.indexmap.specs.IndexMap.{get};
@@ -7,8 +7,9 @@ ghost use Rattle.rx_session.specs.Extents.{extent_bytes};
 ghost use Rattle.rx_session.specs.Seen.{record_of, step_answer, outcome_answer};
 ghost use Rattle.rx_session.specs.Session.{Delivered};
 ghost use Rattle.rx_table.specs.Keys.{same_kind};
+ghost use Rattle.rx_table.specs.Admitted.{has};
 ghost use Rattle.rx_table.specs.declared.fed.PortMet.TheVariants as met;
-ghost use Rattle.rx_table.specs.Places.{step_nth, outcome_nth, buffer_nth, met_answer, put_entry};
+ghost use Rattle.rx_table.specs.Places.{step_nth, outcome_nth, buffer_nth, met_answer, is_opened, NamesSession, put_entry};
 ghost use Rattle.rx_table.specs.Table.{EntriesHeard, whole, fed_answer, state_of, subscribed};
 
 use crate::fed::{Fed, PortMet};
@@ -119,6 +120,10 @@ impl<S: Shape> Port<S> {
             ≡ after_frame S.shape timeout self.old source frame.now) }
         ensures answer { IfOk result (λ m. met_answer (entries_in self.new) (record_of frame.now) m
             ≡ answer_to S.shape timeout self.old source frame.now) }
+        ensures place { IfOk result (NamesSession (Some source) (slice_get (sources_in self.old))
+            (slice_get (sources_in self.new))) }
+        ensures opened { IfOk result (λ m.
+            is_opened m ≡ true ↔ OpensFor S.shape self.old source frame.now) }
         ensures grown { IfOk result (λ met.
             buffered_in self.new ≡ buffered_in self.old + bytes_for S.shape self.old met) }
         ensures err { OnErr result (entries_in self.new ≡ entries_in self.old) }
@@ -145,6 +150,8 @@ impl<S: Shape> Port<S> {
         ensures answer { IfSome result (λ p.
             met_answer (entries_in self.new) (record_of frame.now) (met.Session p.0 p.1)
             ≡ answer_to S.shape timeout self.old source frame.now) }
+        ensures place { IfSome result (λ p. slice_get (sources_in self.new) p.0 ≡ Some source) }
+        ensures known { IfSome result (λ p. slice_get (sources_in self.old) p.0 ≡ Some source) }
         ensures buffered { buffered_in self.new ≡ buffered_in self.old }
         ensures none { result ≡ None → entries_in self.new ≡ entries_in self.old }
     {
@@ -205,13 +212,18 @@ impl<S: Shape> Port<S> {
         frame: &Frame,
         timeout: u64,
     ) -> Result<PortMet, NoMemory>
-        requires { get nat_eq self.old.sessions source ≡ None }
+        requires free { get nat_eq self.old.sessions source ≡ None }
+        requires absent { has source (sources_in self.old) ≡ false }
         ensures port { subscription S.shape self.new ≡ subscription S.shape self.old }
         ensures shape { self.new.shape ≡ self.old.shape }
         ensures entries { OnOk result (entries_in self.new
             ≡ after_first S.shape timeout self.old source frame.now) }
         ensures answer { IfOk result (λ m. met_answer (entries_in self.new) (record_of frame.now) m
             ≡ answer_to_first S.shape timeout self.old frame.now) }
+        ensures place { IfOk result (NamesSession (Some source) (slice_get (sources_in self.old))
+            (slice_get (sources_in self.new))) }
+        ensures opened { IfOk result (λ m.
+            is_opened m ≡ true ↔ OpensFor S.shape self.old source frame.now) }
         ensures grown { IfOk result (λ met.
             buffered_in self.new ≡ buffered_in self.old + bytes_for S.shape self.old met) }
         ensures err { OnErr result (entries_in self.new ≡ entries_in self.old) }

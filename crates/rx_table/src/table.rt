@@ -37,6 +37,7 @@ impl<S: Shape> Table<S> {
     ghost use Rattle.std.specs.Prelude.{◌↔◌, ◌<◌, ◌≤◌, ◌++◌, ◌∷◌, [], IfOk, IfSome, OnErr, OnOk, length, List, ℕ, Err, None, Some, ◌≢◌, map, ◌+◌, is_some};
     ghost use Rattle.std.specs.Borrow.{sem};
     ghost use Rattle.std.specs.Io.BufRead.{Rests};
+    ghost use Rattle.can_id.specs.declared.key.Key.{Key as KeyOf};
     ghost use Rattle.can_id.specs.declared.key.Kind.{Kind as KindOf};
     ghost use Rattle.can_id.specs.declared.key.Kind.TheVariants.{Message};
     ghost use Rattle.std.specs.Option.{option_copied};
@@ -46,10 +47,10 @@ impl<S: Shape> Table<S> {
     ghost use Rattle.rx_table.specs.Keys.{KeyedFrame};
     ghost use Rattle.rx_session.specs.Seen.{record_of};
     ghost use Rattle.rx_table.specs.Ports.{port_at, held, bound, held_of};
-    ghost use Rattle.rx_table.specs.Places.{put_met, put_nth};
+    ghost use Rattle.rx_table.specs.Places.{put_met, put_nth, source_at};
     ghost use Rattle.rx_table.specs.SubjectPlaces.{place_of};
     ghost use Rattle.rx_table.specs.Table.{StandsFor, fed_answer, shape_at, admitted_on, subscribed};
-    ghost use Rattle.rx_table.specs.Views.{states_of, subscriptions, place_in, states_after, answer_after, OpensAtPlace, IsOfLog, HasHeardBy, told_by, Keeps, KeepsSessions, TakesIn, Answers, OpensOne, IsIdleAt, IsFed};
+    ghost use Rattle.rx_table.specs.Views.{states_of, subscriptions, place_in, states_after, answer_after, OpensAtPlace, IsOfLog, HasHeardBy, told_by, Keeps, KeepsSessions, TakesIn, Answers, OpensOne, IsIdleAt, IsMetAt, IsFed};
     ghost use Rattle.rx_table.specs.declared.fed.Met.TheVariants as on_port;
     ghost use Rattle.rx_table.specs.declared.fed.PortMet.TheVariants as on_session;
     ghost use Rattle.rx_table.specs.declared.fed.SubscribeError.TheVariants.{Taken};
@@ -204,6 +205,7 @@ impl<S: Shape> Table<S> {
         ensures stands { OnOk result (TakesIn S.shape (seen frame.now) self.old self.new) }
         ensures told { IfOk result (λ met.
             Answers S.shape self.old (seen frame.now) (told_by S.shape self.new frame.now met)) }
+        ensures place { IfOk result (IsMetAt S.shape self.old self.new (key_of frame.now.ident)) }
         ensures idle { IfOk result (λ met.
             IsIdleAt S.shape (told_by S.shape self.new frame.now met) self.old self.new) }
         ensures memory { OnErr result (OpensOne S.shape self.old (seen frame.now)) }
@@ -229,6 +231,8 @@ impl<S: Shape> Table<S> {
             ≡ states_after S.shape self.old place source frame.now) }
         ensures answer { IfOk result (λ met. told_by S.shape self.new frame.now met
             ≡ answer_after S.shape self.old place source frame.now) }
+        ensures place { (key : KeyOf) → place_in key.kind key.port self.old ≡ Some place
+            → key.source ≡ Some source → IfOk result (IsMetAt S.shape self.old self.new key) }
         ensures err { OnErr result (KeepsSessions S.shape self.old self.new) }
         ensures memory { OnErr result (OpensAtPlace S.shape self.old place source frame.now) }
     {
@@ -255,6 +259,10 @@ impl<S: Shape> Table<S> {
         ensures answer { IfSome result (λ p.
             told_by S.shape self.new frame.now (on_port.Port place (on_session.Session p.0 p.1))
             ≡ answer_after S.shape self.old place source frame.now) }
+        ensures index { IfSome result (λ p.
+            source_at (states_of S.shape self.new) place p.0 ≡ Some source) }
+        ensures known { IfSome result (λ p.
+            source_at (states_of S.shape self.old) place p.0 ≡ Some source) }
         ensures none { result ≡ None → KeepsSessions S.shape self.old self.new }
     {
         let port = &mut self.ports[place];
@@ -280,6 +288,10 @@ impl<S: Shape> Table<S> {
         ensures told { IfSome result (λ p.
             let met = on_port.Port place (on_session.Session p.0 p.1) in
             Answers S.shape self.old (seen frame.now) (told_by S.shape self.new frame.now met)) }
+        ensures index { let key = key_of frame.now.ident in IfSome result (λ p.
+            source_at (states_of S.shape self.new) place p.0 ≡ key.source) }
+        ensures known { let key = key_of frame.now.ident in IfSome result (λ p.
+            source_at (states_of S.shape self.old) place p.0 ≡ key.source) }
         ensures none { result ≡ None → KeepsSessions S.shape self.old self.new }
     {
         let key = frame.ident.key();

@@ -1,4 +1,4 @@
-use Rattle.std.proofs.Common.{◌≡◌, ◌∙◌, sym, ap, subst, OnOk, IfOk, List, arith}
+use Rattle.std.proofs.Common.{◌≡◌, ◌∙◌, sym, ap, subst, OnOk, IfOk, List, ℕ, slice_get, arith}
 use Rattle.std.proofs.lemmas.Bool.{cond-true, cond-false}
 use Rattle.transfer_crc.specs.Crc.{crc_more}
 use Rattle.rx_session.specs.Extents.{extent_bytes}
@@ -9,7 +9,7 @@ use Rattle.rx_table.specs.Places.{opened, opened_answer, met_answer}
 use Rattle.rx_table.specs.Table.{port_of, entries_of}
 use Rattle.rx_table.proofs.Answered.{on_err_both}
 use Rattle.rx_table.proofs.NewSources.{length-entries}
-use Rattle.rx_table.proofs.KnownSources.{known-has, unknown-has, known-entries, known-outcome}
+use Rattle.rx_table.proofs.KnownSources.{known-has, unknown-has, known-entries, known-outcome, known-at, sources-step}
 use Rattle.rx_table.proofs.port.Port.meet.Goals as goal
 
 pub returns-in-Some-clause-entries : goal.returns-in-Some-clause-entries
@@ -58,3 +58,20 @@ returns-in-None-clause-memory g c =
     let n = length-entries c.args.self.now.sessions.entries in
     on_err_both c.meet_new.result c.meet_new.ensures.start c.meet_new.ensures.room
     (λ start room. record { absent = unknown-has c.args.source es at; start = start; room = omega arith })
+
+pub meet_new-requires-clause-absent : goal.meet_new-requires-clause-absent
+meet_new-requires-clause-absent g c = unknown-has c.args.source (entries_of c.args.self.now.sessions.entries) (sym c.in-None.ensures.index)
+
+pub returns-in-Some-clause-place : goal.returns-in-Some-clause-place
+returns-in-Some-clause-place g c =
+    let es = entries_of c.args.self.now.sessions.entries in
+    let there = known-at c.args.source c.in-Some.index (sources_of es) (sym c.in-Some.ensures.index) in (
+      there,
+      ap (λ (fs : List Entry). slice_get (sources_of fs) c.in-Some.index) c.step_at-step.ensures.entries
+          ∙ (ap (λ (ss : List ℕ). slice_get ss c.in-Some.index) (sources-step c.args.timeout (record_of c.args.frame.now) es c.in-Some.index) ∙ there),
+    )
+
+pub returns-in-Some-clause-opened : goal.returns-in-Some-clause-opened
+returns-in-Some-clause-opened g c =
+    let has_it = known-has c.args.source c.in-Some.index (entries_of c.args.self.now.sessions.entries) (sym c.in-Some.ensures.index) in
+    (λ e. absurd cc, λ opens. absurd (let none = opens.absent in cc))

@@ -1,4 +1,4 @@
-use Rattle.std.proofs.Common.{◌≡◌, ◌∙◌, sym, subst, List, Some}
+use Rattle.std.proofs.Common.{◌≡◌, ◌∙◌, sym, ap, subst, List, Some}
 use Rattle.can_id.specs.Identifiers.{key_of}
 use Rattle.can_id.specs.declared.key.Key.{Key}
 use Rattle.tail_frame.specs.Frames.{seen}
@@ -55,3 +55,11 @@ returns-in-Some-clause-told g c =
     if_some_then c.quick_at.result c.quick_at.ensures.answer
     (λ _ e log st. subst (λ (answer : Answer). Told c.args.self.now.timeout (ports_of ps) (seen c.args.frame.now) log answer) (sym e)
     (told-found c.args.self.now.timeout (seen c.args.frame.now) key c.key-key.ensures ps log c.args.place c.in-Some.source c.in-Some.is at st))
+
+pub returns-in-Some-clause-index : goal.returns-in-Some-clause-index
+returns-in-Some-clause-index g c =
+    if_some_then c.quick_at.result c.quick_at.ensures.index (λ _ e. e ∙ (sym c.in-Some.is ∙ ap (λ (key : Key). key.source) c.key-key.ensures))
+
+pub returns-in-Some-clause-known : goal.returns-in-Some-clause-known
+returns-in-Some-clause-known g c =
+    if_some_then c.quick_at.result c.quick_at.ensures.known (λ _ e. e ∙ (sym c.in-Some.is ∙ ap (λ (key : Key). key.source) c.key-key.ensures))

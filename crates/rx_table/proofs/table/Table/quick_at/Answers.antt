@@ -7,7 +7,7 @@ use Rattle.rx_table.specs.Table.{entries_of, held_in}
 use Rattle.rx_table.specs.declared.fed.PortMet.TheVariants.{Session}
 use Rattle.rx_table.proofs.Buffered.{held_in-set}
 use Rattle.rx_table.proofs.SubjectPlaces.{places-set}
-use Rattle.rx_table.proofs.NthPorts.{heard-nth, set-ports, set-shapes, set-same, set-met, set-fed, port_answer-nth}
+use Rattle.rx_table.proofs.NthPorts.{heard-nth, set-ports, set-shapes, set-same, set-met, set-fed, port_answer-nth, source-get, source-set}
 use Rattle.rx_table.proofs.table.Table.quick_at.Goals as goal
 
 pub quick-requires : goal.quick-requires
@@ -68,3 +68,15 @@ returns-in-None-clause-none g c _ =
     let ports = c.args.self.now.ports.items in
     let at = slice_get_read ports (length ports) c.args.place c.index_mut-port.result.now refl c.requires.within c.index_mut-port.ensures.value in
     set-same (extent_bytes g.S.Shape.shape) ports c.args.place c.index_mut-port.result.now c.quick.new.self at c.quick.ensures.port (c.in-None.ensures.none refl)
+
+pub returns-in-Some-clause-index : goal.returns-in-Some-clause-index
+returns-in-Some-clause-index g c =
+    let ports = c.args.self.now.ports.items in
+    let at = slice_get_read ports (length ports) c.args.place c.index_mut-port.result.now refl c.requires.within c.index_mut-port.ensures.value in
+    source-set (extent_bytes g.S.Shape.shape) ports c.args.place c.in-Some.index c.index_mut-port.result.now c.quick.new.self at ∙ c.in-Some.ensures.place
+
+pub returns-in-Some-clause-known : goal.returns-in-Some-clause-known
+returns-in-Some-clause-known g c =
+    let ports = c.args.self.now.ports.items in
+    let at = slice_get_read ports (length ports) c.args.place c.index_mut-port.result.now refl c.requires.within c.index_mut-port.ensures.value in
+    source-get (extent_bytes g.S.Shape.shape) ports c.args.place c.in-Some.index c.index_mut-port.result.now at ∙ c.in-Some.ensures.known

@@ -1,11 +1,14 @@
-use Rattle.std.proofs.Common.{◌∙◌, sym, ap, refl, subst, length, List}
+use Rattle.std.proofs.Common.{◌≡◌, ◌∙◌, sym, ap, refl, subst, length, List, None, Some}
 use Rattle.std.proofs.lemmas.Option.{slice_get_read}
+use Rattle.can_id.specs.Identifiers.{key_of}
+use Rattle.can_id.specs.declared.key.Key.{Key}
 use Rattle.tail_frame.specs.Frames.{seen}
 use Rattle.rx_session.specs.Extents.{extent_bytes}
 use Rattle.rx_session.specs.Session.{Outcome}
 use Rattle.rx_session.specs.Seen.{record_of}
 use Rattle.rx_table.specs.Ports.{PortState, Answer, Anonymous, ports_of, is_of_session}
 use Rattle.rx_table.specs.Table.{StandsFor, HeardBy, port_of, states, logged, Told}
+use Rattle.rx_table.specs.Views.{place_in}
 use Rattle.rx_table.proofs.Answered.{on_err_then, on_ok_then, if_ok_then, if_ok_both, in_both}
 use Rattle.rx_table.proofs.Idle.{idle-nth}
 use Rattle.rx_table.proofs.Heard.{heard-later, feed_nth-heard}
@@ -92,3 +95,16 @@ returns-in-Some-source-clause-memory g c =
     let at = found (extent_bytes g.S.Shape.shape) key.kind key.port ports c.in-Some.place (sym c.find.ensures ∙ c.in-Some.is) in
     on_err_then c.step_at.result c.step_at.ensures.memory
     (λ a log st. opens_found c.args.self.now.timeout (seen c.args.frame.now) key c.key-key.ensures ps log c.in-Some.place c.in-Some-source.source c.in-Some-source.is at st a)
+
+pub returns-in_default-clause-place : goal.returns-in_default-clause-place
+returns-in_default-clause-place g c =
+    subst (λ (key : Key). place_in key.kind key.port c.args.self.now ≡ None) c.key-key.ensures (sym c.find.ensures ∙ c.in_default.is)
+
+pub returns-in-None-clause-place : goal.returns-in-None-clause-place
+returns-in-None-clause-place g c = sym (ap (λ (key : Key). key.source) c.key-key.ensures) ∙ c.in-None.is
+
+pub returns-in-Some-source-clause-place : goal.returns-in-Some-source-clause-place
+returns-in-Some-source-clause-place g c =
+    c.step_at.ensures.place (key_of c.args.frame.now.ident)
+    (subst (λ (key : Key). place_in key.kind key.port c.args.self.now ≡ Some c.in-Some.place) c.key-key.ensures (sym c.find.ensures ∙ c.in-Some.is))
+    (sym (ap (λ (key : Key). key.source) c.key-key.ensures) ∙ c.in-Some-source.is)

@@ -1,13 +1,14 @@
-use Rattle.std.proofs.Common.{◌≡◌, ◌∙◌, ◌+◌, refl, sym, ap, length, min, arith}
+use Rattle.std.proofs.Common.{◌≡◌, ◌∙◌, ◌+◌, ℕ, Option, refl, sym, ap, subst, slice_set, length, min, arith}
 use Rattle.std.proofs.lemmas.Option.{slice_get_read}
 use Rattle.rx_session.specs.Extents.{extent_bytes}
 use Rattle.rx_session.specs.Seen.{record_of}
 use Rattle.rx_table.specs.Ports.{buffered}
-use Rattle.rx_table.specs.Places.{grown}
-use Rattle.rx_table.specs.Table.{entries_of, held_in}
+use Rattle.rx_table.specs.Places.{grown, source_at, NamesSession}
+use Rattle.rx_table.specs.Table.{entries_of, held_in, states}
 use Rattle.rx_table.proofs.Buffered.{held_in-set, capped-more}
+use Rattle.rx_table.proofs.FoundPorts.{place_stays}
 use Rattle.rx_table.proofs.SubjectPlaces.{places-set}
-use Rattle.rx_table.proofs.NthPorts.{heard-nth, set-ports, set-shapes, set-same, set-met, set-fed, port_answer-nth, Adds-nth}
+use Rattle.rx_table.proofs.NthPorts.{heard-nth, set-ports, set-shapes, set-same, set-met, set-fed, port_answer-nth, names-nth, Adds-nth}
 use Rattle.rx_table.proofs.table.Table.step_at.Goals as goal
 
 pub meet-requires : goal.meet-requires
@@ -90,3 +91,16 @@ invariant_of-self-in-Err-1 g c =
       sum = c.args.self.now.sum ∙ ap (λ n. min n 18446744073709551615) (sym (more ∙ none));
       places = places-set (extent_bytes g.S.Shape.shape) c.args.self.now.subjects ports c.args.place p q at c.meet.ensures.port c.args.self.now.places;
     }
+
+pub returns-in-Ok-clause-place : goal.returns-in-Ok-clause-place
+returns-in-Ok-clause-place g c key there source =
+    let extent = extent_bytes g.S.Shape.shape in
+    let ports = c.args.self.now.ports.items in
+    let p = c.index_mut-port.result.now in
+    let q = c.meet.new.self in
+    let at = slice_get_read ports (length ports) c.args.place p refl c.requires.within c.index_mut-port.ensures.value in
+    let after = slice_set ports c.args.place q in (
+      place_stays extent key.kind key.port ports after (set-ports extent ports c.args.place p q at c.meet.ensures.port) ∙ there,
+      subst (λ (s : Option ℕ). NamesSession s (source_at (states extent ports) c.args.place) (source_at (states extent after) c.args.place) c.in-Ok.met)
+          (sym source) (names-nth extent _ ports c.args.place p q c.in-Ok.met at c.in-Ok.ensures.place),
+    )
