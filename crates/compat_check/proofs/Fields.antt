@@ -1,8 +1,8 @@
 -- The fields of two composites, pair by pair
-use Rattle.std.proofs.Common.{◌≡◌, ◌≢◌, ℕ, suc, ◌==◌, true, false, List, [], ◌∷◌, length, None, refl, sym, ap, ◌∙◌, arith, inl, inr, ◌⊎◌}
+use Rattle.std.proofs.Common.{◌≡◌, ◌≢◌, ℕ, suc, ◌==◌, Bool, true, false, List, [], ◌∷◌, length, Option, None, Some, refl, sym, ap, ◌∙◌, arith, inl, inr, ◌⊎◌}
 use Rattle.std.proofs.lemmas.Bool.{and_parts, cases_Bool}
 use Rattle.dsdl_types.specs.Schemas.{Flds, End, Pad, Field as F, field_count}
-use Rattle.dsdl_types.specs.Difference.{same, same_fields, difference_fields}
+use Rattle.dsdl_types.specs.Difference.{Difference, Turn, Item, Kind as Kinds, same, same_fields, below, unless, difference_fields}
 use Rattle.dsdl_types.specs.Views.{Kind, Typed, Padding, body_of, with_field, named, flds}
 use Rattle.dsdl_types.specs.declared.schema.Body.{Body, out-Body}
 use Rattle.dsdl_types.specs.declared.schema.Field.{Field}
@@ -59,3 +59,12 @@ pub difference_end : (xs ys : List Field) → (length xs ≡ 0) ⊎ (length ys �
 difference_end [] ys h = refl
 difference_end (x ∷ xs) [] h = none_old (flds (x ∷ xs))
 difference_end (x ∷ xs) (y ∷ ys) h = elim h [ inl z ↦ absurd (omega (arith, z)) | inr z ↦ absurd (omega (arith, z)) ]
+
+-- a difference in a part is one of the whole
+pub below_some : (t : Turn) (d : Option Difference) → d ≢ None → below t d ≢ None
+below_some t None ne = ne
+below_some t (Some d) ne = λ e. absurd cc
+
+pub item_some : (as_long : Bool) (d : Option Difference) → d ≢ None → unless as_long Kinds (below Item d) ≢ None
+item_some true d ne = below_some Item d ne
+item_some false d ne = λ e. absurd cc

@@ -1,5 +1,5 @@
 -- Verdicts
-use Rattle.std.proofs.Common.{◌≡◌, ℕ, List, [], ◌∷◌, ◌++◌, map, reverse, Option, None, Some, refl, sym, ap, ◌∙◌}
+use Rattle.std.proofs.Common.{◌≡◌, ◌≢◌, ℕ, List, [], ◌∷◌, ◌++◌, map, reverse, Option, None, Some, Result, Ok, Err, OnErr, refl, sym, ap, ◌∙◌}
 use Rattle.std.specs.Prelude.{◌↔◌}
 use Rattle.std.proofs.lemmas.List.{map-append, reverse-append}
 use Rattle.dsdl_types.specs.Schemas.{Sch}
@@ -19,6 +19,18 @@ yes_where_newer a b e = (λ _. (compares a b).0 (sym e), λ _. refl)
 
 pub no_where_older : (a b : Sch) (d : C.Difference) (path : List ℕ) (why : CompatWhy) → found_of (Some d) ≡ difference a b → (No path why ≡ Yes) ↔ Newer a b
 no_where_older a b d path why e = (λ h. cc, λ n. let h : difference a b ≡ None = (compares a b).1 n in cc)
+
+-- what holds at all holds at an error
+pub at_error : {T E P : Type 0} (r : Result T E) → P → OnErr r P
+at_error (Ok x) p = tt
+at_error (Err e) p = p
+
+-- a type from which another differs isn't newer
+pub not_newer : (a b : Sch) → difference a b ≢ None → Newer a b → ⊥
+not_newer a b ne n = ne ((compares a b).1 n)
+
+pub found_not_newer : (a b : Sch) (d : C.Difference) → found_of (Some d) ≡ difference a b → Newer a b → ⊥
+found_not_newer a b d e n = let h : difference a b ≡ None = (compares a b).1 n in absurd cc
 
 same_why : (why : CompatWhy) → why_of (cause_of why) ≡ why
 same_why whys.Kind = refl

@@ -1,7 +1,9 @@
--- How two fields compare, by what they stand for.
+-- How two fields and two composites compare, by what they stand for.
 use Rattle.std.specs.Prelude.{◌==◌, ℕ, Bool, false, List, [], Option, None}
+use Rattle.dsdl_types.specs.Schemas.{Flds, Outline}
 use Rattle.dsdl_types.specs.Difference as D
 use Rattle.dsdl_types.specs.Difference.{Difference, Named, same, difference, here, unless, below}
+use Rattle.dsdl_types.specs.Difference.{Count, outlined, same_fields, difference_fields}
 use Rattle.dsdl_types.specs.Views.{Kind, Typed, Padding}
 
 -- two fields are equal, names aside
@@ -28,3 +30,8 @@ name_of f = name_by f.0 f.1
 -- the first difference of two fields, with the name of the new one
 abbrev pub field_difference : List ℕ × Kind → List ℕ × Kind → Option Difference
 field_difference f g = below (Named (name_of f)) (kind_difference f.1 g.1)
+
+-- the first difference of two composites of one kind, by whether the number of fields is allowed
+abbrev pub body_difference : Bool → Flds × Outline → Flds × Outline → Option Difference
+body_difference enough new old = outlined new.1 old.1 (same_fields new.0 old.0)
+    (unless enough Count (difference_fields new.0 old.0))

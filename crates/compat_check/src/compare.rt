@@ -1,8 +1,8 @@
 //! The first difference of two types (Cyphal Specification, section 3.8).
-ghost use Rattle.std.specs.Prelude.{◌≡◌, ◌==◌, ◌&&◌, Bool, IfOk};
-ghost use Rattle.dsdl_types.specs.Difference.{Count, Item, Kind, below, difference, difference_fields, outlined, same_fields, unless};
+ghost use Rattle.std.specs.Prelude.{◌≡◌, ◌≢◌, ◌==◌, ◌&&◌, Bool, IfOk, OnErr, None};
+ghost use Rattle.dsdl_types.specs.Difference.{Item, Kind, below, difference, difference_fields, unless};
 ghost use Rattle.dsdl_types.specs.Views.{body_of, kind_of, named, sch};
-ghost use Rattle.compat_check.specs.Parts.{field_difference, kind_difference, name_of};
+ghost use Rattle.compat_check.specs.Parts.{body_difference, field_difference, kind_difference, name_of};
 ghost use Rattle.compat_check.specs.Verdicts.{found_of};
 
 use crate::CompatWhy;
@@ -17,7 +17,8 @@ use std::alloc::Global;
 /// The first difference of a new and an old type.
 #[cycle(difference)]
 pub fn difference(alloc: Global, new: &Schema, old: &Schema) -> Result<Option<Difference>, NoMemory>
-    ensures { IfOk result (λ d. found_of d ≡ difference (sch new.now) (sch old.now)) }
+    ensures found { IfOk result (λ d. found_of d ≡ difference (sch new.now) (sch old.now)) }
+    ensures memory { OnErr result (difference (sch new.now) (sch old.now) ≢ None) }
 {
     match new {
         Schema::Fixed { item, len } => match old {
@@ -58,8 +59,10 @@ fn item_difference(
     old: &Schema,
     as_long: bool,
 ) -> Result<Option<Difference>, NoMemory>
-    ensures { IfOk result (λ d. found_of d
+    ensures found { IfOk result (λ d. found_of d
         ≡ unless as_long Kind (below Item (difference (sch new.now) (sch old.now)))) }
+    ensures memory { OnErr result
+        (unless as_long Kind (below Item (difference (sch new.now) (sch old.now))) ≢ None) }
 {
     if !as_long {
         return Ok(Difference::here(alloc, CompatWhy::Kind));
@@ -75,9 +78,10 @@ fn body_difference(
     old: &Body,
     enough: bool,
 ) -> Result<Option<Difference>, NoMemory>
-    ensures { IfOk result (λ d. found_of d ≡ outlined (body_of new.now).1 (body_of old.now).1
-        (same_fields (body_of new.now).0 (body_of old.now).0)
-        (unless enough Count (difference_fields (body_of new.now).0 (body_of old.now).0))) }
+    ensures found { IfOk result (λ d. found_of d
+        ≡ body_difference enough (body_of new.now) (body_of old.now)) }
+    ensures memory { OnErr result (body_difference enough (body_of new.now) (body_of old.now)
+        ≢ None) }
 {
     if new.sealed != old.sealed {
         return Ok(Difference::here(alloc, CompatWhy::Sealing));
@@ -97,8 +101,10 @@ fn body_difference(
 /// The first difference of fields in order. Further fields of the new type are none.
 #[cycle(difference)]
 fn fields_difference(alloc: Global, new: &Body, old: &Body) -> Result<Option<Difference>, NoMemory>
-    ensures { IfOk result (λ d. found_of d
+    ensures found { IfOk result (λ d. found_of d
         ≡ difference_fields (body_of new.now).0 (body_of old.now).0) }
+    ensures memory { OnErr result (difference_fields (body_of new.now).0 (body_of old.now).0
+        ≢ None) }
 {
     for (field, older) in new.fields.as_slice().iter().zip(old.fields.as_slice()) {
         let found = field_difference(alloc, field, older)?;
@@ -112,7 +118,9 @@ fn fields_difference(alloc: Global, new: &Body, old: &Body) -> Result<Option<Dif
 /// The first difference of two fields, with the name of the new one.
 #[cycle(difference)]
 fn field_difference(alloc: Global, new: &Field, old: &Field) -> Result<Option<Difference>, NoMemory>
-    ensures { IfOk result (λ d. found_of d ≡ field_difference (named new.now) (named old.now)) }
+    ensures found { IfOk result (λ d. found_of d
+        ≡ field_difference (named new.now) (named old.now)) }
+    ensures memory { OnErr result (field_difference (named new.now) (named old.now) ≢ None) }
 {
     match kind_difference(alloc, &new.schema, &old.schema)? {
         None => Ok(None),
@@ -138,7 +146,9 @@ fn kind_difference(
     new: &Schema,
     old: &Schema,
 ) -> Result<Option<Difference>, NoMemory>
-    ensures { IfOk result (λ d. found_of d ≡ kind_difference (kind_of new.now) (kind_of old.now)) }
+    ensures found { IfOk result (λ d. found_of d
+        ≡ kind_difference (kind_of new.now) (kind_of old.now)) }
+    ensures memory { OnErr result (kind_difference (kind_of new.now) (kind_of old.now) ≢ None) }
 {
     match new {
         Schema::Void { bits } => {

@@ -1,4 +1,4 @@
-ghost use Rattle.std.specs.Prelude.{◌≡◌, IfOk, None};
+ghost use Rattle.std.specs.Prelude.{◌≡◌, ◌≢◌, IfOk, OnErr, None};
 ghost use Rattle.dsdl_types.specs.Difference.{below, here, unless};
 ghost use Rattle.compat_check.specs.Verdicts.{cause_of, found_of, turn_of};
 
@@ -41,7 +41,8 @@ pub fn unless(alloc: Global, test: bool, why: CompatWhy) -> Option<Difference>
 
 /// A difference in a part, as one of the whole.
 pub fn below(found: Option<Difference>, turn: Turn) -> Result<Option<Difference>, NoMemory>
-    ensures { IfOk result (λ d. found_of d ≡ below (turn_of turn) (found_of found)) }
+    ensures found { IfOk result (λ d. found_of d ≡ below (turn_of turn) (found_of found)) }
+    ensures memory { OnErr result (below (turn_of turn) (found_of found) ≢ None) }
 {
     match found {
         None => Ok(None),

@@ -1,4 +1,4 @@
-ghost use Rattle.std.specs.Prelude.{◌≡◌, ◌↔◌, IfOk};
+ghost use Rattle.std.specs.Prelude.{◌≡◌, ◌↔◌, IfOk, OnErr};
 ghost use Rattle.dsdl_types.specs.Difference.{difference};
 ghost use Rattle.dsdl_types.specs.Newer.{Newer};
 ghost use Rattle.dsdl_types.specs.Views.{sch};
@@ -43,11 +43,13 @@ pub enum Verdict {
     },
 }
 
-/// Whether values of the new type can be read as the old one and the other way round (Cyphal Specification,
-/// section 3.8). It takes time that is linear in the schemas' sizes, and memory for the path alone.
+/// Whether values of the new type can be read as the old one and the other way round (Cyphal
+/// Specification, section 3.8). It takes time that is linear in the schemas' sizes, and memory only
+/// where the new type isn't newer, for the path.
 pub fn newer(alloc: Global, new: &Schema, old: &Schema) -> Result<Verdict, NoMemory>
     ensures yes { IfOk result (λ v. (v ≡ Verdict.Yes) ↔ Newer (sch new.now) (sch old.now)) }
     ensures no { IfOk result (λ v. v ≡ verdict_of (difference (sch new.now) (sch old.now))) }
+    ensures memory { OnErr result (Newer (sch new.now) (sch old.now) → ⊥) }
 {
     match difference(alloc, new, old)? {
         None => Ok(Verdict::Yes),
