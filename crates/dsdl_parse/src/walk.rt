@@ -1,5 +1,5 @@
 //! The leaves of an expression, without a recursion.
-ghost use Rattle.std.specs.Prelude.{◌≡◌, ◌++◌, ◌∷◌, [], map, reverse, true, false, IfOk, IfSome, IfNone, OnOk};
+ghost use Rattle.std.specs.Prelude.{◌≡◌, ◌++◌, ◌∷◌, [], map, reverse, true, false, IfOk, IfSome, IfNone, OnOk, OnErr};
 ghost use Rattle.dsdl_parse.specs.LeavesOf.{leaves_of, parts_of, is_leaf, is_name_at, names_it};
 
 use crate::expr::{Expr, ExprNode};
@@ -86,7 +86,8 @@ pub fn as_leaf<'a>(expr: &'a Expr) -> Option<&'a ExprNode>
 /// only where the expression has others in it.
 #[tactic(auto, using(crate::proofs::LeafWalk::leaf_names))]
 pub fn names_it(alloc: Global, expr: &Expr, name: &str) -> Result<bool, NoMemory>
-    ensures { IfOk result (λ found. found ≡ names_it expr.now name.now) }
+    ensures named { IfOk result (λ found. found ≡ names_it expr.now name.now) }
+    ensures memory { OnErr result (is_leaf expr.now.node ≡ false) }
 {
     if let Some(leaf) = as_leaf(expr) {
         return Ok(is_name(leaf, name));
