@@ -1,5 +1,5 @@
 -- The flows of frames, and what is kept of each.
-use Rattle.std.proofs.Common.{◌≡◌, ◌∙◌, ℕ, ◌≤◌, nat_eq, Bool, true, false, cond, List, [], ◌∷◌, length, Some, None, map-id, eqb-true, refl, sym, ap, subst, subst₂, arith}
+use Rattle.std.proofs.Common.{◌≡◌, ◌∙◌, ℕ, ◌≤◌, nat_eq, Bool, true, false, cond, List, [], ◌∷◌, length, Some, None, Result, Ok, Err, OnErr, map-id, eqb-true, refl, sym, ap, subst, subst₂, arith}
 use Rattle.std.specs.BTreeMap.{is_at}
 use Rattle.std.specs.FinMap.Entries.{same_entries}
 use Rattle.std.specs.List.{AllByRecursion, IsDistinct}
@@ -141,3 +141,8 @@ module _ (past : List FrameOf) (entries : Entries) (is : IsTableOf past entries)
       same_entries nat_cmp nat_cmp_total exact_unsigned entries (ranked_table past) (rising nat_cmp entries rises) (rising nat_cmp (ranked_table past) (numbers_sorted past is.1))
       (λ n. lookup_permutation (eq_by_cmp_equiv nat_cmp_total) (ranked_table past) entries is.0 (IsDistinct-from_sorted nat_cmp numbers rises) (is_at (nat_cmp n)) ((eq_by_cmp_equiv nat_cmp_total).congr n)) in
       ap values_of same ∙ map-map (λ e. e.1) (λ e. (rank e.0, e)) (table past) ∙ map-id (table past)
+
+-- what holds at all holds at an error
+pub at_error : {T E P : Type 0} (r : Result T E) → P → OnErr r P
+at_error (Ok x) p = tt
+at_error (Err e) p = p

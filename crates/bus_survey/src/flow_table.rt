@@ -1,8 +1,9 @@
-ghost use Rattle.std.specs.Prelude.{◌≡◌, ◌<◌, ◌≤◌, ◌^◌, ◌∷◌, [], List, OnOk, length};
-ghost use Rattle.std.specs.Map.{values_of};
+ghost use Rattle.std.specs.Prelude.{◌≡◌, ◌<◌, ◌≤◌, ◌^◌, ◌∷◌, [], List, None, OnOk, OnErr, length, nat_eq};
+ghost use Rattle.std.specs.Map.{lookup, values_of};
 ghost use Rattle.tail_frame.specs.Frames.{FrameOf, seen};
 ghost use Rattle.bus_survey.specs.Counts.{AreShort, kept_frames, table};
-ghost use Rattle.bus_survey.specs.Ranks.{IsTableOf};
+ghost use Rattle.bus_survey.specs.Flows.{flow_of};
+ghost use Rattle.bus_survey.specs.Ranks.{IsTableOf, rank};
 
 use crate::flow::{Flow, flow_of};
 use crate::flow_counts::FlowCounts;
@@ -14,8 +15,8 @@ use tail_frame::Frame;
 
 /// What is counted of each flow.
 ///
-/// It stands for a list of frames: those that `hear` was called with. `hear` takes memory for each
-/// flow that is new, and for nothing else.
+/// It stands for a list of frames: those that `hear` was called with. `hear` takes memory only for
+/// a flow that is new.
 #[derive(Drop)]
 pub struct FlowTable {
     /// The flows by their ranks, each with what is counted of its frames. They stand in the order
@@ -36,9 +37,11 @@ impl FlowTable {
     /// One frame more.
     pub fn hear(&mut self, frame: &Frame<'_>) -> Result<(), NoMemory>
         requires { length frame.now.body.now ≤ 63 }
-        ensures { OnOk result ((past : List FrameOf) → length past < 2 ^ 28 → AreShort past
+        ensures heard { OnOk result ((past : List FrameOf) → length past < 2 ^ 28 → AreShort past
             → IsTableOf past self.old.counts.entries
             → IsTableOf (seen frame.now ∷ past) self.new.counts.entries) }
+        ensures memory { OnErr result
+            (lookup (nat_eq (rank (flow_of (seen frame.now)))) self.old.counts.entries ≡ None) }
     {
         let flow = flow_of(frame);
         let rank = rank(flow);

@@ -5,11 +5,11 @@ use Rattle.bus_survey.specs.Counts.{kept_frames}
 use Rattle.bus_survey.specs.Flows.{flow_of, of_flow}
 use Rattle.bus_survey.specs.Ranks.{rank, IsRanked}
 use Rattle.bus_survey.specs.declared.flow.Flow.{Flow}
-use Rattle.bus_survey.proofs.FlowLemmas.{few_of, short_of, kept_of, known, unknown, heard}
+use Rattle.bus_survey.proofs.FlowLemmas.{few_of, short_of, kept_of, known, unknown, heard, at_error}
 use Rattle.bus_survey.proofs.flow_table.FlowTable.hear.Goals as goal
 
-pub returns-in-Some : goal.returns-in-Some
-returns-in-Some c = λ past few short is.
+pub returns-in-Some-clause-heard : goal.returns-in-Some-clause-heard
+returns-in-Some-clause-heard c = λ past few short is.
     let f = seen c.args.frame.now in
     let k : Flow = flow_of f in
     let entries = c.args.self.now.counts.entries in
@@ -26,8 +26,8 @@ returns-in-Some c = λ past few short is.
     heard past entries is c.get_mut.ensures.unique f ranked _ written.4
     (λ n. updates.0 n ∙ (λ i. cond (nat_eq (number i) n) (Some ((was i).0, counted i)) (lookup (nat_eq n) entries)))
 
-pub returns-in_ok-insert-in-None : goal.returns-in_ok-insert-in-None
-returns-in_ok-insert-in-None c = λ past few short is.
+pub returns-in_ok-insert-in-None-clause-heard : goal.returns-in_ok-insert-in-None-clause-heard
+returns-in_ok-insert-in-None-clause-heard c = λ past few short is.
     let f = seen c.args.frame.now in
     let k : Flow = flow_of f in
     let entries = c.args.self.now.counts.entries in
@@ -42,3 +42,10 @@ returns-in_ok-insert-in-None c = λ past few short is.
     let inserted = c.in_ok-insert-in-None.ensures {u = tt} in
     heard past entries is c.get_mut.ensures.unique f ranked _ inserted.unique
     (λ n. inserted.updates.0 n ∙ (λ i. cond (nat_eq (number i) n) (Some (flow i, counted i)) (lookup (nat_eq n) (c.get_mut.follows.holds-at-none i).entries)))
+
+pub returns-in_err-insert-in-None-clause-memory : goal.returns-in_err-insert-in-None-clause-memory
+returns-in_err-insert-in-None-clause-memory c =
+    let k : Flow = flow_of (seen c.args.frame.now) in
+    let entries = c.args.self.now.counts.entries in
+    let number : c.rank-rank.result ≡ rank k = c.rank-rank.ensures.value ∙ ap rank c.flow_of-flow.ensures in
+    at_error _ (ap (λ n. lookup (nat_eq n) entries) (sym number) ∙ sym c.in-None.ensures.value)

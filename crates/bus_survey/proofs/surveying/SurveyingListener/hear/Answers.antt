@@ -43,7 +43,7 @@ returns-clause-heard c = plain_heard (λ first. step_text) (λ first. last_text 
         buses_are = c.add.ensures past few h.buses_are;
         flows_are =
             subst (λ (fs : List FrameOf). IsTableOf fs c.hear.new.self.counts.entries) more
-            ((c.in_ok-hear.ensures {u = tt}) (frames past) (omega (arith, few, frames_few past)) h.short h.flows_are);
+            ((c.in_ok-hear.ensures {u = tt}).heard (frames past) (omega (arith, few, frames_few past)) h.short h.flows_are);
         sources_are = subst (λ (fs : List FrameOf). AreSources fs c.add-2.new.self.heard) more (c.add-2.ensures (frames past) h.sources_are);
         records_are = omega (arith, h.records_are);
         discarded_are = h.discarded_are ∙ discarded_some rec past f some;
