@@ -88,7 +88,7 @@ impl Kept {
 }
 
 /// Runs that may have several owners, with what is asked of them again and again. Contracts see the
-/// ascending list of the members. A copy is one owner more, and takes no memory.
+/// ascending list of the members. A copy is one owner more.
 #[derive(Drop)]
 pub struct Shared {
     kept: Rc<Kept>,

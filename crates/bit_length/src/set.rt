@@ -16,10 +16,10 @@ use std::marker::Model;
 /// members.
 ///
 /// It is kept as a number and runs of one step without a common member. One run takes no memory,
-/// and many have several owners: a copy of a set, or its sums with one number, share the runs and
-/// take neither memory nor time that grows with them. A set that would need more than 2^20 runs, or
-/// more than 2^22 while it is worked out, is answered as want of memory. Questions about a set take
-/// no memory, but for `members` and `residues`.
+/// and many have several owners: a copy of a set, or its sums with one number, share the runs. A
+/// set that would need more than 2^20 runs, or more than 2^22 while it is worked out, is answered
+/// as want of memory, which no clause says. Questions about a set take no memory, but for `members`
+/// and `residues`.
 #[derive(Drop)]
 pub struct LengthSet {
     /// How many bits the runs are moved up by.

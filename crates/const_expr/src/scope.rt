@@ -17,7 +17,8 @@ pub struct Scope {
     pub namespace: Namespace,
     /// The full name of the type whose definition the expression stands in.
     pub own: FullName,
-    /// The constants of the messages of the namespace.
+    /// An entry for each definition of the namespace, in its order; that of a service stands there
+    /// too.
     pub members: List<TypeConsts>,
 }
 
@@ -30,7 +31,7 @@ pub struct NamedConst {
     pub value: Const,
 }
 
-/// The constants of a message (Cyphal Specification, section 3.5).
+/// The constants of a definition (Cyphal Specification, section 3.5); a service has an entry too.
 #[derive(Drop)]
 pub struct TypeConsts {
     /// The type.

@@ -83,8 +83,8 @@ pub fn tokens_of(alloc: Global, line: &[u8]) -> Result<List<Token>, LexError>
     Ok(tokens)
 }
 
-/// The same in place of what a list held, which takes memory only where the list has too little.
-/// Where a line has no tokens, or memory is wanting, the list is empty.
+/// The same in place of what a list held, which uses the list's memory again. Where a line has no
+/// tokens, or memory is wanting, the list is empty.
 pub fn lex_line(line: &[u8], tokens: &mut List<Token>) -> Result<(), LexError>
     requires { length line.now < 2 ^ 32 }
     ensures tokens { OnOk result (Lexes line.now 0 tokens.new) }

@@ -30,7 +30,7 @@ use std::alloc::Global;
 /// line by line; then versions that clash; then ports that clash. `At` is the first of all.
 ///
 /// Want of memory is `NoMemory`; so are more than 2^24 fields and paddings in all types together,
-/// counted through nested types.
+/// counted through nested types (which is tested, not proved).
 pub fn resolve(alloc: Global, files: &[DsdlFile]) -> Result<Namespace, DsdlError>
     ensures compiled { IfOk result (Compiled files.now) }
     ensures sound { IfOk result IsNamespace }

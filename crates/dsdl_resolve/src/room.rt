@@ -46,7 +46,7 @@ fn take_message(
 
 /// Takes the fields and paddings that a statement adds from the room that is left, counted through
 /// nested types, before anything is copied. Want of memory is the answer where there is no room for
-/// them.
+/// them (which is tested, not proved).
 pub fn reserve(
     alloc: Global,
     scope: &Scope,

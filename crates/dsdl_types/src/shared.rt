@@ -6,7 +6,7 @@ use std::marker::Model;
 use std::rc::Rc;
 
 /// A value on the heap that doesn't change and may have several owners, which contracts see as the
-/// value alone. A copy is one owner more, and takes no memory.
+/// value alone. A copy is one owner more.
 pub struct Shared<T> {
     inner: Rc<T>,
 }

@@ -96,7 +96,7 @@ impl Ear {
     }
 
     /// Takes the next record of a log, at a moment not before the last one. Memory is taken for a
-    /// new source's session alone.
+    /// new source's session.
     pub(crate) fn hear<'a>(&mut self, rec: &'a Record) -> Result<Heard<'a>, NoMemory>
         requires moment { self.old.latest ≤ rec.now.moment }
         ensures own { self.new.own ≡ self.old.own }

@@ -26,7 +26,7 @@ use std::alloc::Global;
 /// error of the server and bytes above the limit. Each request is written with its frames, and at
 /// the log's end the file, why there is none, or that a request is still out.
 ///
-/// The node-IDs are at most 127 and differ; the path is 1 to 255 bytes 0x20 to 0x7E.
+/// The node-IDs are at most 127 and differ; the path has at most 255 bytes.
 pub fn fetch<L: Source, O: Sink>(
     alloc: Global,
     own: u8,

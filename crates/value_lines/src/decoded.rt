@@ -20,10 +20,11 @@ use line_loop::{LineListener, LineStop};
 use line_text::TextBuffer;
 use std::alloc::Global;
 
-/// Answers each line, the hex of bytes, by the text of the value of a type that they read as: past the end of the bytes
-/// zeros are read, and surplus bytes are ignored. An empty line is the hex of no bytes. A line that is no hex or has
-/// more bytes than `LONGEST_LINE` is refused, and one whose bytes can't be read. A line is read without its value as a
-/// rule; then it takes no memory but for its text, and for its bytes where it is the longest so far.
+/// Answers each line, the hex of bytes, by the text of the value of a type that they read as: past
+/// the end of the bytes zeros are read, and surplus bytes are ignored. An empty line is the hex of
+/// no bytes. A line that is no hex or has more bytes than `LONGEST_LINE` is refused, and one whose
+/// bytes can't be read. As a rule a line is read without its value, and takes no memory but for its
+/// text, and for its bytes where it is the longest so far.
 #[derive(Drop)]
 pub struct Decoder<'a> {
     /// Where memory comes from.
