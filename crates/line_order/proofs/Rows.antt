@@ -33,6 +33,7 @@ pub record Added (qs new : List Queued) (q : Queued) (first start : ℕ) (old te
   pub within : first ≤ length new
   pub bytes : start + size_of (drop first new) ≡ length text
   pub row : row_of (drop first new) (drop start text) ≡ row_of (drop first qs) (drop start old) ++ (entry q.place.moment q.place.number (line ++ 10 ∷ []) ∷ [])
+  pub more : size_of (drop first qs) ≤ size_of (drop first new)
 
 pub added : (qs new : List Queued) (q : Queued) (first start : ℕ) (old mid text line : List ℕ) → first ≤ length qs → start + size_of (drop first qs) ≡ length old → new ≡ qs ++ (q ∷ []) → mid ≡ old ++ line → text ≡ mid ++ (10 ∷ []) → q.len ≡ length line + 1 → Added qs new q first start old text line
 added qs new q first start old mid text line w b e m t n =
@@ -48,6 +49,7 @@ added qs new q first start old mid text line w b e m t n =
       within = omega (arith, lines, w);
       bytes = omega (arith, sizes, count, size, n, b);
       row = ap₂ row_of more rest ∙ row_more (drop first qs) q (drop start old) full (omega (arith, b, length-drop start old)) (omega (arith, n, size));
+      more = omega (arith, sizes);
     }
 
 -- the first line

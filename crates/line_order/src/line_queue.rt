@@ -13,8 +13,9 @@ use std::mem::swap;
 /// How many bytes of lines that went are kept in any case.
 const MUCH: usize = 1 << 15;
 
-/// Lines in a row. Those that went are dropped once they have 32,768 bytes and no fewer than those
-/// that are held: so memory grows with the most bytes that were held at once, and not with the log.
+/// Lines in a row. `push` drops those that went once they have 32,768 bytes and no fewer than those
+/// that are held: so it leaves no more bytes of lines that went than 32,768, or than the lines that
+/// are held have.
 #[derive(Drop)]
 pub struct LineQueue {
     /// Lines that went, and those that are held.
@@ -32,11 +33,11 @@ pub struct LineQueue {
 }
 
 impl LineQueue {
-    ghost use Rattle.std.specs.Prelude.{◌≡◌, ◌<◌, ◌++◌, ◌∷◌, true, [], length, OnOk, IfOk};
+    ghost use Rattle.std.specs.Prelude.{◌≡◌, ◌<◌, ◌≤◌, ◌++◌, ◌∷◌, true, [], length, max, OnOk, IfOk};
     ghost use Rattle.line_text.specs.Buffer.{text_of};
     ghost use Rattle.line_order.specs.Order.{entry};
     ghost use Rattle.line_order.specs.Row.{Pops, first_moment};
-    ghost use Rattle.line_order.specs.Queue.{queued};
+    ghost use Rattle.line_order.specs.Queue.{gone_of, held_size, queued};
 
     /// No lines; takes no memory yet.
     pub fn new(alloc: Global) -> LineQueue
@@ -67,7 +68,8 @@ impl LineQueue {
     #[cold]
     #[inline(never)]
     fn tidy(&mut self) -> Result<(), NoMemory>
-        ensures { OnOk result (queued self.new ≡ queued self.old) }
+        ensures held { OnOk result (queued self.new ≡ queued self.old) }
+        ensures few { OnOk result (gone_of self.new ≡ 0) }
     {
         self.spare.clear();
         self.spare.push(&self.text.as_slice()[self.start..])?;
@@ -83,8 +85,9 @@ impl LineQueue {
     /// Holds a line behind the others.
     #[inline(always)]
     pub fn push(&mut self, place: Place, line: &[u8]) -> Result<(), NoMemory>
-        ensures { OnOk result (queued self.new
+        ensures held { OnOk result (queued self.new
             ≡ queued self.old ++ (entry place.moment place.number (line.now ++ 10 ∷ []) ∷ [])) }
+        ensures few { OnOk result (gone_of self.new ≤ max 32768 (held_size self.new)) }
     {
         if self.start >= MUCH && self.start >= self.text.len() - self.start {
             self.tidy()?;
@@ -95,8 +98,10 @@ impl LineQueue {
     /// The same, and keeps the lines that went.
     #[inline(always)]
     fn add(&mut self, place: Place, line: &[u8]) -> Result<(), NoMemory>
-        ensures { OnOk result (queued self.new
+        ensures held { OnOk result (queued self.new
             ≡ queued self.old ++ (entry place.moment place.number (line.now ++ 10 ∷ []) ∷ [])) }
+        ensures gone { OnOk result (gone_of self.new ≡ gone_of self.old) }
+        ensures more { OnOk result (held_size self.old ≤ held_size self.new) }
     {
         let Some(len) = line.len().checked_add(1) else {
             return Err(NoMemory);

@@ -9,4 +9,4 @@ returns c sound below =
     let old = c.args.self.now in
     let place = c.args.place in
     let new : Window = record { queue = c.push.new.self; late = old.late; latest = place.moment } in
-    puts_last old new (entry place.moment place.number (c.args.line.now ++ 10 ∷ [])) c.requires refl c.in_ok-push.ensures refl sound
+    puts_last old new (entry place.moment place.number (c.args.line.now ++ 10 ∷ [])) c.requires refl c.in_ok-push.ensures.held refl sound
