@@ -1,13 +1,15 @@
-//! The text of the layouts of a namespace: where the fields of its types can stand, and which lengths they can have.
+//! The text of the layouts of a namespace: where the fields of its types can stand, and which
+//! lengths they can have.
 #![tactic(auto)]
 
-mod by_name;
 mod definition;
 mod fields;
 mod head;
 pub mod laws;
 mod namespace;
+mod order;
 mod set;
 mod words;
 
 pub use namespace::namespace_text;
+pub use order::by_name;

@@ -5,8 +5,8 @@ ghost use Rattle.layout_text.specs.Appends.{Appends};
 ghost use Rattle.layout_text.specs.Definitions.{AreDefinitionTexts};
 ghost use Rattle.layout_text.specs.Namespaces.{IsNamespaceText, print_line};
 
-use crate::by_name::by_name;
 use crate::definition::push_definition;
+use crate::order::by_name;
 use crate::words::{push_bytes, push_number};
 use cy_bits::NoMemory;
 use dsdl_types::{Definition, Namespace, Print};

@@ -1,7 +1,6 @@
 //! The versions of the types of a namespace: each is compared with the one before it.
 #![tactic(auto)]
 
-mod by_name;
 pub mod laws;
 mod pairs;
 mod parts;

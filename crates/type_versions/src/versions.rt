@@ -5,13 +5,13 @@ ghost use Rattle.type_versions.specs.Lines.{refusal_text, verdict_text, verdict_
 ghost use Rattle.type_versions.specs.Pairs.{pair_of};
 ghost use Rattle.type_versions.specs.Parts.{both};
 
-use crate::by_name::by_name;
 use crate::pairs::{VersionPair, version_pairs};
 use crate::parts::parts_newer;
 use crate::words::{compat_why_text, push_bytes, push_id};
 use compat_check::Verdict;
 use cy_bits::NoMemory;
 use dsdl_types::Namespace;
+use layout_text::by_name;
 use std::alloc::Global;
 
 /// What is said of the versions of a namespace.

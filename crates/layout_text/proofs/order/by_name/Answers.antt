@@ -4,7 +4,7 @@ use Rattle.std.proofs.lemmas.Fn.{always_returns_same}
 use Rattle.std.proofs.lemmas.Iterator.{YieldsList-from_slice}
 use Rattle.std.proofs.lemmas.Iterator.Consumers.{map_from_collect}
 use Rattle.layout_text.proofs.ByName.{by_name_behind, ranks, stands_before}
-use Rattle.layout_text.proofs.by_name.by_name.Goals as goal
+use Rattle.layout_text.proofs.order.by_name.Goals as goal
 
 pub returns : goal.returns
 returns c =
