@@ -1,3 +1,4 @@
 pub mod Fields
 pub mod Composites
 pub mod Verdicts
+pub mod NewerParts

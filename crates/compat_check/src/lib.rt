@@ -7,6 +7,8 @@ mod difference;
 mod equal;
 mod path;
 mod primitive;
+mod services;
 mod verdict;
 
+pub use services::{other_kind, services_newer};
 pub use verdict::{CompatWhy, Verdict, newer};
