@@ -1,4 +1,3 @@
-pub mod Newer
 pub mod One
 pub mod Loops
 pub mod Neighbours

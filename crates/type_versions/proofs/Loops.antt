@@ -4,13 +4,13 @@ use Rattle.std.specs.List.{flat_map}
 use Rattle.std.proofs.lemmas.List.{take_more, map-append, flat_map_more}
 use Rattle.std.proofs.lemmas.List.Elements.{All-cons}
 use Rattle.dsdl_types.specs.declared.definition.Definition.{Definition}
+use Rattle.compat_check.specs.Services.{both}
 use Rattle.compat_check.specs.declared.verdict.Verdict.{Verdict}
 use Rattle.compat_check.specs.declared.verdict.Verdict.TheVariants.{Yes, No}
+use Rattle.compat_check.proofs.NewerParts.{yes_is_newer, of_first, of_second, of_both}
 use Rattle.type_versions.specs.Lines.{pair_line, pair_verdict, first_refusal, IsNewerPair}
 use Rattle.type_versions.specs.Pairs.{pair_of}
-use Rattle.type_versions.specs.Parts.{both}
 use Rattle.type_versions.specs.declared.pairs.VersionPair.{VersionPair}
-use Rattle.type_versions.proofs.Newer.{yes_is_newer, of_first, of_second, of_both}
 
 more : {X Y : Type 0} (f : X → Y) (xs : List X) (i : ℕ) (x : X) → i < length xs → x ≡ get_or xs i x → map f (take (i + 1) xs) ≡ map f (take i xs) ++ f x ∷ []
 more f xs i x h e = ap (map f) (take_more xs i x h) ∙ map-append f (take i xs) (get_or xs i x ∷ []) ∙ ap (λ y. map f (take i xs) ++ f y ∷ []) (sym e)

@@ -1,4 +1,3 @@
-pub mod Parts
 pub mod Pairs
 pub mod Lines
 pub mod Laws

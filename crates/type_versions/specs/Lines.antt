@@ -6,12 +6,12 @@ use Rattle.dsdl_types.specs.declared.namespace.Namespace.{Namespace}
 use Rattle.layout_text.specs.Heads.{type_name}
 use Rattle.layout_text.specs.Namespaces.{IsByName}
 use Rattle.layout_text.specs.Words.{line_of}
+use Rattle.compat_check.specs.Services.{both, parts_verdict, AreNewer}
 use Rattle.compat_check.specs.declared.verdict.CompatWhy.{CompatWhy}
 use Rattle.compat_check.specs.declared.verdict.CompatWhy.TheVariants as why
 use Rattle.compat_check.specs.declared.verdict.Verdict.{Verdict}
 use Rattle.compat_check.specs.declared.verdict.Verdict.TheVariants.{Yes, No}
 use Rattle.type_versions.specs.Pairs.{version_pairs}
-use Rattle.type_versions.specs.Parts.{both, parts_verdict, AreNewer}
 
 -- the word of why a type isn't newer
 abbrev pub compat_why_text : CompatWhy → List ℕ

@@ -1,9 +1,9 @@
 //! What is said of the versions of a namespace.
 ghost use Rattle.std.specs.Prelude.{◌≡◌, ◌↔◌, ◌++◌, IfOk, OnOk, map};
 ghost use Rattle.std.specs.List.{flat_map};
+ghost use Rattle.compat_check.specs.Services.{both};
 ghost use Rattle.type_versions.specs.Lines.{refusal_text, verdict_text, verdict_line, pair_verdict, pair_line, first_refusal, AreVersions};
 ghost use Rattle.type_versions.specs.Pairs.{pair_of};
-ghost use Rattle.type_versions.specs.Parts.{both};
 
 use crate::pairs::{VersionPair, version_pairs};
 use crate::parts::parts_newer;
