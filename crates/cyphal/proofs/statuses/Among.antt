@@ -2,6 +2,7 @@
 use Rattle.std.proofs.Common.{◌≡◌, ◌∙◌, ◌⊎◌, inl, inr, ℕ, Bool, true, false, ◌||◌, List, Option, Some, None, refl, ap}
 use Rattle.std.proofs.lemmas.Bool.{cases_Bool, false≢true}
 use Rattle.cy_outside.specs.Files.{Files}
+use Rattle.compat_check.specs.Services.{parts_verdict}
 use Rattle.compat_check.specs.declared.verdict.Verdict.{Verdict}
 use Rattle.compat_check.specs.declared.verdict.Verdict.TheVariants as verdict
 use Rattle.dsdl_types.specs.Schemas.{Sch}
@@ -13,7 +14,7 @@ use Rattle.log_loop.specs.declared.ended.Ended.TheVariants as end
 use Rattle.node_core.specs.Steps.{Met}
 use Rattle.node_plan.specs.declared.plan.Plan.{Plan}
 use Rattle.node_run.specs.BoundText.{HasBound}
-use Rattle.node_run.specs.Compared.{parts_verdict, ended, compared_found}
+use Rattle.node_run.specs.Compared.{ended, compared_found}
 use Rattle.node_run.specs.Failures.{Failures}
 use Rattle.node_run.specs.declared.form.Form.{Form}
 use Rattle.node_run.specs.Generated.{HasGenerated}

@@ -2,10 +2,11 @@
 use Rattle.std.proofs.Common.{◌≡◌, ◌↔◌, ◌∙◌, ℕ, false, List, Option, Some, None, sym, subst}
 use Rattle.dsdl_types.specs.declared.definition.Parts.{Parts}
 use Rattle.dsdl_types.specs.declared.namespace.Namespace.{Namespace}
+use Rattle.compat_check.specs.Services.{parts_verdict}
 use Rattle.compat_check.specs.declared.verdict.Verdict.{Verdict}
 use Rattle.compat_check.specs.declared.verdict.Verdict.TheVariants as verdict
 use Rattle.node_run.specs.NamedTypes.{named as named_in}
-use Rattle.node_run.specs.Compared.{parts_verdict, ended, compared_found, compared, HasCompared, IsNewer}
+use Rattle.node_run.specs.Compared.{ended, compared_found, compared, HasCompared, IsNewer}
 use Rattle.node_run.specs.declared.status.Status.{Status}
 use Rattle.node_run.specs.declared.status.Status.TheVariants as status
 use Rattle.cyphal.specs.Job.{is_fault}

@@ -1,19 +1,17 @@
 //! Whether one type of a namespace is newer than another.
-ghost use Rattle.std.specs.Prelude.{◌≡◌, ◌≢◌, ◌↔◌, IfOk, codes};
+ghost use Rattle.std.specs.Prelude.{◌≡◌, ◌≢◌, ◌↔◌, IfOk};
 ghost use Rattle.cy_outside.specs.Outside.{Rose};
 ghost use Rattle.dsdl_types.specs.Definitions.{IsNamespace};
-ghost use Rattle.dsdl_types.specs.Difference.{difference};
-ghost use Rattle.dsdl_types.specs.Views.{sch};
-ghost use Rattle.compat_check.specs.Verdicts.{verdict_of};
+ghost use Rattle.compat_check.specs.Services.{parts_verdict};
 ghost use Rattle.node_run.specs.NamedTypes.{parts_of};
-ghost use Rattle.node_run.specs.Compared.{half_path, in_half, parts_verdict, compared, HasCompared, IsNewer};
+ghost use Rattle.node_run.specs.Compared.{compared, HasCompared, IsNewer};
 
 use crate::status::Status;
 use crate::types::named::{NamedParts, found};
-use compat_check::{CompatWhy, Verdict, newer};
-use cy_bits::{NoMemory, Text};
+use compat_check::{Verdict, newer, other_kind, services_newer};
+use cy_bits::NoMemory;
 use cy_outside::{Sink, put_all};
-use dsdl_types::{Namespace, Schema};
+use dsdl_types::Namespace;
 use std::alloc::Global;
 
 /// Writes `newer` where what the name `new` stands for in a namespace is newer than what `old`
@@ -72,50 +70,8 @@ fn verdict(alloc: Global, new: NamedParts<'_>, old: NamedParts<'_>) -> Result<Ve
             NamedParts::Service {
                 request: older_request,
                 response: older_response,
-            } => {
-                let first = half_verdict(alloc, "request", request, older_request)?;
-                match first {
-                    Verdict::Yes => half_verdict(alloc, "response", response, older_response),
-                    Verdict::No { path, why } => Ok(Verdict::No { path, why }),
-                }
-            }
+            } => services_newer(alloc, request, response, older_request, older_response),
             NamedParts::Message(_) => other_kind(alloc),
         },
     }
-}
-
-/// The verdict on a message and a service.
-fn other_kind(alloc: Global) -> Result<Verdict, NoMemory>
-    ensures { IfOk result (λ verdict. verdict ≡ Verdict.No (codes ".") CompatWhy.Kind) }
-{
-    Ok(Verdict::No {
-        path: Text::from_str(alloc, ".")?,
-        why: CompatWhy::Kind,
-    })
-}
-
-/// Whether a half of a service is newer than that of another.
-fn half_verdict(alloc: Global, half: &str, new: &Schema, old: &Schema) -> Result<Verdict, NoMemory>
-    ensures { IfOk result (λ verdict.
-        verdict ≡ in_half half.now (verdict_of (difference (sch new.now) (sch old.now)))) }
-{
-    match newer(alloc, new, old)? {
-        Verdict::Yes => Ok(Verdict::Yes),
-        Verdict::No { path, why } => Ok(Verdict::No {
-            path: half_path(alloc, half, path.as_str())?,
-            why,
-        }),
-    }
-}
-
-/// The way to a part of a service's half.
-fn half_path(alloc: Global, half: &str, path: &str) -> Result<Text, NoMemory>
-    ensures { IfOk result (λ text. text ≡ half_path half.now path.now) }
-{
-    let mut text = String::from_str(alloc, half)?;
-    if path != "." {
-        text.push_str(".")?;
-        text.push_str(path)?;
-    }
-    Ok(Text::new(text))
 }
