@@ -41,8 +41,10 @@ newer_line = codes "newer\n"
 -- how a comparison ended, and what was written of it
 abbrev pub HasCompared : Namespace → List ℕ → List ℕ → Status → Option (List ℕ) → Option (List ℕ)
     → Type 0
-HasCompared names new old status.Ok before after = (compared names new old ≡ status.Ok) × (after ≡ behind before newer_line)
-HasCompared names new old status.WriteFault before after = (compared names new old ≡ status.Ok) × Begins newer_line before after
+HasCompared names new old status.Ok before after =
+    (compared names new old ≡ status.Ok) × (after ≡ behind before newer_line)
+HasCompared names new old status.WriteFault before after =
+    (compared names new old ≡ status.Ok) × Begins newer_line before after
 HasCompared names new old status.NoMemory before after = after ≡ before
 HasCompared names new old status.ReadFault before after = ⊥
 HasCompared names new old stat before after = (compared names new old ≡ stat) × (after ≡ before)
