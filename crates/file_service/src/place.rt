@@ -1,6 +1,7 @@
 //! Where a path stands below the root.
-ghost use Rattle.std.specs.Prelude.{◌≡◌, ◌++◌, ◌∷◌, true, IfOk};
+ghost use Rattle.std.specs.Prelude.{◌≡◌, ◌++◌, ◌∷◌, true, IfOk, OnErr};
 ghost use Rattle.std.specs.List.{list_all};
+ghost use Rattle.file_service.specs.Causes.{IsKnown};
 ghost use Rattle.file_service.specs.Paths.{is_legal, is_name, is_printable, parts_of, place_of, without_slash};
 
 use cy_bits::{NoMemory, Text};
@@ -17,9 +18,10 @@ pub enum Place {
     At(Text),
 }
 
-/// Where a path stands below a root.
+/// Where a path stands below a root. Memory is never wanting for an invalid path, nor for the root.
 pub fn place_of(alloc: Global, root: &str, path: &[u8]) -> Result<Place, NoMemory>
-    ensures { IfOk result (λ place. place ≡ place_of root.now path.now) }
+    ensures place { IfOk result (λ place. place ≡ place_of root.now path.now) }
+    ensures memory { OnErr result (IsKnown (place_of root.now path.now) → ⊥) }
 {
     let path = without_slash(path);
     if path.is_empty() {

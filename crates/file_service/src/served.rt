@@ -1,4 +1,4 @@
-ghost use Rattle.std.specs.Prelude.{◌≡◌, ◌≤◌, ◌+◌, ◌==◌, [], IfOk, OnErr};
+ghost use Rattle.std.specs.Prelude.{◌≡◌, ◌≢◌, ◌≤◌, ◌+◌, ◌==◌, [], IfOk, OnErr};
 ghost use Rattle.std_types.specs.Files.{FitsInfoReply};
 ghost use Rattle.std_types.specs.Held.{HoldsBytes};
 ghost use Rattle.file_service.specs.Paths.{place_of};
@@ -19,7 +19,7 @@ use std_types::file::{FileError, InfoReply};
 /// A path is asked for as it stands below the root. One leading `/` is dropped; the empty path is
 /// the root, a folder. A path is invalid where it holds a byte outside 20 to 7E hex, or a name that
 /// is empty, `.` or `..`. Nothing is asked of the tree for an invalid path, nor by `read` and
-/// `info` for the root, and else the tree is called once. No memory is kept between calls.
+/// `info` for the root, and else the tree is called once at most. No memory is kept between calls.
 #[derive(Clone, Copy)]
 pub struct Served<'a> {
     /// The path of the folder in the tree. There need not be such a folder.
@@ -32,7 +32,8 @@ impl Served<'_> {
     /// 2 where there is nothing, 21 where there is a folder, else 0.
     ///
     /// The buffer stays as it was for an invalid path, for the root and at want of memory; where
-    /// the tree failed it may hold anything. Takes memory for the joined path.
+    /// the tree failed it may hold anything. Memory is never wanting for an invalid path, nor for
+    /// the root.
     pub fn read<T: Tree>(
         &self,
         alloc: Global,
@@ -50,6 +51,7 @@ impl Served<'_> {
         ensures unasked { IsKnown (place_of self.now.root.now path.now)
             → (tree.new ≡ tree.old) × (buf.new ≡ buf.old) }
         ensures memory { OnErr result ((tree.new ≡ tree.old) × (buf.new ≡ buf.old)) }
+        ensures wanted { OnErr result (IsKnown (place_of self.now.root.now path.now) → ⊥) }
         ensures count { T.faults tree.old ≤ T.faults tree.new }
         ensures calls { T.calls tree.new ≤ T.calls tree.old + 1 }
     {
@@ -70,6 +72,8 @@ impl Served<'_> {
     /// of more than 255 bytes, or with a byte outside 20 to 7E hex, are left out. It is empty past
     /// the last name, for an invalid path, and where there is no folder; where the tree failed it
     /// is empty too, and `failed` says so.
+    ///
+    /// Memory is never wanting for an invalid path.
     pub fn list<T: Tree>(
         &self,
         alloc: Global,
@@ -86,6 +90,7 @@ impl Served<'_> {
         ensures unasked { place_of self.now.root.now path.now ≡ Place.Invalid
             → tree.new ≡ tree.old }
         ensures memory { OnErr result (T.faults tree.new ≡ T.faults tree.old) }
+        ensures wanted { OnErr result (place_of self.now.root.now path.now ≢ Place.Invalid) }
         ensures count { T.faults tree.old ≤ T.faults tree.new }
         ensures calls { T.calls tree.new ≤ T.calls tree.old + 1 }
     {
@@ -100,7 +105,7 @@ impl Served<'_> {
     /// that holds: 22 for an invalid path, 5 where the tree failed, 2 where there is nothing, else
     /// 0.
     ///
-    /// Takes memory for the joined path.
+    /// Memory is never wanting for an invalid path, nor for the root.
     pub fn info<T: Tree>(
         &self,
         alloc: Global,
@@ -115,6 +120,7 @@ impl Served<'_> {
             TellsFault (reply.error.value == io_error) (T.faults tree.old) (T.faults tree.new)) }
         ensures unasked { IsKnown (place_of self.now.root.now path.now) → tree.new ≡ tree.old }
         ensures memory { OnErr result (tree.new ≡ tree.old) }
+        ensures wanted { OnErr result (IsKnown (place_of self.now.root.now path.now) → ⊥) }
         ensures count { T.faults tree.old ≤ T.faults tree.new }
         ensures calls { T.calls tree.new ≤ T.calls tree.old + 1 }
     {

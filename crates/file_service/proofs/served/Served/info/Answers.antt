@@ -12,7 +12,7 @@ returns-clause-answer g c =
     let told = g.T.Tree.files c.args.tree.now in
     let path = c.as_str.result.now in
     let is : At path ≡ place_of c.args.self.now.root.now c.args.path.now =
-    ap At c.as_str.ensures ∙ sym c.in-At.is ∙ c.in_ok-place_of.ensures in
+    ap At c.as_str.ensures ∙ sym c.in-At.is ∙ c.in_ok-place_of.ensures.place in
     subst (λ p. IsInfo told p c.match-size.result) is
     (elim c.match-size.branch as (λ _. IsInfo told (At path) c.match-size.result) [
       | in-Ok-File w ↦

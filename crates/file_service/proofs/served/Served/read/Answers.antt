@@ -14,7 +14,7 @@ returns-clause-answer g c =
     let buf = c.read_at.new.buf in
     let path = c.as_str.result.now in
     let is : At path ≡ place_of c.args.self.now.root.now c.args.path.now =
-    ap At c.as_str.ensures ∙ sym c.in-At.is ∙ c.in_ok-place_of.ensures in
+    ap At c.as_str.ensures ∙ sym c.in-At.is ∙ c.in_ok-place_of.ensures.place in
     subst (λ p. IsRead told p c.args.offset (read_of c.match-read_at.result buf)) is
     (elim c.match-read_at.branch as (λ _. IsRead told (At path) c.args.offset (read_of c.match-read_at.result buf)) [
       | in-Ok-Bytes w ↦
