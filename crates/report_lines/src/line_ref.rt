@@ -1,5 +1,5 @@
 //! A line of the report whose payload is lent.
-ghost use Rattle.std.specs.Prelude.{◌≡◌, IfOk};
+ghost use Rattle.std.specs.Prelude.{◌≡◌, ◌≢◌, IfOk, None, OnErr};
 ghost use Rattle.report_lines.specs.Lent.{owned, reading_in};
 
 use crate::compiled_shape::CompiledShape;
@@ -75,9 +75,10 @@ impl TxRef<'_> {
 }
 
 impl RxRef<'_> {
-    /// What the payload says. Takes no memory where the port has no type.
+    /// What the payload says. Memory is never wanting where the port has no type.
     pub fn reading(&self, alloc: Global) -> Result<Reading, NoMemory>
-        ensures { IfOk result (λ reading. reading ≡ reading_in self.now) }
+        ensures reading { IfOk result (λ reading. reading ≡ reading_in self.now) }
+        ensures memory { OnErr result (self.now.port_type ≢ None) }
     {
         match self.port_type {
             None => Ok(Reading::Raw),
