@@ -8,16 +8,16 @@ use Rattle.tail_frame.specs.declared.logged.Record.{Record}
 use Rattle.rx_table.specs.Keys.{KeyedFrame}
 use Rattle.rx_table.specs.Laws.{OutcomeTells}
 use Rattle.rx_table.specs.Ports.{Port, PortState, Answer}
-use Rattle.rx_table.specs.Table.{StandsFor, logged, port_on, Told}
-use Rattle.rx_table.specs.Views.{Keeps, Answers}
+use Rattle.rx_table.specs.Table.{Opens, StandsFor, logged, port_on, states, Told}
+use Rattle.rx_table.specs.Views.{Keeps, Answers, OpensOne}
 use Rattle.rx_table.specs.declared.table.Table.{Table}
 use Rattle.node_plan.specs.Ports.{ports}
 use Rattle.node_plan.specs.declared.plan.Plan.{Plan}
 use Rattle.node_core.specs.declared.node.Node.{Node}
 use Rattle.rx_table.specs.Heard.{frame_for, with_frame, frames}
-use Rattle.node_core.specs.Stands.{StandsAt, Stands}
+use Rattle.node_core.specs.Stands.{FrameOpens, StandsAt, Stands}
 use Rattle.node_core.specs.Steps.{on_port, bad_on_port}
-use Rattle.node_core.specs.Shapes.{port_schema}
+use Rattle.node_core.specs.Shapes.{port_schema, shape_extent}
 use Rattle.node_core.specs.Told.{answer_lines, answer_is_bad}
 use Rattle.node_core.specs.Types.{type_at}
 use Rattle.node_core.specs.declared.port_shape.PortShape.{PortShape}
@@ -61,6 +61,12 @@ pub hear_bad : OutcomeTells → (node : Node) (f : FrameOf) (log : List KeyedFra
     → answer_is_bad answer ≡ bad_on_port node.plan.timeout f log (port_on (ports_of node.plan) f)
 hear_bad tells node f log answer s told =
     told_bad tells node.plan (ports_of node.plan) f log answer (planned _ _ _ _ f log _ answer s.timeout s.ports_are (told log) s.sessions)
+
+-- a frame that opens a session of the table opens one of the plan's ports
+pub frame_opens : (node : Node) (f : FrameOf) → OpensOne port_schema node.table f → FrameOpens node f
+frame_opens node f opens log s =
+    subst (λ (ports : List Port). Opens ports f log) s.ports_are
+    (opens log (subst (λ t. StandsFor t log (states shape_extent node.table.ports.items)) (sym s.timeout) s.sessions))
 
 -- a record that is a frame for the node
 pub frame_stands : (old new : Node) (rec : Record) (f : FrameOf) → new.plan ≡ old.plan → Some f ≡ frame_for old.plan.node rec

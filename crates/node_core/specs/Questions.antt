@@ -1,5 +1,6 @@
 -- What a request to a node asks.
-use Rattle.std.specs.Prelude.{ℕ, ◌==◌, if◌then◌else◌, List, Option, Some, None, option_map}
+use Rattle.std.specs.Prelude.{◌≡◌, ◌⊎◌, ℕ, ◌==◌, if◌then◌else◌, List, Option, Some, None, ⊤}
+use Rattle.std.specs.Prelude.{option_map}
 use Rattle.dsdl_types.specs.Values.{Val}
 use Rattle.wire_values.specs.Payloads.{payload_value}
 use Rattle.std_types.specs.Files.{FitsFileListRequest, FitsInfoRequest, FitsReadRequest}
@@ -48,6 +49,22 @@ question_in service payload =
     else (if service == 384 then option_map access_of (payload_value access_request payload)
     else (if service == 385 then option_map listing_of (payload_value list_request payload)
     else file_question_in service payload))
+
+-- a service whose requests are answered by what their payload says: accesses to registers and
+-- listings of them, and of files what stands at a path, names of folders, and reads
+abbrev pub IsReadService : ℕ → Type 0
+IsReadService service =
+    (service ≡ 384) ⊎ ((service ≡ 385) ⊎ ((service ≡ 405) ⊎ ((service ≡ 406) ⊎ (service ≡ 408))))
+
+-- a question of a register or of a file, other than one that isn't supported
+abbrev pub IsOfContent : Question → Type 0
+IsOfContent Info = ⊥
+IsOfContent (Access request) = ⊤
+IsOfContent (Listing request) = ⊤
+IsOfContent (FileInfo request) = ⊤
+IsOfContent (FileName request) = ⊤
+IsOfContent (FileBytes request) = ⊤
+IsOfContent Unsupported = ⊥
 
 -- what is asked is a value of the request's type
 abbrev pub FitsQuestion : Question → Type 0

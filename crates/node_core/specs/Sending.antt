@@ -17,7 +17,7 @@ use Rattle.std_types.specs.Schemas.{access_reply, list_reply}
 use Rattle.std_types.specs.declared.register_value.RegisterValue.{RegisterValue}
 use Rattle.std_types.specs.declared.registers.Register.{Register}
 use Rattle.node_core.specs.Files.{file_payload}
-use Rattle.node_core.specs.Questions.{FitsQuestion, question_in}
+use Rattle.node_core.specs.Questions.{FitsQuestion, IsReadService, question_in}
 use Rattle.node_core.specs.Queues.{Sends}
 use Rattle.node_core.specs.declared.file_reply.FileReply.{FileReply}
 use Rattle.node_core.specs.declared.question.Question.{Question}
@@ -52,6 +52,13 @@ request_with tid (Anonymous priority subject pseudo) payload = None
 request_with tid (Service priority false service destination source) payload = None
 request_with tid (Service priority true service destination source) payload =
     option_map (request_that service source priority tid) (question_in service payload)
+
+-- an identifier of a request to a service that is answered by what the payload says
+abbrev pub IsReadRequest : Ident → Type 0
+IsReadRequest (Message priority subject source) = ⊥
+IsReadRequest (Anonymous priority subject pseudo) = ⊥
+IsReadRequest (Service priority false service destination source) = ⊥
+IsReadRequest (Service priority true service destination source) = IsReadService service
 
 -- a request of another node: its numbers are in their ranges, and it asks a value of its type
 pub record IsRequestTo (node : ℕ) (r : Request) : Type 0 where

@@ -1,14 +1,14 @@
 -- The log that a node stands for.
-use Rattle.std.specs.Prelude.{◌≡◌, ◌≤◌, ◌⊎◌, ℕ, Bool, List, ◌∷◌}
+use Rattle.std.specs.Prelude.{◌≡◌, ◌≤◌, ◌⊎◌, ℕ, Bool, List, ◌∷◌, Some}
 use Rattle.tail_frame.specs.Frames.{FrameOf}
 use Rattle.tail_frame.specs.declared.logged.Record.{Record}
 use Rattle.rx_table.specs.Keys.{KeyedFrame}
 use Rattle.rx_table.specs.Ports.{ports_of as ports_in}
-use Rattle.rx_table.specs.Table.{states, StandsFor, logged, port_on}
+use Rattle.rx_table.specs.Table.{states, Opens, StandsFor, logged, port_on}
 use Rattle.node_core.specs.declared.node.Node.{Node}
 use Rattle.node_plan.specs.Bound.{bound_of}
 use Rattle.node_plan.specs.Ports.{ports}
-use Rattle.rx_table.specs.Heard.{frames}
+use Rattle.rx_table.specs.Heard.{frame_for, frames}
 use Rattle.node_core.specs.Heard.{ports_of}
 use Rattle.node_core.specs.Shapes.{shape_extent}
 use Rattle.node_core.specs.Steps.{got, is_bad_at, on_port, bad_on_port, held_at}
@@ -63,6 +63,14 @@ TakesFrame f old new = (log : List KeyedFrame) → StandsAt old log → StandsAt
 -- it stands for the frames that it stood for
 abbrev pub KeepsSessions : Node → Node → Type 0
 KeepsSessions old new = (log : List KeyedFrame) → StandsAt old log → StandsAt new log
+
+-- the frame opens a session, on a port of the plan
+abbrev pub FrameOpens : Node → FrameOf → Type 0
+FrameOpens node f = (log : List KeyedFrame) → StandsAt node log → Opens (ports_of node.plan) f log
+
+-- a record is such a frame, for the node
+abbrev pub OpensSession : Node → Record → Type 0
+OpensSession node rec = (f : FrameOf) × ((frame_for node.plan.node rec ≡ Some f) × FrameOpens node f)
 
 -- these are the lines that the frame gives
 abbrev pub FrameGives : Node → FrameOf → List Line → Type 0

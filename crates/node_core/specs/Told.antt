@@ -1,5 +1,5 @@
 -- The lines on what a table tells of a frame.
-use Rattle.std.specs.Prelude.{Bool, true, false, List, [], ◌∷◌, Option, Some, None}
+use Rattle.std.specs.Prelude.{Bool, true, false, List, [], ◌∷◌, Option}
 use Rattle.can_id.specs.Identifiers.{key_of}
 use Rattle.can_id.specs.declared.key.Key.{Key}
 use Rattle.tail_frame.specs.Frames.{FrameOf, key_record}

@@ -1,5 +1,5 @@
 //! What a node answers to requests.
-ghost use Rattle.std.specs.Prelude.{◌≡◌, ◌≤◌, IfOk, OnOk, Some, length, take};
+ghost use Rattle.std.specs.Prelude.{◌≡◌, ◌≤◌, IfOk, OnErr, OnOk, Some, length, take};
 ghost use Rattle.dsdl_types.specs.Laws.{encoding};
 ghost use Rattle.dsdl_types.specs.Schemas.{extent_of};
 ghost use Rattle.register_service.specs.RegisterMap.{list_reply, listed};
@@ -7,7 +7,7 @@ ghost use Rattle.std_types.specs.Registers.{FitsListReply};
 ghost use Rattle.std_types.specs.Types.{schema_of};
 ghost use Rattle.node_core.specs.Files.{FitsFileReply, file_payload, name_reply};
 ghost use Rattle.node_core.specs.Keeps.{keeps, questioned};
-ghost use Rattle.node_core.specs.Questions.{FitsQuestion};
+ghost use Rattle.node_core.specs.Questions.{FitsQuestion, IsOfContent};
 ghost use Rattle.node_core.specs.Sending.{answer_to};
 ghost use Rattle.node_core.specs.Stands.{StandsAsBefore};
 
@@ -32,8 +32,8 @@ const UNSUPPORTED: [u8; 2] = [38, 0];
 
 impl Node {
     /// Does what a question asks, and writes the payload of the answer in front of a buffer: of a
-    /// file it is what the tree told. Answers the number of its bytes. Takes memory for what is
-    /// asked of registers and files alone.
+    /// file it is what the tree told. Answers the number of its bytes. Memory may be wanting only
+    /// for what is asked of registers and files.
     pub(crate) fn answer_with(
         &mut self,
         question: Question,
@@ -51,6 +51,7 @@ impl Node {
         ensures size { IfOk result (λ n. n ≤ 512) }
         ensures payload { let registers = (keeps self.old).registers in IfOk result (λ n.
             take n out.new ≡ answer_to self.old.plan registers file.now question) }
+        ensures memory { OnErr result (IsOfContent question) }
     {
         match question {
             Question::Info => Ok(put(self.info.as_slice(), out)),

@@ -12,7 +12,8 @@ use tail_frame::{Frame, Record, Tail};
 pub struct Came {
     /// Whether the record ends a transfer whose bytes don't fit their CRC.
     pub badcrc: bool,
-    /// The frame that the record is, where it is one for the node.
+    /// The frame that the record is. None where it is none for the node, and where its subject has
+    /// no port.
     pub heard: Option<Heard>,
 }
 

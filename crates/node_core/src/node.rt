@@ -29,7 +29,7 @@ pub struct Node {
     pub plan: Plan,
     /// The sessions of the sources that it hears.
     pub table: Table<PortShape>,
-    /// When it last heard a frame, in microseconds, or 0.
+    /// A moment in microseconds: no session heard anything later.
     pub latest: u64,
     /// The frames that wait on each bus.
     pub queues: BusQueues,
@@ -59,8 +59,8 @@ pub struct Stepped {
 }
 
 impl Node {
-    ghost use Rattle.std.specs.Prelude.{[], List as ListOf, IfOk, IfSome, OnOk, OnErr, length};
-    ghost use Rattle.std.specs.Prelude.{take};
+    ghost use Rattle.std.specs.Prelude.{[], List as ListOf, IfOk, IfSome, IsSomeAnd, OnOk, OnErr};
+    ghost use Rattle.std.specs.Prelude.{length, take};
     ghost use Rattle.std.specs.Option.{ForSome};
     ghost use Rattle.file_service.specs.Causes.{TellsFault};
     ghost use Rattle.tail_frame.specs.Frames.{seen};
@@ -73,11 +73,11 @@ impl Node {
     ghost use Rattle.node_core.specs.Came.{answer_in, heard_is_bad, came_lines, came_request};
     ghost use Rattle.node_core.specs.Came.{met_lines, TellsRequest};
     ghost use Rattle.node_core.specs.Keeps.{DidStep, HasQueues, keeps};
-    ghost use Rattle.node_core.specs.Sending.{IsRequestTo};
+    ghost use Rattle.node_core.specs.Sending.{IsReadRequest, IsRequestTo};
     ghost use Rattle.node_core.specs.Steps.{kept};
     ghost use Rattle.node_core.specs.Stands.{Stands, Takes, StandsAsBefore, Gives, TellsBadCrc};
     ghost use Rattle.node_core.specs.Stands.{TakesFrame, TakesOrNot, KeepsSessions, FrameGives};
-    ghost use Rattle.node_core.specs.Stands.{FrameTellsBadCrc};
+    ghost use Rattle.node_core.specs.Stands.{FrameOpens, FrameTellsBadCrc, OpensSession};
     ghost use Rattle.node_core.specs.Stands.{Holds, IsWithinBound};
     ghost use Rattle.node_core.specs.Told.{answer_is_bad};
     ghost use Rattle.node_core.specs.Types.{type_at};
@@ -109,10 +109,9 @@ impl Node {
 
     /// Takes the next record of the log, at a moment not before the last one, and appends the lines
     /// on what it gives, and those on the buses that have no room for its reply. A request of a
-    /// file is asked of the tree. Memory is taken for these lines, for a new source's session, and
-    /// for what is asked of registers and files; where it is wanting, the lines and the frames that
-    /// wait are left as they were, and the node, which may have taken the record, keeps its ports
-    /// and its bound.
+    /// file is asked of the tree. Memory may be wanting; then the lines and the frames that wait are
+    /// left as they were, and the node, which may have taken the record, keeps its ports and its
+    /// bound.
     ///
     /// The short form of `step`, `told`, `request`, `serve` and `reply`, for a caller that keeps
     /// the lines; a run calls these.
@@ -157,8 +156,8 @@ impl Node {
         }
     }
 
-    /// Takes the next record of the log, at a moment not before the last one. Memory is taken for a
-    /// new source's session alone; where it is wanting, the sessions are left as they were.
+    /// Takes the next record of the log, at a moment not before the last one. Memory may be wanting
+    /// only for a record that opens a session; then the sessions are left as they were.
     #[inline(always)]
     pub fn step(&mut self, rec: &Record) -> Result<Came, NoMemory>
         requires { self.old.latest ≤ rec.now.moment }
@@ -173,6 +172,7 @@ impl Node {
         ensures asks { let node = self.old.plan.node in IfOk result (λ came.
             (lines : ListOf LineOf) → ForSome (came_request came lines) (IsRequestTo node)) }
         ensures err { OnErr result (StandsAsBefore self.old self.new) }
+        ensures memory { OnErr result (OpensSession self.old rec.now) }
     {
         if self.passes_by(rec) {
             return Ok(Came {
@@ -211,16 +211,18 @@ impl Node {
         line_on(&self.table, &frame, self.table.lend(heard.met, &frame))
     }
 
-    /// The request that the record ended, where this was told of it and the node answers it. Takes
-    /// memory for what is asked of registers and files alone.
+    /// The request that the record ended, where this was told of it and the node answers it. Memory
+    /// may be wanting only for a request that is answered by what its payload says.
     #[inline(always)]
     pub fn request(
         &self,
         came: Came,
         told: Option<LineRef<'_>>,
     ) -> Result<Option<Request>, NoMemory>
-        ensures { IfOk result (λ request.
+        ensures request { IfOk result (λ request.
             request ≡ came_request came (told_lines told.entry)) }
+        ensures memory { OnErr result
+            (IsSomeAnd came.heard (λ heard. IsReadRequest heard.ident)) }
     {
         let Some(LineRef::Rx(rx)) = told else {
             return Ok(None);
@@ -256,6 +258,7 @@ impl Node {
         ensures badcrc { let f = seen frame.now in IfOk result (λ met.
             FrameTellsBadCrc self.old f (answer_is_bad (answer_in self.new f met))) }
         ensures err { OnErr result (KeepsSessions self.old self.new) }
+        ensures memory { OnErr result (FrameOpens self.old (seen frame.now)) }
     {
         rx_table::laws::outcome_tells();
         let met = self.table.step(frame)?;

@@ -1,7 +1,7 @@
 //! What a request to a node asks.
-ghost use Rattle.std.specs.Prelude.{◌≡◌, IfOk, option_map};
+ghost use Rattle.std.specs.Prelude.{◌≡◌, IfOk, OnErr, option_map};
 ghost use Rattle.std.specs.Option.{ForSome};
-ghost use Rattle.node_core.specs.Questions.{FitsQuestion, question_in};
+ghost use Rattle.node_core.specs.Questions.{FitsQuestion, IsReadService, question_in};
 ghost use Rattle.wire_values.specs.Payloads.{payload_value};
 ghost use Rattle.std_types.specs.Types.{schema_of};
 
@@ -57,7 +57,8 @@ pub enum Question {
 }
 
 impl Question {
-    /// What a request of a service asks, by its payload; `None` where it has no answer.
+    /// What a request of a service asks, by its payload; `None` where it has no answer. Memory may
+    /// be wanting only for a service that is answered by what the payload says.
     #[inline(never)]
     pub(crate) fn of(
         alloc: Global,
@@ -66,6 +67,7 @@ impl Question {
     ) -> Result<Option<Question>, NoMemory>
         ensures value { IfOk result (λ question. question ≡ question_in service payload.now) }
         ensures fits { IfOk result (λ question. ForSome question FitsQuestion) }
+        ensures memory { OnErr result (IsReadService service) }
     {
         match service {
             GET_INFO => Ok(Some(Question::Info)),

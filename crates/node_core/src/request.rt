@@ -1,7 +1,7 @@
-ghost use Rattle.std.specs.Prelude.{◌≡◌, ◌<◌, IfOk, false};
+ghost use Rattle.std.specs.Prelude.{◌≡◌, ◌<◌, IfOk, OnErr, false};
 ghost use Rattle.can_id.specs.Identifiers.{bits};
 ghost use Rattle.can_id.specs.declared.ident.Ident.TheVariants.{Service};
-ghost use Rattle.node_core.specs.Sending.{IsRequestTo, request_with};
+ghost use Rattle.node_core.specs.Sending.{IsReadRequest, IsRequestTo, request_with};
 
 use crate::question::Question;
 use can_id::{Ident, make};
@@ -25,7 +25,8 @@ pub struct Request {
 
 impl Request {
     /// The request that a frame with this transfer-ID and this identifier ended, where this is the
-    /// transfer's payload; `None` where the node doesn't answer it.
+    /// transfer's payload; `None` where the node doesn't answer it. Memory may be wanting only for
+    /// a request that is answered by what the payload says.
     #[inline(always)]
     pub(crate) fn with(
         alloc: Global,
@@ -33,7 +34,9 @@ impl Request {
         ident: Ident,
         payload: &[u8],
     ) -> Result<Option<Request>, NoMemory>
-        ensures { IfOk result (λ request. request ≡ request_with tid ident payload.now) }
+        ensures request { IfOk result (λ request.
+            request ≡ request_with tid ident payload.now) }
+        ensures memory { OnErr result (IsReadRequest ident) }
     {
         let Ident::Service {
             priority,

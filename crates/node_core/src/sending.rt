@@ -6,6 +6,7 @@ ghost use Rattle.node_core.specs.Files.{FitsFileReply};
 ghost use Rattle.node_core.specs.Keeps.{DidAnswer, HasQueues, answered, beaten, keeps, reply_by};
 ghost use Rattle.node_core.specs.Pops.{Pops, queue_at};
 ghost use Rattle.node_core.specs.Queues.{fulls, waiting};
+ghost use Rattle.node_core.specs.Questions.{IsOfContent};
 ghost use Rattle.node_core.specs.Sending.{IsRequestTo, beat};
 ghost use Rattle.node_core.specs.Stands.{StandsAsBefore};
 ghost use Rattle.report_lines.specs.declared.line.Line.TheVariants.{Full};
@@ -26,10 +27,9 @@ impl Node {
     /// Does what a request asks, and puts the reply behind the frames that wait on each bus: to the
     /// one who asks, with the request's priority and transfer-ID (Cyphal Specification, section
     /// 5.3.3). The reply to a request of a file is what the tree told for it. Tells on which buses
-    /// there is no room for the reply, at a moment in microseconds. Memory is taken for what is
-    /// asked of registers and files; where it is wanting, the node is not to be used further: its
-    /// plan, its sessions and the frames that wait are as they were, and of its registers nothing
-    /// is known.
+    /// there is no room for the reply, at a moment in microseconds. Memory may be wanting only for
+    /// what is asked of registers and files; then the node is not to be used further: its plan, its
+    /// sessions and the frames that wait are as they were, and of its registers nothing is known.
     #[inline(never)]
     pub fn reply(
         &mut self,
@@ -49,6 +49,7 @@ impl Node {
             IfOk result (λ full. map Full full ≡ fulls moment reply old.queues) }
         ensures queues { HasQueues self.old → HasQueues self.new }
         ensures unsent { OnErr result ((keeps self.new).queues ≡ (keeps self.old).queues) }
+        ensures memory { OnErr result (IsOfContent request.question) }
     {
         let mut out = [0; MAX_REPLY];
         let ident = request.reply_ident(self.plan.node);

@@ -20,8 +20,8 @@ use std_types::file::{FileError, ReadReply, ReadRequest};
 impl Node {
     /// What the tree tells for a request: what stands at the path below the served folder, a name
     /// there, or bytes, or that it failed. Nothing is asked of it where the request is of no file,
-    /// where its path is invalid, or where it is known what stands there. No memory is taken where
-    /// the request is of no file.
+    /// where its path is invalid, or where it is known what stands there; then memory is never
+    /// wanting either.
     #[inline(never)]
     pub fn serve<T: Tree>(&self, request: &Request, tree: &mut T) -> Result<FileReply, NoMemory>
         ensures files { T.files tree.new ≡ T.files tree.old }
@@ -33,6 +33,8 @@ impl Node {
         ensures unasked { AsksNothing (root_of self.now.plan.serve) request.now.question
             → tree.new ≡ tree.old }
         ensures memory { OnErr result (T.faults tree.new ≡ T.faults tree.old) }
+        ensures wanted { OnErr result
+            (AsksNothing (root_of self.now.plan.serve) request.now.question → ⊥) }
         ensures count { T.faults tree.old ≤ T.faults tree.new }
         ensures calls { T.calls tree.new ≤ T.calls tree.old + 1 }
     {
@@ -64,7 +66,8 @@ impl Node {
     }
 }
 
-/// The bytes of a file that a read asks for.
+/// The bytes of a file that a read asks for. Memory is never wanting where it is known what stands
+/// at the path.
 fn bytes_of<T: Tree>(
     alloc: Global,
     served: Served<'_>,
@@ -80,6 +83,7 @@ fn bytes_of<T: Tree>(
     ensures unasked { IsKnown (place_of served.entry.root.now asked.now.path)
         → tree.new ≡ tree.old }
     ensures memory { OnErr result (T.faults tree.new ≡ T.faults tree.old) }
+    ensures wanted { OnErr result (IsKnown (place_of served.entry.root.now asked.now.path) → ⊥) }
     ensures count { T.faults tree.old ≤ T.faults tree.new }
     ensures calls { T.calls tree.new ≤ T.calls tree.old + 1 }
 {
@@ -89,7 +93,8 @@ fn bytes_of<T: Tree>(
     Ok(FileReply::Bytes(reply))
 }
 
-/// The reply to a read whose bytes stand at the buffer's front. Takes memory for these alone.
+/// The reply to a read whose bytes stand at the buffer's front. Memory is never wanting where there
+/// are none.
 fn read_reply(alloc: Global, done: ReadDone, buf: &[u8; 256]) -> Result<ReadReply, NoMemory>
     requires { done.count ≤ 256 }
     ensures reply { IfOk result (λ reply. reply ≡ read_of done buf.now) }

@@ -31,7 +31,7 @@ returns-in-Ok-clause-stands g c = λ past s. c.in-Ok.ensures.stands (c.args.rec.
 pub returns-in-Ok-clause-did : goal.returns-in-Ok-clause-did
 returns-in-Ok-clause-did g c =
     did_step c.args.self.now c.step.new.self c.answer.new.self c.args.rec.now c.in_ok-came.came (told_lines c.told-told.result) c.in_ok-request.request
-    c.in_ok-came.ensures.plan c.in_ok-came.ensures.keeps c.in_ok-request.ensures c.in_ok-came.ensures.request
+    c.in_ok-came.ensures.plan c.in_ok-came.ensures.keeps c.in_ok-request.ensures.request c.in_ok-came.ensures.request
     (λ past s. c.told-told.ensures.line ∙ c.in_ok-came.ensures.lines past s)
     (g.T.Tree.files c.args.tree.now) c.args.lines.now c.push_told.new.lines c.answer.new.lines c.in-Ok.failed c.in_ok-push_told.ensures.ok c.in-Ok.ensures.did
 

@@ -1,7 +1,7 @@
 use Rattle.std.proofs.Common.{◌∙◌, List, sym, subst}
 use Rattle.rx_table.specs.Ports.{PortState}
 use Rattle.rx_table.specs.Table.{StandsFor}
-use Rattle.node_core.proofs.Steps.{stands_again, hear_lines, hear_bad, on_err}
+use Rattle.node_core.proofs.Steps.{frame_opens, stands_again, hear_lines, hear_bad, on_err}
 use Rattle.node_core.proofs.Tables.{heard_later}
 use Rattle.node_core.proofs.Types.{types_stay}
 use Rattle.node_core.proofs.node.Node.hear.Goals as goal
@@ -32,3 +32,6 @@ returns-in_err-met-clause-err c = on_err _ c.from_residual.result (λ log s. rec
   types = types_stay _ _ _ c.in_err-met.ensures.keeps.shapes s.types;
   sessions = subst (λ (ps : List PortState). StandsFor c.args.self.now.plan.timeout log ps) (sym c.in_err-met.ensures.err) s.sessions;
 })
+
+pub returns-in_err-met-clause-memory : goal.returns-in_err-met-clause-memory
+returns-in_err-met-clause-memory c = on_err _ c.from_residual.result (frame_opens c.args.self.now _ c.in_err-met.ensures.memory)

@@ -1,4 +1,4 @@
-use Rattle.std.proofs.Common.{false, None}
+use Rattle.std.proofs.Common.{false, None, sym}
 use Rattle.tail_frame.specs.Frames.{seen}
 use Rattle.node_core.specs.Came.{came_lines}
 use Rattle.node_core.specs.Steps.{got}
@@ -57,3 +57,7 @@ pub returns-in-None-clause-request : goal.returns-in-None-clause-request
 returns-in-None-clause-request c = λ past _.
     let node = c.args.self.now in
     none_asks node c.args.rec.now false (got node.plan c.args.rec.now past) c.in-None.ensures.value
+
+pub returns-in_err-met-in-Some-clause-memory : goal.returns-in_err-met-in-Some-clause-memory
+returns-in_err-met-in-Some-clause-memory c =
+    on_err _ c.from_residual.result (seen c.in-Some.frame, (sym c.in-Some.ensures.value, c.in_err-met-in-Some.ensures.memory))
