@@ -15,7 +15,7 @@ use Rattle.tail_frame.specs.declared.tail.Tail.{Tail}
 use Rattle.rx_table.specs.Keys.{KeyedFrame}
 use Rattle.rx_table.specs.Table.{port_on}
 use Rattle.rx_table.specs.declared.fed.Met.{Met}
-use Rattle.node_core.specs.Came.{answer_in, frame_with, heard_is_bad, met_lines, came_lines, came_request}
+use Rattle.node_core.specs.Came.{answer_in, frame_with, heard_is_bad, met_lines, came_lines, came_request, HasPort, IsHeardAs, IsMetAs}
 use Rattle.rx_table.specs.Heard.{is_for, if_for, frame_for, frames}
 use Rattle.node_core.specs.Heard.{ports_of}
 use Rattle.node_core.specs.Questions.{FitsQuestion, question_in}
@@ -55,6 +55,19 @@ of_node node rec (Some g) f is e =
 
 pub is_of : (node : ℕ) (rec : Record) (f : FrameOf) → frame_for node rec ≡ Some f → IsOf rec f
 is_of node rec f e = of_node node rec (frame_of rec) f (λ g. of_ident rec (ident_of rec.ident) g refl) e
+
+-- what a frame came to is what its record came to
+pub heard_as : (old new : Node) (rec : Record) (f : FrameOf) (met : Met) → Some f ≡ frame_for old.plan.node rec → HasPort old rec → IsMetAs old new f met
+    → IsHeardAs old new rec (Some (record { ident = f.ident; tail = f.tail; met = met }))
+unfolding IsHeardAs
+heard_as old new rec f met frame_is port h =
+    let whole = (is_of old.plan.node rec f (sym frame_is)).whole in
+    (sym frame_is ∙ ap (λ (g : FrameOf). Some g) (sym whole), (port, subst (λ (g : FrameOf). IsMetAs old new g met) (sym whole) h))
+
+-- and a record that is no frame for the node came to none
+pub none_heard : (old new : Node) (rec : Record) → None ≡ frame_for old.plan.node rec → IsHeardAs old new rec None
+unfolding IsHeardAs
+none_heard old new rec e f is = cc
 
 -- what a frame came to gives the lines of its record
 pub heard_got : (old new : Node) (rec : Record) (f : FrameOf) (met : Met) (badcrc : Bool) → Some f ≡ frame_for old.plan.node rec

@@ -39,7 +39,7 @@ pub stands_again : (waits timeout : ℕ) (old new : List KeyedFrame) (ps qs : Li
 stands_again waits timeout old new ps qs e f s = subst (λ t. StandsFor t new qs) e (f (subst (λ t. StandsFor t old ps) (sym e) s))
 
 -- where it has the plan's ports too, what it tells is of these
-planned : (waits timeout : ℕ) (ports of_plan : List Port) (f : FrameOf) (log : List KeyedFrame) (ps : List PortState) (answer : Answer)
+pub planned : (waits timeout : ℕ) (ports of_plan : List Port) (f : FrameOf) (log : List KeyedFrame) (ps : List PortState) (answer : Answer)
     → waits ≡ timeout → ports ≡ of_plan → (StandsFor waits log ps → Told waits ports f log answer) → StandsFor timeout log ps
     → Told timeout of_plan f log answer
 planned waits timeout ports of_plan f log ps answer e q told s =

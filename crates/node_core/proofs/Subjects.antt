@@ -1,5 +1,5 @@
 -- The subject that a message's identifier says, and the port on it
-use Rattle.std.proofs.Common.{◌≡◌, ◌∙◌, ℕ, false, cond, List, Option, Some, None, refl, sym, ap, subst}
+use Rattle.std.proofs.Common.{◌≡◌, ◌≢◌, ◌∙◌, ℕ, true, false, cond, List, Option, Some, None, refl, sym, ap, subst}
 use Rattle.std.specs.Prelude.{is_some}
 use Rattle.std.proofs.lemmas.Bool.{cond_both, cond-false}
 use Rattle.can_id.specs.Identifiers.{is_set, field, is_discarded, service_of, message_of, ident_of, key_of}
@@ -11,6 +11,7 @@ use Rattle.tail_frame.specs.declared.logged.Record.{Record}
 use Rattle.rx_table.specs.Ports.{Port, port_at}
 use Rattle.rx_table.specs.Views.{place_in, subscriptions}
 use Rattle.rx_table.proofs.FoundPorts.{not_found}
+use Rattle.node_core.specs.Came.{HasPort}
 use Rattle.node_core.specs.Heard.{subject_in, IsElsewhere}
 use Rattle.node_core.specs.Quick.{LeadsTo}
 use Rattle.node_core.specs.Shapes.{port_schema, shape_extent}
@@ -50,6 +51,16 @@ elsewhere ports rec subject s none node f e =
     let on = is_on rec.ident subject f.ident s (is_of node rec f e).ident in
     ap (λ (kind : Kind). port_at kind (key_of f.ident).port ports) on.kind
     ∙ (ap (λ port. port_at message port ports) on.port ∙ none_is (port_at message subject ports) none)
+
+some_is : (port : Option Port) → is_some port ≡ true → port ≢ None
+some_is None e = absurd cc
+some_is (Some p) e = λ none. cc
+
+-- where it has one
+pub has_port : (node : Node) (rec : Record) (subject : ℕ) → subject_in rec.ident ≡ Some subject → is_some (port_at message subject (subscriptions port_schema node.table)) ≡ true → HasPort node rec
+has_port node rec subject s some other o =
+    let same : subject ≡ other = cc in
+    subst (λ n. port_at message n (subscriptions port_schema node.table) ≢ None) same (some_is (port_at message subject (subscriptions port_schema node.table)) some)
 
 -- the place of a subject's port is that of each of its frames
 pub leads_to : (node : Node) (rec : Record) (subject place : ℕ) → subject_in rec.ident ≡ Some subject → place_in message subject node.table ≡ Some place → LeadsTo node rec place

@@ -1,23 +1,28 @@
 -- What a record came to at a node, and the lines on it.
-use Rattle.std.specs.Prelude.{◌≡◌, ℕ, ◌-◌, Bool, List, [], length, take, Option, Some, None}
+use Rattle.std.specs.Prelude.{◌≡◌, ◌≢◌, ℕ, ◌-◌, Bool, List, [], length, take, Option, Some, None}
 use Rattle.std.specs.Option.{option_and_then}
 use Rattle.can_id.specs.Identifiers.{key_of}
 use Rattle.can_id.specs.declared.ident.Ident.{Ident}
+use Rattle.can_id.specs.declared.key.Kind.TheVariants.{Message}
 use Rattle.tail_frame.specs.Frames.{FrameOf, key_record}
 use Rattle.tail_frame.specs.declared.logged.Record.{Record}
 use Rattle.tail_frame.specs.declared.tail.Tail.{Tail}
+use Rattle.rx_table.specs.Heard.{frame_for}
+use Rattle.rx_table.specs.Keys.{KeyedFrame}
 use Rattle.rx_table.specs.Places.{table_answer}
-use Rattle.rx_table.specs.Ports.{Answer}
-use Rattle.rx_table.specs.Table.{states}
+use Rattle.rx_table.specs.Ports.{Answer, port_at}
+use Rattle.rx_table.specs.Table.{states, port_on, Told}
+use Rattle.rx_table.specs.Views.{subscriptions}
 use Rattle.rx_table.specs.declared.fed.Met.{Met}
 use Rattle.node_core.specs.declared.came.Came.{Came}
 use Rattle.node_core.specs.declared.came.Heard.{Heard}
 use Rattle.report_lines.specs.declared.line.Line.{Line}
 use Rattle.node_core.specs.declared.node.Node.{Node}
 use Rattle.node_core.specs.declared.request.Request.{Request}
+use Rattle.node_core.specs.Heard.{ports_of, subject_in}
 use Rattle.node_core.specs.Sending.{request_with}
-use Rattle.node_core.specs.Shapes.{shape_extent}
-use Rattle.node_core.specs.Stands.{Stands}
+use Rattle.node_core.specs.Shapes.{port_schema, shape_extent}
+use Rattle.node_core.specs.Stands.{Stands, StandsAt}
 use Rattle.node_core.specs.Steps.{got, payload_in, request_on}
 use Rattle.node_core.specs.Told.{answer_lines, answer_is_bad}
 use Rattle.node_core.specs.Types.{type_at}
@@ -50,6 +55,28 @@ heard_lines node rec (Some heard) = met_lines node (frame_with rec heard.ident h
 abbrev pub heard_is_bad : Node → Record → Heard → Bool
 heard_is_bad node rec heard =
     answer_is_bad (answer_in node (frame_with rec heard.ident heard.tail) heard.met)
+
+-- what a frame met is what the log says of it
+unfoldable pub IsMetAs : Node → Node → FrameOf → Met → Type 0
+IsMetAs old new f met =
+    (log : List KeyedFrame) → StandsAt old log
+    → Told old.plan.timeout (ports_of old.plan) f log (answer_in new f met)
+
+-- if a record's identifier is of a message, its subject has a port
+abbrev pub HasPort : Node → Record → Type 0
+HasPort node rec =
+    (subject : ℕ) → subject_in rec.ident ≡ Some subject
+    → port_at Message subject (subscriptions port_schema node.table) ≢ None
+
+-- What was heard is the frame for the node that a record is, on a port if it is a message, and what
+-- it met. Where nothing was heard, the record is no such frame, or one on no port.
+unfoldable pub IsHeardAs : Node → Node → Record → Option Heard → Type 0
+IsHeardAs old new rec None =
+    (f : FrameOf) → frame_for old.plan.node rec ≡ Some f
+    → port_on (subscriptions port_schema old.table) f ≡ None
+IsHeardAs old new rec (Some heard) =
+    let f = frame_with rec heard.ident heard.tail in
+    (frame_for old.plan.node rec ≡ Some f) × (HasPort old rec × IsMetAs old new f heard.met)
 
 -- the lines on what a record came to
 unfoldable pub came_lines : Node → Record → Came → List Line

@@ -70,7 +70,8 @@ FrameOpens node f = (log : List KeyedFrame) → StandsAt node log → Opens (por
 
 -- a record is such a frame, for the node
 abbrev pub OpensSession : Node → Record → Type 0
-OpensSession node rec = (f : FrameOf) × ((frame_for node.plan.node rec ≡ Some f) × FrameOpens node f)
+OpensSession node rec =
+    (f : FrameOf) × ((frame_for node.plan.node rec ≡ Some f) × FrameOpens node f)
 
 -- these are the lines that the frame gives
 abbrev pub FrameGives : Node → FrameOf → List Line → Type 0

@@ -65,13 +65,13 @@ impl Node {
     ghost use Rattle.file_service.specs.Causes.{TellsFault};
     ghost use Rattle.tail_frame.specs.Frames.{seen};
     ghost use Rattle.node_plan.specs.IsPlan.{IsPlan};
-    ghost use Rattle.std.specs.Bool.{OnTrue};
+    ghost use Rattle.std.specs.Bool.{OnFalse, OnTrue};
     ghost use Rattle.rx_table.specs.Views.{subscriptions};
     ghost use Rattle.report_lines.specs.declared.line.Line.{Line as LineOf};
     ghost use Rattle.node_core.specs.Heard.{IsElsewhere};
     ghost use Rattle.node_core.specs.Shapes.{port_schema};
     ghost use Rattle.node_core.specs.Came.{answer_in, heard_is_bad, came_lines, came_request};
-    ghost use Rattle.node_core.specs.Came.{met_lines, TellsRequest};
+    ghost use Rattle.node_core.specs.Came.{met_lines, HasPort, IsHeardAs, IsMetAs, TellsRequest};
     ghost use Rattle.node_core.specs.Keeps.{DidStep, HasQueues, keeps};
     ghost use Rattle.node_core.specs.Sending.{IsReadRequest, IsRequestTo};
     ghost use Rattle.node_core.specs.Steps.{kept};
@@ -109,9 +109,9 @@ impl Node {
 
     /// Takes the next record of the log, at a moment not before the last one, and appends the lines
     /// on what it gives, and those on the buses that have no room for its reply. A request of a
-    /// file is asked of the tree. Memory may be wanting; then the lines and the frames that wait are
-    /// left as they were, and the node, which may have taken the record, keeps its ports and its
-    /// bound.
+    /// file is asked of the tree. Memory may be wanting; then the lines and the frames that wait
+    /// are left as they were, and the node, which may have taken the record, keeps its ports and
+    /// its bound.
     ///
     /// The short form of `step`, `told`, `request`, `serve` and `reply`, for a caller that keeps
     /// the lines; a run calls these.
@@ -167,6 +167,7 @@ impl Node {
         ensures lines { IfOk result (λ came.
             Gives self.old rec.now (came_lines self.new rec.now came)) }
         ensures badcrc { IfOk result (λ came. TellsBadCrc self.old rec.now came.badcrc) }
+        ensures heard { IfOk result (λ came. IsHeardAs self.old self.new rec.now came.heard) }
         ensures keeps { keeps self.new ≡ keeps self.old }
         ensures request { IfOk result (λ came. TellsRequest self.old rec.now came) }
         ensures asks { let node = self.old.plan.node in IfOk result (λ came.
@@ -237,7 +238,9 @@ impl Node {
     /// is read as a frame.
     #[inline(always)]
     fn passes_by(&self, rec: &Record) -> bool
-        ensures { OnTrue result (IsElsewhere (subscriptions port_schema self.now.table) rec.now) }
+        ensures elsewhere { OnTrue result
+            (IsElsewhere (subscriptions port_schema self.now.table) rec.now) }
+        ensures port { OnFalse result (HasPort self.now rec.now) }
     {
         match subject_in(rec.ident) {
             Some(subject) => !self.table.takes(Kind::Message, subject),
@@ -257,6 +260,7 @@ impl Node {
             IfOk result (λ met. FrameGives self.old f (met_lines self.new f met)) }
         ensures badcrc { let f = seen frame.now in IfOk result (λ met.
             FrameTellsBadCrc self.old f (answer_is_bad (answer_in self.new f met))) }
+        ensures met { IfOk result (λ met. IsMetAs self.old self.new (seen frame.now) met) }
         ensures err { OnErr result (KeepsSessions self.old self.new) }
         ensures memory { OnErr result (FrameOpens self.old (seen frame.now)) }
     {

@@ -6,7 +6,7 @@ ghost use Rattle.tail_frame.specs.Frames.{frame_of, seen};
 ghost use Rattle.rx_table.specs.Views.{place_in};
 ghost use Rattle.rx_table.specs.declared.fed.Met.TheVariants as on_port;
 ghost use Rattle.rx_table.specs.declared.fed.PortMet.TheVariants as on_session;
-ghost use Rattle.node_core.specs.Came.{answer_in, met_lines};
+ghost use Rattle.node_core.specs.Came.{answer_in, met_lines, IsMetAs};
 ghost use Rattle.node_core.specs.Keeps.{keeps};
 ghost use Rattle.node_core.specs.Quick.{AsksNothing, IsLead, IsPlaced, IsUntyped, LeadsTo};
 ghost use Rattle.node_core.specs.Quick.{quick_is_bad, quick_lines, quick_met};
@@ -95,6 +95,8 @@ impl Node {
         ensures lines { IfSome result (λ q. Gives self.old rec.now (quick_lines self.new q)) }
         ensures badcrc { IfSome result (λ q.
             TellsBadCrc self.old rec.now (quick_is_bad self.new q)) }
+        ensures met { IfSome result (λ q.
+            IsMetAs self.old self.new (seen q.frame) (quick_met q)) }
         ensures asks { IfSome result (λ _. AsksNothing self.old rec.now) }
         ensures place { IfSome result (λ q. IsPlaced self.new q) }
         ensures none { result ≡ None → StandsAsBefore self.old self.new }
@@ -126,6 +128,8 @@ impl Node {
         ensures badcrc { let f = seen frame.now in IfSome result (λ p.
             FrameTellsBadCrc self.old f (answer_is_bad
             (answer_in self.new f (on_port.Port place (on_session.Session p.0 p.1))))) }
+        ensures met { IfSome result (λ p. IsMetAs self.old self.new (seen frame.now)
+            (on_port.Port place (on_session.Session p.0 p.1))) }
         ensures none { result ≡ None → KeepsSessions self.old self.new }
     {
         rx_table::laws::outcome_tells();

@@ -1,7 +1,8 @@
 use Rattle.std.proofs.Common.{◌∙◌, List, sym, subst}
 use Rattle.rx_table.specs.Ports.{PortState}
+use Rattle.node_core.specs.Came.{IsMetAs}
 use Rattle.rx_table.specs.Table.{StandsFor}
-use Rattle.node_core.proofs.Steps.{frame_opens, stands_again, hear_lines, hear_bad, on_err}
+use Rattle.node_core.proofs.Steps.{frame_opens, planned, stands_again, hear_lines, hear_bad, on_err}
 use Rattle.node_core.proofs.Tables.{heard_later}
 use Rattle.node_core.proofs.Types.{types_stay}
 use Rattle.node_core.proofs.node.Node.hear.Goals as goal
@@ -35,3 +36,8 @@ returns-in_err-met-clause-err c = on_err _ c.from_residual.result (λ log s. rec
 
 pub returns-in_err-met-clause-memory : goal.returns-in_err-met-clause-memory
 returns-in_err-met-clause-memory c = on_err _ c.from_residual.result (frame_opens c.args.self.now _ c.in_err-met.ensures.memory)
+
+pub returns-clause-met : goal.returns-clause-met
+unfolding IsMetAs
+returns-clause-met c = λ log s.
+    planned _ _ _ _ _ log _ _ s.timeout s.ports_are (c.in_ok-met.ensures.told log) s.sessions

@@ -1,7 +1,8 @@
 use Rattle.std.proofs.Common.{◌∙◌, List, refl, sym, subst}
 use Rattle.rx_table.specs.Ports.{PortState}
+use Rattle.node_core.specs.Came.{IsMetAs}
 use Rattle.rx_table.specs.Table.{StandsFor}
-use Rattle.node_core.proofs.Steps.{stands_again, hear_lines, hear_bad}
+use Rattle.node_core.proofs.Steps.{planned, stands_again, hear_lines, hear_bad}
 use Rattle.node_core.proofs.Tables.{heard_later}
 use Rattle.node_core.proofs.Types.{types_stay}
 use Rattle.node_core.proofs.node.Node.hear_at.Goals as goal
@@ -32,3 +33,8 @@ returns-clause-lines c = λ log s.
 pub returns-clause-badcrc : goal.returns-clause-badcrc
 returns-clause-badcrc c = λ log s.
     hear_bad c.outcome_tells.ensures c.args.self.now _ log _ s c.in_ok-index.ensures.told
+
+pub returns-clause-met : goal.returns-clause-met
+unfolding IsMetAs
+returns-clause-met c = λ log s.
+    planned _ _ _ _ _ log _ _ s.timeout s.ports_are (c.in_ok-index.ensures.told log) s.sessions
