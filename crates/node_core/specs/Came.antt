@@ -1,9 +1,11 @@
 -- What a record came to at a node, and the lines on it.
-use Rattle.std.specs.Prelude.{◌≡◌, ◌≢◌, ℕ, ◌-◌, Bool, List, [], length, take, Option, Some, None}
+use Rattle.std.specs.Prelude.{◌≡◌, ◌≢◌, ℕ, ◌-◌, Bool, false, List, [], length, take, Option, Some}
+use Rattle.std.specs.Prelude.{None}
 use Rattle.std.specs.Option.{option_and_then}
 use Rattle.can_id.specs.Identifiers.{key_of}
 use Rattle.can_id.specs.declared.ident.Ident.{Ident}
-use Rattle.can_id.specs.declared.key.Kind.TheVariants.{Message}
+use Rattle.can_id.specs.declared.ident.Ident.TheVariants.{Message, Anonymous, Service}
+use Rattle.can_id.specs.declared.key.Kind.TheVariants as kind
 use Rattle.tail_frame.specs.Frames.{FrameOf, key_record}
 use Rattle.tail_frame.specs.declared.logged.Record.{Record}
 use Rattle.tail_frame.specs.declared.tail.Tail.{Tail}
@@ -66,7 +68,7 @@ IsMetAs old new f met =
 abbrev pub HasPort : Node → Record → Type 0
 HasPort node rec =
     (subject : ℕ) → subject_in rec.ident ≡ Some subject
-    → port_at Message subject (subscriptions port_schema node.table) ≢ None
+    → port_at kind.Message subject (subscriptions port_schema node.table) ≢ None
 
 -- What was heard is the frame for the node that a record is, on a port if it is a message, and what
 -- it met. Where nothing was heard, the record is no such frame, or one on no port.
@@ -94,6 +96,21 @@ came_request came lines = option_and_then (heard_request came.heard) (payload_in
 -- it ended none, whatever lines it gave
 abbrev pub EndsNoRequest : Came → Type 0
 EndsNoRequest came = (lines : List Line) → came_request came lines ≡ None
+
+-- whether an identifier is of a service's request
+abbrev pub is_request : Ident → Bool
+is_request (Message priority subject source) = false
+is_request (Anonymous priority subject pseudo) = false
+is_request (Service priority request service destination source) = request
+
+-- whether what was heard is a frame of one
+abbrev pub is_request_heard : Option Heard → Bool
+is_request_heard None = false
+is_request_heard (Some heard) = is_request heard.ident
+
+-- whether a record may end a request
+abbrev pub may_ask : Came → Bool
+may_ask came = is_request_heard came.heard
 
 -- it is the one that the log says
 abbrev pub TellsRequest : Node → Record → Came → Type 0

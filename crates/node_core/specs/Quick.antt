@@ -1,5 +1,5 @@
 -- A message that a node heard on the quick way, and the lines on it.
-use Rattle.std.specs.Prelude.{◌≡◌, ℕ, Bool, List, Some, None, ⊤}
+use Rattle.std.specs.Prelude.{◌≡◌, ℕ, Bool, List, Option, Some, None, ⊤}
 use Rattle.can_id.specs.Identifiers.{key_of}
 use Rattle.can_id.specs.declared.key.Kind.TheVariants.{Message}
 use Rattle.tail_frame.specs.Frames.{FrameOf, seen}
@@ -10,7 +10,7 @@ use Rattle.rx_table.specs.declared.fed.Met.{Met}
 use Rattle.rx_table.specs.declared.fed.Met.TheVariants.{Port}
 use Rattle.rx_table.specs.declared.fed.PortMet.TheVariants.{Session}
 use Rattle.node_core.specs.Came.{answer_in, met_lines}
-use Rattle.node_core.specs.Heard.{IsElsewhere}
+use Rattle.node_core.specs.Heard.{IsElsewhere, subject_in}
 use Rattle.node_core.specs.Shapes.{port_schema}
 use Rattle.node_core.specs.Steps.{request_on}
 use Rattle.node_core.specs.Told.{answer_is_bad}
@@ -46,6 +46,20 @@ pub record IsOnPort (node : Node) (f : FrameOf) (place : ℕ) : Type 0 where
 -- if a record is a frame, it is one of a message on the port at this place
 abbrev pub LeadsTo : Node → Record → ℕ → Type 0
 LeadsTo node rec place = (n : ℕ) (f : FrameOf) → frame_for n rec ≡ Some f → IsOnPort node f place
+
+-- where a subject leads, by the place of its port
+abbrev pub lead_at : Option ℕ → Lead
+lead_at None = Nowhere
+lead_at (Some place) = AtPort place
+
+-- where an identifier leads, by the subject that it says; a service's says none
+abbrev pub lead_by : Node → Option ℕ → Lead
+lead_by node None = Service
+lead_by node (Some subject) = lead_at (place_in Message subject node.table)
+
+-- where that of a record leads
+abbrev pub lead_of : Node → Record → Lead
+lead_of node rec = lead_by node (subject_in rec.ident)
 
 -- an identifier leads there where its record can go nowhere else; of a service nothing is said
 abbrev pub IsLead : Node → Record → Lead → Type 0

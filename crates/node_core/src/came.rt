@@ -30,13 +30,14 @@ pub struct Heard {
 
 impl Came {
     ghost use Rattle.std.specs.Bool.{OnFalse};
-    ghost use Rattle.node_core.specs.Came.{EndsNoRequest};
+    ghost use Rattle.node_core.specs.Came.{EndsNoRequest, may_ask};
 
     /// Whether the record may be a request: it is a frame of a service's request. Any other asks
     /// nothing.
     #[inline(always)]
     pub fn may_ask(&self) -> bool
-        ensures { OnFalse result (EndsNoRequest self.now) }
+        ensures value { result ≡ may_ask self.now }
+        ensures none { OnFalse result (EndsNoRequest self.now) }
     {
         matches!(
             self.heard,

@@ -1,6 +1,6 @@
 //! The quick way of a message: it comes from a source whose session is found without a search.
-ghost use Rattle.std.specs.Prelude.{◌≡◌, ◌≤◌, None, Some, IfSome};
-ghost use Rattle.std.specs.Bool.{OnTrue};
+ghost use Rattle.std.specs.Prelude.{◌≡◌, ◌≢◌, ◌≤◌, None, Some, IfSome};
+ghost use Rattle.std.specs.Bool.{OnFalse, OnTrue};
 ghost use Rattle.can_id.specs.Identifiers.{key_of};
 ghost use Rattle.tail_frame.specs.Frames.{frame_of, seen};
 ghost use Rattle.rx_table.specs.Views.{place_in};
@@ -9,7 +9,7 @@ ghost use Rattle.rx_table.specs.declared.fed.PortMet.TheVariants as on_session;
 ghost use Rattle.node_core.specs.Came.{answer_in, met_lines, IsMetAs};
 ghost use Rattle.node_core.specs.Keeps.{keeps};
 ghost use Rattle.node_core.specs.Quick.{AsksNothing, IsLead, IsPlaced, IsUntyped, LeadsTo};
-ghost use Rattle.node_core.specs.Quick.{quick_is_bad, quick_lines, quick_met};
+ghost use Rattle.node_core.specs.Quick.{lead_of, quick_is_bad, quick_lines, quick_met};
 ghost use Rattle.node_core.specs.Stands.{FrameGives, FrameTellsBadCrc, Gives, KeepsSessions};
 ghost use Rattle.node_core.specs.Stands.{StandsAsBefore, Takes, TakesFrame, TellsBadCrc};
 ghost use Rattle.node_core.specs.Told.{answer_is_bad};
@@ -69,7 +69,8 @@ impl Node {
     /// Where the identifier of a record leads.
     #[inline(always)]
     pub fn lead(&self, rec: &Record) -> Lead
-        ensures { IsLead self.now rec.now result }
+        ensures value { result ≡ lead_of self.now rec.now }
+        ensures leads { IsLead self.now rec.now result }
     {
         match subject_in(rec.ident) {
             None => Lead::Service,
@@ -142,7 +143,10 @@ impl Node {
     #[inline(always)]
     pub fn is_untyped(&self, quick: &Quick<'_>) -> bool
         requires { IsPlaced self.now quick.now }
-        ensures { OnTrue result (type_at self.now.table (key_of quick.now.frame.ident) ≡ None) }
+        ensures untyped { let port_type = type_at self.now.table (key_of quick.now.frame.ident) in
+            OnTrue result (port_type ≡ None) }
+        ensures typed { let port_type = type_at self.now.table (key_of quick.now.frame.ident) in
+            OnFalse result (port_type ≢ None) }
     {
         self.table.shape_on(quick.place).compiled().is_none()
     }
