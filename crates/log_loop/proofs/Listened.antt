@@ -12,13 +12,13 @@ use Rattle.frame_log.specs.declared.error.LogError.{LogError}
 use Rattle.frame_log.specs.declared.error.LogError.TheVariants as error
 use Rattle.frame_log.specs.declared.reader.LogReader.{LogReader}
 use Rattle.gathered_text.specs.Gathered.{Gathered}
-use Rattle.log_loop.specs.Gone.{FirstOf, Stages, Gone, IsFinish, stopped}
+use Rattle.log_loop.specs.Gone.{FirstOf, Stages, BrokenOff, Gone, IsFinish, stopped}
 use Rattle.log_loop.specs.Listened.{HasListened}
 use Rattle.log_loop.specs.Met.{Comes as MayComeNext}
 use Rattle.log_loop.specs.Next.{Comes, ComesBehind, Goes, GoesOn, Writes}
 use Rattle.log_loop.specs.Streamed.{IsStreamed}
 use Rattle.log_loop.specs.Taken.{IsOfTaken}
-use Rattle.log_loop.specs.Voice.{Voice, AreEventsOf, MayCome, newest_first, said}
+use Rattle.log_loop.specs.Voice.{Voice, AreEventsOf, MayCome, newest_first, said, whole_text}
 use Rattle.log_loop.specs.declared.ended.Ended.{Ended}
 use Rattle.log_loop.specs.declared.ended.Ended.TheVariants as end
 use Rattle.log_loop.specs.declared.next.Stop.{Stop}
@@ -26,9 +26,9 @@ use Rattle.log_loop.specs.declared.next.Stop.TheVariants as stop
 use Rattle.log_loop.proofs.Came.{Reads, Has, has_log, has_next}
 use Rattle.log_loop.proofs.Events.{followed, followed_none}
 use Rattle.log_loop.proofs.Logs.{onto, newest_onto}
-use Rattle.log_loop.proofs.Runs.{HasGone, begun, has_refused, has_finished, has_taken, begins_step, not_read_fault, told_none}
+use Rattle.log_loop.proofs.Runs.{HasGone, begun, broken_off, has_refused, has_finished, has_taken, not_read_fault, told_none}
 use Rattle.log_loop.proofs.Streams.{Streams, failed_open, streamed_none, streamed_stopped, streamed_wanting, streamed_finished}
-use Rattle.log_loop.proofs.Written.{all_written, gathered_less, begins_gathered, begins_none}
+use Rattle.log_loop.proofs.Written.{all_written, gathered_less, begins_front, begins_gathered, begins_none}
 
 -- the records of a log, of which some came
 newest : (past : List Record) (rest log : Log) → log ≡ onto past rest → newest_first log ≡ reverse_aux rest.records past
@@ -52,12 +52,16 @@ module _ {E : Type 0} (names : List (List ℕ)) (v : Voice E) (s : Stages E) (co
         streamed = streamed events first;
       }
 
+  -- it broke off before it heard any
+  broken_none : (before : Option (List ℕ)) → s.broke [] → (events : List E) (refusal : Option LogError) → FirstOf events [] → BrokenOff v s.broke events refusal before before
+  broken_none before k events refusal first = record { came = []; first = first; is = k; begins = begins_none [] before; written = begins_none (whole_text v events refusal) before }
+
   -- memory was wanting for the reader
   pub listened_none : (before : Option (List ℕ)) → s.broke [] → HasListened names v s told told end.NoMemory before before
   listened_none before k =
       let log = log_of names (unwrap_or told []) in
       listened told [] log end.NoMemory before before tt (record { bytes = unwrap_or told []; is = told_none told; log = refl })
-      (λ events first all. inl (begun v [] before before s.broke events log.refusal first k (begins_none [] before)))
+      (λ events first all. inl (broken_none before k events log.refusal first))
       (λ events first e. absurd cc) (λ events first. streamed_none names v s events told end.NoMemory before before)
 
 -- One more call.
@@ -85,8 +89,8 @@ module _ {E : Type 0} (names : List (List ℕ)) (v : Voice E) (s : Stages E) (co
       let log = log_behind new (unwrap_or next_left []) in
       let h = has_log names told next_left new (rec ∷ map v.record_of past) more in
       listened names v s comes told next_left (event ∷ past) log end.NoMemory before after (m, may) (subst (λ (r : Record). Has names told (r ∷ map v.record_of past) log) (sym is) h)
-      (λ events first all. inl (begun v (event ∷ past) before after s.broke events log.refusal first k (begins_step v past event rest before after (gathered_less (said v past) gathered rest before mid after has w))))
-      (λ events first e. absurd cc) (streamed_wanting names v s told left next_left old new past gathered rest before mid after rec event streams c has w)
+      (λ events first all. inl (broken_off v past before after s.broke events log.refusal event first k (begins_front (said v past) rest before after (gathered_less (said v past) gathered rest before mid after has w))))
+      (λ events first e. absurd cc) (streamed_wanting names v s told left next_left old new past gathered rest before mid after rec event streams c has w k)
 
   -- the log is at its end
   pub listened_finished : (stat : Ended) (last : Option (List ℕ)) → Goes old new left next_left (Ok None) → Comes old new left next_left rest (Ok None) → (saw_end old ≡ false → saw_end new ≡ true → IsAtEnd next_left) → Gathered gathered rest mid after
@@ -97,4 +101,4 @@ module _ {E : Type 0} (names : List (List ℕ)) (v : Voice E) (s : Stages E) (co
       let less = gathered_less (said v past) gathered rest before mid after has w in
       listened names v s comes told next_left past h.behind stat before last may h.has (has_finished names v s told past before last stat h f k b after rest less ok write memory)
       (λ events first e. absurd (not_read_fault stat f e))
-      (streamed_finished names v s told left next_left old new past gathered rest before mid after stat last (rest ++ v.last past) streams c k has w f ok write memory)
+      (streamed_finished names v s told left next_left old new past gathered rest before mid after stat last (rest ++ v.last past) streams c k b has w f ok write memory)

@@ -17,7 +17,7 @@ use Rattle.log_loop.specs.Next.{GoesOn, Writes}
 use Rattle.log_loop.specs.Taken.{whole_records, IsOfTaken, NoneRefused}
 use Rattle.log_loop.specs.declared.next.Stop.{Stop}
 use Rattle.log_loop.specs.declared.next.Stop.TheVariants as stop
-use Rattle.log_loop.proofs.Events.{said_first}
+use Rattle.log_loop.proofs.Events.{first_of, said_first}
 use Rattle.log_loop.proofs.Logs.{newest_onto, latest_of, line_of, ahead_in, all_in}
 use Rattle.log_loop.proofs.Written.{begins_more, begins_front, begins_end, gathered_end, gathered_less, gathered_more, all_written}
 use Rattle.log_loop.proofs.Opens.{open_taken}
@@ -26,7 +26,7 @@ use Rattle.log_loop.proofs.Came.{took_more, log_after, Reads, HasNext}
 use Rattle.log_loop.specs.declared.ended.Ended.{Ended}
 use Rattle.log_loop.specs.declared.ended.Ended.TheVariants as end
 use Rattle.log_loop.specs.Voice.{Voice, said, end_part, whole_text}
-use Rattle.log_loop.specs.Gone.{FirstOf, Stages, Settled, Begun, BegunWhole, Gone, IsFinish, refused, stopped}
+use Rattle.log_loop.specs.Gone.{FirstOf, Stages, Settled, Begun, BegunWhole, BrokenOff, CutShort, Gone, IsFinish, refused, stopped}
 
 module _ {E : Type 0} (v : Voice E) (past : List E) (before after : Option (List ℕ)) where
   -- a beginning of what was said is one of all that will be
@@ -41,6 +41,20 @@ module _ {E : Type 0} (v : Voice E) (past : List E) (before after : Option (List
   -- this holds of the first events
   pub begun : (done : List E → Type 0) (events : List E) (refusal : Option LogError) → FirstOf events past → done past → Begins (said v past) before after → Begun v done events refusal before after
   begun done events refusal first k b = record { came = past; first = first; is = k; begins = b; written = begins_whole events refusal first b }
+
+  -- it broke off on one more event
+  pub broken_off : (broke : List E → Type 0) (events : List E) (refusal : Option LogError) (event : E) → FirstOf events (event ∷ past) → broke (event ∷ past) → Begins (said v past) before after → BrokenOff v broke events refusal before after
+  broken_off broke events refusal event first k b =
+      record { came = event ∷ past; first = first; is = k; begins = b; written = begins_whole events refusal (first_of events (event ∷ past) (event ∷ []) past first refl) b }
+
+  -- it broke off in its last words behind all events
+  cut_short : (cut : List E → Type 0) (events : List E) → events ≡ past → cut past → Begins (said v past) before after → CutShort v cut events None before after
+  cut_short cut events e k b = record {
+    is = subst cut (sym e) k;
+    read = refl;
+    begins = subst (λ (t : List E). Begins (said v t) before after) (sym e) b;
+    written = subst (λ (t : List E). Begins (whole_text v t None) before after) (sym e) (begins_more (said v past) (v.last past) before after b);
+  }
 
   -- this holds of all events
   settled : (done : List E → Type 0) (events : List E) (refusal : Option LogError) → events ≡ past → done past → after ≡ behind before (whole_text v past refusal) → Settled v done events refusal before after
@@ -94,8 +108,7 @@ module _ {E : Type 0} (names : List (List ℕ)) (v : Voice E) (s : Stages E) (to
       by_end end.WriteFault f k b ok write memory e =
           inr (begun_whole v past before after s.ended events None e refl (k (λ e. cc)) (begins_end (said v past) gathered (v.last past) before mid after g (write refl)))
       by_end end.NoMemory f k b ok write memory e =
-          inr (begun_whole v past before after s.cut_short events None e refl (b refl)
-          (begins_more (said v past) (v.last past) before after (subst (λ o. Begins (said v past) before o) (sym (memory refl)) (begins_front (said v past) gathered before mid g))))
+          inr (cut_short v past before after s.cut_short events e (b refl) (subst (λ o. Begins (said v past) before o) (sym (memory refl)) (begins_front (said v past) gathered before mid g)))
       by_end (end.Log line why) f k b ok write memory e = absurd f
       by_end end.LogLong f k b ok write memory e = absurd f
       by_end end.ReadFault f k b ok write memory e = absurd f
@@ -121,10 +134,6 @@ pub gathered_step : {E : Type 0} (v : Voice E) (past : List E) (event : E) (gath
     → next ≡ gathered ++ v.step event past → Gathered (said v (event ∷ past)) next before after
 gathered_step v past event gathered next before after g e =
     subst (λ (n : List ℕ). Gathered (said v (event ∷ past)) n before after) (sym e) (gathered_more (said v past) gathered (v.step event past) before after g)
-
--- it is not
-pub begins_step : {E : Type 0} (v : Voice E) (past : List E) (event : E) (gathered : List ℕ) (before after : Option (List ℕ)) → Gathered (said v past) gathered before after → Begins (said v (event ∷ past)) before after
-begins_step v past event gathered before after g = begins_more (said v past) (v.step event past) before after (begins_front (said v past) gathered before after g)
 
 -- a run whose input failed
 pub has_taken : {E : Type 0} (names : List (List ℕ)) (v : Voice E) (heard : List E → Type 0) (told left next_left : Option (List ℕ)) (old new : LogReader) (past : List E) (halt : Stop) (gathered rest : List ℕ) (before mid after : Option (List ℕ))

@@ -29,7 +29,7 @@ use Rattle.log_loop.proofs.Written.{behind_none, behind_more, all_written, gathe
 use Rattle.log_loop.specs.declared.ended.Ended.{Ended}
 use Rattle.log_loop.specs.declared.ended.Ended.TheVariants as end
 use Rattle.log_loop.specs.Voice.{Voice, said}
-use Rattle.log_loop.specs.Streamed.{HasWritten, HasSaid, HearsBytes, IsStreamed}
+use Rattle.log_loop.specs.Streamed.{BreaksBehind, BrokeBehind, HasWritten, HasSaid, HearsBytes, IsStreamed}
 use Rattle.log_loop.specs.Gone.{FirstOf, HeardOrEnded, Stages, IsFinish, stopped}
 
 -- Lists.
@@ -360,13 +360,23 @@ module _ {E : Type 0} (names : List (List ℕ)) (v : Voice E) (s : Stages E) (ev
     hears = record { newer = f.newer; first = subst (FirstOf events) f.parts first; hears = subst (HeardOrEnded s) f.parts k };
   }
 
-  streamed : (stat : Ended) → FirstOf events past → Took told left taken → length taken ≤ 2 ^ 28 + 1 → ((stat ≡ end.NoMemory → ⊥) → HeardOrEnded s past) → AllFar names v taken past before after → IsStreamed names v s events told left stat before after
-  streamed stat first t few k far = record {
+  breaks_behind : FirstOf events past → BrokeBehind s events past → (front : List ℕ) → Far names v front past before after → BreaksBehind names v s events front
+  breaks_behind first k front f = record {
+    came = f.came;
+    are = record { unrefused = f.unrefused; first = first_of events past f.newer f.came first f.parts; records_are = f.records_are };
+    newer = f.newer;
+    broke = subst (BrokeBehind s events) f.parts k;
+  }
+
+  streamed : (stat : Ended) → FirstOf events past → Took told left taken → length taken ≤ 2 ^ 28 + 1 → ((stat ≡ end.NoMemory → ⊥) → HeardOrEnded s past) → (stat ≡ end.NoMemory → BrokeBehind s events past) → AllFar names v taken past before after
+      → IsStreamed names v s events told left stat before after
+  streamed stat first t few k b far = record {
     taken = taken;
     took = t;
     few = few;
     written = λ front more e long. has_said first front (far front more e long);
     hears = λ n front more e long. hears_bytes first (k n) front (far front more e long);
+    broke = λ n front more e long. breaks_behind first (b n) front (far front more e long);
   }
 
 -- a run that took nothing
@@ -377,6 +387,7 @@ streamed_none names v s events left stat before after = record {
   few = omega arith;
   written = λ front more e long. absurd (no_front front more e long);
   hears = λ n front more e long. absurd (no_front front more e long);
+  broke = λ n front more e long. absurd (no_front front more e long);
 }
 
 module _ {E : Type 0} (names : List (List ℕ)) (v : Voice E) (stages : Stages E) (told left next_left : Option (List ℕ)) (old new : LogReader) (past : List E) (gathered rest : List ℕ) (before mid after : Option (List ℕ)) where
@@ -393,25 +404,35 @@ module _ {E : Type 0} (names : List (List ℕ)) (v : Voice E) (stages : Stages E
   few_given : (answer : Result (Option Record) LogError) → (s : Streams names v told left old past before mid) → (c : Comes old new left next_left rest answer) → length (s.taken ++ c.came) ≤ 2 ^ 28 + 1
   few_given answer s c = omega (arith, length-append s.taken c.came, s.few, c.few, one_beyond answer)
 
+  -- memory wasn't wanting
+  kept_going : (halt : Stop) → stopped halt ≡ end.NoMemory → ⊥
+  kept_going stop.Write e = cc
+  kept_going (stop.Log (error.BadLine n)) e = cc
+  kept_going (stop.Log (error.TimeBack n)) e = cc
+  kept_going (stop.Log (error.UnknownBus n)) e = cc
+  kept_going (stop.Log (error.TooFar n)) e = cc
+  kept_going (stop.Log error.LogLong) e = cc
+  kept_going (stop.Log error.Failed) e = cc
+
   pub streamed_stopped : (halt : Stop) → Streams names v told left old past before mid → ComesBehind old new left next_left rest (Err halt) → stages.heard past → Gathered all_text gathered before mid → Writes gathered rest mid after (Err halt)
       → (events : List E) → FirstOf events past → IsStreamed names v stages events told next_left (stopped halt) before after
   streamed_stopped (stop.Log error) s c k g w events first =
-      streamed names v stages events past told next_left (s.taken ++ c.came) before after (stopped (stop.Log error)) first (took_given (Err error) s c) (few_given (Err error) s c) (λ n. inl k) (far_given (Err error) s c g w.0)
+      streamed names v stages events past told next_left (s.taken ++ c.came) before after (stopped (stop.Log error)) first (took_given (Err error) s c) (few_given (Err error) s c) (λ n. inl k) (λ n. absurd (kept_going (stop.Log error) n)) (far_given (Err error) s c g w.0)
   streamed_stopped stop.Write s c k g w events first =
-      streamed names v stages events past told next_left s.taken before after end.WriteFault first (subst (λ (o : Option (List ℕ)). Took told o s.taken) (sym c) s.took) (omega (arith, s.few)) (λ n. inl k)
+      streamed names v stages events past told next_left s.taken before after end.WriteFault first (subst (λ (o : Option (List ℕ)). Took told o s.taken) (sym c) s.took) (omega (arith, s.few)) (λ n. inl k) (λ n. absurd (kept_going stop.Write n))
       (λ front more e long. far_later names v front past before mid after (s.far front more e long) (grew_begins gathered mid after w))
 
-  pub streamed_wanting : (rec : Record) (event : E) → Streams names v told left old past before mid → Comes old new left next_left rest (Ok (Some rec)) → Gathered all_text gathered before mid → Gathered gathered rest mid after
+  pub streamed_wanting : (rec : Record) (event : E) → Streams names v told left old past before mid → Comes old new left next_left rest (Ok (Some rec)) → Gathered all_text gathered before mid → Gathered gathered rest mid after → stages.broke (event ∷ past)
       → (events : List E) → FirstOf events (event ∷ past) → IsStreamed names v stages events told next_left end.NoMemory before after
-  streamed_wanting rec event s c g w events first =
+  streamed_wanting rec event s c g w k events first =
       streamed names v stages events past told next_left (s.taken ++ c.came) before after end.NoMemory (first_of events (event ∷ past) (event ∷ []) past first refl) (took_given (Ok (Some rec)) s c) (few_given (Ok (Some rec)) s c) (λ n. absurd (n refl))
-      (far_given (Ok (Some rec)) s c g w)
+      (λ n. inl (record { next = event; first = first; is = k })) (far_given (Ok (Some rec)) s c g w)
 
-  pub streamed_finished : (stat : Ended) (last : Option (List ℕ)) (tail : List ℕ) → Streams names v told left old past before mid → Comes old new left next_left rest (Ok None) → (stat ≢ end.NoMemory → stages.ended past) → Gathered all_text gathered before mid
+  pub streamed_finished : (stat : Ended) (last : Option (List ℕ)) (tail : List ℕ) → Streams names v told left old past before mid → Comes old new left next_left rest (Ok None) → (stat ≢ end.NoMemory → stages.ended past) → (stat ≡ end.NoMemory → stages.cut_short past) → Gathered all_text gathered before mid
       → Gathered gathered rest mid after → IsFinish stat → (stat ≡ end.Ok → last ≡ behind after tail) → (stat ≡ end.WriteFault → Begins tail after last) → (stat ≡ end.NoMemory → last ≡ after)
       → (events : List E) → FirstOf events past → IsStreamed names v stages events told next_left stat before last
-  streamed_finished stat last tail s c k g w f ok write memory events first =
-      streamed names v stages events past told next_left (s.taken ++ c.came) before last stat first (took_given (Ok None) s c) (few_given (Ok None) s c) (λ n. inr (k n))
+  streamed_finished stat last tail s c k b g w f ok write memory events first =
+      streamed names v stages events past told next_left (s.taken ++ c.came) before last stat first (took_given (Ok None) s c) (few_given (Ok None) s c) (λ n. inr (k n)) (λ n. inr (first, b n))
       (λ front more e long. far_later names v front past before after last (far_given (Ok None) s c g w front more e long) (grew_last stat f ok write memory))
     where
       grew_last : (stat : Ended) → IsFinish stat → (stat ≡ end.Ok → last ≡ behind after tail) → (stat ≡ end.WriteFault → Begins tail after last) → (stat ≡ end.NoMemory → last ≡ after) → Grew after last

@@ -1,5 +1,5 @@
 -- What a loop over a log has done, by how it ended.
-use Rattle.std.specs.Prelude.{◌≡◌, ◌⊎◌, ◌++◌, ℕ, List, Option, Some, None, ⊤}
+use Rattle.std.specs.Prelude.{◌≡◌, ◌⊎◌, ◌++◌, ◌∷◌, [], ℕ, List, Option, Some, None, ⊤}
 use Rattle.cy_outside.specs.Written.{behind, Begins}
 use Rattle.frame_log.specs.Refusals.{refusal_of}
 use Rattle.frame_log.specs.declared.error.LogError.{LogError}
@@ -69,6 +69,30 @@ pub record BegunWhole {E : Type 0} (v : Voice E) (done : List E → Type 0) (eve
   pub read : refusal ≡ None
   pub written : Begins (whole_text v events refusal) before after
 
+-- the events before the newest of these
+abbrev pub before_newest : {E : Type 0} → List E → List E
+before_newest [] = []
+before_newest (newest ∷ past) = past
+
+-- the listener broke off on the newest of the first events, or before the first, and a beginning of
+-- what is said on those before it was written, so one of all that is said of them all
+pub record BrokenOff {E : Type 0} (v : Voice E) (broke : List E → Type 0) (events : List E)
+    (refusal : Option LogError) (before after : Option (List ℕ)) : Type 0 where
+  pub came : List E
+  pub first : FirstOf events came
+  pub is : broke came
+  pub begins : Begins (said v (before_newest came)) before after
+  pub written : Begins (whole_text v events refusal) before after
+
+-- it broke off in its last words behind all events of a log that was read to its end, and a
+-- beginning of what is said on these was written, so one of all that is said of it
+pub record CutShort {E : Type 0} (v : Voice E) (cut_short : List E → Type 0) (events : List E)
+    (refusal : Option LogError) (before after : Option (List ℕ)) : Type 0 where
+  pub is : cut_short events
+  pub read : refusal ≡ None
+  pub begins : Begins (said v events) before after
+  pub written : Begins (whole_text v events refusal) before after
+
 -- What was done over a log with these events that ends so. At its end the listener has said its
 -- last words behind all of them. Where the output failed, it heard the first of them, or has said
 -- its last words behind all of them. Where memory was wanting, it broke off on the newest of the
@@ -85,7 +109,8 @@ Gone v s events refusal end.ReadFault before after = Upto v s.heard events befor
 Gone v s events refusal end.WriteFault before after =
     Begun v s.heard events refusal before after ⊎ BegunWhole v s.ended events refusal before after
 Gone v s events refusal end.NoMemory before after =
-    Begun v s.broke events refusal before after ⊎ BegunWhole v s.cut_short events refusal before after
+    BrokenOff v s.broke events refusal before after
+    ⊎ CutShort v s.cut_short events refusal before after
 
 -- how a loop ends that the log ended
 abbrev pub refused : LogError → Ended
