@@ -18,3 +18,4 @@ pub mod Registers
 pub mod RegisterLaws
 pub mod Files
 pub mod FileLaws
+pub mod Ports

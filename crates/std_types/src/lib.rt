@@ -11,6 +11,7 @@ mod held;
 pub mod laws;
 pub mod limits;
 pub mod node;
+pub mod ports;
 pub mod register;
 pub mod register_value;
 pub mod registers;
