@@ -21,5 +21,6 @@ mod window;
 mod writer;
 
 pub use error::{ReadError, WriteError};
+pub use fitting::write_fitting;
 pub use payload::payload_value;
 pub use serialized::{read_as, write_as};
