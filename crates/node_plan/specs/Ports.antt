@@ -7,6 +7,9 @@ use Rattle.dsdl_types.specs.Rules.{IsSchema}
 use Rattle.dsdl_types.specs.Schemas as S
 use Rattle.dsdl_types.specs.Schemas.{Sch, is_composite}
 use Rattle.dsdl_types.specs.Views.{sch}
+use Rattle.std_types.specs.Ports.{get_info_service, register_access_service, register_list_service}
+use Rattle.std_types.specs.Ports.{file_get_info_service, file_list_service, file_modify_service}
+use Rattle.std_types.specs.Ports.{file_read_service, file_write_service}
 use Rattle.std_types.specs.Types.{schema_of}
 use Rattle.std_types.specs.declared.std_name.StdName.{StdName}
 use Rattle.std_types.specs.declared.std_name.StdName.TheVariants as N
@@ -52,7 +55,7 @@ service plan port request = record { port = port; sources = plan.clients; reques
 -- `uavcan.node.GetInfo`, unless the node is silent
 abbrev pub status_services : Plan → List Service
 status_services plan =
-    if plan.silent then [] else service plan 430 (Some N.NodeInfoRequest) ∷ []
+    if plan.silent then [] else service plan get_info_service (Some N.NodeInfoRequest) ∷ []
 
 -- `uavcan.register.Access` and `List`, where there is a register
 abbrev pub register_services : Plan → List Service
@@ -61,14 +64,18 @@ register_services plan = of_registers plan.registers
     of_registers : List Register → List Service
     of_registers [] = []
     of_registers (r ∷ rs) =
-        service plan 384 (Some N.AccessRequest) ∷ service plan 385 (Some N.ListRequest) ∷ []
+        service plan register_access_service (Some N.AccessRequest)
+        ∷ service plan register_list_service (Some N.ListRequest) ∷ []
 
--- `uavcan.file.GetInfo`, `List` and `Read`, where there is a folder to serve; 407 and 409, which
--- change files, have no type
+-- the services of `uavcan.file`, where there is a folder to serve; requests to `Modify` and `Write`
+-- have no type
 abbrev pub file_services : Plan → List Service
 file_services plan = if is_some plan.serve
-    then service plan 405 (Some N.InfoRequest) ∷ service plan 406 (Some N.FileListRequest)
-    ∷ service plan 407 None ∷ service plan 408 (Some N.ReadRequest) ∷ service plan 409 None ∷ []
+    then service plan file_get_info_service (Some N.InfoRequest)
+    ∷ service plan file_list_service (Some N.FileListRequest)
+    ∷ service plan file_modify_service None
+    ∷ service plan file_read_service (Some N.ReadRequest)
+    ∷ service plan file_write_service None ∷ []
     else []
 
 -- the services that a node answers

@@ -5,31 +5,7 @@ ghost use Rattle.node_plan.specs.Ports.{IsRequest, IsService, file_services, reg
 
 use crate::plan::Plan;
 use cy_bits::ShortList;
-use std_types::StdName;
-
-/// The service-ID of `uavcan.node.GetInfo`.
-const GET_INFO: u16 = 430;
-
-/// The service-ID of `uavcan.register.Access`.
-const ACCESS: u16 = 384;
-
-/// The service-ID of `uavcan.register.List`.
-const LIST: u16 = 385;
-
-/// The service-ID of `uavcan.file.GetInfo`.
-const FILE_INFO: u16 = 405;
-
-/// The service-ID of `uavcan.file.List`.
-const FILE_LIST: u16 = 406;
-
-/// The service-ID of `uavcan.file.Modify`.
-const FILE_MODIFY: u16 = 407;
-
-/// The service-ID of `uavcan.file.Read`.
-const FILE_READ: u16 = 408;
-
-/// The service-ID of `uavcan.file.Write`.
-const FILE_WRITE: u16 = 409;
+use std_types::{StdName, ports};
 
 /// A service that a node answers.
 #[derive(Clone, Copy)]
@@ -46,7 +22,7 @@ impl Default for Service {
     /// `uavcan.node.GetInfo` for one client.
     fn default() -> Service {
         Service {
-            port: GET_INFO,
+            port: ports::GET_INFO,
             sources: 1,
             request: Some(StdName::NodeInfoRequest),
         }
@@ -95,7 +71,7 @@ impl Plan {
         ensures { services.new ≡ services.old ++ status_services self.now }
     {
         if !self.silent {
-            services.push(self.service(GET_INFO, Some(StdName::NodeInfoRequest)));
+            services.push(self.service(ports::GET_INFO, Some(StdName::NodeInfoRequest)));
         }
     }
 
@@ -105,8 +81,8 @@ impl Plan {
         ensures { services.new ≡ services.old ++ register_services self.now }
     {
         if !self.registers.is_empty() {
-            services.push(self.service(ACCESS, Some(StdName::AccessRequest)));
-            services.push(self.service(LIST, Some(StdName::ListRequest)));
+            services.push(self.service(ports::REGISTER_ACCESS, Some(StdName::AccessRequest)));
+            services.push(self.service(ports::REGISTER_LIST, Some(StdName::ListRequest)));
         }
     }
 
@@ -116,11 +92,11 @@ impl Plan {
         ensures { services.new ≡ services.old ++ file_services self.now }
     {
         if self.serve.is_some() {
-            services.push(self.service(FILE_INFO, Some(StdName::InfoRequest)));
-            services.push(self.service(FILE_LIST, Some(StdName::FileListRequest)));
-            services.push(self.service(FILE_MODIFY, None));
-            services.push(self.service(FILE_READ, Some(StdName::ReadRequest)));
-            services.push(self.service(FILE_WRITE, None));
+            services.push(self.service(ports::FILE_GET_INFO, Some(StdName::InfoRequest)));
+            services.push(self.service(ports::FILE_LIST, Some(StdName::FileListRequest)));
+            services.push(self.service(ports::FILE_MODIFY, None));
+            services.push(self.service(ports::FILE_READ, Some(StdName::ReadRequest)));
+            services.push(self.service(ports::FILE_WRITE, None));
         }
     }
 
