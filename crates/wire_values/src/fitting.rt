@@ -10,8 +10,10 @@ use crate::writer::write_own;
 use cy_bits::BitWriter;
 use dsdl_types::{Schema, Value};
 
-/// Writes a value that is one of the schema, with zeros behind, and answers the number of its
-/// bytes.
+/// Writes the serialized form of a value that is one of the schema in front of a buffer that has
+/// room for the greatest one, with zeros behind, and answers the number of its bytes (Cyphal
+/// Specification, section 3.7). A saturated number is brought to the nearest end of its range, and
+/// a truncated one keeps its low bits.
 pub fn write_fitting(schema: &Schema, value: &Value, out: &mut [u8]) -> usize
     requires rules { IsSchema (sch schema.now) }
     requires fits { Fits (sch schema.now) (val value.now) }
