@@ -6,8 +6,8 @@ use dsdl_types::laws::readings_stored;
 use std::alloc::Global;
 use std_types::allocation::{NodeId, NodeIdAllocation};
 use std_types::{Standard, StdName, std_type};
-use wire_values::laws::{extent_has_room, fits_or_misfit};
-use wire_values::{WriteError, write_as};
+use wire_values::laws::extent_has_room;
+use wire_values::write_fitting;
 
 /// The most bytes that the message of an answer has.
 pub(crate) const MOST: usize = 48;
@@ -23,7 +23,6 @@ pub(crate) fn write_answer(
     ensures payload { IfOk result (λ size. take size out.new ≡ answer_payload uid node) }
 {
     extent_has_room();
-    fits_or_misfit();
     readings_stored();
     let standard = std_type(alloc, StdName::NodeIdAllocation)?;
     let id = NodeId {
@@ -34,9 +33,5 @@ pub(crate) fn write_answer(
         allocated_node_id: List::new(vec![in alloc; id]?),
     };
     let value = message.to_value(alloc)?;
-    match write_as(alloc, &standard.schema, &value, out) {
-        Ok(size) => Ok(size),
-        Err(WriteError::NoMemory) => Err(NoMemory),
-        Err(WriteError::Misfit { .. }) => unreachable!(),
-    }
+    Ok(write_fitting(&standard.schema, &value, out))
 }

@@ -6,8 +6,8 @@ use dsdl_types::laws::readings_stored;
 use std::alloc::Global;
 use std_types::file::ReadRequest;
 use std_types::{Standard, StdName, std_type};
-use wire_values::laws::{extent_has_room, fits_or_misfit};
-use wire_values::{WriteError, write_as};
+use wire_values::laws::extent_has_room;
+use wire_values::write_fitting;
 
 /// The most bytes that a request to read has, which is its extent.
 pub(crate) const MOST: usize = 300;
@@ -24,7 +24,6 @@ pub(crate) fn write_request(
     ensures payload { IfOk result (λ size. take size out.new ≡ request_payload offset path.now) }
 {
     extent_has_room();
-    fits_or_misfit();
     readings_stored();
     let standard = std_type(alloc, StdName::ReadRequest)?;
     let request = ReadRequest {
@@ -32,9 +31,5 @@ pub(crate) fn write_request(
         path: Bytes::from_slice(alloc, path)?,
     };
     let value = request.to_value(alloc)?;
-    match write_as(alloc, &standard.schema, &value, out) {
-        Ok(size) => Ok(size),
-        Err(WriteError::NoMemory) => Err(NoMemory),
-        Err(WriteError::Misfit { .. }) => unreachable!(),
-    }
+    Ok(write_fitting(&standard.schema, &value, out))
 }

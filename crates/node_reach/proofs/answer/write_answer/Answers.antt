@@ -1,4 +1,4 @@
-use Rattle.std.proofs.Common.{◌≡◌, ◌∙◌, ℕ, ◌-◌, ◌^◌, ◌<◌, ◌≤◌, List, [], ◌∷◌, ◌++◌, Err, Some, None, length, take, replicate, sym, ap, subst, refl, arith}
+use Rattle.std.proofs.Common.{◌≡◌, ◌∙◌, ℕ, ◌-◌, ◌^◌, ◌<◌, ◌≤◌, List, [], ◌∷◌, ◌++◌, length, take, replicate, sym, ap, subst, refl, arith}
 use Rattle.std.proofs.Math.Seq.{take-append_seam}
 use Rattle.std.proofs.lemmas.List.Elements.{All-cons, All-nil}
 use Rattle.dsdl_types.specs.Greatest.{longest}
@@ -7,7 +7,6 @@ use Rattle.dsdl_types.specs.Schemas.{Sch, extent_of}
 use Rattle.dsdl_types.specs.Stored.{IsStored}
 use Rattle.dsdl_types.specs.Values.{Val}
 use Rattle.dsdl_types.specs.Views.{sch, val}
-use Rattle.wire_values.specs.Misfits.{misfit}
 use Rattle.wire_values.specs.Results.{IsWritten}
 use Rattle.std_types.specs.Allocation.{node_id_allocation_value, FitsNodeId}
 use Rattle.std_types.specs.AllocationLaws.{node_id_allocation_back}
@@ -41,23 +40,23 @@ taken s v uid node n out s_is v_is w =
     ∙ (ap (λ k. take k (encoding s v ++ zeros)) w.size
     ∙ (take-append_seam (encoding s v) zeros ∙ (λ i. encoding (s_is i) (v_is i))))
 
-pub write_as-requires-clause-room : goal.write_as-requires-clause-room
-write_as-requires-clause-room c =
+pub write_fitting-requires-clause-room : goal.write_fitting-requires-clause-room
+write_fitting-requires-clause-room c =
     let s = sch c.in_ok-standard.standard.schema in
     let most : longest s ≤ extent_of s = c.extent_has_room.ensures s c.in_ok-standard.standard.rules c.in_ok-standard.standard.composite in
     let extent : extent_of s ≡ 384 = ap extent_of (c.in_ok-standard.ensures {u = tt}).schema ∙ extent_is in
     omega arith
 
-pub returns-in-Ok-clause-payload : goal.returns-in-Ok-clause-payload
-returns-in-Ok-clause-payload c =
+pub returns-clause-payload : goal.returns-clause-payload
+returns-clause-payload c =
     let v_is : val c.in_ok-value.value ≡ node_id_allocation_value (message c.args.uid c.args.node) =
     (c.in_ok-value.ensures {u = tt})
     ∙ ap (λ (ids : List NodeId). node_id_allocation_value (record { unique_id_hash = c.args.uid; allocated_node_id = ids }))
     (c.new.ensures ∙ ((c.in_ok-vec.ensures {u = tt}).items ∙ ap (λ n. record { value = n } ∷ []) c.from.ensures)) in
-    taken (sch c.in_ok-standard.standard.schema) (val c.in_ok-value.value) c.args.uid c.args.node c.in-Ok.size c.write_as.new.out (c.in_ok-standard.ensures {u = tt}).schema v_is (c.in-Ok.ensures {u = tt}).ok
+    taken (sch c.in_ok-standard.standard.schema) (val c.in_ok-value.value) c.args.uid c.args.node c.write_fitting.result c.write_fitting.new.out (c.in_ok-standard.ensures {u = tt}).schema v_is c.write_fitting.ensures
 
-pub unreachable-requires : goal.unreachable-requires
-unreachable-requires c =
+pub write_fitting-requires-clause-fits : goal.write_fitting-requires-clause-fits
+write_fitting-requires-clause-fits c =
     let s = sch c.in_ok-standard.standard.schema in
     let v = val c.in_ok-value.value in
     let v_is : v ≡ node_id_allocation_value (message c.args.uid c.args.node) =
@@ -66,7 +65,4 @@ unreachable-requires c =
     (c.new.ensures ∙ ((c.in_ok-vec.ensures {u = tt}).items ∙ ap (λ n. record { value = n } ∷ []) c.from.ensures)) in
     let s_is : s ≡ schema_of allocation = (c.in_ok-standard.ensures {u = tt}).schema in
     let held : IsStored s v = subst (λ (t : Sch). IsStored t v) (sym s_is) (subst (λ (w : Val). IsStored (schema_of allocation) w) (sym v_is) (stored c.args.uid c.args.node (omega arith) (omega arith))) in
-    let none : misfit s v ≡ None = (c.fits_or_misfit.ensures s v).1 (c.readings_stored.ensures.fits s v held) in
-    let found = (c.in-Err-Misfit.ensures {u = tt}).misfit c.in-Err-Misfit.field-0-0 (ap Err c.in-Err-Misfit.field-0-is) in
-    let some : misfit s v ≡ Some found.0 = found.1 in
-    absurd cc
+    c.readings_stored.ensures.fits s v held

@@ -1,4 +1,4 @@
-use Rattle.std.proofs.Common.{◌≡◌, ◌∙◌, ℕ, ◌-◌, ◌^◌, ◌<◌, ◌≤◌, List, ◌++◌, Err, Some, None, Fits, w8, length, get_or, take, replicate, sym, ap, subst, refl, arith}
+use Rattle.std.proofs.Common.{◌≡◌, ◌∙◌, ℕ, ◌-◌, ◌^◌, ◌<◌, ◌≤◌, List, ◌++◌, Fits, w8, length, get_or, take, replicate, sym, ap, subst, refl, arith}
 use Rattle.std.specs.List.{All}
 use Rattle.std.proofs.Math.Seq.{take-append_seam}
 use Rattle.std.proofs.lemmas.List.Elements.{All-from_get_or}
@@ -8,7 +8,6 @@ use Rattle.dsdl_types.specs.Schemas.{Sch, extent_of}
 use Rattle.dsdl_types.specs.Stored.{IsStored}
 use Rattle.dsdl_types.specs.Values.{Val}
 use Rattle.dsdl_types.specs.Views.{sch, val}
-use Rattle.wire_values.specs.Misfits.{misfit}
 use Rattle.wire_values.specs.Results.{IsWritten}
 use Rattle.std_types.specs.Files.{read_request_value}
 use Rattle.std_types.specs.FileLaws.{read_request_back}
@@ -38,22 +37,22 @@ taken s v offset path n out s_is v_is w =
     ∙ (ap (λ k. take k (encoding s v ++ zeros)) w.size
     ∙ (take-append_seam (encoding s v) zeros ∙ (λ i. encoding (s_is i) (v_is i))))
 
-pub write_as-requires-clause-room : goal.write_as-requires-clause-room
-write_as-requires-clause-room c =
+pub write_fitting-requires-clause-room : goal.write_fitting-requires-clause-room
+write_fitting-requires-clause-room c =
     let s = sch c.in_ok-standard.standard.schema in
     let most : longest s ≤ extent_of s = c.extent_has_room.ensures s c.in_ok-standard.standard.rules c.in_ok-standard.standard.composite in
     let extent : extent_of s ≡ 2400 = ap extent_of (c.in_ok-standard.ensures {u = tt}).schema ∙ extent_is in
     omega arith
 
-pub returns-in-Ok-clause-payload : goal.returns-in-Ok-clause-payload
-returns-in-Ok-clause-payload c =
+pub returns-clause-payload : goal.returns-clause-payload
+returns-clause-payload c =
     let v_is : val c.in_ok-value.value ≡ read_request_value (message c.args.offset c.args.path.now) =
     (c.in_ok-value.ensures {u = tt})
     ∙ ap (λ (p : List ℕ). read_request_value (message c.args.offset p)) (c.in_ok-from_slice.ensures {u = tt}) in
-    taken (sch c.in_ok-standard.standard.schema) (val c.in_ok-value.value) c.args.offset c.args.path.now c.in-Ok.size c.write_as.new.out (c.in_ok-standard.ensures {u = tt}).schema v_is (c.in-Ok.ensures {u = tt}).ok
+    taken (sch c.in_ok-standard.standard.schema) (val c.in_ok-value.value) c.args.offset c.args.path.now c.write_fitting.result c.write_fitting.new.out (c.in_ok-standard.ensures {u = tt}).schema v_is c.write_fitting.ensures
 
-pub unreachable-requires : goal.unreachable-requires
-unreachable-requires c =
+pub write_fitting-requires-clause-fits : goal.write_fitting-requires-clause-fits
+write_fitting-requires-clause-fits c =
     let s = sch c.in_ok-standard.standard.schema in
     let v = val c.in_ok-value.value in
     let v_is : v ≡ read_request_value (message c.args.offset c.args.path.now) =
@@ -65,7 +64,4 @@ unreachable-requires c =
     (subst (λ (w : Val). IsStored (schema_of read_request) w) (sym v_is)
     (stored c.args.offset c.args.path.now (omega arith) c.requires
     (All-from_get_or (λ n. n < 2 ^ 8) c.args.path.now 0 (λ k _. let fits : Fits w8 (get_or c.args.path.now k 0) = c.type_inv.path k in omega arith)))) in
-    let none : misfit s v ≡ None = (c.fits_or_misfit.ensures s v).1 (c.readings_stored.ensures.fits s v held) in
-    let found = (c.in-Err-Misfit.ensures {u = tt}).misfit c.in-Err-Misfit.field-0-0 (ap Err c.in-Err-Misfit.field-0-is) in
-    let some : misfit s v ≡ Some found.0 = found.1 in
-    absurd cc
+    c.readings_stored.ensures.fits s v held
