@@ -16,6 +16,7 @@ use Rattle.pnp_alloc.specs.declared.event.AllocOut.{AllocOut}
 use Rattle.pnp_alloc.specs.declared.event.AllocOut.TheVariants.{Noted, Given, Full}
 use Rattle.wire_values.specs.Payloads.{payload_value}
 use Rattle.std_types.specs.Allocation.{node_id_allocation_of, node_id_allocation_value}
+use Rattle.std_types.specs.Ports.{allocation_subject}
 use Rattle.std_types.specs.Types.{schema_of}
 use Rattle.std_types.specs.declared.allocation.NodeId.{NodeId}
 use Rattle.std_types.specs.declared.allocation.NodeIdAllocation.{NodeIdAllocation}
@@ -43,7 +44,7 @@ seen_by own source = if source == own then None else Some (Seen source)
 
 abbrev pub event_by : ℕ → FrameOf → Option ℕ → Option AllocEvent
 event_by own f (Some source) = seen_by own source
-event_by own f None = if (key_of f.ident).port == 8166 then wanted f.body else None
+event_by own f None = if (key_of f.ident).port == allocation_subject then wanted f.body else None
 
 -- the event of a record, if it is one: a discarded frame is none
 abbrev pub event_of : ℕ → Record → Option AllocEvent
@@ -78,7 +79,7 @@ answer_payload uid node =
 -- its frames as they are sent by this node as its message of this number: transfer-IDs go round
 abbrev pub answer_lines : ℕ → ℕ → ℕ → ℕ → ℕ → List ℕ
 answer_lines own moment number uid node =
-    tx_lines moment (bits (Message 4 8166 own)) (frames 8 (answer_payload uid node) (number % 32)) bus_names
+    tx_lines moment (bits (Message 4 allocation_subject own)) (frames 8 (answer_payload uid node) (number % 32)) bus_names
 
 -- what is said to a unique id that is answered so, behind so many answers
 abbrev pub wanted_text : ℕ → ℕ → ℕ → ℕ → AllocOut → List ℕ

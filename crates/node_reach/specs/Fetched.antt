@@ -17,6 +17,7 @@ use Rattle.line_text.specs.Text.{moment_text, line_of}
 use Rattle.log_loop.specs.Voice.{Voice, plain_voice}
 use Rattle.wire_values.specs.Payloads.{payload_value}
 use Rattle.std_types.specs.Files.{read_request_value, read_reply_of}
+use Rattle.std_types.specs.Ports.{file_read_service}
 use Rattle.std_types.specs.Types.{schema_of}
 use Rattle.std_types.specs.declared.file.ReadReply.{ReadReply}
 use Rattle.std_types.specs.declared.std_name.StdName.TheVariants.{ReadRequest as read_request}
@@ -41,7 +42,7 @@ abbrev pub file_ears : ℕ → Ears
 file_ears own = record {
   own = own;
   timeout = 2000000;
-  ports = port_for Response 408 (schema_of read_reply) ∷ [];
+  ports = port_for Response file_read_service (schema_of read_reply) ∷ [];
 }
 
 -- a response with this transfer-ID, as the client sees it
@@ -92,7 +93,7 @@ ask_line moment tid offset = line_of (codes "ask" ∷ moment_text moment ∷ dec
 abbrev pub request_text : Client → ℕ → ℕ → ℕ → List ℕ
 request_text client moment tid offset =
     ask_line moment tid offset
-    ++ tx_lines moment (bits (Service 4 true 408 client.server client.own)) (frames 8 (request_payload offset client.path) tid) bus_names
+    ++ tx_lines moment (bits (Service 4 true file_read_service client.server client.own)) (frames 8 (request_payload offset client.path) tid) bus_names
 
 -- what is said where the client answers an event so
 abbrev pub answer_text : Client → ℕ → FetchOut → List ℕ

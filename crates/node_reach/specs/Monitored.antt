@@ -9,6 +9,7 @@ use Rattle.net_monitor.specs.Online.{heard, online}
 use Rattle.net_monitor.specs.declared.node_state.NodeState.{NodeState}
 use Rattle.wire_values.specs.Payloads.{payload_value}
 use Rattle.std_types.specs.Node.{heartbeat_of}
+use Rattle.std_types.specs.Ports.{heartbeat_subject, synchronization_subject}
 use Rattle.std_types.specs.Times.{synchronization_of}
 use Rattle.std_types.specs.Types.{schema_of}
 use Rattle.std_types.specs.declared.std_name.StdName.TheVariants.{Heartbeat, Synchronization}
@@ -24,7 +25,8 @@ abbrev pub monitor_ears : ℕ → Ears
 monitor_ears own = record {
   own = own;
   timeout = 2000000;
-  ports = subject 7509 (schema_of Heartbeat) ∷ subject 7168 (schema_of Synchronization) ∷ [];
+  ports = subject heartbeat_subject (schema_of Heartbeat)
+      ∷ subject synchronization_subject (schema_of Synchronization) ∷ [];
 }
 
 -- the greatest moment of these
@@ -47,7 +49,7 @@ add_beat t past (Some v) = beat_in t past v ∷ past
 
 abbrev pub with_beat : Option Transfer → List Beat → List Beat
 with_beat None past = past
-with_beat (Some t) past = if t.key.port == 7509 then add_beat t past (payload_value (schema_of Heartbeat) t.payload) else past
+with_beat (Some t) past = if t.key.port == heartbeat_subject then add_beat t past (payload_value (schema_of Heartbeat) t.payload) else past
 
 -- the heartbeats in records
 abbrev pub beats : ℕ → List Record → List Beat
@@ -69,7 +71,7 @@ add_message t past (Some v) = message_in t past v ∷ past
 
 abbrev pub with_message : Option Transfer → List Message → List Message
 with_message None past = past
-with_message (Some t) past = if t.key.port == 7168 then add_message t past (payload_value (schema_of Synchronization) t.payload) else past
+with_message (Some t) past = if t.key.port == synchronization_subject then add_message t past (payload_value (schema_of Synchronization) t.payload) else past
 
 abbrev pub messages : ℕ → List Record → List Message
 messages own [] = []

@@ -10,12 +10,9 @@ use log_loop::Listener;
 use pnp_alloc::{AllocEvent, AllocOut, Allocator};
 use std::alloc::Global;
 use std_types::allocation::NodeIdAllocation;
-use std_types::{Standard, StdName, std_type};
+use std_types::{Standard, StdName, ports, std_type};
 use tail_frame::{Record, frame_of};
 use wire_values::payload_value;
-
-/// The subject of `uavcan.pnp.NodeIDAllocationData.1.0`.
-const SUBJECT: u16 = 8166;
 
 /// An allocator, and what it takes to hear a log.
 #[derive(Drop)]
@@ -69,7 +66,7 @@ impl Allocating {
         match key.source {
             Some(source) => Ok(self.seen(source)),
             None => {
-                if key.port == SUBJECT {
+                if key.port == ports::ALLOCATION {
                     self.wanted(frame.body)
                 } else {
                     Ok(None)
@@ -166,7 +163,7 @@ impl Allocating {
         let size = write_answer(self.alloc, uid, node, &mut payload)?;
         let ident = make(Ident::Message {
             priority: 4,
-            subject: SUBJECT,
+            subject: ports::ALLOCATION,
             source: self.own,
         });
         put_transfer(

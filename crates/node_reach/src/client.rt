@@ -5,9 +5,7 @@ use can_id::{Ident, make};
 use cy_bits::{Bytes, NoMemory};
 use line_text::TextBuffer;
 use std::alloc::Global;
-
-/// The service `uavcan.file.Read`.
-const READ: u16 = 408;
+use std_types::ports;
 
 /// A client of a file server, and the file that it reads.
 #[derive(Drop)]
@@ -46,7 +44,7 @@ impl Client {
         let ident = make(Ident::Service {
             priority: 4,
             request: true,
-            service: READ,
+            service: ports::FILE_READ,
             destination: self.server,
             source: self.own,
         });

@@ -8,14 +8,14 @@ ghost use Rattle.node_reach.specs.Monitors.{Monitors};
 
 use crate::ear::{Ear, TIMEOUT};
 use crate::lines::{put_end, put_estimate, put_node, put_offline};
-use crate::network::{HEARTBEAT, Network, SYNCHRONIZATION};
+use crate::network::Network;
 use can_id::Kind;
 use cy_bits::NoMemory;
 use line_text::TextBuffer;
 use log_loop::Listener;
 use net_monitor::NodeState;
 use std::alloc::Global;
-use std_types::StdName;
+use std_types::{StdName, ports};
 use tail_frame::Record;
 
 /// A monitor, and what it takes to hear a log.
@@ -51,11 +51,11 @@ fn listening(alloc: Global, own: u8) -> Result<Ear, NoMemory>
     ensures latest { IfOk result (λ ear. ear.latest ≡ 0) }
 {
     let mut ear = Ear::new(alloc, own, TIMEOUT)?;
-    ear.subscribe(alloc, Kind::Message, HEARTBEAT, StdName::Heartbeat)?;
+    ear.subscribe(alloc, Kind::Message, ports::HEARTBEAT, StdName::Heartbeat)?;
     ear.subscribe(
         alloc,
         Kind::Message,
-        SYNCHRONIZATION,
+        ports::SYNCHRONIZATION,
         StdName::Synchronization,
     )?;
     Ok(ear)

@@ -8,15 +8,9 @@ use net_monitor::Monitor;
 use std::alloc::Global;
 use std_types::node::Heartbeat;
 use std_types::time::Synchronization;
-use std_types::{Standard, StdName, StdType, std_type};
+use std_types::{Standard, StdName, StdType, ports, std_type};
 use time_sync::Sync;
 use wire_values::payload_value;
-
-/// The subject of `uavcan.node.Heartbeat.1.0`.
-pub(crate) const HEARTBEAT: u16 = 7509;
-
-/// The subject of `uavcan.time.Synchronization.1.0`.
-pub(crate) const SYNCHRONIZATION: u16 = 7168;
 
 /// How many stamps there are.
 const STAMPS: u64 = 1 << 56;
@@ -89,8 +83,8 @@ impl Network {
             OnOk result (Learns moment t self.old self.new) }
     {
         match transfer.port {
-            HEARTBEAT => self.take_beat(transfer),
-            SYNCHRONIZATION => self.take_message(moment, transfer),
+            ports::HEARTBEAT => self.take_beat(transfer),
+            ports::SYNCHRONIZATION => self.take_message(moment, transfer),
             _ => Ok(()),
         }
     }

@@ -8,7 +8,7 @@ use cy_bits::NoMemory;
 use file_client::FetchEvent;
 use std::alloc::Global;
 use std_types::file::ReadReply;
-use std_types::{Standard, StdName, std_type};
+use std_types::{Standard, StdName, ports, std_type};
 use tail_frame::Record;
 use wire_values::payload_value;
 
@@ -29,9 +29,6 @@ pub struct Responses {
     /// The node.
     pub ear: Ear,
 }
-
-/// The service `uavcan.file.Read`.
-const READ: u16 = 408;
 
 impl Response {
     ghost use Rattle.std.specs.Prelude.{◌≡◌};
@@ -64,7 +61,7 @@ impl Responses {
         ensures latest { IfOk result (λ it. it.ear.latest ≡ 0) }
     {
         let mut ear = Ear::new(alloc, own, TIMEOUT)?;
-        ear.subscribe(alloc, Kind::Response, READ, StdName::ReadReply)?;
+        ear.subscribe(alloc, Kind::Response, ports::FILE_READ, StdName::ReadReply)?;
         Ok(Responses { alloc, ear })
     }
 
