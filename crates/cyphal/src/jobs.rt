@@ -65,6 +65,8 @@ pub fn carry_out<T: Tree, L: Source, O: Sink, K: LineSink>(
         let old = outside (T.faults tree.old) (L.faults input.old) (O.faults out.old) input.old in
         let new = outside (T.faults tree.new) (L.faults input.new) (O.faults out.new) input.new in
         IsCarriedOut (job_of (asked_by given.entry)) told came old new }
+    ensures called { let job = job_of (asked_by given.entry) in job.serves ≡ false
+        → CallsAtMost job.needs (T.files tree.old) (T.calls tree.old) (T.calls tree.new) }
     ensures needed { let needs = (job_of (asked_by given.entry)).needs in
         result.status ≡ Status.ReadFault → ¬ Rose (L.faults input.old) (L.faults input.new)
         → CallsAtMost needs (T.files tree.old) (T.calls tree.old) (T.calls tree.new) }

@@ -40,6 +40,9 @@ pub fn program<T: Tree, L: Source, O: Sink, E: Sink>(
         let err_old = stream (E.faults err.old) (E.written err.old) in
         let err_new = stream (E.faults err.new) (E.written err.new) in
         own_answer words ≡ None → HasEnded words told result left old new err_old err_new }
+    // A command that serves no files calls the tree no more often than it needs.
+    ensures called { let job = job_for (map string_bytes words.now) in job.serves ≡ false
+        → CallsAtMost job.needs (T.files tree.old) (T.calls tree.old) (T.calls tree.new) }
     // A read fault of the tree is one of a call that the command needs.
     ensures needed { let needs = (job_for (map string_bytes words.now)).needs in
         result ≡ 8 → ¬ Rose (L.faults input.old) (L.faults input.new)

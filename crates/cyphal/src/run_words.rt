@@ -45,6 +45,9 @@ pub fn run_words<T: Tree, L: Source, O: Sink, E: Sink, K: LineSink>(
         → tree.new ≡ tree.old }
     ensures said { let old = stream (E.faults err.old) (E.written err.old) in
         HasSaid result.status old (stream (E.faults err.new) (E.written err.new)) }
+    // A command that serves no files calls the tree no more often than it needs.
+    ensures called { let job = job_for (map string_bytes words.now) in job.serves ≡ false
+        → CallsAtMost job.needs (T.files tree.old) (T.calls tree.old) (T.calls tree.new) }
     // A read fault of the tree is one of a call that the command needs.
     ensures needed { let needs = (job_for (map string_bytes words.now)).needs in
         result.status ≡ ReadFault → ¬ Rose (L.faults input.old) (L.faults input.new)

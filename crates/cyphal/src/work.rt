@@ -39,6 +39,8 @@ pub fn work<T: Tree, L: Source, O: Sink, K: LineSink>(
         let old = outside (T.faults tree.old) (L.faults input.old) (O.faults out.old) input.old in
         let new = outside (T.faults tree.new) (L.faults input.new) (O.faults out.new) input.new in
         IsCarriedOut (job_for (map string_bytes words.now)) told came old new }
+    ensures called { let job = job_for (map string_bytes words.now) in job.serves ≡ false
+        → CallsAtMost job.needs (T.files tree.old) (T.calls tree.old) (T.calls tree.new) }
     ensures needed { let needs = (job_for (map string_bytes words.now)).needs in
         result.status ≡ Status.ReadFault → ¬ Rose (L.faults input.old) (L.faults input.new)
         → CallsAtMost needs (T.files tree.old) (T.calls tree.old) (T.calls tree.new) }

@@ -92,6 +92,48 @@ returns-in-Explain-clause-done g c =
     for_given _ _ _ _ _ _ c.in-Explain.is
     (read_out _ _ c.explain_plan.result _ _ refl c.nothing-in-Explain.result c.nothing-in-Explain.ensures g.L.Source.left _ _ _ _ refl done.answer done.among done.cause done.ran (λ d n. (d, n)))
 
+pub returns-in-Compile-clause-called : goal.returns-in-Compile-clause-called
+returns-in-Compile-clause-called g c = λ _. given_calls _ _ _ _ _ c.in-Compile.is c.compile_root.ensures.calls
+
+pub returns-in-Compat-clause-called : goal.returns-in-Compat-clause-called
+returns-in-Compat-clause-called g c = λ _. given_calls _ _ _ _ _ c.in-Compat.is c.compat_types.ensures.calls
+
+pub returns-in-Encode-clause-called : goal.returns-in-Encode-clause-called
+returns-in-Encode-clause-called g c = λ _. given_calls _ _ _ _ _ c.in-Encode.is c.encode_lines.ensures.calls
+
+pub returns-in-Decode-clause-called : goal.returns-in-Decode-clause-called
+returns-in-Decode-clause-called g c = λ _. given_calls _ _ _ _ _ c.in-Decode.is c.decode_lines.ensures.calls
+
+pub returns-in-Bound-clause-called : goal.returns-in-Bound-clause-called
+returns-in-Bound-clause-called g c = λ _. given_calls _ _ _ _ _ c.in-Bound.is c.bound_plan.ensures.calls
+
+pub returns-in-Migrate-clause-called : goal.returns-in-Migrate-clause-called
+returns-in-Migrate-clause-called g c = λ _. given_calls _ _ _ _ _ c.in-Migrate.is c.migrate_plan.ensures.calls
+
+pub returns-in-Explain-clause-called : goal.returns-in-Explain-clause-called
+returns-in-Explain-clause-called g c = λ _. given_calls _ _ _ _ _ c.in-Explain.is c.explain_plan.ensures.calls
+
+pub returns-in-Gen-clause-called : goal.returns-in-Gen-clause-called
+returns-in-Gen-clause-called g c = λ _. given_calls _ _ _ _ _ c.in-Gen.is (no_calls (λ files. 0) _ _)
+
+pub returns-in-Monitor-clause-called : goal.returns-in-Monitor-clause-called
+returns-in-Monitor-clause-called g c = λ _. given_calls _ _ _ _ _ c.in-Monitor.is (no_calls (λ files. 0) _ _)
+
+pub returns-in-Allocate-clause-called : goal.returns-in-Allocate-clause-called
+returns-in-Allocate-clause-called g c = λ _. given_calls _ _ _ _ _ c.in-Allocate.is (no_calls (λ files. 0) _ _)
+
+pub returns-in-Fetch-clause-called : goal.returns-in-Fetch-clause-called
+returns-in-Fetch-clause-called g c = λ _. given_calls _ _ _ _ _ c.in-Fetch.is (no_calls (λ files. 0) _ _)
+
+pub returns-in-Order-clause-called : goal.returns-in-Order-clause-called
+returns-in-Order-clause-called g c = λ _. given_calls _ _ _ _ _ c.in-Order.is (no_calls (λ files. 0) _ _)
+
+pub returns-in-Survey-clause-called : goal.returns-in-Survey-clause-called
+returns-in-Survey-clause-called g c = λ _. given_calls _ _ _ _ _ c.in-Survey.is (no_calls (λ files. 0) _ _)
+
+pub returns-in-Versions-clause-called : goal.returns-in-Versions-clause-called
+returns-in-Versions-clause-called g c = λ _. given_calls _ _ _ _ _ c.in-Versions.is c.compare_versions.ensures.calls
+
 pub returns-in-Compile-clause-needed : goal.returns-in-Compile-clause-needed
 returns-in-Compile-clause-needed g c = λ _ _. given_calls _ _ _ _ _ c.in-Compile.is c.compile_root.ensures.calls
 

@@ -1,7 +1,10 @@
-use Rattle.std.proofs.Common.{inl, map, refl, string_bytes}
+use Rattle.std.proofs.Common.{◌≡◌, inl, map, refl, subst, string_bytes, Option}
+use Rattle.std.specs.Option.{option_map}
 use Rattle.node_run.specs.declared.status.Status.TheVariants as status
-use Rattle.cyphal.specs.Expected.{job_for}
-use Rattle.cyphal.specs.Words.{command_of}
+use Rattle.cyphal.specs.Expected.{job_for, job_asked}
+use Rattle.cyphal.specs.Job.{CallsAtMost}
+use Rattle.cyphal.specs.Words.{Command, asked_by, command_of}
+use Rattle.cyphal.specs.declared.words.Accepted.{Accepted}
 use Rattle.cyphal.proofs.CarriedOut.{read_out}
 use Rattle.cyphal.proofs.statuses.Among.{memory_among}
 use Rattle.cyphal.proofs.work.work.Goals as goal
@@ -23,3 +26,9 @@ returns-in-Err-clause-done g c =
     })
     (inl (record { nothing = record { written = refl; not_settled = refl; not_write = λ e. cc }; source = refl; tree = λ e. absurd cc }))
     (λ d. absurd d)
+
+pub returns-clause-needed : goal.returns-clause-needed
+returns-clause-needed g c fault still =
+    let asks = subst (λ (given : Option Accepted). option_map asked_by given ≡ command_of (map string_bytes c.args.words.now)) c.in-Ok-Some.field-0-is c.in-Ok-Some.ensures.is in
+    subst (λ (asked : Option Command). CallsAtMost (job_asked asked).needs (g.T.Tree.files c.args.tree.now) (g.T.Tree.calls c.args.tree.now) (g.T.Tree.calls c.carry_out.new.tree))
+    asks (c.carry_out.ensures.needed fault still)
