@@ -1,5 +1,5 @@
 -- From what was done to all that is said of a call.
-use Rattle.std.proofs.Common.{◌≡◌, ◌↔◌, inl, inr, ℕ, true, false, List, [], Option, Some, None, refl, sym, ap}
+use Rattle.std.proofs.Common.{◌≡◌, ◌∙◌, ◌↔◌, inl, inr, ℕ, true, false, List, [], Option, Some, None, refl, sym, ap}
 use Rattle.dsdl_resolve.specs.Laws.{HaveOneAnswer}
 use Rattle.report_lines.specs.declared.line.Line.{Line}
 use Rattle.report_lines.specs.declared.numbers.Numbers.{Numbers}
@@ -69,7 +69,7 @@ module _ {L : Type 0} (words : List (List ℕ)) (told : Told) (done : Done) (old
         values = a.values done.report.lines put;
         due_values = a.due_values done.report.lines put;
         failed = λ ok.
-            elim (stays_or_told words told came old new a.ran (λ h. a.cause.unserved h ok) refl ok) [ inl stays ↦ inl stays | inr some ↦ inr (λ none. some (ap Some none)) ];
+            elim (stays_or_told words told came old new a.ran (λ h. a.cause.unserved h (λ fault. (let bad : status.Ok ≡ status.ReadFault = sym ok ∙ fault in cc))) refl ok) [ inl stays ↦ inl stays | inr some ↦ inr (λ none. some (ap Some none)) ];
         unserved = λ h. some_is _ _ (none_failed words told came old new a.ran h);
       }
 

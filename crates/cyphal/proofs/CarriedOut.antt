@@ -11,6 +11,7 @@ use Rattle.cyphal.specs.Words.{asked_by}
 use Rattle.cyphal.specs.jobs.{job_of}
 use Rattle.cyphal.specs.declared.counted.Counted.{Counted}
 use Rattle.cyphal.specs.declared.words.Accepted.{Accepted}
+use Rattle.cyphal.proofs.Causes.{refused_apart}
 
 -- what is said of the command that is given
 pub for_given : {L : Type 0} (given command : Accepted) (told : Told) (came : Outcome) (old new : Outside L) → given ≡ command
@@ -43,10 +44,11 @@ module _ (job : Job) (told : Told) (stat : Status) (lines : Option (List Line)) 
         read = λ e. inl (cause.read e, source);
         untaken = λ _. source;
         refused = λ _. source;
+        early = λ e. cause.kept (refused_apart stat e);
         write = cause.write;
         unread = λ _. input;
         unwritten = cause.unwritten;
-        unserved = λ _ e. cause.kept e;
+        unserved = λ _. cause.kept;
       };
       ran = by_work ran;
       held = omega arith;
@@ -62,6 +64,7 @@ module _ (job : Job) (told : Told) (stat : Status) (lines : Option (List Line)) 
           left = refl;
           source = source;
           tree = cause.read;
+          kept = cause.kept;
         })
 
     -- a command that is given an input
@@ -87,4 +90,5 @@ module _ (job : Job) (told : Told) (stat : Status) (lines : Option (List Line)) 
           left = ap left_of n.source ∙ sym is_input;
           source = n.source;
           tree = n.tree;
+          kept = n.kept;
         })

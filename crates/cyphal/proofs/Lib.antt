@@ -1,6 +1,7 @@
 pub mod ClapWords
 pub mod NameCuts
 pub mod Parts
+pub mod Causes
 pub mod Plans
 pub mod Migrations
 pub mod Loaded

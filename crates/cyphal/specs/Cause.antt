@@ -13,13 +13,13 @@ abbrev pub counts : ℕ → ℕ → Counts
 counts tree out = record { tree = tree; out = out }
 
 -- of a command that is given no input: a fault comes only where a count rose, that of the output
--- rises at a write fault alone, and that of the tree stays where all was done
+-- rises at a write fault alone, and that of the tree at a read fault alone
 pub record HasCause (stat : Status) (old new : Counts) : Type 0 where
   pub usage : ¬ (stat ≡ status.Usage)
   pub read : stat ≡ status.ReadFault → Rose old.tree new.tree
   pub write : stat ≡ status.WriteFault → Rose old.out new.out
   pub unwritten : stat ≢ status.WriteFault → new.out ≡ old.out
-  pub kept : stat ≡ status.Ok → new.tree ≡ old.tree
+  pub kept : stat ≢ status.ReadFault → new.tree ≡ old.tree
 
 -- the counts of a tree, an input and an output, and the input
 pub record Outside (L : Type 0) : Type 0 where
@@ -42,18 +42,20 @@ is_refused other = false
 
 -- The same of any command: the count of the input rises at a read fault alone. By whether it takes
 -- of the input: where it does not, where it is refused, or where the tree failed, the input stays
--- as it was. And by whether it serves files: where it does not, the tree's count stays where all
--- was done. That the tree fails in a request of a file is no status.
+-- as it was. And by whether it serves files: where it does not, the tree's count rises at a read
+-- fault alone; where it does, that count stays where it is refused. That the tree fails in a
+-- request of a file is no status.
 pub record HasCauseOver {L : Type 0} (takes serves : Bool) (stat : Status)
     (old new : Outside L) : Type 0 where
   pub read : stat ≡ status.ReadFault
       → (Rose old.tree new.tree × (new.source ≡ old.source)) ⊎ Rose old.input new.input
   pub untaken : takes ≡ false → new.source ≡ old.source
   pub refused : is_refused stat ≡ true → new.source ≡ old.source
+  pub early : is_refused stat ≡ true → new.tree ≡ old.tree
   pub write : stat ≡ status.WriteFault → Rose old.out new.out
   pub unread : stat ≢ status.ReadFault → new.input ≡ old.input
   pub unwritten : stat ≢ status.WriteFault → new.out ≡ old.out
-  pub unserved : serves ≡ false → stat ≡ status.Ok → new.tree ≡ old.tree
+  pub unserved : serves ≡ false → stat ≢ status.ReadFault → new.tree ≡ old.tree
 
 -- the tree failed before any of the input was taken
 pub record TreeFailed {L : Type 0} (stat : Status) (old new : Outside L) : Type 0 where

@@ -1,5 +1,5 @@
 -- What is said of a command: each file of specs/jobs/ makes one job.
-use Rattle.std.specs.Prelude.{◌≡◌, ◌≤◌, ◌+◌, ℕ, Bool, true, false, List, Option, IfSome}
+use Rattle.std.specs.Prelude.{◌≡◌, ◌≢◌, ◌≤◌, ◌+◌, ℕ, Bool, true, false, List, Option, IfSome}
 use Rattle.cy_outside.specs.Files.{Files}
 use Rattle.cy_outside.specs.Outside.{Rose}
 use Rattle.node_run.specs.Failures.{Failures}
@@ -93,7 +93,8 @@ is_settled (status.NotNewer path why) = true
 is_settled status.LogLong = true
 is_settled other = false
 
--- nothing was run, written or taken: no write failed, and a read fault is one of the tree
+-- nothing was run, written or taken: no write failed, a read fault is one of the tree, and at any
+-- other status the tree's count stays
 pub record NotDone {L : Type 0} (told : Told) (came : Outcome) (old new : Outside L) : Type 0 where
   pub empty : ReportsNothing came
   pub written : came.written ≡ told.written
@@ -102,6 +103,7 @@ pub record NotDone {L : Type 0} (told : Told) (came : Outcome) (old new : Outsid
   pub left : came.left ≡ told.input
   pub source : new.source ≡ old.source
   pub tree : came.status ≡ status.ReadFault → Rose old.tree new.tree
+  pub kept : came.status ≢ status.ReadFault → new.tree ≡ old.tree
 
 -- what a command that is given no sink of lines came to
 abbrev pub flow_of : Told → Outcome → Flow
@@ -113,9 +115,10 @@ pub record WroteNothing (print : Printed) : Type 0 where
   pub not_settled : is_settled print.status ≡ false
   pub not_write : ¬ (print.status ≡ status.WriteFault)
 
--- the same of a command that is given an input: it took nothing either, and a read fault is one of
--- the tree
+-- the same of a command that is given an input: it took nothing either, a read fault is one of the
+-- tree, and at any other status the tree's count stays
 pub record TookNothing {L : Type 0} (print : Printed) (old new : Outside L) : Type 0 where
   pub nothing : WroteNothing print
   pub source : new.source ≡ old.source
   pub tree : print.status ≡ status.ReadFault → Rose old.tree new.tree
+  pub kept : print.status ≢ status.ReadFault → new.tree ≡ old.tree

@@ -1,12 +1,11 @@
 //! The file of a plan, read in the namespace of a root.
-ghost use Rattle.std.specs.Prelude.{◌≡◌, ◌≤◌, ◌+◌, ◌⊎◌, ℕ, true, false, IfOk, IfErr, OnOk, Some};
+ghost use Rattle.std.specs.Prelude.{◌≡◌, ◌≤◌, ◌+◌, ◌⊎◌, ℕ, true, false, IfOk, IfErr, Some};
 ghost use Rattle.cy_outside.specs.Files.{ReadsFront, front_length, reads_of};
-ghost use Rattle.cy_outside.specs.Outside.{Rose};
 ghost use Rattle.dsdl_types.specs.Definitions.{IsNamespace};
 ghost use Rattle.dsdl_types.specs.declared.namespace.Namespace.{Namespace as Names};
 ghost use Rattle.node_plan.specs.IsPlan.{IsPlan};
 ghost use Rattle.node_plan.specs.declared.plan.PlanWhy.{PlanWhy as Why};
-ghost use Rattle.node_run.specs.Loaded.{IsLoaded, calls_of};
+ghost use Rattle.node_run.specs.Loaded.{HasLoadCause, IsLoaded, calls_of};
 ghost use Rattle.cyphal.specs.Job.{is_fault, is_settled, CallsAtMost};
 ghost use Rattle.cyphal.specs.MayEnd.{of_plan};
 ghost use Rattle.cyphal.specs.Plans.{EndsAt, EndsIn, without_plan, plan_calls, GivesPlan, PlanAt};
@@ -27,13 +26,11 @@ pub fn plan_at<T: Tree>(alloc: Global, root: &str, path: &str, tree: &mut T) -> 
     ensures files { T.files tree.new ≡ T.files tree.old }
     ensures plan { IfOk result (PlanAt root.now path.now (T.files tree.old)) }
     ensures sound { IfOk result IsPlan }
-    ensures kept { OnOk result (T.faults tree.new ≡ T.faults tree.old) }
+    ensures cause { HasLoadCause (T.faults tree.old) (T.faults tree.new) result }
     ensures answer { IfErr result (λ stat. is_fault stat ≡ false
         → EndsAt without_plan root.now path.now (T.files tree.old) stat) }
     ensures among { IfErr result (λ stat. of_plan stat ≡ true) }
     ensures usage { IfErr result (λ stat. ¬ (stat ≡ Status.Usage)) }
-    ensures read { IfErr result (λ stat. stat ≡ Status.ReadFault
-        → Rose (T.faults tree.old) (T.faults tree.new)) }
     ensures write { IfErr result (λ stat. ¬ (stat ≡ Status.WriteFault)) }
     ensures early { IfErr result (λ stat. is_settled stat ≡ false) }
     ensures calls { CallsAtMost (plan_calls root.now path.now)
@@ -59,13 +56,11 @@ fn plan_in<T: Tree>(
     ensures files { T.files tree.new ≡ T.files tree.old }
     ensures plan { IfOk result (GivesPlan names.now path.now (T.files tree.old)) }
     ensures sound { IfOk result IsPlan }
-    ensures kept { OnOk result (T.faults tree.new ≡ T.faults tree.old) }
+    ensures cause { HasLoadCause (T.faults tree.old) (T.faults tree.new) result }
     ensures answer { IfErr result (λ stat. is_fault stat ≡ false
         → EndsIn without_plan names.now path.now (T.files tree.old) stat) }
     ensures among { IfErr result (λ stat. of_plan stat ≡ true) }
     ensures usage { IfErr result (λ stat. ¬ (stat ≡ Status.Usage)) }
-    ensures read { IfErr result (λ stat. stat ≡ Status.ReadFault
-        → Rose (T.faults tree.old) (T.faults tree.new)) }
     ensures write { IfErr result (λ stat. ¬ (stat ≡ Status.WriteFault)) }
     ensures early { IfErr result (λ stat. is_settled stat ≡ false) }
     ensures calls { T.calls tree.new
@@ -86,13 +81,11 @@ pub fn text_at<T: Tree>(alloc: Global, path: &str, tree: &mut T) -> Result<Bytes
     ensures files { T.files tree.new ≡ T.files tree.old }
     ensures text { IfOk result (λ text.
         ReadsFront (T.files tree.old) path.now MOST (Some text)) }
-    ensures kept { OnOk result (T.faults tree.new ≡ T.faults tree.old) }
+    ensures cause { HasLoadCause (T.faults tree.old) (T.faults tree.new) result }
     ensures answer { (names : Names) → IfErr result (λ stat. is_fault stat ≡ false
         → EndsIn without_plan names path.now (T.files tree.old) stat) }
     ensures among { IfErr result (λ stat. of_plan stat ≡ true) }
     ensures usage { IfErr result (λ stat. ¬ (stat ≡ Status.Usage)) }
-    ensures read { IfErr result (λ stat. stat ≡ Status.ReadFault
-        → Rose (T.faults tree.old) (T.faults tree.new)) }
     ensures write { IfErr result (λ stat. ¬ (stat ≡ Status.WriteFault)) }
     ensures early { IfErr result (λ stat. is_settled stat ≡ false) }
     ensures calls { T.calls tree.new
@@ -122,6 +115,7 @@ pub fn plan_refused(error: PlanError) -> Status
     ensures refused { (n : ℕ) (why : Why) → error ≡ PlanError.Refused n why
         → result ≡ Status.Plan n why }
     ensures among { of_plan result ≡ true }
+    ensures read { ¬ (result ≡ Status.ReadFault) }
 {
     match error {
         PlanError::Refused { n, why } => Status::Plan { line: n, why },

@@ -73,6 +73,7 @@ cause_of ended stat e old new tree read write unread unwritten = record {
   read = λ s. inr (read (read_end ended (sym e ∙ s)));
   untaken = λ s. absurd cc;
   refused = λ s. absurd (no_refusal ended (sym (ap is_refused e) ∙ s));
+  early = λ _. tree;
   write = λ s. write (write_end ended (sym e ∙ s));
   unread = λ s. unread (λ f. s (e ∙ ap status_of f));
   unwritten = λ s. unwritten (λ f. s (e ∙ ap status_of f));

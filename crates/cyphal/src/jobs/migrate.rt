@@ -1,7 +1,7 @@
 //! `migrate ROOT PLAN`: a plan's text in version 2.
 ghost use Rattle.std.specs.Prelude.{◌≡◌, ◌⊎◌, ◌||◌, ◌≤◌, ◌+◌, true, false, IfErr, IfOk, OnOk};
 ghost use Rattle.cy_outside.specs.Files.{front_length, reads_of};
-ghost use Rattle.cy_outside.specs.Outside.{Rose};
+ghost use Rattle.node_run.specs.Loaded.{HasLoadCause};
 ghost use Rattle.dsdl_types.specs.Definitions.{IsNamespace};
 ghost use Rattle.cyphal.specs.Job.{is_fault, is_settled, printed, WroteNothing, CallsAtMost};
 ghost use Rattle.cyphal.specs.Cause.{counts, HasCause};
@@ -58,13 +58,11 @@ fn migrated_at<T: Tree>(
 ) -> Result<Bytes, Status>
     ensures becomes { IfOk result (BecomesAt root.now path.now (T.files tree.old)) }
     ensures plan { OnOk result (EndsAt bounded root.now path.now (T.files tree.old) Status.Ok) }
-    ensures kept { OnOk result (T.faults tree.new ≡ T.faults tree.old) }
+    ensures cause { HasLoadCause (T.faults tree.old) (T.faults tree.new) result }
     ensures answer { IfErr result (λ stat. is_fault stat ≡ false
         → EndsAt without_plan root.now path.now (T.files tree.old) stat) }
     ensures among { IfErr result (λ stat. of_plan stat ≡ true) }
     ensures usage { IfErr result (λ stat. ¬ (stat ≡ Status.Usage)) }
-    ensures read { IfErr result (λ stat. stat ≡ Status.ReadFault
-        → Rose (T.faults tree.old) (T.faults tree.new)) }
     ensures write { IfErr result (λ stat. ¬ (stat ≡ Status.WriteFault)) }
     ensures early { IfErr result (λ stat. is_settled stat ≡ false) }
     ensures calls { CallsAtMost (plan_calls root.now path.now)
@@ -86,13 +84,11 @@ fn migrated_in<T: Tree>(
 ) -> Result<Bytes, Status>
     requires { IsNamespace names.now }
     ensures becomes { IfOk result (Becomes names.now path.now (T.files tree.old)) }
-    ensures kept { OnOk result (T.faults tree.new ≡ T.faults tree.old) }
+    ensures cause { HasLoadCause (T.faults tree.old) (T.faults tree.new) result }
     ensures answer { IfErr result (λ stat. is_fault stat ≡ false
         → EndsIn without_plan names.now path.now (T.files tree.old) stat) }
     ensures among { IfErr result (λ stat. of_plan stat ≡ true) }
     ensures usage { IfErr result (λ stat. ¬ (stat ≡ Status.Usage)) }
-    ensures read { IfErr result (λ stat. stat ≡ Status.ReadFault
-        → Rose (T.faults tree.old) (T.faults tree.new)) }
     ensures write { IfErr result (λ stat. ¬ (stat ≡ Status.WriteFault)) }
     ensures early { IfErr result (λ stat. is_settled stat ≡ false) }
     ensures calls { T.calls tree.new

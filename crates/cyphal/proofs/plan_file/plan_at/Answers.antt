@@ -1,6 +1,19 @@
+use Rattle.std.proofs.Common.{ℕ, subst}
+use Rattle.dsdl_types.specs.declared.namespace.Namespace.{Namespace}
+use Rattle.node_run.specs.Loaded.{HasLoadCause}
+use Rattle.node_plan.specs.declared.plan.Plan.{Plan}
+use Rattle.cyphal.proofs.Causes.{same_cause}
 use Rattle.cyphal.proofs.statuses.Among.{of_its_root, root_among}
 use Rattle.cyphal.proofs.TreeCalls.{root_calls, text_calls}
 use Rattle.cyphal.proofs.plan_file.plan_at.Goals as goal
+
+pub returns-in-Err-clause-cause : goal.returns-in-Err-clause-cause
+returns-in-Err-clause-cause g c =
+    same_cause Namespace Plan _ _ c.in-Err.status c.in-Err.ensures.cause
+
+pub returns-clause-cause : goal.returns-clause-cause
+returns-clause-cause g c =
+    subst (λ (n : ℕ). HasLoadCause {T = Plan} n (g.T.Tree.faults c.plan_in.new.tree) c.plan_in.result) c.in-Ok.ensures.cause c.plan_in.ensures.cause
 
 pub returns-in-Err-clause-among : goal.returns-in-Err-clause-among
 returns-in-Err-clause-among g c =

@@ -1,7 +1,17 @@
 use Rattle.std.proofs.Common.{List, ℕ, Some, Err, sym, ap, subst}
 use Rattle.cy_outside.specs.Files.{ReadsFront}
+use Rattle.node_plan.specs.declared.plan.Plan.{Plan}
+use Rattle.cyphal.proofs.Causes.{kept_cause, same_cause}
 use Rattle.cyphal.proofs.Plans.{error_ends, gives_plan}
 use Rattle.cyphal.proofs.plan_file.plan_in.Goals as goal
+
+pub returns-in-Err-clause-cause : goal.returns-in-Err-clause-cause
+returns-in-Err-clause-cause g c =
+    same_cause (List ℕ) Plan _ _ c.in-Err.status c.in-Err.ensures.cause
+
+pub returns-clause-cause : goal.returns-clause-cause
+returns-clause-cause g c =
+    kept_cause Plan _ _ c.plan_refused.result c.in-Ok.ensures.cause c.plan_refused.ensures.read
 
 pub returns-in-Ok-read_plan-clause-plan : goal.returns-in-Ok-read_plan-clause-plan
 returns-in-Ok-read_plan-clause-plan g c =

@@ -1,6 +1,12 @@
+use Rattle.std.proofs.Common.{List, ℕ}
+use Rattle.cyphal.proofs.Causes.{kept_cause, no_file_apart}
 use Rattle.cyphal.proofs.Plans.{missing_ends}
 use Rattle.cyphal.proofs.statuses.Among.{no_file_among}
 use Rattle.cyphal.proofs.plan_file.text_at.Goals as goal
+
+pub returns-in-Ok-None-clause-cause : goal.returns-in-Ok-None-clause-cause
+returns-in-Ok-None-clause-cause g c =
+    kept_cause (List ℕ) _ _ c.no_file.result c.in-Ok-None.ensures.cause (no_file_apart c.args.path.now c.no_file.result c.no_file.ensures)
 
 pub returns-in-Ok-None-clause-answer : goal.returns-in-Ok-None-clause-answer
 returns-in-Ok-None-clause-answer g c names h =

@@ -19,12 +19,13 @@ returns-in-Err-clause-done g c =
       read = λ e. absurd cc;
       untaken = λ e. refl;
       refused = λ e. refl;
+      early = λ _. refl;
       write = λ e. absurd cc;
       unread = λ _. refl;
       unwritten = λ _. refl;
       unserved = λ s e. refl;
     })
-    (inl (record { nothing = record { written = refl; not_settled = refl; not_write = λ e. cc }; source = refl; tree = λ e. absurd cc }))
+    (inl (record { nothing = record { written = refl; not_settled = refl; not_write = λ e. cc }; source = refl; tree = λ e. absurd cc; kept = λ _. refl }))
     (λ d. absurd d)
 
 pub returns-clause-needed : goal.returns-clause-needed

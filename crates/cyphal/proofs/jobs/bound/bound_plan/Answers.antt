@@ -1,8 +1,15 @@
+use Rattle.node_plan.specs.declared.plan.Plan.{Plan}
 use Rattle.cyphal.specs.MayEnd.{of_plan, of_text}
 use Rattle.cyphal.specs.jobs.Bound.{bounded}
+use Rattle.cyphal.proofs.Causes.{ends_so}
 use Rattle.cyphal.proofs.Plans.{refused_at}
 use Rattle.cyphal.proofs.statuses.Among.{bound_among, of_first, of_second}
 use Rattle.cyphal.proofs.jobs.bound.bound_plan.Goals as goal
+
+pub returns-in-Err-clause-cause : goal.returns-in-Err-clause-cause
+returns-in-Err-clause-cause g c =
+    let err = c.in-Err.ensures in
+    ends_so Plan _ _ _ err.cause _ err.usage err.write
 
 pub returns-in-Err-clause-answer : goal.returns-in-Err-clause-answer
 returns-in-Err-clause-answer g c h = refused_at bounded c.args.root.now c.args.path.now (g.T.Tree.files c.args.tree.now) c.in-Err.status (c.in-Err.ensures.answer h)

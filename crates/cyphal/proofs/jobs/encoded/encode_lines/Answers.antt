@@ -1,11 +1,23 @@
-use Rattle.std.proofs.Common.{inr}
+use Rattle.std.proofs.Common.{inl, inr, true, false}
+use Rattle.dsdl_types.specs.declared.namespace.Namespace.{Namespace}
 use Rattle.value_lines.specs.Encoded.{Encodes}
 use Rattle.node_run.specs.NamedTypes.{message_named}
 use Rattle.node_run.specs.ValueLines.{flow}
 use Rattle.cyphal.specs.MayEnd.{of_root, of_values}
+use Rattle.cyphal.proofs.Causes.{ends_so_over, no_write, not_settled, took_nothing}
 use Rattle.cyphal.proofs.statuses.Among.{of_first, of_second, root_among, values_among}
 use Rattle.cyphal.proofs.statuses.Values.{answered_ends, no_usage, refused_none}
 use Rattle.cyphal.proofs.jobs.encoded.encode_lines.Goals as goal
+
+pub returns-in-Err-clause-cause : goal.returns-in-Err-clause-cause
+returns-in-Err-clause-cause g c =
+    let err = c.in-Err.ensures in
+    ends_so_over Namespace _ _ _ err.cause _ _ _ (no_write c.args.root.now (g.T.Tree.files c.args.tree.now) c.in-Err.status err.refused) true false
+
+pub returns-in-Err-clause-ran : goal.returns-in-Err-clause-ran
+returns-in-Err-clause-ran g c =
+    let err = c.in-Err.ensures in
+    inl (took_nothing Namespace _ _ _ err.cause _ _ _ (no_write c.args.root.now (g.T.Tree.files c.args.tree.now) c.in-Err.status err.refused) _ (not_settled c.args.root.now (g.T.Tree.files c.args.tree.now) c.in-Err.status err.refused))
 
 pub returns-clause-answer : goal.returns-clause-answer
 returns-clause-answer g c h =
@@ -35,6 +47,7 @@ returns-clause-cause g c =
       read = λ e. inr (c.encode.ensures.read e);
       untaken = λ e. absurd cc;
       refused = λ e. c.encode.ensures.untaken (refused_none Encodes (message_named names name) name told c.encode.result e c.encode.ensures.did);
+      early = λ _. c.in-Ok.ensures.cause;
       write = c.encode.ensures.write;
       unread = c.encode.ensures.unread;
       unwritten = c.encode.ensures.unwritten;

@@ -1,12 +1,24 @@
-use Rattle.std.proofs.Common.{inr}
+use Rattle.std.proofs.Common.{inl, inr, true, false}
+use Rattle.node_plan.specs.declared.plan.Plan.{Plan}
 use Rattle.log_explain.specs.Explained.{explain_voice}
 use Rattle.node_run.specs.Ran.{names_of}
 use Rattle.cyphal.specs.MayEnd.{of_log, of_plan}
 use Rattle.cyphal.specs.jobs.Run.{over}
+use Rattle.cyphal.proofs.Causes.{ends_so_over, took_nothing}
 use Rattle.cyphal.proofs.Plans.{refused_at, good_at}
 use Rattle.cyphal.proofs.statuses.Among.{log_among, of_first, of_second}
 use Rattle.cyphal.proofs.statuses.Reach.{ends_as_log, no_usage, cause_of}
 use Rattle.cyphal.proofs.jobs.explain.explain_plan.Goals as goal
+
+pub returns-in-Err-clause-cause : goal.returns-in-Err-clause-cause
+returns-in-Err-clause-cause g c =
+    let err = c.in-Err.ensures in
+    ends_so_over Plan _ _ _ err.cause _ _ _ err.write true false
+
+pub returns-in-Err-clause-ran : goal.returns-in-Err-clause-ran
+returns-in-Err-clause-ran g c =
+    let err = c.in-Err.ensures in
+    inl (took_nothing Plan _ _ _ err.cause _ _ _ err.write _ err.early)
 
 pub returns-in-Err-clause-answer : goal.returns-in-Err-clause-answer
 returns-in-Err-clause-answer g c h =
@@ -31,7 +43,7 @@ returns-clause-usage g c = no_usage c.explain_log.result c.status_of.result c.st
 
 pub returns-clause-cause : goal.returns-clause-cause
 returns-clause-cause g c =
-    cause_of c.explain_log.result c.status_of.result c.status_of.ensures _ _ c.in-Ok.ensures.kept c.explain_log.ensures.read c.explain_log.ensures.write c.explain_log.ensures.unread c.explain_log.ensures.unwritten
+    cause_of c.explain_log.result c.status_of.result c.status_of.ensures _ _ c.in-Ok.ensures.cause c.explain_log.ensures.read c.explain_log.ensures.write c.explain_log.ensures.unread c.explain_log.ensures.unwritten
 
 pub returns-clause-ran : goal.returns-clause-ran
 returns-clause-ran g c = inr (record {

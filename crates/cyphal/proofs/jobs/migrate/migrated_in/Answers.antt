@@ -1,8 +1,13 @@
 use Rattle.std.proofs.Common.{List, ℕ, Some, Err, sym, ap, subst}
 use Rattle.cy_outside.specs.Files.{ReadsFront}
+use Rattle.cyphal.proofs.Causes.{kept_cause}
 use Rattle.cyphal.proofs.Migrations.{becomes}
 use Rattle.cyphal.proofs.Plans.{error_ends}
 use Rattle.cyphal.proofs.jobs.migrate.migrated_in.Goals as goal
+
+pub returns-clause-cause : goal.returns-clause-cause
+returns-clause-cause g c =
+    kept_cause (List ℕ) _ _ c.plan_refused.result c.in-Ok.ensures.cause c.plan_refused.ensures.read
 
 pub returns-in-Ok-migrate-clause-becomes : goal.returns-in-Ok-migrate-clause-becomes
 returns-in-Ok-migrate-clause-becomes g c =

@@ -1,4 +1,5 @@
-use Rattle.std.proofs.Common.{inl, inr, ℕ, Option, refl, subst}
+use Rattle.std.proofs.Common.{inl, inr, ℕ, true, Option, refl, subst}
+use Rattle.node_plan.specs.declared.plan.Plan.{Plan}
 use Rattle.cy_outside.specs.Files.{Files}
 use Rattle.node_run.specs.Failures.{failures}
 use Rattle.node_run.specs.HasRun.{HasRun}
@@ -7,6 +8,7 @@ use Rattle.node_run.specs.Ran.{reported}
 use Rattle.cyphal.specs.MayEnd.{of_log, of_plan}
 use Rattle.cyphal.specs.jobs.Run.{over, run_job}
 use Rattle.cyphal.proofs.CarriedOut.{read_out}
+use Rattle.cyphal.proofs.Causes.{ends_so_over, took_nothing}
 use Rattle.cyphal.proofs.Plans.{refused_at, good_at}
 use Rattle.cyphal.proofs.statuses.Among.{of_first, of_second, run_among}
 use Rattle.cyphal.proofs.statuses.Run.{plan_answer, run_not_refused}
@@ -21,16 +23,8 @@ returns-in-Err-clause-done g c =
     read_out (run_job c.args.form root path) _ stat _ _ refl c.nothing.result c.nothing.ensures g.L.Source.left _ _ _ ⊥ refl
     (λ h. refused_at (over (g.L.Source.left c.args.input.now)) root path (g.T.Tree.files c.args.tree.now) stat (err.answer h))
     (of_first (of_plan stat) (of_log stat) err.among)
-    (record {
-      read = λ e. inl (err.read e, refl);
-      untaken = λ e. absurd cc;
-      refused = λ _. refl;
-      write = λ e. absurd (err.write e);
-      unread = λ _. refl;
-      unwritten = λ _. refl;
-      unserved = λ e. absurd cc;
-    })
-    (inl (record { nothing = record { written = refl; not_settled = err.early; not_write = err.write }; source = refl; tree = err.read }))
+    (ends_so_over Plan _ _ stat err.cause _ _ _ err.write true true)
+    (inl (took_nothing Plan _ _ stat err.cause _ _ _ err.write _ err.early))
     (λ d. absurd d)
 
 pub returns-in-Err-clause-needed : goal.returns-in-Err-clause-needed
@@ -52,7 +46,7 @@ returns-clause-done g c =
     let put = reported (g.K.LineSink.lines c.args.lines.now) (g.K.LineSink.lines run.new.lines) run.new.numbers in
     let failed = λ (faults : ℕ). failures (g.K.LineSink.failed c.args.lines.now) (g.K.LineSink.failed run.new.lines) faults (g.T.Tree.faults run.new.tree) in
     let ran = subst (λ (f : Option Files). HasRun form plan f told run.result put (failed (g.T.Tree.faults c.args.tree.now))) c.in-Ok.ensures.files
-    (subst (λ (n : ℕ). HasRun form plan (g.T.Tree.files c.plan_at.new.tree) told run.result put (failed n)) c.in-Ok.ensures.kept done.ran) in
+    (subst (λ (n : ℕ). HasRun form plan (g.T.Tree.files c.plan_at.new.tree) told run.result put (failed n)) c.in-Ok.ensures.cause done.ran) in
     record {
       answer = λ h. good_at (over (g.L.Source.left c.args.input.now)) root path files run.result plan c.in-Ok.ensures.plan (plan_answer form plan _ _ run.result _ _ ran h) h;
       among = of_second (of_plan run.result) (of_log run.result) (run_among form plan _ _ run.result _ _ ran);
@@ -60,6 +54,7 @@ returns-clause-done g c =
         read = λ e. inr (done.read e);
         untaken = λ e. absurd cc;
         refused = λ e. absurd (run_not_refused form plan _ _ run.result _ _ ran e);
+        early = λ e. absurd (run_not_refused form plan _ _ run.result _ _ ran e);
         write = done.write;
         unread = done.unread;
         unwritten = done.unwritten;
