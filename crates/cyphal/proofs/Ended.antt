@@ -26,6 +26,22 @@ module _ {L : Type 0} (due : Status) (old new : Outside L) (takes serves : Bool)
   completed status.WriteFault e c x y = absurd (y (c.write refl))
   completed status.NoMemory e c x y = inr (inl refl)
 
+-- the number 0 is that of Ok alone
+pub is_ok : (stat : Status) → code_of stat ≡ 0 → stat ≡ status.Ok
+is_ok status.Ok e = refl
+is_ok status.Usage e = absurd cc
+is_ok (status.Dsdl file n why) e = absurd cc
+is_ok (status.Plan n why) e = absurd cc
+is_ok (status.Log n why) e = absurd cc
+is_ok (status.Text line) e = absurd cc
+is_ok (status.Unreadable line path why) e = absurd cc
+is_ok (status.NotNewer path why) e = absurd cc
+is_ok status.LogLong e = absurd cc
+is_ok (status.NoFile path) e = absurd cc
+is_ok status.ReadFault e = absurd cc
+is_ok status.WriteFault e = absurd cc
+is_ok status.NoMemory e = absurd cc
+
 -- the number 8 is that of a read fault alone
 pub is_read_fault : (stat : Status) → code_of stat ≡ 8 → stat ≡ status.ReadFault
 is_read_fault status.ReadFault e = refl

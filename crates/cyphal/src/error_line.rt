@@ -21,9 +21,10 @@ pub fn put_error<E: Sink>(err: &mut E, status: &Status) -> Result<(), Failed>
     ensures begins { OnErr result
         (Begins (error_line status.now) (E.written err.old) (E.written err.new)) }
     ensures fault { OnErr result (Rose (E.faults err.old) (E.faults err.new)) }
+    ensures quiet { status.now ≡ Status.Ok → err.new ≡ err.old }
 {
     match status {
-        Status::Ok => put_all(err, b""),
+        Status::Ok => Ok(()),
         Status::Usage => put_all(err, b"cyphal: usage\n"),
         Status::Dsdl { file, line, why } => put_refused_file(err, file.as_str(), *line, why),
         Status::Plan { line, why } => {

@@ -29,7 +29,8 @@ pub fn program<T: Tree, L: Source, O: Sink, E: Sink>(
         HasAnswered text result (O.written out.old) (O.written out.new)) }
     ensures own_cause { IsSome (own_answer (map string_bytes words.now))
         → HasOwnCause result input.old input.new (O.faults out.old) (O.faults out.new) }
-    ensures quiet { IsSome (own_answer (map string_bytes words.now)) → err.new ≡ err.old }
+    ensures own_quiet { IsSome (own_answer (map string_bytes words.now)) → err.new ≡ err.old }
+    ensures quiet { result ≡ 0 → err.new ≡ err.old }
     ensures untouched { (job_for (map string_bytes words.now)).calls_tree ≡ false
         → tree.new ≡ tree.old }
     ensures ended { let words = map string_bytes words.now in

@@ -50,6 +50,7 @@ pub fn top<T: Tree, L: Source, O: Sink, E: Sink>(
         → tree.new ≡ tree.old }
     ensures said { let old = stream (E.faults err.old) (E.written err.old) in
         HasSaid result.status old (stream (E.faults err.new) (E.written err.new)) }
+    ensures quiet { result.status ≡ Status.Ok → err.new ≡ err.old }
     // A command that serves no files calls the tree no more often than it needs.
     ensures called { let job = job_for (map string_bytes words.now) in job.serves ≡ false
         → CallsAtMost job.needs (T.files tree.old) (T.calls tree.old) (T.calls tree.new) }

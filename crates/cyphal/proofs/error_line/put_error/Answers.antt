@@ -1,4 +1,4 @@
-use Rattle.std.proofs.Common.{◌≡◌, ◌∙◌, List, ℕ, Option, Result, OnOk, codes, ap, sym, subst}
+use Rattle.std.proofs.Common.{◌≡◌, ◌∙◌, List, [], ℕ, Option, Some, None, Result, OnOk, codes, refl, ap, sym, subst, append-nil}
 use Rattle.cy_outside.specs.Written.{behind}
 use Rattle.cyphal.specs.ErrorLine.{numbered, unreadable, missing, error_line}
 use Rattle.node_run.specs.declared.status.Status.{Status}
@@ -7,6 +7,16 @@ use Rattle.cyphal.proofs.error_line.put_error.Goals as goal
 -- the line was written, which is that of the status
 told : {T E : Type 0} (r : Result T E) (before after : Option (List ℕ)) (line : List ℕ) (stat : Status) → line ≡ error_line stat → OnOk r (after ≡ behind before line) → OnOk r (after ≡ behind before (error_line stat))
 told r before after line stat e h = subst (λ (t : List ℕ). OnOk r (after ≡ behind before t)) e h
+
+-- where nothing is due, what was written is all
+nothing_more : (before : Option (List ℕ)) → before ≡ behind before []
+nothing_more None = refl
+nothing_more (Some bytes) = ap Some (sym (append-nil bytes))
+
+pub returns-in-Ok-clause-written : goal.returns-in-Ok-clause-written
+returns-in-Ok-clause-written g c =
+    let before = g.E.Sink.written c.args.err.now in
+    nothing_more before ∙ ap (λ (s : Status). behind before (error_line s)) (sym c.in-Ok.is)
 
 pub returns-in-Plan-clause-written : goal.returns-in-Plan-clause-written
 returns-in-Plan-clause-written g c = told _ _ _ _ c.args.status.now (ap (λ (w : List ℕ). numbered (codes "cyphal: plan line ") c.in-Plan.line w) c.plan_why_text.ensures ∙ ap error_line (sym c.in-Plan.is)) c.put_numbered.ensures.written

@@ -1,5 +1,5 @@
 use Rattle.std.proofs.Common.{◌∙◌, sym}
-use Rattle.cyphal.proofs.Ended.{is_read_fault}
+use Rattle.cyphal.proofs.Ended.{is_ok, is_read_fault}
 use Rattle.cyphal.proofs.program.program.Goals as goal
 
 pub returns-clause-ended : goal.returns-clause-ended
@@ -11,6 +11,10 @@ returns-clause-ended g c own =
       answered = done.ensures.answered;
       said = done.ensures.said;
     }
+
+pub returns-clause-quiet : goal.returns-clause-quiet
+returns-clause-quiet g c code =
+    let done = c.run_words-done in done.ensures.quiet (is_ok done.result.status (sym c.code_of-2.ensures ∙ code))
 
 pub returns-clause-needed : goal.returns-clause-needed
 returns-clause-needed g c code quiet =
