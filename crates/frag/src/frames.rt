@@ -35,8 +35,8 @@ impl<'a> Model for Frames<'a> {
 }
 
 impl<'a> Frames<'a> {
-    /// The frames of a payload of at most 2^40 bytes, with a transfer-ID of 0 to 31, in frames of `mtu`
-    /// bytes, 8 or 64.
+    /// The frames of a payload of at most 2^40 bytes (Cyphal Specification, section 4.1.3), with a
+    /// transfer-ID of 0 to 31, in frames of `mtu` bytes, 8 or 64.
     pub fn new(payload: &'a [u8], tid: u8, mtu: u8) -> Frames<'a>
         requires mtu { IsFrameSize mtu }
         requires tid { tid < 32 }

@@ -41,8 +41,8 @@ impl Force {
         }
     }
 
-    /// Hears a frame of the session, at a moment in microseconds not before the last one heard;
-    /// `timeout` is in microseconds too.
+    /// Hears a frame of the session (Cyphal Specification, section 4.1), at a moment in
+    /// microseconds not before the last one heard; `timeout` is in microseconds too.
     ///
     /// The first start frame's bus is in force. A start frame on another bus takes over where
     /// nothing was heard for more than the timeout. A frame on the bus in force is heard, and is

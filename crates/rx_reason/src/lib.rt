@@ -1,4 +1,5 @@
-//! Why a record came to what it did: the question that is asked before the record is heard.
+//! Why a record came to what it did by the rules of reception (Cyphal Specification, section
+//! 4.1.4): the question that is asked before the record is heard.
 #![tactic(auto)]
 
 mod discard;

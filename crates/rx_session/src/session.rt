@@ -49,7 +49,8 @@ pub struct Session<S> {
 }
 
 impl<S: Shape> Session<S> {
-    /// A session that has heard no frame, with a buffer of the shape's extent.
+    /// A session that has heard no frame, with a buffer of the shape's extent (Cyphal
+    /// Specification, section 4.1.4).
     #[tactic(auto, using(crate::proofs::Extents::bytes_are))]
     pub fn open(alloc: Global, shape: &S) -> Result<Session<S>, NoMemory>
         ensures { IfOk result (λ s. kept s ≡ fresh (extent_bytes S.shape shape.now)) }
@@ -64,8 +65,9 @@ impl<S: Shape> Session<S> {
         })
     }
 
-    /// Takes a frame of the session's kind, port and source, at a moment not before the last one
-    /// heard. The timeout is in microseconds. A payload is lent from the buffer.
+    /// Takes a frame of the session's kind, port and source (Cyphal Specification, section 4.1.4),
+    /// at a moment not before the last one heard. The timeout is in microseconds. A payload is lent
+    /// from the buffer.
     ///
     /// A frame on a bus that isn't in force changes nothing. A start frame begins a transfer anew,
     /// unless it isn't late and has the transfer-ID last delivered. Any other frame is taken where
@@ -89,8 +91,9 @@ impl<S: Shape> Session<S> {
         outcome_of(step, frame, first(buffer, frame.body.len() as u64), buffer)
     }
 
-    /// What `accept` does, with an outcome that borrows nothing; but the bytes of a whole transfer stay
-    /// in its frame alone. `lend` tells the outcome, with the same frame.
+    /// What `accept` does (Cyphal Specification, section 4.1.4), with an outcome that borrows
+    /// nothing; but the bytes of a whole transfer stay in its frame alone. `lend` tells the
+    /// outcome, with the same frame.
     #[inline(always)]
     pub fn step(&mut self, frame: &Frame, timeout: u64) -> Step
         requires { self.old.force.heard ≤ frame.now.moment }

@@ -72,7 +72,8 @@ impl<S: Shape> Table<S> {
         })
     }
 
-    /// Subscribes to a kind and port, for the first `sources` sources that send a start frame.
+    /// Subscribes to a kind and port (Cyphal Specification, section 4.1.1), for the first `sources`
+    /// sources that send a start frame.
     ///
     /// The table has fewer than 2^16 subscriptions, `sources` is 1 to 128, and the shape's extent
     /// is at most 2^32 bits; what it stands for is told of a table that has no source yet. Taken
@@ -142,7 +143,8 @@ impl<S: Shape> Table<S> {
         }
     }
 
-    /// Takes a frame, at a moment in microseconds not before that of any frame taken earlier.
+    /// Takes a frame (Cyphal Specification, section 4.1.4), at a moment in microseconds not before
+    /// that of any frame taken earlier.
     ///
     /// A frame on no subscribed port leaves the table as it is, and so does an anonymous one, which
     /// is delivered at once. A start frame of a new source opens a session where the port has fewer
@@ -195,8 +197,9 @@ impl<S: Shape> Table<S> {
         }
     }
 
-    /// What `feed` does, without borrowing a payload: `lend` tells it, with the same frame. The
-    /// bytes of a whole transfer aren't put into its session's buffer.
+    /// What `feed` does (Cyphal Specification, section 4.1.4), without borrowing a payload: `lend`
+    /// tells it, with the same frame. The bytes of a whole transfer aren't put into its session's
+    /// buffer.
     #[inline(always)]
     pub fn step(&mut self, frame: &Frame) -> Result<Met, NoMemory>
         requires { HasHeardBy S.shape frame.now.moment self.old }

@@ -15,7 +15,7 @@ pub struct Tail {
 }
 
 impl Tail {
-    /// The tail that a byte says. `to_byte` undoes it.
+    /// The tail that a byte says (Cyphal Specification, section 4.2). `to_byte` undoes it.
     #[inline(always)]
     pub fn parse(byte: u8) -> Tail
         ensures value { result ≡ tail_of byte }
@@ -30,7 +30,7 @@ impl Tail {
         }
     }
 
-    /// The byte of a tail. `parse` undoes it.
+    /// The byte of a tail (Cyphal Specification, section 4.2). `parse` undoes it.
     #[inline]
     pub fn to_byte(self) -> u8
         requires { self.tid < 32 }

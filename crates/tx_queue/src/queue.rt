@@ -69,8 +69,8 @@ impl TxQueue {
         Ok(())
     }
 
-    /// Takes the first of the frames with the least identifier; None where nothing waits. The others stay in their
-    /// order.
+    /// Takes the first of the frames with the least identifier, as the bus does (Cyphal
+    /// Specification, section 4.2); None where nothing waits. The others stay in their order.
     pub fn pop(&mut self) -> Option<OutFrame>
         ensures frame { result ≡ leaving self.old.waiting.items }
         ensures others { self.new.waiting.items ≡ staying self.old.waiting.items }
