@@ -2,8 +2,8 @@
 #   It takes some two minutes, proves nothing and leaves nothing; it shows at most 1 MiB of what is written.
 # make run [PLAN=FILE] [LOG=FILE] [ROOT=FOLDER]: the same of `cyphal run ROOT PLAN`. Without PLAN and LOG it takes those of
 #   examples/first, without ROOT no types.
-# make build: proves the program and leaves it, optimised, as build/cyphal, and build/cyphal-draw beside it. From nothing that
-#   proves every crate below it: about an hour on four processors with 24 GB of memory.
+# make build [JOBS=N]: proves the program and leaves it, optimised, as build/cyphal, and build/cyphal-draw beside it. From
+#   nothing that proves every crate below it, N at a time: one a processor, as far as there are 5 GB of free memory for each.
 # make install [PREFIX=FOLDER] [DESTDIR=FOLDER]: copies build/cyphal, cyphal-draw, man page, completions, guide and examples.
 # make uninstall [PREFIX=FOLDER] [DESTDIR=FOLDER]: removes what make install copies.
 # make deb: makes a package of Debian of the same, build/cyphal_VERSION_ARCHITECTURE.deb.
@@ -17,6 +17,8 @@ ROOT = none
 PLAN = examples/first/plan
 LOG = /dev/null
 WORDS =
+JOBS = $(shell awk -v most=$$(nproc) '/^MemAvailable:/ { n = int($$2 / 5e6); print n < 1 ? 1 : n < most ? n : most }' \
+  /proc/meminfo)
 PREFIX = /usr/local
 INSTALL = install
 
@@ -47,7 +49,7 @@ run: WORDS = run $(ROOT) $(PLAN)
 run: try
 
 build:
-	cd crates/cyphal && rt run -- --version
+	cd crates/cyphal && rt all check --jobs $(JOBS) && rt run -- --version
 	mkdir -p build
 	cp crates/cyphal/out/cyphal build/cyphal
 	cp share/cyphal/draw build/cyphal-draw
