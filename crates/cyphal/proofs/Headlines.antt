@@ -9,8 +9,8 @@ use Rattle.rx_table.specs.Ports.{Port}
 use Rattle.frag.specs.Sent.{transfer_at}
 use Rattle.frag.specs.declared.sent.Pair.{Pair}
 use Rattle.frag.specs.declared.sent.Sent.{Sent}
-use Rattle.once.specs.Report.{AnyRx, Explains, IsDue, SelectedRx}
-use Rattle.once.specs.Report as rx_report
+use Rattle.delivery_theorems.specs.Report.{AnyRx, Explains, IsDue, SelectedRx}
+use Rattle.delivery_theorems.specs.Report as rx_report
 use Rattle.cy_outside.specs.Files.{Files}
 use Rattle.cy_outside.specs.Written.{behind, Begins}
 use Rattle.dsdl_resolve.specs.Laws.{HaveOneAnswer}

@@ -15,8 +15,8 @@ use Rattle.frag.specs.Wire.{IsFrameSize, fitting, last_size, padding}
 use Rattle.frag.specs.Sent.{IsIdentOf, size_on, transfer_at, IsSentList, NoChanceAt, NoChance}
 use Rattle.frag.specs.declared.sent.Pair.{Pair}
 use Rattle.frag.specs.Raw.{WireExplained}
-use Rattle.once.specs.Raw.{WireExplains}
-use Rattle.once.specs.Due.{Due, Names, SomeFromTo}
+use Rattle.delivery_theorems.specs.Raw.{WireExplains}
+use Rattle.delivery_theorems.specs.Due.{Due, Names, SomeFromTo}
 use Rattle.frag.specs.Sent.{pair_at}
 use Rattle.frag.proofs.Follows.{follows_parts}
 use Rattle.node_plan.specs.Info.{blank_info}

@@ -10,8 +10,8 @@ use Rattle.dsdl_types.specs.Schemas.{Sch}
 use Rattle.frag.specs.Sent.{transfer_at}
 use Rattle.frag.specs.declared.sent.Pair.{Pair}
 use Rattle.frag.specs.declared.sent.Sent.{Sent}
-use Rattle.once.specs.Raw.{WireExplains}
-use Rattle.once.specs.Report.{AnyRx, SelectedRx, IsDue}
+use Rattle.delivery_theorems.specs.Raw.{WireExplains}
+use Rattle.delivery_theorems.specs.Report.{AnyRx, SelectedRx, IsDue}
 use Rattle.cy_outside.specs.Files.{Files}
 use Rattle.frame_log.specs.Log.{Log, log_of}
 use Rattle.node_plan.specs.declared.plan.Plan.{Plan}

@@ -1,7 +1,7 @@
 -- The laws that the headline rests on.
 use Rattle.std.specs.Prelude.{ℕ, List}
-use Rattle.once.specs.Raw.{WireExplainsFields}
-use Rattle.once.specs.Report.{DueInReport, OnceInPart}
+use Rattle.delivery_theorems.specs.Raw.{WireExplainsFields}
+use Rattle.delivery_theorems.specs.Report.{DueInReport, OnceInPart}
 use Rattle.frame_log.specs.Log.{log_of}
 use Rattle.frame_log.specs.Order.{IsAhead}
 use Rattle.dsdl_resolve.specs.Soundness.{NamespacesKeepRules}

@@ -9,7 +9,7 @@ use Rattle.rx_table.specs.Ports.{Port}
 use Rattle.frag.specs.declared.sent.Pair.{Pair}
 use Rattle.frag.specs.declared.sent.Sent.{Sent}
 use Rattle.frag.specs.declared.sent.Transfer.{Transfer}
-use Rattle.once.specs.Report.{IsDue}
+use Rattle.delivery_theorems.specs.Report.{IsDue}
 use Rattle.cy_outside.specs.Files.{Files}
 use Rattle.node_plan.specs.declared.plan.Plan.{Plan}
 use Rattle.session_lines.specs.Reported.{IsSession}

@@ -2,11 +2,11 @@
 ghost use Rattle.cyphal.specs.Laws.{HeadlineLaws};
 ghost use Rattle.cyphal.specs.Premises.{PremisesCanBeMet};
 
+use delivery_theorems::{due_in_report, once_in_part, wire_explains_fields};
 use dsdl_resolve::namespaces_keep_rules;
 use frame_log::ordered;
 use node_core::laws::{nothing_served, something_served, steps_follow};
 use node_plan::laws::{plain_plans, plans_keep_type_rules};
-use once::{due_in_report, once_in_part, wire_explains_fields};
 use session_lines::laws::{due_values, emptying, reported, values};
 
 /// The laws that the headline rests on.

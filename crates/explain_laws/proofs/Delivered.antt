@@ -12,8 +12,8 @@ use Rattle.rx_table.specs.Received.{Delivery, Got, Run, alone, begins, not_begun
 use Rattle.frag.specs.Sent.{IsExplainedAt, pair_at, transfer_at}
 use Rattle.frag.specs.declared.sent.Pair.{Pair}
 use Rattle.frag.specs.declared.sent.Sent.{Sent}
-use Rattle.once.specs.Report.{AnyRx, DueInReport, EachRx, IsSentRx, OnceInReport, Rise, Rx, pair_on, reported, rx_of}
-use Rattle.once.specs.Selected.{Each}
+use Rattle.delivery_theorems.specs.Report.{AnyRx, DueInReport, EachRx, IsSentRx, OnceInReport, Rise, Rx, pair_on, reported, rx_of}
+use Rattle.delivery_theorems.specs.Selected.{Each}
 use Rattle.session_lines.specs.Reported.{Reported, of_key}
 use Rattle.log_explain.specs.Laws.{AsRun}
 use Rattle.log_explain.specs.declared.line.FrameLine.{FrameLine}

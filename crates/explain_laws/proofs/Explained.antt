@@ -7,8 +7,8 @@ use Rattle.rx_table.specs.Heard.{heard_as}
 use Rattle.rx_table.specs.Keys.{KeyedFrame, history}
 use Rattle.frag.specs.declared.sent.Pair.{Pair}
 use Rattle.frag.specs.declared.sent.Sent.{Sent}
-use Rattle.once.specs.Raw.{WireExplainsFields}
-use Rattle.once.specs.Report.{Explains}
+use Rattle.delivery_theorems.specs.Raw.{WireExplainsFields}
+use Rattle.delivery_theorems.specs.Report.{Explains}
 use Rattle.node_plan.specs.IsPlan.{IsPlan}
 use Rattle.node_plan.specs.declared.plan.Plan.{Plan}
 use Rattle.session_lines.proofs.Frames.{are_records, frames_are, in_order}

@@ -18,7 +18,7 @@ use Rattle.rx_table.specs.Keys.{EachFrame, KeyedFrame, SessionKey, bears_on, his
 use Rattle.rx_table.specs.Ports.{Port, is_admitted}
 use Rattle.rx_table.specs.Received.{Delivery, Got, Run, alone, begins, not_begun, received}
 use Rattle.rx_table.specs.Table.{log_with, port_on, with_source}
-use Rattle.once.specs.Selected.{Each}
+use Rattle.delivery_theorems.specs.Selected.{Each}
 use Rattle.rx_reason.specs.Reasons.{Listens, aside, begun_reason, ended, from, last_line, no_change, of_heard, of_key, of_port, of_run, on_port, or_frame, or_on_port, running, silent, stray, time_since, unheard}
 use Rattle.rx_reason.specs.declared.reason.Change.{Change}
 use Rattle.rx_reason.specs.declared.reason.Reason.{Reason}

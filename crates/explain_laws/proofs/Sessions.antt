@@ -11,7 +11,7 @@ use Rattle.rx_table.specs.Heard.{frames}
 use Rattle.rx_table.specs.Keys.{KeyedFrame, same_kind}
 use Rattle.rx_table.specs.Laws.{EachPort}
 use Rattle.rx_table.specs.Ports.{Port, port_at}
-use Rattle.once.specs.Report.{EachNumber}
+use Rattle.delivery_theorems.specs.Report.{EachNumber}
 use Rattle.node_plan.specs.Ports.{Differ, PlanPort, ports}
 use Rattle.node_plan.specs.declared.plan.Plan.{Plan}
 use Rattle.node_plan.proofs.PortLemmas.{ports_differ}

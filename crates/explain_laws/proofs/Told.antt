@@ -16,7 +16,7 @@ use Rattle.rx_table.specs.Ports.{Port, is_admitted}
 use Rattle.rx_table.specs.Received.{Delivery, Run, begins, received}
 use Rattle.rx_table.specs.Steps.{delivery_at, of_run as delivery_of}
 use Rattle.rx_table.specs.Table.{port_on, with_source}
-use Rattle.once.specs.Report.{Rx as RxOf, reported}
+use Rattle.delivery_theorems.specs.Report.{Rx as RxOf, reported}
 use Rattle.node_plan.specs.declared.plan.Plan.{Plan}
 use Rattle.node_core.specs.Heard.{ports_of}
 use Rattle.node_core.specs.Received.{got, of_delivery, of_frame, of_session as run_session, of_source, on_port, refused_line}

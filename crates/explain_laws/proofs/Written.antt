@@ -13,7 +13,7 @@ use Rattle.rx_table.specs.Keys.{KeyedFrame, SessionKey, history}
 use Rattle.rx_table.specs.Laws.{EachPort}
 use Rattle.rx_table.specs.Ports.{Port}
 use Rattle.rx_table.proofs.Admissions.{admitted_few}
-use Rattle.once.specs.Report.{EachNumber}
+use Rattle.delivery_theorems.specs.Report.{EachNumber}
 use Rattle.std_types.specs.declared.registers.Register.{Register}
 use Rattle.node_plan.specs.IsPlan.{IsPlan}
 use Rattle.node_plan.specs.Names.{is_bus_name}

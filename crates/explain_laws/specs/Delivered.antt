@@ -9,7 +9,7 @@ use Rattle.rx_table.specs.Ports.{Port}
 use Rattle.frag.specs.Sent.{transfer_at}
 use Rattle.frag.specs.declared.sent.Pair.{Pair}
 use Rattle.frag.specs.declared.sent.Sent.{Sent}
-use Rattle.once.specs.Report.{Explains, IsDue, Rise, pair_on}
+use Rattle.delivery_theorems.specs.Report.{Explains, IsDue, Rise, pair_on}
 use Rattle.node_plan.specs.IsPlan.{IsPlan}
 use Rattle.node_plan.specs.declared.plan.Plan.{Plan}
 use Rattle.session_lines.specs.Reported.{IsSession, of_key}

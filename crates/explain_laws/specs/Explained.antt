@@ -5,8 +5,8 @@ use Rattle.tail_frame.specs.Chains.{KeyRecord}
 use Rattle.rx_table.specs.Heard.{heard_as}
 use Rattle.frag.specs.declared.sent.Pair.{Pair}
 use Rattle.frag.specs.declared.sent.Sent.{Sent}
-use Rattle.once.specs.Raw.{WireExplains}
-use Rattle.once.specs.Report.{IsDue}
+use Rattle.delivery_theorems.specs.Raw.{WireExplains}
+use Rattle.delivery_theorems.specs.Report.{IsDue}
 use Rattle.node_plan.specs.IsPlan.{IsPlan}
 use Rattle.node_plan.specs.declared.plan.Plan.{Plan}
 use Rattle.session_lines.specs.Reported.{of_key}

@@ -22,7 +22,7 @@ pub fn delivered_once()
 {
     log_explain::laws::as_run();
     session_lines::laws::reported();
-    once::once_in_report();
+    delivery_theorems::once_in_report();
 }
 
 /// Each transfer that is due has such a line.
@@ -31,7 +31,7 @@ pub fn due_delivered()
 {
     log_explain::laws::as_run();
     session_lines::laws::reported();
-    once::due_in_report();
+    delivery_theorems::due_in_report();
 }
 
 /// Once, of each session that is told of an input, where a sent list explains its records by
@@ -41,7 +41,7 @@ pub fn once_explained()
 {
     sessions_are_told();
     delivered_once();
-    once::wire_explains_fields();
+    delivery_theorems::wire_explains_fields();
     frame_log::ordered();
 }
 
@@ -51,7 +51,7 @@ pub fn due_explained()
 {
     sessions_are_told();
     due_delivered();
-    once::wire_explains_fields();
+    delivery_theorems::wire_explains_fields();
     frame_log::ordered();
 }
 

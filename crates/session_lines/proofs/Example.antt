@@ -24,8 +24,8 @@ use Rattle.frag.specs.Wire.{IsFrameSize, fitting, last_size, padding}
 use Rattle.frag.specs.Sent.{size_on, transfer_at, pair_at, Explained}
 use Rattle.frag.specs.declared.sent.Pair.{Pair}
 use Rattle.frag.specs.declared.sent.Sent.{Sent}
-use Rattle.once.specs.Due.{Due, Names, SomeFromTo}
-use Rattle.once.specs.Report.{Explains}
+use Rattle.delivery_theorems.specs.Due.{Due, Names, SomeFromTo}
+use Rattle.delivery_theorems.specs.Report.{Explains}
 use Rattle.node_plan.specs.IsPlan.{IsShape, TypesKeepRules}
 use Rattle.node_plan.specs.declared.plan.Plan.{Plan}
 use Rattle.node_plan.specs.declared.plan.Sub.{Sub}

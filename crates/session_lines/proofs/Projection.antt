@@ -27,7 +27,7 @@ use Rattle.rx_table.specs.Heard.{frame_for, with_frame, frames}
 use Rattle.node_core.specs.Heard.{ports_of}
 use Rattle.node_core.specs.Received.{of_delivery, refused_line, of_session, of_source, on_port, of_frame}
 use Rattle.node_core.specs.Steps.{Step, Heard, Tick, records, lines, lines_at}
-use Rattle.once.specs.Report.{Rx as RxOf, rx_of, reported}
+use Rattle.delivery_theorems.specs.Report.{Rx as RxOf, rx_of, reported}
 use Rattle.session_lines.specs.Reported.{is_key, rxs, of_key, has_session, Reported}
 use Rattle.session_lines.proofs.Sending.{rxs_append, rxs_at}
 

@@ -4,7 +4,7 @@ use Rattle.std.specs.Prelude.{All, ⊤}
 use Rattle.std.proofs.lemmas.Bool.{cond-true, cond-false, cond_both, cases_Bool}
 use Rattle.std.proofs.lemmas.List.Elements.{All-nil, All-cons, All-contains, Contains-append_right, Contains-append_left, Contains-push}
 use Rattle.rx_table.specs.Keys.{SessionKey}
-use Rattle.once.specs.Report.{Rx as RxOf, EachRx, AnyRx}
+use Rattle.delivery_theorems.specs.Report.{Rx as RxOf, EachRx, AnyRx}
 use Rattle.report_lines.specs.declared.line.Line.{Line}
 use Rattle.report_lines.specs.declared.line.Line.TheVariants.{Rx, NoSession, Tx, Full}
 use Rattle.report_lines.specs.declared.line.Rx.{Rx as Received}

@@ -15,7 +15,7 @@ use Rattle.rx_table.specs.Keys.{SessionKey, KeyedFrame, bears_on, history, same_
 use Rattle.frag.specs.Sent.{transfer_at, data_on, size_on, pair_at}
 use Rattle.frag.specs.Wire.{padding}
 use Rattle.frag.specs.declared.sent.Pair.{Pair}
-use Rattle.once.specs.Report.{AnyRx, EachRx, IsSentRx, OnceInReport, DueInReport, pair_on}
+use Rattle.delivery_theorems.specs.Report.{AnyRx, EachRx, IsSentRx, OnceInReport, DueInReport, pair_on}
 use Rattle.node_plan.specs.IsPlan.{IsShape}
 use Rattle.node_plan.specs.Ports.{ports}
 use Rattle.node_plan.specs.declared.plan.Plan.{Plan}

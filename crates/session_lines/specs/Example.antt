@@ -13,7 +13,7 @@ use Rattle.rx_table.specs.Ports.{Port}
 use Rattle.frag.specs.Sent.{transfer_at}
 use Rattle.frag.specs.declared.sent.Pair.{Pair}
 use Rattle.frag.specs.declared.sent.Sent.{Sent}
-use Rattle.once.specs.Report.{IsDue}
+use Rattle.delivery_theorems.specs.Report.{IsDue}
 use Rattle.node_plan.specs.declared.plan.Plan.{Plan}
 use Rattle.node_core.specs.Steps.{Step, records}
 use Rattle.session_lines.specs.Reported.{of_key}

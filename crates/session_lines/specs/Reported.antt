@@ -7,7 +7,7 @@ use Rattle.tail_frame.specs.declared.logged.Record.{Record}
 use Rattle.rx_table.specs.Admitted.{has, admitted}
 use Rattle.rx_table.specs.Keys.{SessionKey, KeyedFrame, same_kind, history}
 use Rattle.rx_table.specs.Ports.{Port, port_at}
-use Rattle.once.specs.Report.{Rx as RxOf, reported}
+use Rattle.delivery_theorems.specs.Report.{Rx as RxOf, reported}
 use Rattle.node_plan.specs.declared.plan.Plan.{Plan}
 use Rattle.report_lines.specs.declared.line.Line.{Line}
 use Rattle.report_lines.specs.declared.line.Line.TheVariants.{Rx, NoSession, Tx, Full}

@@ -18,7 +18,7 @@ use Rattle.frag.specs.Sent.{transfer_at}
 use Rattle.frag.specs.declared.sent.Pair.{Pair}
 use Rattle.frag.specs.declared.sent.Sent.{Sent}
 use Rattle.frag.specs.declared.sent.Transfer.{Transfer}
-use Rattle.once.specs.Report.{Explains, IsDue, pair_on}
+use Rattle.delivery_theorems.specs.Report.{Explains, IsDue, pair_on}
 use Rattle.value_text.specs.Texts.{value_text}
 use Rattle.node_plan.specs.IsPlan.{TypesKeepRules}
 use Rattle.node_plan.specs.declared.plan.Plan.{Plan}

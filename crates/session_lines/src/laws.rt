@@ -36,7 +36,7 @@ pub fn values()
     reported();
     emptying();
     readings();
-    once::once_in_report();
+    delivery_theorems::once_in_report();
     std_types::laws::schemas_keep_rules();
     dsdl_types::laws::rules_suffice();
     dsdl_types::laws::round_trip();
@@ -50,7 +50,7 @@ pub fn due_values()
 {
     reported();
     values();
-    once::due_in_report();
+    delivery_theorems::due_in_report();
 }
 
 /// The premises of these laws on values can be met.
