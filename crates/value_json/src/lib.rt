@@ -4,7 +4,6 @@
 mod byte_array;
 mod float;
 mod half;
-mod parts;
 mod simple;
 mod value;
 mod words;

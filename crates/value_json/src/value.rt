@@ -9,12 +9,12 @@ ghost use Rattle.value_json.specs.Pieces.{Begins, Puts};
 ghost use Rattle.value_json.specs.Words.{in_braces, member, separated};
 
 use crate::byte_array::{are_bytes, put_bytes};
-use crate::parts::{fields, inner, is_uint8, items, tag};
 use crate::simple::put_simple;
 use crate::words::{put_lead, put_name, put_word};
 use cy_bits::NoMemory;
 use dsdl_types::{Body, Field, Schema, Value};
 use line_text::TextBuffer;
+use value_text::parts::{fields, inner, is_uint8, items, tag};
 
 /// Appends the JSON text of a value of a schema. A truth value is `true` or `false`, a whole
 /// number is decimal, and a float is a number that reads back as it, or the string `NaN`,

@@ -2,7 +2,7 @@
 #![tactic(auto)]
 
 pub mod laws;
-mod parts;
+pub mod parts;
 mod print;
 mod read;
 mod scan;
