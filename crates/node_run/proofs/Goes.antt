@@ -2,6 +2,8 @@
 use Rattle.std.proofs.Common.{◌≡◌, ◌∙◌, ◌^◌, ◌*◌, ℕ, ◌+◌, ◌-◌, ◌<◌, ◌≤◌, min, List, [], ◌∷◌, ◌++◌, length, Option, Some, None, refl, sym, ap, ap₂, subst, arith, append_assoc, append-nil}
 use Rattle.frame_log.specs.declared.error.LogError.{LogError}
 use Rattle.frame_log.specs.declared.error.LogError.TheVariants as error
+use Rattle.log_loop.specs.Gone.{FirstOf}
+use Rattle.log_loop.proofs.Events.{first_of}
 use Rattle.node_plan.specs.Bound.{bound_of}
 use Rattle.node_plan.specs.declared.plan.Plan.{Plan}
 use Rattle.report_lines.specs.declared.line.Line.{Line}
@@ -62,15 +64,17 @@ first_none plan newer past refusal r f a failed = record {
 
 -- before it told a line of these steps
 pub broke_none : (plan : Plan) (before : Option (List Line)) (newer past : List Step) (old new : State) (f : Failures) → Runs plan before old past → new.told ≡ old.told → new.numbers ≡ old.numbers → TellsFailures (failed_lines past) f
-    → Broke plan (report_of before new) f (newer ++ past)
+    → Broke plan (report_of before new) f (newer ++ past) past
+unfolding first_none
 broke_none plan before newer past old new f h told counted failed = record {
   first = λ refusal. first_none plan newer past refusal (report_of before new) f (record { reported = told ∙ h.at.reported; counted = counted ∙ h.at.counted }) failed;
+  behind = λ refusal. record { newer = []; parts = refl };
   within = subst (λ (n : Numbers). n.held ≤ bound_of plan) (sym counted) h.within;
 }
 
 -- when it had told some lines of a step
 pub broke_in : (plan : Plan) (before : Option (List Line)) (s : Step) (past : List Step) (old new : State) (f : Failures) (ls : List Line) → Runs plan before old past → ls ≡ lines_at plan s past → BeginsList ls old.told new.told → new.numbers ≡ old.numbers → TellsFailures (failed_lines past) f
-    → Broke plan (report_of before new) f (s ∷ past)
+    → Broke plan (report_of before new) f (s ∷ past) past
 broke_in plan before s past old new f ls h e b counted failed = record {
   first = λ refusal. record {
     newer = s ∷ [];
@@ -85,6 +89,7 @@ broke_in plan before s past old new f ls h e b counted failed = record {
     };
     failed = failed;
   };
+  behind = λ refusal. record { newer = []; parts = refl };
   within = subst (λ (n : Numbers). n.held ≤ bound_of plan) (sym counted) h.within;
 }
 
@@ -100,37 +105,55 @@ nothing : (a b : List Line) → [] ≡ a ++ b → a ≡ []
 nothing [] b e = refl
 nothing (x ∷ a) b e = cc
 
--- with newer steps that it didn't come to
-pub broke_grow : (plan : Plan) (n all : List Step) (r : Reported) (g : Failures) → Broke plan r g all → Broke plan r g (n ++ all)
-broke_grow plan n all r g b = record { first = λ refusal. grow refusal (b.first (Some error.Failed)); within = b.within }
+-- with newer steps that it didn't come to, behind the same
+record Grown (plan : Plan) (all : List Step) (refusal : Option LogError) (r : Reported) (f : Failures) (past : List Step) : Type 0 where
+  first : AtFirst plan all refusal r f
+  same : first.past ≡ past
+
+pub broke_grow : (plan : Plan) (n all past : List Step) (r : Reported) (g : Failures) → Broke plan r g all past → Broke plan r g (n ++ all) past
+broke_grow plan n all past r g b = record {
+  first = λ refusal. (grow refusal).first;
+  behind = λ refusal. subst (λ (p : List Step). FirstOf p past) (sym (grow refusal).same) (b.behind (Some error.Failed));
+  within = b.within;
+}
   where
-    grown : (refusal : Option LogError) (f : AtFirst plan all (Some error.Failed) r g) (newer : List Step) → all ≡ newer ++ f.past → next_lines plan newer f.past (Some error.Failed) ≡ f.told ++ f.rest → AtFirst plan (n ++ all) refusal r g
+    grown : (refusal : Option LogError) (f : AtFirst plan all (Some error.Failed) r g) (newer : List Step) → all ≡ newer ++ f.past → next_lines plan newer f.past (Some error.Failed) ≡ f.told ++ f.rest → Grown plan (n ++ all) refusal r g f.past
     grown refusal f [] parts next = record {
-      newer = n;
-      past = f.past;
-      parts = ap (λ t. n ++ t) parts;
-      told = f.told;
-      rest = next_lines plan n f.past refusal;
-      next = ap (λ t. t ++ next_lines plan n f.past refusal) (sym (nothing f.told f.rest next));
-      at = f.at;
-      failed = f.failed;
+      first = record {
+        newer = n;
+        past = f.past;
+        parts = ap (λ t. n ++ t) parts;
+        told = f.told;
+        rest = next_lines plan n f.past refusal;
+        next = ap (λ t. t ++ next_lines plan n f.past refusal) (sym (nothing f.told f.rest next));
+        at = f.at;
+        failed = f.failed;
+      };
+      same = refl;
     }
     grown refusal f (s ∷ t) parts next = record {
-      newer = n ++ s ∷ t;
-      past = f.past;
-      parts = ap (λ x. n ++ x) parts ∙ sym (append_assoc n (s ∷ t) f.past);
-      told = f.told;
-      rest = f.rest;
-      next = next_grow plan n s t f.past refusal (Some error.Failed) ∙ next;
-      at = f.at;
-      failed = f.failed;
+      first = record {
+        newer = n ++ s ∷ t;
+        past = f.past;
+        parts = ap (λ x. n ++ x) parts ∙ sym (append_assoc n (s ∷ t) f.past);
+        told = f.told;
+        rest = f.rest;
+        next = next_grow plan n s t f.past refusal (Some error.Failed) ∙ next;
+        at = f.at;
+        failed = f.failed;
+      };
+      same = refl;
     }
 
-    grow : (refusal : Option LogError) → AtFirst plan all (Some error.Failed) r g → AtFirst plan (n ++ all) refusal r g
-    grow refusal f = grown refusal f f.newer f.parts f.next
+    grow : (refusal : Option LogError) → Grown plan (n ++ all) refusal r g (b.first (Some error.Failed)).past
+    grow refusal = let f = b.first (Some error.Failed) in grown refusal f f.newer f.parts f.next
+
+-- behind fewer steps
+pub broke_older : (plan : Plan) (n all past : List Step) (r : Reported) (g : Failures) → Broke plan r g all (n ++ past) → Broke plan r g all past
+broke_older plan n all past r g b = record { first = b.first; behind = λ refusal. first_of (b.first refusal).past (n ++ past) n past (b.behind refusal) refl; within = b.within }
 
 -- a part of what left at the end is reported, and not counted
-pub first_cut : (plan : Plan) (all : List Step) (r : Reported) (f : Failures) (mid : Option (List Line)) → mid ≡ put_behind r.old (lines plan all) → BeginsList (emptying plan all) mid r.new → r.numbers ≡ numbers plan all → TellsFailures (failed_lines all) f → AtFirst plan all None r f
+abbrev pub first_cut : (plan : Plan) (all : List Step) (r : Reported) (f : Failures) (mid : Option (List Line)) → mid ≡ put_behind r.old (lines plan all) → BeginsList (emptying plan all) mid r.new → r.numbers ≡ numbers plan all → TellsFailures (failed_lines all) f → AtFirst plan all None r f
 first_cut plan all r f mid m b counted failed = record {
   newer = [];
   past = all;
@@ -210,10 +233,12 @@ ticks_broke first number due n at moment below e f old mid new t now goes breaks
     let done = length_behind first number n past in
     let few_done : IsFew (ticks_from first number n ++ past) = omega (arith, few, size, done) in
     let few_more : IsFew (Tick at moment ∷ (ticks_from first number n ++ past)) = omega (arith, few, size, done) in
-    let b = breaks plan before (ticks_from first number n ++ past) g few_more (goes plan before past few_done h).runs (tells_later first number n past g failed) in
+    let b = broke_older plan (ticks_from first number n) (Tick at moment ∷ (ticks_from first number n ++ past)) past (report_of before new) g
+    (breaks plan before (ticks_from first number n ++ past) g few_more (goes plan before past few_done h).runs (tells_later first number n past g failed)) in
     let d = due - (n + 1) in
     let split = ticks_split first number (n + 1) d in
     let more = ap (λ (ts : List Step). ts ++ past) (tick_more first number n at moment e f) in
     let all : due ≡ (n + 1) + d = omega arith in
     let whole = ap (λ (ts : List Step). ts ++ past) (ap (ticks_from first number) all ∙ split.1) ∙ append_assoc split.0 (ticks_from first number (n + 1)) past in
-    subst (Broke plan (report_of before new) g) (sym whole) (broke_grow plan split.0 (ticks_from first number (n + 1) ++ past) (report_of before new) g (subst (Broke plan (report_of before new) g) more b))
+    let broke : List Step → Type 0 = λ all. Broke plan (report_of before new) g all past in
+    subst broke (sym whole) (broke_grow plan split.0 (ticks_from first number (n + 1) ++ past) past (report_of before new) g (subst broke more b))

@@ -20,7 +20,7 @@ use Rattle.node_run.specs.Listens.{BreaksAt, BreaksOn}
 use Rattle.node_run.specs.Failures.{Failures, TellsFailures}
 use Rattle.node_run.specs.Ran.{Reported}
 use Rattle.node_run.proofs.Fails.{tells_later, ticks_fail_not}
-use Rattle.node_run.proofs.Goes.{broke_grow, goes_more}
+use Rattle.node_run.proofs.Goes.{broke_grow, broke_older, goes_more}
 use Rattle.node_run.proofs.Steps.{length_behind}
 use Rattle.node_run.proofs.Ticks.{Before, before_are}
 use Rattle.node_run.proofs.Waits.{none_rounds}
@@ -73,9 +73,10 @@ module _ (plan : Plan) (before : Option (List Line)) (rec : Record) (past : List
 
   -- it broke off in a tick
   pub broke_ticks : (file : FileReply) (new : State) (f : Failures) → TellsFailures (failed_lines (steps plan past)) f → ((x : ℕ) → IsFrom x from.number from.next rec.moment → BreaksOff (ticks_from x from.number left) old new)
-      → Broke plan (report_of before new) f (steps plan (met rec file ∷ past))
+      → Broke plan (report_of before new) f (steps plan (met rec file ∷ past)) (steps plan past)
   broke_ticks file new f failed b =
-      subst (Broke plan (report_of before new) f) (same file) (broke_grow plan (Heard rec file ∷ []) (ticks ++ steps plan past) (report_of before new) f (b first are.first plan before (steps plan past) f few_here h.runs failed))
+      subst (λ (all : List Step). Broke plan (report_of before new) f all (steps plan past)) (same file)
+      (broke_grow plan (Heard rec file ∷ []) (ticks ++ steps plan past) (steps plan past) (report_of before new) f (b first are.first plan before (steps plan past) f few_here h.runs failed))
 
   module _ (mid : State) (t now : List ℕ) (goes : (x : ℕ) → IsFrom x from.number from.next rec.moment → GoesOn (ticks_from x from.number left) old mid t now) where
     runs_mid : Runs plan before mid (ticks ++ steps plan past)
@@ -96,8 +97,9 @@ module _ (plan : Plan) (before : Option (List Line)) (rec : Record) (past : List
     pub served_broken : (told : Option Files) (r : Reported) (f : Failures) (b : BreaksAt told plan rec (ticks ++ steps plan past) r f) → IsServedMet told plan (met rec b.file) past
     served_broken told r f b = served_met told b.file b.served
 
-    pub broke_record : (told : Option Files) (r : Reported) (f : Failures) (b : BreaksAt told plan rec (ticks ++ steps plan past) r f) → Broke plan r f (steps plan (met rec b.file ∷ past))
-    broke_record told r f b = subst (Broke plan r f) (same b.file) b.broke
+    pub broke_record : (told : Option Files) (r : Reported) (f : Failures) (b : BreaksAt told plan rec (ticks ++ steps plan past) r f) → Broke plan r f (steps plan (met rec b.file ∷ past)) (steps plan past)
+    broke_record told r f b =
+        subst (λ (all : List Step). Broke plan r f all (steps plan past)) (same b.file) (broke_older plan ticks (Heard rec b.file ∷ (ticks ++ steps plan past)) (steps plan past) r f b.broke)
 
     module _ (file : FileReply) (new : State) (after : List ℕ) (goes_on : GoesOn (Heard rec file ∷ []) mid new now after) where
       both : HasGoneOn plan before (Heard rec file ∷ ticks) (steps plan past) old new t after

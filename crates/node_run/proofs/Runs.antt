@@ -1,5 +1,5 @@
 -- From what a listener's loop did to what a run did.
-use Rattle.std.proofs.Common.{◌≡◌, ◌∙◌, inl, inr, ◌<◌, ◌≤◌, ◌-◌, ℕ, List, length, [], ◌∷◌, ◌++◌, Option, Some, None, Bool, true, false, zero, suc, refl, sym, ap, ap₂, subst, append-nil, arith}
+use Rattle.std.proofs.Common.{◌≡◌, ◌∙◌, ◌⊎◌, inl, inr, ◌<◌, ◌≤◌, ◌-◌, ℕ, List, length, [], ◌∷◌, ◌++◌, Option, Some, None, Bool, true, false, zero, suc, refl, sym, ap, ap₂, subst, append-nil, arith}
 use Rattle.std.specs.Prelude.{if◌then◌else◌}
 use Rattle.std.proofs.lemmas.List.{map-append}
 use Rattle.tail_frame.specs.declared.logged.Record.{Record}
@@ -9,10 +9,11 @@ use Rattle.frame_log.specs.Log.{log_of}
 use Rattle.frame_log.specs.declared.error.LogError.{LogError}
 use Rattle.frame_log.specs.declared.error.LogError.TheVariants as error
 use Rattle.log_loop.specs.Voice.{MayCome, Voice, said, whole_text as all_said}
-use Rattle.log_loop.specs.Gone.{FirstOf, Stages, HeardOrEnded, Settled as HeardAll, Upto as HeardUpto, Begun as HeardFirst, BegunWhole as HeardWhole, Gone}
+use Rattle.log_loop.specs.Gone.{FirstOf, Stages, HeardOrEnded, Settled as HeardAll, Upto as HeardUpto, Begun as HeardFirst, BegunWhole as HeardWhole, BrokenOff as HeardBroken, CutShort as HeardCut, Gone, before_newest}
 use Rattle.log_loop.specs.Listened.{HasListened}
+use Rattle.log_loop.proofs.Events.{first_of as first_events}
 use Rattle.log_loop.specs.Taken.{AreOfBytes as HeardOfBytes, IsOfTaken as HeardTaken}
-use Rattle.log_loop.specs.Streamed.{HasSaid, HearsBytes, IsStreamed as HeardStreamed}
+use Rattle.log_loop.specs.Streamed.{BreaksBehind, BrokeBehind, HasSaid, HearsBytes, IsStreamed as HeardStreamed}
 use Rattle.log_loop.specs.declared.ended.Ended.{Ended}
 use Rattle.log_loop.specs.declared.ended.Ended.TheVariants as end
 use Rattle.node_plan.specs.Bound.{bound_of}
@@ -20,23 +21,23 @@ use Rattle.node_plan.specs.declared.plan.BusPlan.{BusPlan}
 use Rattle.node_plan.specs.declared.plan.Plan.{Plan}
 use Rattle.report_lines.specs.declared.line.Line.{Line}
 use Rattle.report_lines.specs.declared.numbers.Numbers.{Numbers}
-use Rattle.node_core.specs.Steps.{AreServed, Met, Step, emptying, failed_lines, first_of, lines, met_records, steps, ticks_before, ticks_done, ticks_from, ticks_until, ticks_upto}
+use Rattle.node_core.specs.Steps.{AreServed, Met, Step, emptying, failed_lines, first_of, lines, met_records, numbers, steps, ticks_before, ticks_done, ticks_from, ticks_until, ticks_upto}
 use Rattle.report_lines.specs.LineSinks.{put_behind}
 use Rattle.node_run.specs.declared.log.running.Running.{Running}
 use Rattle.node_run.specs.declared.status.Status.{Status}
 use Rattle.node_run.specs.declared.status.Status.TheVariants as status
 use Rattle.node_run.specs.Failures.{AreFailures, Failures}
-use Rattle.node_run.specs.Forms.{Form, Text, Json, Style, in_style}
+use Rattle.node_run.specs.Forms.{Form, Style, in_style}
 use Rattle.node_run.specs.HasRun.{HasRun}
-use Rattle.node_run.specs.Ran.{Reported, reported, Tells, AtEnd, AtFirst, due_lines, due_numbers, next_lines, end_sent, Settled, Begun, CutOff, Upto, Ran, names_of, status_of}
+use Rattle.node_run.specs.Ran.{Reported, reported, Tells, At, AtEnd, AtFirst, Emptied, due_lines, due_numbers, next_lines, end_sent, Settled, Begun, CutOff, Upto, Ran, names_of, status_of}
 use Rattle.node_run.specs.Taken.{AreOfBytes, IsOfTaken}
-use Rattle.node_run.specs.Streamed.{Holds, IsReported, IsStreamed, ReportsBytes, WritesBytes}
-use Rattle.node_run.specs.Goes.{Broke, Runs, State, report_of, state_in}
-use Rattle.node_run.specs.Hears.{AreSaid, CutShort, HasEnded, Said, but_newest, mets_of, run_voice}
+use Rattle.node_run.specs.Streamed.{IsReported, IsStreamed, ReportsBytes, ReportsOn, WritesBytes}
+use Rattle.node_run.specs.Goes.{Runs, State, report_of, state_in}
+use Rattle.node_run.specs.Hears.{AreSaid, BrokeOff, CutShort, HasEnded, Said, mets_of, run_voice}
 use Rattle.node_run.specs.Listens.{HasBrokenOff, HasEndedBehind, HasHeardAll, IsCutShort, IsOver, OfBroken, OfSaid, Views, failed_since}
 use Rattle.node_run.specs.ValueLines.{flow}
 use Rattle.node_run.proofs.Goes.{broke_grow}
-use Rattle.node_run.proofs.Spoken.{first_mets, is_begun, is_begun_whole, is_written, lines_written, may_first, records_same, said_front, same_first, text_said, voice_in}
+use Rattle.node_run.proofs.Spoken.{begins_steps, first_mets, is_begun, is_begun_whole, is_written, lines_written, may_first, records_same, said_front, same_first, voice_in}
 use Rattle.node_run.proofs.Steps.{first_steps}
 
 -- What the tree did in each step is what it may do.
@@ -61,7 +62,7 @@ are_served s told plan (it ∷ past) may =
 pub record AreRuns (plan : Plan) (before : Option (List Line)) (s : State) (sent : ℕ) (f : Failures) (stages : Stages Said) : Type 0 where
   pub heard : (past : List Said) → stages.heard past → OfSaid (λ mets. Runs plan before s (steps plan mets) × AreFailures (failed_lines (steps plan mets)) f) past
   pub ended : (past : List Said) → stages.ended past → OfSaid (λ mets. HasEnded plan (report_of before s) sent mets × AreFailures (failed_lines (steps plan mets)) f) past
-  pub broke : (past : List Said) → stages.broke past → OfBroken (λ mets. Broke plan (report_of before s) f (steps plan mets)) past
+  pub broke : (past : List Said) → stages.broke past → OfBroken (BrokeOff plan (report_of before s) f) past
   pub cut : (past : List Said) → stages.cut_short past → OfSaid (CutShort plan (report_of before s) f) past
 
 abbrev pub stages_of : {W K T : Type 0} → Views W K T → Running W K T → Running W K T → Stages Said
@@ -76,11 +77,15 @@ are_runs v first now = record {
   cut = λ past h. record { met = h.met.cut; said = h.said };
 }
 
--- What holds where something was said on these events: of text always, in JSON unless memory was
--- wanting.
-held_in : (form : Form) (told : Option Files) (plan : Plan) (stat : Status) (came : List Said) (P : Type 0) → MayCome (voice_in form told plan) came → ((stat ≡ status.NoMemory → ⊥) → AreSaid came) → (AreSaid came → P) → Holds form stat P
-held_in Text told plan stat came P may h p = p (text_said told plan came may)
-held_in Json told plan stat came P may h p = λ n. p (h n)
+-- The events before the newest.
+
+before_of : (past : List Said) → before_newest (mets_of past) ≡ mets_of (before_newest past)
+before_of [] = refl
+before_of (it ∷ past) = refl
+
+first_before : (events past : List Said) → FirstOf events past → FirstOf events (before_newest past)
+first_before events [] f = f
+first_before events (it ∷ past) f = first_events events (it ∷ past) (it ∷ []) past f refl
 
 -- A whole run.
 
@@ -143,18 +148,27 @@ module _ (form : Form) (told : Option Files) (plan : Plan) (before : Option (Lis
   }
 
   -- memory was wanting in a step, or in the last lines
-  begun : (events : List Said) (refusal : Option LogError) (before_text after : Option (List ℕ)) → MayCome voice events → HeardFirst voice stages.broke events refusal before_text after → Begun form plan (steps_of events) refusal steps_report f before_text after
+  begun : (events : List Said) (refusal : Option LogError) (before_text after : Option (List ℕ)) → MayCome voice events → HeardBroken voice stages.broke events refusal before_text after → Begun form plan (steps_of events) refusal steps_report f before_text after
   begun events refusal before_text after may x =
       let h = runs.broke x.came x.is in
-      let n = first_steps plan (mets_of events) (mets_of x.came) (first_mets events x.came x.first) in record {
-        first = subst (λ (ss : List Step). AtFirst plan ss refusal steps_report f) (sym n.parts) ((broke_grow plan n.newer (steps_of x.came) steps_report f h.met).first refusal);
-        written = is_begun form told plan events x.came refusal before_text after may x.first h.said x.begins x.written;
+      let heard = before_newest x.came in
+      let few = first_before events x.came x.first in
+      let n = first_steps plan (mets_of events) (mets_of x.came) (first_mets events x.came x.first) in
+      let b = broke_grow plan n.newer (steps_of x.came) (steps plan (before_newest (mets_of x.came))) steps_report f h.met in
+      let first = b.first refusal in record {
+        first = record { newer = first.newer; past = first.past; parts = n.parts ∙ first.parts; told = first.told; rest = first.rest; next = first.next; at = first.at; failed = first.failed };
+        of_first =
+            begins_steps form told plan first.past heard before_text after (subst (λ (mets : List Met). FirstOf first.past (steps plan mets)) (before_of x.came) (b.behind refusal)) (may_first voice events heard few may) h.said
+            x.begins;
+        written = is_begun form told plan events heard refusal before_text after may few h.said x.begins x.written;
       }
 
-  begun_whole : (events : List Said) (refusal : Option LogError) (before_text after : Option (List ℕ)) → MayCome voice events → HeardWhole voice stages.cut_short events refusal before_text after → Begun form plan (steps_of events) refusal steps_report f before_text after
+  begun_whole : (events : List Said) (refusal : Option LogError) (before_text after : Option (List ℕ)) → MayCome voice events → HeardCut voice stages.cut_short events refusal before_text after → Begun form plan (steps_of events) refusal steps_report f before_text after
   begun_whole events refusal before_text after may x =
-      let h = runs.cut events x.is in record {
-        first = subst (λ (z : Option LogError). AtFirst plan (steps_of events) z steps_report f) (sym x.read) h.met.first;
+      let h = runs.cut events x.is in
+      let first = h.met.first in record {
+        first = record { newer = first.newer; past = first.past; parts = first.parts; told = first.told; rest = first.rest; next = ap (next_lines plan first.newer first.past) x.read ∙ first.next; at = first.at; failed = first.failed };
+        of_first = begins_steps form told plan first.past events before_text after h.met.behind may h.said x.begins;
         written = is_begun_whole form told plan events refusal before_text after may h.said x.written;
       }
 
@@ -175,7 +189,8 @@ module _ (form : Form) (told : Option Files) (plan : Plan) (before : Option (Lis
           failed = h.met.1.tells;
         };
         failed = h.met.1;
-        written = is_begun form told plan events x.came refusal before_text after may x.first (but_newest x.came h.said) x.begins x.written;
+        of_first = inl (refl, begins_steps form told plan past x.came before_text after (record { newer = []; parts = refl }) (may_first voice events x.came x.first may) h.said x.begins);
+        written = is_begun form told plan events x.came refusal before_text after may x.first h.said x.begins x.written;
       }
 
   cut_whole : (events : List Said) (refusal : Option LogError) (before_text after : Option (List ℕ)) → MayCome voice events → HeardWhole voice stages.ended events refusal before_text after → CutOff form plan (steps_of events) refusal steps_report f before_text after
@@ -194,6 +209,7 @@ module _ (form : Form) (told : Option Files) (plan : Plan) (before : Option (Lis
           failed = h.met.1.tells;
         };
         failed = h.met.1;
+        of_first = inr (refl, refl);
         written = is_begun_whole form told plan events None before_text after may h.said (subst (λ (z : Option LogError). Begins (all_said voice events z) before_text after) x.read x.written);
       })
 
@@ -224,28 +240,52 @@ module _ (form : Form) (told : Option Files) (plan : Plan) (before : Option (Lis
     settled = settled_upto t.came before_text after (may_first voice events t.came t.are.first may) t.hears t.written;
   }
 
-  is_reported : (past : List Said) → HeardOrEnded stages past → IsReported plan (steps_of past) steps_report
+  is_reported : (past : List Said) → HeardOrEnded stages past → At plan (steps_of past) steps_report ⊎ (AtEnd plan (steps_of past) steps_report ⊎ Emptied plan (steps_of past) steps_report)
   is_reported past k = elim k [
     | inl x ↦ inl (runs.heard past x).met.0.at
     | inr x ↦ inr (inr (runs.ended past x).met.0.at)
   ]
 
+  -- where memory was wanting
+  reports_on : (all : List Step) (z : Option LogError) (past : List Met) (x : AtFirst plan all z steps_report f) → FirstOf x.past (steps plan past) → ReportsOn plan (steps plan past) steps_report
+  reports_on all z past x b = record {
+    newer = b.newer;
+    told = x.told;
+    at = subst (λ (ss : List Step). Tells (lines plan ss ++ x.told) (numbers plan ss) steps_report) b.parts x.at;
+  }
+
+  broke_reported : (events past : List Said) → BrokeBehind stages events past → ReportsOn plan (steps_of past) steps_report
+  broke_reported events past k = elim k [
+    | inl x ↦ (let b = (runs.broke (x.next ∷ past) x.is).met in reports_on (steps_of (x.next ∷ past)) None (mets_of past) (b.first None) (b.behind None))
+    | inr x ↦ (let c = (runs.cut past x.1).met in reports_on (steps_of past) None (mets_of past) c.first c.behind)
+  ]
+
+  broke_first : (events past : List Said) → BrokeBehind stages events past → FirstOf events past
+  broke_first events past k = elim k [ inl x ↦ first_events events (x.next ∷ past) (x.next ∷ []) past x.first refl | inr x ↦ x.0 ]
+
+  broke_said : (events past : List Said) → BrokeBehind stages events past → AreSaid past
+  broke_said events past k = elim k [ inl x ↦ (runs.broke (x.next ∷ past) x.is).said | inr x ↦ (runs.cut past x.1).said ]
+
   are_said : (past : List Said) → HeardOrEnded stages past → AreSaid past
   are_said past k = elim k [ inl x ↦ (runs.heard past x).said | inr x ↦ (runs.ended past x).said ]
 
-  -- of a loop that the log's end or a fault ended, what was heard is reported
-  reports : (events : List Said) (front : List ℕ) → HearsBytes (names_of plan) voice stages events front → ReportsBytes plan (mets_of events) steps_report front
-  reports events front k =
+  mets_both : (newer came : List Said) → mets_of (newer ++ came) ≡ mets_of newer ++ mets_of came
+  mets_both newer came = map-append (λ (it : Said). it.met) newer came
+
+  -- what was heard is reported
+  reports : (stat : Status) → ((all : List Step) → At plan all steps_report ⊎ (AtEnd plan all steps_report ⊎ Emptied plan all steps_report) → IsReported stat plan all steps_report)
+      → (events : List Said) (front : List ℕ) → HearsBytes (names_of plan) voice stages events front → ReportsBytes plan (mets_of events) stat steps_report front
+  reports stat is events front k =
       let newer = k.hears.newer in
-      let both : mets_of (newer ++ k.came) ≡ mets_of newer ++ mets_of k.came = map-append (λ (it : Said). it.met) newer k.came in record {
+      let both = mets_both newer k.came in record {
         came = mets_of k.came;
         are = of_bytes events front k.came k.are;
         newer = mets_of newer;
         first = subst (λ (mets : List Met). FirstOf (mets_of events) mets) both (first_mets events (newer ++ k.came) k.hears.first);
-        reported = subst (λ (mets : List Met). IsReported plan (steps plan mets) steps_report) both (is_reported (newer ++ k.came) k.hears.hears);
+        reported = subst (λ (mets : List Met). IsReported stat plan (steps plan mets) steps_report) both (is (steps_of (newer ++ k.came)) (is_reported (newer ++ k.came) k.hears.hears));
       }
 
-  reports_end : (events : List Said) (front : List ℕ) → stages.ended events → HearsBytes (names_of plan) voice stages events front → ReportsBytes plan (mets_of events) end_report front
+  reports_end : (events : List Said) (front : List ℕ) → stages.ended events → HearsBytes (names_of plan) voice stages events front → ReportsBytes plan (mets_of events) status.Ok end_report front
   reports_end events front e k =
       let are = of_bytes events front k.came k.are in
       let n = are.first in record {
@@ -253,7 +293,18 @@ module _ (form : Form) (told : Option Files) (plan : Plan) (before : Option (Lis
         are = are;
         newer = n.newer;
         first = record { newer = []; parts = n.parts };
-        reported = subst (λ (mets : List Met). IsReported plan (steps plan mets) end_report) n.parts (inr (inl (at_end events e)));
+        reported = subst (λ (mets : List Met). IsReported status.Ok plan (steps plan mets) end_report) n.parts (inr (inl (at_end events e)));
+      }
+
+  reports_broke : (events : List Said) (front : List ℕ) → BreaksBehind (names_of plan) voice stages events front → ReportsBytes plan (mets_of events) status.NoMemory steps_report front
+  reports_broke events front k =
+      let past = k.newer ++ k.came in
+      let both = mets_both k.newer k.came in record {
+        came = mets_of k.came;
+        are = of_bytes events front k.came k.are;
+        newer = mets_of k.newer;
+        first = subst (λ (mets : List Met). FirstOf (mets_of events) mets) both (first_mets events past (broke_first events past k.broke));
+        reported = subst (λ (mets : List Met). ReportsOn plan (steps plan mets) steps_report) both (broke_reported events past k.broke);
       }
 
   -- what is written of the lines that end among some bytes, if each was heard
@@ -264,10 +315,13 @@ module _ (form : Form) (told : Option Files) (plan : Plan) (before : Option (Lis
     written = lines_written form told plan w.came before_text after (may_first voice events w.came w.are.first may) h w.written;
   }
 
-  -- the events that were heard are these
-  said_bytes : (events : List Said) (front : List ℕ) (came : List Said) → HeardOfBytes (names_of plan) voice events front came → HearsBytes (names_of plan) voice stages events front → AreSaid came
-  said_bytes events front came are k =
-      let same = same_first events k.came came k.are.first are.first (k.are.records_are ∙ sym are.records_are) in subst AreSaid same (said_front k.hears.newer k.came (are_said (k.hears.newer ++ k.came) k.hears.hears))
+  -- on each event of the lines that end among some bytes something was said
+  said_bytes : (events newer past : List Said) (front : List ℕ) (came : List Said) → HeardOfBytes (names_of plan) voice events front came → HeardOfBytes (names_of plan) voice events front past → AreSaid (newer ++ past) → AreSaid came
+  said_bytes events newer past front came are other k =
+      let same = same_first events past came other.first are.first (other.records_are ∙ sym are.records_are) in subst AreSaid same (said_front newer past k)
+
+  said_heard : (events : List Said) (front : List ℕ) (came : List Said) → HeardOfBytes (names_of plan) voice events front came → HearsBytes (names_of plan) voice stages events front → AreSaid came
+  said_heard events front came are k = said_bytes events k.hears.newer k.came front came are k.are (are_said (k.hears.newer ++ k.came) k.hears.hears)
 
   has_streamed : (events : List Said) (refusal : Option LogError) (left new : Option (List ℕ)) (how : Ended) (before_text after : Option (List ℕ)) → MayCome voice events → Gone voice stages events refusal how before_text after
       → HeardStreamed (names_of plan) voice stages events left new how before_text after → IsStreamed form plan (mets_of events) (flow left new before_text after) (status_of how) (reported before s.told (end_sent how s.numbers sent))
@@ -276,21 +330,29 @@ module _ (form : Form) (told : Option Files) (plan : Plan) (before : Option (Lis
     took = x.took;
     few = x.few;
     written = λ front more same long.
-        let w = x.written front more same long in
-        held_in form told plan (status_of how) w.came _ (may_first voice events w.came w.are.first may)
-        (λ n. said_bytes events front w.came w.are (x.hears (λ e. n (ap status_of e)) front more same long)) (writes events left new before_text after front may w);
-    reported = λ n front more same long. by how n g x front more same long;
+        let w = x.written front more same long in writes events left new before_text after front may w (all_said how x front more same long w.came w.are);
+    reported = λ front more same long. by how g x front more same long;
   }
     where
       -- all of this, by how it ended
-      by : (how : Ended) → (status_of how ≡ status.NoMemory → ⊥) → Gone voice stages events refusal how before_text after → (y : HeardStreamed (names_of plan) voice stages events left new how before_text after)
-          → (front more : List ℕ) → y.taken ≡ front ++ more → 8192 < length more → ReportsBytes plan (mets_of events) (reported before s.told (end_sent how s.numbers sent)) front
-      by end.Ok n e y front more same long = reports_end events front e.1.hears (y.hears (λ o. cc) front more same long)
-      by (end.Log line why) n e y front more same long = reports events front (y.hears (λ o. cc) front more same long)
-      by end.LogLong n e y front more same long = reports events front (y.hears (λ o. cc) front more same long)
-      by end.ReadFault n e y front more same long = reports events front (y.hears (λ o. cc) front more same long)
-      by end.WriteFault n e y front more same long = reports events front (y.hears (λ o. cc) front more same long)
-      by end.NoMemory n e y front more same long = absurd (n refl)
+      all_said : (how : Ended) (y : HeardStreamed (names_of plan) voice stages events left new how before_text after) (front more : List ℕ) → y.taken ≡ front ++ more → 8192 < length more
+          → (came : List Said) → HeardOfBytes (names_of plan) voice events front came → AreSaid came
+      all_said end.Ok y front more same long came are = said_heard events front came are (y.hears (λ o. cc) front more same long)
+      all_said (end.Log line why) y front more same long came are = said_heard events front came are (y.hears (λ o. cc) front more same long)
+      all_said end.LogLong y front more same long came are = said_heard events front came are (y.hears (λ o. cc) front more same long)
+      all_said end.ReadFault y front more same long came are = said_heard events front came are (y.hears (λ o. cc) front more same long)
+      all_said end.WriteFault y front more same long came are = said_heard events front came are (y.hears (λ o. cc) front more same long)
+      all_said end.NoMemory y front more same long came are =
+          let k = y.broke refl front more same long in said_bytes events k.newer k.came front came are k.are (broke_said events (k.newer ++ k.came) k.broke)
+
+      by : (how : Ended) → Gone voice stages events refusal how before_text after → (y : HeardStreamed (names_of plan) voice stages events left new how before_text after) (front more : List ℕ) → y.taken ≡ front ++ more → 8192 < length more
+          → ReportsBytes plan (mets_of events) (status_of how) (reported before s.told (end_sent how s.numbers sent)) front
+      by end.Ok e y front more same long = reports_end events front e.1.hears (y.hears (λ o. cc) front more same long)
+      by (end.Log line why) e y front more same long = reports (status.Log line why) (λ all k. k) events front (y.hears (λ o. cc) front more same long)
+      by end.LogLong e y front more same long = reports status.LogLong (λ all k. k) events front (y.hears (λ o. cc) front more same long)
+      by end.ReadFault e y front more same long = reports status.ReadFault (λ all k. k) events front (y.hears (λ o. cc) front more same long)
+      by end.WriteFault e y front more same long = reports status.WriteFault (λ all k. k) events front (y.hears (λ o. cc) front more same long)
+      by end.NoMemory e y front more same long = reports_broke events front (y.broke refl front more same long)
 
   has_run : (left new : Option (List ℕ)) (how : Ended) (before_text after : Option (List ℕ)) → HasListened (names_of plan) voice stages left new how before_text after
       → HasRun form plan told (flow left new before_text after) (status_of how) (reported before s.told (end_sent how s.numbers sent)) f

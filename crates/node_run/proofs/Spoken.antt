@@ -10,15 +10,13 @@ use Rattle.frame_log.specs.declared.error.LogError.{LogError}
 use Rattle.log_loop.specs.Gone.{FirstOf}
 use Rattle.log_loop.specs.Streamed.{HasWritten}
 use Rattle.log_loop.specs.Voice.{MayCome, Voice, said, whole_text as all_said}
-use Rattle.log_loop.proofs.Events.{first_of}
-use Rattle.node_plan.specs.declared.plan.BusPlan.{BusPlan}
 use Rattle.node_plan.specs.declared.plan.Plan.{Plan}
 use Rattle.report_lines.specs.declared.line.Line.{Line}
 use Rattle.node_core.specs.Steps.{Met, Step, emptying, end_numbers, lines, lines_behind, lines_on, met_records, new_steps, steps}
 use Rattle.node_core.specs.Types.{type_on}
 use Rattle.node_run.specs.Forms.{Form, Text, Json, Spells, Types, in_style, last_line, leaving_in}
-use Rattle.node_run.specs.Hears.{AreSaid, AreSaidButNewest, IsSaid, MaySay, Said, mets_of, run_voice}
-use Rattle.node_run.specs.Ran.{IsBegun, IsJsonBegun, IsWritten, due_lines, end_part, json_end_part, whole_text}
+use Rattle.node_run.specs.Hears.{AreSaid, MaySay, Said, mets_of, run_voice}
+use Rattle.node_run.specs.Ran.{BeginsSteps, IsBegun, IsJsonBegun, IsWritten, due_lines, end_part, json_end_part, whole_text}
 use Rattle.node_run.specs.Streamed.{HasWrittenLines}
 use Rattle.node_run.proofs.Forms.{spells_more, spells_none}
 use Rattle.node_run.proofs.Leaving.{leaving_spelled}
@@ -117,7 +115,7 @@ module _ (form : Form) (told : Option Files) (plan : Plan) where
 
 -- As text something was said on each event that came.
 
-pub text_said : (told : Option Files) (plan : Plan) (past : List Said) → MayCome (voice_in Text told plan) past → AreSaid past
+text_said : (told : Option Files) (plan : Plan) (past : List Said) → MayCome (voice_in Text told plan) past → AreSaid past
 text_said told plan [] may = tt
 text_said told plan (it ∷ past) may = (go it.text may.0.1, text_said told plan past may.1)
   where
@@ -191,18 +189,13 @@ module _ (told : Option Files) (plan : Plan) (events : List Said) (may : MayCome
         written = subst (λ t. Begins t before after) (sym (append-nil (said (voice_in Json told plan) came))) b;
       }
 
-  -- or all but the newest, on which nothing was said then
-  begun_newest : (it : Said) (past : List Said) → FirstOf events (it ∷ past) → AreSaid past → (text : Option (List ℕ)) → it.text ≡ text → Begins (said (voice_in Json told plan) past ++ unwrap_or text []) before after → IsJsonBegun plan (steps plan (mets_of events)) refusal before after
-  begun_newest it past f h (Some t) e b =
-      begun_front (it ∷ past) f ((t, e), h) (subst (λ (x : Option (List ℕ)). Begins (said (voice_in Json told plan) past ++ unwrap_or x []) before after) (sym e) b)
-  begun_newest it past f h None e b =
-      begun_front past (first_of events (it ∷ past) (it ∷ []) past f refl) h (subst (λ t. Begins t before after) (append-nil (said (voice_in Json told plan) past)) b)
+-- a text of the lines of the steps over the first events that were heard, or a beginning of it
+pub begins_steps : (form : Form) (told : Option Files) (plan : Plan) (all : List Step) (came : List Said) (before after : Option (List ℕ)) → FirstOf all (steps plan (mets_of came)) → MayCome (voice_in form told plan) came → AreSaid came → Begins (said (voice_in form told plan) came) before after
+    → BeginsSteps form plan all before after
+begins_steps form told plan all came before after f may h b =
+    record { came = steps plan (mets_of came); first = f; said = said (voice_in form told plan) came; spelled = spells_said form told plan came may h; written = b }
 
-  json_begun : (came : List Said) → FirstOf events came → AreSaidButNewest came → Begins (said (voice_in Json told plan) came) before after → IsJsonBegun plan (steps plan (mets_of events)) refusal before after
-  json_begun [] f h b = begun_front [] f tt b
-  json_begun (it ∷ past) f h b = begun_newest it past f h it.text refl b
-
-pub is_begun : (form : Form) (told : Option Files) (plan : Plan) (events came : List Said) (refusal : Option LogError) (before after : Option (List ℕ)) → MayCome (voice_in form told plan) events → FirstOf events came → AreSaidButNewest came
+pub is_begun : (form : Form) (told : Option Files) (plan : Plan) (events came : List Said) (refusal : Option LogError) (before after : Option (List ℕ)) → MayCome (voice_in form told plan) events → FirstOf events came → AreSaid came
     → Begins (said (voice_in form told plan) came) before after → Begins (all_said (voice_in form told plan) events refusal) before after → IsBegun form plan (steps plan (mets_of events)) refusal before after
 is_begun Text told plan events came refusal before after may f h begins written = subst (λ t. Begins t before after) (text_whole told plan events refusal may) written
-is_begun Json told plan events came refusal before after may f h begins written = json_begun told plan events may refusal before after came f h begins
+is_begun Json told plan events came refusal before after may f h begins written = begun_front told plan events may refusal before after came f h begins

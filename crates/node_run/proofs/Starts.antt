@@ -17,7 +17,7 @@ use Rattle.node_core.specs.Heard.{ports_of}
 use Rattle.node_core.specs.Keeps.{keeps}
 use Rattle.node_core.specs.Queues.{waiting}
 use Rattle.node_core.specs.Stands.{Stands}
-use Rattle.node_core.specs.Steps.{Met, Step, held_at, kept, steps}
+use Rattle.node_core.specs.Steps.{Step, held_at, kept, steps}
 use Rattle.node_core.proofs.Queues.{nothing_waits}
 use Rattle.node_core.proofs.Served.{something_served}
 use Rattle.node_run.specs.Listens.{some_said}
@@ -30,9 +30,11 @@ use Rattle.node_run.specs.declared.status.Status.TheVariants as status
 use Rattle.node_run.specs.Failures.{failures}
 use Rattle.node_run.specs.Forms.{Form, Text, Json, Style}
 use Rattle.node_run.specs.HasRun.{HasRun}
-use Rattle.node_run.specs.Ran.{names_of, newest_first, reported, no_numbers, At, AtFirst, IsBegun, due_lines, whole_text}
+use Rattle.node_run.specs.Ran.{names_of, newest_first, reported, no_numbers, At, AtFirst, BeginsSteps, IsBegun, due_lines, whole_text}
 use Rattle.node_run.specs.ValueLines.{flow}
+use Rattle.node_core.specs.Types.{type_on}
 use Rattle.node_run.proofs.Fails.{failed_none}
+use Rattle.node_run.proofs.Forms.{spells_none}
 use Rattle.node_run.proofs.Goes.{first_none}
 use Rattle.node_run.proofs.Runs.{are_served}
 use Rattle.node_run.proofs.Spoken.{records_same}
@@ -87,6 +89,11 @@ begun_none Json plan all refusal before = record {
   written = begins_none [] before;
 }
 
+-- nothing is one of the lines of the first of these steps
+steps_none : (form : Form) (plan : Plan) (all : List Step) (before : Option (List ℕ)) → BeginsSteps form plan all before before
+steps_none form plan all before =
+    record { came = []; first = record { newer = all; parts = sym (append-nil all) }; said = []; spelled = spells_none form (type_on plan) plan.buses; written = begins_none [] before }
+
 -- memory was wanting before the first record
 pub has_none : (style : Style) (told : Option Files) (plan : Plan) (left : Option (List ℕ)) (lines : Option (List Line)) (bound : ℕ) (before : Option (List ℕ)) (failed : Option (List ℕ)) (faults : ℕ) → bound ≡ bound_of plan
     → HasRun style.form plan told (flow left left before before) status.NoMemory (reported lines lines (record no_numbers { bound = bound })) (failures failed failed faults faults)
@@ -96,14 +103,16 @@ has_none style told plan left lines bound before failed faults b =
     let mets = mets_of some.events in
     let all = steps plan mets in
     let r = reported lines lines (record no_numbers { bound = bound }) in
-    let f = failures failed failed faults faults in record {
+    let f = failures failed failed faults faults in
+    let first = subst (λ (ss : List Step). AtFirst plan ss log.refusal r f) (append-nil all) (first_none plan all [] log.refusal r f (at_none plan lines 0 bound (sym (held_none plan)) b) (failed_none failed faults).tells) in record {
       bytes = unwrap_or left [];
       is = told_none left;
       mets = mets;
       of_log = records_same some.events ∙ some.are;
       served = are_served style told plan some.events some.may;
       ran = record {
-        first = subst (λ (ss : List Step). AtFirst plan ss log.refusal r f) (append-nil all) (first_none plan all [] log.refusal r f (at_none plan lines 0 bound (sym (held_none plan)) b) (failed_none failed faults).tells);
+        first = first;
+        of_first = steps_none style.form plan first.past before;
         written = begun_none style.form plan all log.refusal before;
       };
       taken = λ e. absurd cc;

@@ -188,7 +188,7 @@ module _ (plan : Plan) (before : Option (List Line)) (rec : Record) (past : List
     served_there files d = subst (λ (p : Plan). IsServed files p request file) (sym plan_is) (subst (λ (r : Option Request). IsServed files plan r file) (sym asked_is) d)
 
     -- it broke off when its own lines were told, and the first of those that follow
-    broke_behind : (new : State) (since : Failures) (o : Option (List Line)) → TellsFailures (failed_lines past) since → o ≡ put_behind old.told told → BeginsList due o new.told → new.numbers ≡ old.numbers → Broke plan (report_of before new) since (s ∷ past)
+    broke_behind : (new : State) (since : Failures) (o : Option (List Line)) → TellsFailures (failed_lines past) since → o ≡ put_behind old.told told → BeginsList due o new.told → new.numbers ≡ old.numbers → Broke plan (report_of before new) since (s ∷ past) past
     broke_behind new since o failed put b same =
         broke_in plan before s past old new since _ h (all_lines_are plan before s past old h k (answered node.plan request file k) ek em told full lines_are ef) (begins_later told _ old.told o new.told put b) same failed
 

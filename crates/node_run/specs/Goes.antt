@@ -6,6 +6,7 @@ use Rattle.node_plan.specs.Bound.{bound_of}
 use Rattle.node_plan.specs.IsPlan.{IsPlan}
 use Rattle.node_plan.specs.declared.plan.Plan.{Plan}
 use Rattle.frame_log.specs.declared.error.LogError.{LogError}
+use Rattle.log_loop.specs.Gone.{FirstOf}
 use Rattle.report_lines.specs.declared.line.Line.{Line}
 use Rattle.node_core.specs.declared.node.Node.{Node}
 use Rattle.report_lines.specs.declared.numbers.Numbers.{Numbers}
@@ -55,16 +56,17 @@ pub record Runs (plan : Plan) (before : Option (List Line)) (s : State)
   pub at : At plan all (report_of before s)
   pub within : s.numbers.held ≤ bound_of plan
 
--- it broke off in one of these steps
-pub record Broke (plan : Plan) (r : Reported) (f : Failures) (all : List Step) : Type 0 where
+-- it broke off in one of these steps; the first of them, those of `past`, are reported and counted
+pub record Broke (plan : Plan) (r : Reported) (f : Failures) (all past : List Step) : Type 0 where
   pub first : (refusal : Option LogError) → AtFirst plan all refusal r f
+  pub behind : (refusal : Option LogError) → FirstOf (first refusal).past past
   pub within : r.numbers.held ≤ bound_of plan
 
 -- it has not
-abbrev pub unbroken : (plan : Plan) (before : Option (List Line)) (s : State) (f : Failures) (all : List Step)
-    → Runs plan before s all → TellsFailures (failed_lines all) f
-    → Broke plan (report_of before s) f all
-unbroken plan before s f all h failed = record {
+abbrev pub unbroken : (plan : Plan) (before : Option (List Line)) (s : State) (f : Failures)
+    (all past : List Step) → FirstOf all past → Runs plan before s all
+    → TellsFailures (failed_lines all) f → Broke plan (report_of before s) f all past
+unbroken plan before s f all past of_past h failed = record {
   first = λ refusal. record {
     newer = [];
     past = all;
@@ -78,6 +80,7 @@ unbroken plan before s f all h failed = record {
     };
     failed = failed;
   };
+  behind = λ refusal. of_past;
   within = h.within;
 }
 
@@ -105,7 +108,7 @@ abbrev pub BreaksOff : List Step → State → State → Type 0
 BreaksOff newer old new =
     (plan : Plan) (before : Option (List Line)) (past : List Step) (f : Failures)
     → IsFew (newer ++ past) → Runs plan before old past → TellsFailures (failed_lines past) f
-    → Broke plan (report_of before new) f (newer ++ past)
+    → Broke plan (report_of before new) f (newer ++ past) past
 
 -- the numbers with so many more frames that were sent
 abbrev pub with_sent : Numbers → ℕ → Numbers

@@ -3,6 +3,7 @@ use Rattle.std.specs.Prelude.{◌≡◌, ◌≤◌, ◌+◌, ◌*◌, ◌-◌, �
 use Rattle.std.specs.Prelude.{None, ⊤, count_by, length, if◌then◌else◌, map, refl, unwrap_or}
 use Rattle.cy_outside.specs.Files.{Files}
 use Rattle.tail_frame.specs.declared.logged.Record.{Record}
+use Rattle.log_loop.specs.Gone.{FirstOf, before_newest}
 use Rattle.log_loop.specs.Voice.{Voice}
 use Rattle.node_plan.specs.Bound.{bound_of}
 use Rattle.node_plan.specs.declared.plan.Plan.{Plan}
@@ -50,7 +51,7 @@ pub record Hears (plan : Plan) (before : Option (List Line)) (s : State) (clock 
 
 -- it broke off in a step of the newest of these records, or behind them
 abbrev pub BrokeOff : Plan → Reported → Failures → List Met → Type 0
-BrokeOff plan r f past = Broke plan r f (steps plan past)
+BrokeOff plan r f past = Broke plan r f (steps plan past) (steps plan (before_newest past))
 
 -- the last line is said, and so many frames were sent in all
 pub record HasEnded (plan : Plan) (r : Reported) (sent : ℕ) (past : List Met) : Type 0 where
@@ -61,6 +62,7 @@ pub record HasEnded (plan : Plan) (r : Reported) (sent : ℕ) (past : List Met) 
 -- it broke off behind the last of these records, the last of the log
 pub record CutShort (plan : Plan) (r : Reported) (f : Failures) (past : List Met) : Type 0 where
   pub first : AtFirst plan (steps plan past) None r f
+  pub behind : FirstOf first.past (steps plan past)
   pub within : r.numbers.held ≤ bound_of plan
 
 -- the text of what leaves at the end, and the last line
@@ -122,8 +124,7 @@ AreSaid [] = ⊤
 AreSaid (it ∷ past) = IsSaid it × AreSaid past
 
 abbrev pub AreSaidButNewest : List Said → Type 0
-AreSaidButNewest [] = ⊤
-AreSaidButNewest (it ∷ past) = AreSaid past
+AreSaidButNewest past = AreSaid (before_newest past)
 
 abbrev pub but_newest : (past : List Said) → AreSaid past → AreSaidButNewest past
 but_newest [] h = tt

@@ -2,13 +2,14 @@
 use Rattle.std.specs.Prelude.{◌≡◌, ◌++◌, ℕ, refl, List, Option, [], ◌∷◌}
 use Rattle.cy_outside.specs.Files.{Files}
 use Rattle.tail_frame.specs.declared.logged.Record.{Record}
+use Rattle.log_loop.specs.Gone.{FirstOf, before_newest}
 use Rattle.log_loop.specs.Met.{Comes}
 use Rattle.log_loop.specs.Voice.{Voice}
 use Rattle.node_plan.specs.declared.plan.Plan.{Plan}
 use Rattle.node_core.specs.Keeps.{IsServedBy}
 use Rattle.node_core.specs.Laws.{SomethingServed}
 use Rattle.node_core.specs.Steps.{Heard, IsServedAt, Met, Step, failed_lines, lines_on, met}
-use Rattle.node_core.specs.Steps.{met_records, steps, ticks_before}
+use Rattle.node_core.specs.Steps.{met_records, new_steps, steps, ticks_before}
 use Rattle.node_core.specs.declared.file_reply.FileReply.{FileReply}
 use Rattle.report_lines.specs.declared.line.Line.{Line}
 use Rattle.node_run.specs.Failures.{AreFailures, Failures, FailsAs, FailsUntold, TellsFailures}
@@ -112,6 +113,12 @@ pub record OfBroken (holds : List Met → Type 0) (past : List Said) : Type 0 wh
   pub met : holds (mets_of past)
   pub said : AreSaidButNewest past
 
+-- the steps over the records before the newest are the first
+abbrev pub steps_before : (plan : Plan) (past : List Met)
+    → FirstOf (steps plan past) (steps plan (before_newest past))
+steps_before plan [] = record { newer = []; parts = refl }
+steps_before plan (m ∷ past) = record { newer = new_steps plan m past; parts = refl }
+
 -- what was heard is not broken off
 abbrev pub unbroken_off : {W K T : Type 0} (v : Views W K T) (first now : Running W K T)
     (past : List Met) → HasHeardAll v first now past → HasBrokenOff v first now past
@@ -120,7 +127,8 @@ unbroken_off v first now past h =
       over = h.over;
       broke =
           unbroken first.node.now.plan (v.lines first.lines.now) (state_in v.style v.lines now)
-          (failed_since v first now) all h.hears.runs h.failed.tells;
+          (failed_since v first now) all (steps first.node.now.plan (before_newest past))
+          (steps_before first.node.now.plan past) h.hears.runs h.failed.tells;
     }
 
 abbrev pub unbroken_said : {W K T : Type 0} (v : Views W K T) (first now : Running W K T)
@@ -157,7 +165,7 @@ pub record BreaksAt (told : Option Files) (plan : Plan) (rec : Record) (past : L
     (r : Reported) (f : Failures) : Type 0 where
   pub file : FileReply
   pub served : IsServedAt told plan (Heard rec file) past
-  pub broke : Broke plan r f (Heard rec file ∷ past)
+  pub broke : Broke plan r f (Heard rec file ∷ past) past
 
 -- it broke off on a record, whatever steps it was behind and whichever of their failures are told
 pub record BreaksOn (told : Option Files) (rec : Record) (old new : State)

@@ -164,17 +164,32 @@ pub record Settled (form : Form) (plan : Plan) (all : List Step) (refusal : Opti
   pub failed : AreFailures (failed_lines all) f
   pub written : IsWritten form plan all refusal before after
 
--- the first steps are reported and counted, and a beginning of it is written
+-- a beginning of a text of the lines of the first of these steps is written, and nothing else
+pub record BeginsSteps (form : Form) (plan : Plan) (all : List Step)
+    (before after : Option (List ℕ)) : Type 0 where
+  pub came : List Step
+  pub first : FirstOf all came
+  pub said : List ℕ
+  pub spelled : Spells form (type_on plan) plan.buses (lines plan came) said
+  pub written : Begins said before after
+
+-- the first steps are reported and counted, and a beginning of their lines is written, so one of
+-- all that is due
 pub record Begun (form : Form) (plan : Plan) (all : List Step) (refusal : Option LogError)
     (r : Reported) (f : Failures) (before after : Option (List ℕ)) : Type 0 where
   pub first : AtFirst plan all refusal r f
+  pub of_first : BeginsSteps form plan first.past before after
   pub written : IsBegun form plan all refusal before after
 
--- the same where a write failed: no step broke off, so the tree failed in no other request
+-- The same where a write failed: no step broke off, so no line of another one is reported, and the
+-- tree failed in no other request. Or all lines that are due are reported, and a beginning of all
+-- is written.
 pub record CutOff (form : Form) (plan : Plan) (all : List Step) (refusal : Option LogError)
     (r : Reported) (f : Failures) (before after : Option (List ℕ)) : Type 0 where
   pub first : AtFirst plan all refusal r f
   pub failed : AreFailures (failed_lines first.past) f
+  pub of_first : ((first.told ≡ []) × BeginsSteps form plan first.past before after)
+      ⊎ ((first.newer ≡ []) × (first.rest ≡ []))
   pub written : IsBegun form plan all refusal before after
 
 -- exactly the first records are reported and written, each of them whole

@@ -4,11 +4,12 @@ use Rattle.frame_log.specs.Input.{Took}
 use Rattle.log_loop.specs.Gone.{FirstOf}
 use Rattle.log_loop.specs.Streamed.{HasWritten}
 use Rattle.node_plan.specs.declared.plan.Plan.{Plan}
-use Rattle.node_core.specs.Steps.{Met, Step, steps, lines}
+use Rattle.node_core.specs.Steps.{Met, Step, steps, lines, numbers}
 use Rattle.node_core.specs.Types.{type_on}
+use Rattle.report_lines.specs.declared.line.Line.{Line}
 use Rattle.text_lines.specs.Text.{text}
 use Rattle.node_run.specs.Forms.{Form, Text, Json, Spells}
-use Rattle.node_run.specs.Ran.{Reported, At, AtEnd, Emptied}
+use Rattle.node_run.specs.Ran.{Reported, At, AtEnd, Emptied, Tells}
 use Rattle.node_run.specs.Taken.{AreOfBytes}
 use Rattle.node_run.specs.ValueLines.{Flow}
 use Rattle.node_run.specs.declared.status.Status.{Status}
@@ -34,35 +35,37 @@ pub record WritesBytes (form : Form) (plan : Plan) (mets : List Met) (flow : Flo
   pub are : AreOfBytes plan mets bytes came
   pub written : HasWrittenLines form plan (steps plan came) flow.before flow.after
 
--- this holds; in JSON, unless memory was wanting
-abbrev pub Holds : Form → Status → Type 0 → Type 0
-Holds Text stat fact = fact
-Holds Json stat fact = (stat ≡ status.NoMemory → ⊥) → fact
+-- these steps are reported and counted, with some newer ones, and then some lines
+pub record ReportsOn (plan : Plan) (all : List Step) (r : Reported) : Type 0 where
+  pub newer : List Step
+  pub told : List Line
+  pub at : Tells (lines plan (newer ++ all) ++ told) (numbers plan (newer ++ all)) r
 
--- these steps are reported and counted; so is what left behind them, where the log was read to its
--- end, but that the last line may not be written, and this not be counted
-abbrev pub IsReported : Plan → List Step → Reported → Type 0
-IsReported plan all r = At plan all r ⊎ (AtEnd plan all r ⊎ Emptied plan all r)
+-- These steps are reported and counted; so is what left behind them, where the log was read to its
+-- end, but that the last line may not be written, and this not be counted. Where memory was
+-- wanting, newer steps may be too, and lines of the next one.
+abbrev pub IsReported : Status → Plan → List Step → Reported → Type 0
+IsReported status.NoMemory plan all r = ReportsOn plan all r
+IsReported other plan all r = At plan all r ⊎ (AtEnd plan all r ⊎ Emptied plan all r)
 
 -- the steps over the records whose line ends among these bytes are reported and counted, with those
 -- of some newer ones
-pub record ReportsBytes (plan : Plan) (mets : List Met) (r : Reported)
+pub record ReportsBytes (plan : Plan) (mets : List Met) (stat : Status) (r : Reported)
     (bytes : List ℕ) : Type 0 where
   pub came : List Met
   pub are : AreOfBytes plan mets bytes came
   pub newer : List Met
   pub first : FirstOf mets (newer ++ came)
-  pub reported : IsReported plan (steps plan (newer ++ came)) r
+  pub reported : IsReported stat plan (steps plan (newer ++ came)) r
 
--- However a run ended: it took at most 2 ^ 28 bytes and one more. Of each front of the bytes that it
--- took, behind which it took more than 8,192 bytes, the lines are written. They are reported and
--- counted too, unless memory was wanting.
+-- However a run ended: it took at most 2 ^ 28 bytes and one more. Of each front of the bytes that
+-- it took, behind which it took more than 8,192 bytes, the lines are written, reported and counted.
 pub record IsStreamed (form : Form) (plan : Plan) (mets : List Met) (flow : Flow) (stat : Status)
     (r : Reported) : Type 0 where
   pub taken : List ℕ
   pub took : Took flow.left flow.new taken
   pub few : length taken ≤ 2 ^ 28 + 1
   pub written : (front more : List ℕ) → taken ≡ front ++ more → 8192 < length more
-      → Holds form stat (WritesBytes form plan mets flow front)
-  pub reported : (stat ≡ status.NoMemory → ⊥) → (front more : List ℕ) → taken ≡ front ++ more
-      → 8192 < length more → ReportsBytes plan mets r front
+      → WritesBytes form plan mets flow front
+  pub reported : (front more : List ℕ) → taken ≡ front ++ more → 8192 < length more
+      → ReportsBytes plan mets stat r front

@@ -1,4 +1,4 @@
-use Rattle.std.proofs.Common.{◌∙◌, ◌≤◌, ◌^◌, [], List, length, sym, ap, ap₂, subst, append-nil, arith}
+use Rattle.std.proofs.Common.{◌∙◌, ◌≤◌, ◌^◌, [], List, length, refl, sym, ap, ap₂, subst, append-nil, arith}
 use Rattle.line_text.specs.Buffer.{text_of}
 use Rattle.report_lines.specs.declared.line.Line.{Line}
 use Rattle.report_lines.specs.declared.numbers.Numbers.{Numbers}
@@ -34,6 +34,7 @@ returns-in_err-emptied-clause-cut_short g c =
               (K self.lines.now) h.runs.at.reported
               (subst (λ (ls : List Line). BeginsList ls (K self.lines.now) (K c.empty.new.lines)) same c.in_err-emptied.ensures.err) h.runs.at.counted
               (failed_stay (failed_lines all) (g.K.LineSink.failed first.lines.now) (g.K.LineSink.failed self.lines.now) (g.K.LineSink.failed c.empty.new.lines) (g.T.Tree.faults first.tree.now) (g.T.Tree.faults self.tree.now) c.empty.ensures.untold hh.met.failed).tells;
+          behind = record { newer = []; parts = refl };
           within = h.runs.within;
         };
       };
@@ -58,6 +59,7 @@ returns-in_err-push_end-clause-cut_short g c =
               (K self.lines.now) h.runs.at.reported
               (record { front = emptying plan all; rest = []; whole = sym (append-nil (emptying plan all)); put = put ∙ ap (put_behind (K self.lines.now)) same }) h.runs.at.counted
               (failed_stay (failed_lines all) (g.K.LineSink.failed first.lines.now) (g.K.LineSink.failed self.lines.now) (g.K.LineSink.failed c.empty.new.lines) (g.T.Tree.faults first.tree.now) (g.T.Tree.faults self.tree.now) c.empty.ensures.untold hh.met.failed).tells;
+          behind = record { newer = []; parts = refl };
           within = h.runs.within;
         };
       };
