@@ -25,7 +25,7 @@ TakenOf words told came =
     (λ mets. IsOfTaken a.form plan mets (flow_of told came) came.reported came.failures)
 
 -- however a run ended: at most 2^28 bytes of the input and one more were taken, and no more than
--- 8,192 of them before the lines on what came before were written; in JSON, unless memory was wanting
+-- 8,192 of them before the lines on what came before were written
 abbrev pub StreamedOf : List (List ℕ) → Told → Outcome → Type 0
 StreamedOf words told came =
     (plan : Plan) (bytes : List ℕ) (a : Asked words told plan bytes)
