@@ -5,6 +5,9 @@ use Rattle.dsdl_types.specs.Values.{Val}
 use Rattle.wire_values.specs.Payloads.{payload_value}
 use Rattle.std_types.specs.Files.{FitsFileListRequest, FitsInfoRequest, FitsReadRequest}
 use Rattle.std_types.specs.Files.{file_list_request_of, info_request_of, read_request_of}
+use Rattle.std_types.specs.Ports.{get_info_service, register_access_service, register_list_service}
+use Rattle.std_types.specs.Ports.{file_get_info_service, file_list_service, file_modify_service}
+use Rattle.std_types.specs.Ports.{file_read_service, file_write_service}
 use Rattle.std_types.specs.Registers.{FitsAccessRequest, FitsListRequest, access_request_of}
 use Rattle.std_types.specs.Registers.{list_request_of}
 use Rattle.std_types.specs.Schemas.{access_request, file_list_request, info_request, list_request}
@@ -33,11 +36,14 @@ file_bytes_of v = FileBytes (read_request_of v)
 -- what a request of a file service asks; nothing that is served is changed
 abbrev pub file_question_in : ℕ → List ℕ → Option Question
 file_question_in service payload =
-    if service == 405 then option_map file_info_of (payload_value info_request payload)
-    else (if service == 406 then option_map file_name_of (payload_value file_list_request payload)
-    else (if service == 407 then Some Unsupported
-    else (if service == 408 then option_map file_bytes_of (payload_value read_request payload)
-    else (if service == 409 then Some Unsupported
+    if service == file_get_info_service
+    then option_map file_info_of (payload_value info_request payload)
+    else (if service == file_list_service
+    then option_map file_name_of (payload_value file_list_request payload)
+    else (if service == file_modify_service then Some Unsupported
+    else (if service == file_read_service
+    then option_map file_bytes_of (payload_value read_request payload)
+    else (if service == file_write_service then Some Unsupported
     else None))))
 
 -- what a request of a service asks, where the node answers it: information on the node, a
@@ -45,16 +51,20 @@ file_question_in service payload =
 -- asks nothing
 abbrev pub question_in : ℕ → List ℕ → Option Question
 question_in service payload =
-    if service == 430 then Some Info
-    else (if service == 384 then option_map access_of (payload_value access_request payload)
-    else (if service == 385 then option_map listing_of (payload_value list_request payload)
+    if service == get_info_service then Some Info
+    else (if service == register_access_service
+    then option_map access_of (payload_value access_request payload)
+    else (if service == register_list_service
+    then option_map listing_of (payload_value list_request payload)
     else file_question_in service payload))
 
 -- a service whose requests are answered by what their payload says: accesses to registers and
 -- listings of them, and of files what stands at a path, names of folders, and reads
 abbrev pub IsReadService : ℕ → Type 0
 IsReadService service =
-    (service ≡ 384) ⊎ ((service ≡ 385) ⊎ ((service ≡ 405) ⊎ ((service ≡ 406) ⊎ (service ≡ 408))))
+    (service ≡ register_access_service) ⊎ ((service ≡ register_list_service)
+    ⊎ ((service ≡ file_get_info_service) ⊎ ((service ≡ file_list_service)
+    ⊎ (service ≡ file_read_service))))
 
 -- a question of a register or of a file, other than one that isn't supported
 abbrev pub IsOfContent : Question → Type 0

@@ -12,6 +12,7 @@ use Rattle.node_status.specs.Status.{heartbeat_payload, info_payload}
 use Rattle.register_service.specs.RegisterMap.{access_reply as accessed, after_access}
 use Rattle.register_service.specs.RegisterMap.{list_reply as listed}
 use Rattle.register_service.specs.Within.{is_allowed, limits_of}
+use Rattle.std_types.specs.Ports.{heartbeat_subject}
 use Rattle.std_types.specs.Registers.{access_reply_value, list_reply_value}
 use Rattle.std_types.specs.Schemas.{access_reply, list_reply}
 use Rattle.std_types.specs.declared.register_value.RegisterValue.{RegisterValue}
@@ -28,9 +29,9 @@ use Rattle.node_core.specs.declared.request.Request.{Request}
 -- the heartbeat of a tick, with a transfer-ID
 abbrev pub beat : Plan → ℕ → ℕ → Sends
 beat plan number tid = record {
-  ident = bits (Message 4 7509 plan.node);
+  ident = bits (Message 4 heartbeat_subject plan.node);
   tid = tid;
-  port = 7509;
+  port = heartbeat_subject;
   payload = heartbeat_payload plan.status.health plan.status.mode plan.status.code number;
 }
 

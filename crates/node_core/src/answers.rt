@@ -21,8 +21,8 @@ use std::alloc::Global;
 use std_types::file::FileListReply;
 use std_types::register::{AccessRequest, ListReply, ListRequest};
 use std_types::{Standard, StdName, std_type};
-use wire_values::laws::{extent_has_room, fits_or_misfit};
-use wire_values::{WriteError, write_as};
+use wire_values::laws::extent_has_room;
+use wire_values::write_fitting;
 
 /// The most bytes of a reply's payload.
 pub(crate) const MAX_REPLY: usize = 512;
@@ -151,13 +151,8 @@ fn encoded<S: Standard>(
     ensures payload { IfOk result (λ n. take n out.new ≡ encoding S.schema (S.value given.now)) }
 {
     extent_has_room();
-    fits_or_misfit();
     readings_stored();
     let standard = std_type(alloc, name)?;
     let value = given.to_value(alloc)?;
-    match write_as(alloc, &standard.schema, &value, out) {
-        Ok(size) => Ok(size),
-        Err(WriteError::NoMemory) => Err(NoMemory),
-        Err(WriteError::Misfit { .. }) => unreachable!(),
-    }
+    Ok(write_fitting(&standard.schema, &value, out))
 }

@@ -9,32 +9,8 @@ use cy_bits::NoMemory;
 use std::alloc::Global;
 use std_types::file::{FileListRequest, InfoRequest, ReadRequest};
 use std_types::register::{AccessRequest, ListRequest};
-use std_types::{Standard, StdName, std_type};
+use std_types::{Standard, StdName, ports, std_type};
 use wire_values::payload_value;
-
-/// The service-ID of requests for information on a node.
-const GET_INFO: u16 = 430;
-
-/// The service-ID of accesses to registers.
-const ACCESS: u16 = 384;
-
-/// The service-ID of listings of registers.
-const LIST: u16 = 385;
-
-/// The service-ID of requests of what stands at a path.
-const FILE_INFO: u16 = 405;
-
-/// The service-ID of listings of folders.
-const FILE_LIST: u16 = 406;
-
-/// The service-ID of changes of files.
-const FILE_MODIFY: u16 = 407;
-
-/// The service-ID of reads of files.
-const FILE_READ: u16 = 408;
-
-/// The service-ID of writes of files.
-const FILE_WRITE: u16 = 409;
 
 /// What a request asks that a node answers.
 #[derive(Drop)]
@@ -70,28 +46,28 @@ impl Question {
         ensures memory { OnErr result (IsReadService service) }
     {
         match service {
-            GET_INFO => Ok(Some(Question::Info)),
-            ACCESS => {
+            ports::GET_INFO => Ok(Some(Question::Info)),
+            ports::REGISTER_ACCESS => {
                 let request = request_as(alloc, StdName::AccessRequest, payload)?;
                 Ok(request.map(Question::Access))
             }
-            LIST => {
+            ports::REGISTER_LIST => {
                 let request = request_as(alloc, StdName::ListRequest, payload)?;
                 Ok(request.map(Question::Listing))
             }
-            FILE_INFO => {
+            ports::FILE_GET_INFO => {
                 let request = request_as(alloc, StdName::InfoRequest, payload)?;
                 Ok(request.map(Question::FileInfo))
             }
-            FILE_LIST => {
+            ports::FILE_LIST => {
                 let request = request_as(alloc, StdName::FileListRequest, payload)?;
                 Ok(request.map(Question::FileName))
             }
-            FILE_READ => {
+            ports::FILE_READ => {
                 let request = request_as(alloc, StdName::ReadRequest, payload)?;
                 Ok(request.map(Question::FileBytes))
             }
-            FILE_MODIFY | FILE_WRITE => Ok(Some(Question::Unsupported)),
+            ports::FILE_MODIFY | ports::FILE_WRITE => Ok(Some(Question::Unsupported)),
             _ => Ok(None),
         }
     }

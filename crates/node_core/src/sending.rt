@@ -16,11 +16,12 @@ use crate::file_reply::FileReply;
 use crate::node::Node;
 use crate::pushes::{put_fulls, take_with_room};
 use crate::request::Request;
-use crate::transfer::{HEARTBEAT, Transfer, beat_ident};
+use crate::transfer::{Transfer, beat_ident};
 use cy_bits::{List, NoMemory, ShortList};
 use cy_outside::Tree;
 use node_status::heartbeat_payload;
 use report_lines::{FullLine, Line};
+use std_types::ports;
 use tx_queue::OutFrame;
 
 impl Node {
@@ -125,7 +126,7 @@ impl Node {
         let beat = Transfer {
             ident: beat_ident(self.plan.node),
             tid: self.tid,
-            port: HEARTBEAT,
+            port: ports::HEARTBEAT,
             payload: &payload,
         };
         let fulls = self.queues.push_all(moment, &beat);

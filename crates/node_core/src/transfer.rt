@@ -2,11 +2,10 @@
 ghost use Rattle.std.specs.Prelude.{◌≡◌, ◌<◌};
 ghost use Rattle.can_id.specs.Identifiers.{bits};
 ghost use Rattle.can_id.specs.declared.ident.Ident.TheVariants.{Message};
+ghost use Rattle.std_types.specs.Ports.{heartbeat_subject};
 
 use can_id::{Ident, make};
-
-/// The subject-ID of heartbeats (Cyphal Specification, section 5.3.2).
-pub const HEARTBEAT: u16 = 7509;
+use std_types::ports;
 
 /// A transfer that a node sends on every bus.
 #[derive(Clone, Copy)]
@@ -24,11 +23,11 @@ pub struct Transfer<'a> {
 /// The identifier of a node's heartbeats.
 pub fn beat_ident(node: u8) -> u32
     requires { node < 128 }
-    ensures { result ≡ bits (Message 4 7509 node) }
+    ensures { result ≡ bits (Message 4 heartbeat_subject node) }
 {
     make(Ident::Message {
         priority: 4,
-        subject: HEARTBEAT,
+        subject: ports::HEARTBEAT,
         source: node,
     })
 }
