@@ -4,7 +4,7 @@ use Rattle.dsdl_resolve.specs.Laws.{HaveOneAnswer}
 use Rattle.report_lines.specs.declared.line.Line.{Line}
 use Rattle.report_lines.specs.declared.numbers.Numbers.{Numbers}
 use Rattle.node_plan.specs.Laws.{OnePlan}
-use Rattle.node_run.specs.Failures.{failures}
+use Rattle.node_run.specs.Failures.{TreeCounts, failures, tree_counts}
 use Rattle.node_run.specs.Ran.{reported, numbers_of, of_failed, of_report}
 use Rattle.node_run.specs.ValueLines.{HasOneStatus}
 use Rattle.node_run.specs.declared.report.Report.{Report}
@@ -56,9 +56,9 @@ module _ {L : Type 0} (one : HaveOneAnswer × OnePlan) (encodes : HasOneStatus E
 some_is : (a b : List ℕ) → Some a ≡ Some b → a ≡ b
 some_is a b e = cc
 
-module _ {L : Type 0} (words : List (List ℕ)) (told : Told) (done : Done) (old new : Outside L) (left written : Option (List ℕ)) where
+module _ {L : Type 0} (words : List (List ℕ)) (told : Told) (done : Done) (old new : Outside L) (left written : Option (List ℕ)) (calls calls_new : ℕ) where
   abbrev came : Outcome
-  came = outcome done.status (of_report done.report) (of_failed done.report old.tree new.tree) left written
+  came = outcome done.status (of_report done.report) (of_failed done.report (tree_counts old.tree calls) (tree_counts new.tree calls_new)) left written
 
   -- what is said of a call, of its report
   pub reported_of : IsAnswered words told came old new → IsReported words told done old new
@@ -74,8 +74,8 @@ module _ {L : Type 0} (words : List (List ℕ)) (told : Told) (done : Done) (old
       }
 
 -- what a call came to whose sink kept its lines and its failed requests from nothing on, as one that gives their report
-pub kept_report : (old new : List Line) (failed failed_new : List ℕ) (n : Numbers) (report : Report) (faults faults_new : ℕ) (stat : Status) (left written : Option (List ℕ))
+pub kept_report : (old new : List Line) (failed failed_new : List ℕ) (n : Numbers) (report : Report) (before now : TreeCounts) (stat : Status) (left written : Option (List ℕ))
     → old ≡ [] → failed ≡ [] → report.lines ≡ new → report.failed ≡ failed_new → numbers_of report ≡ n
-    → outcome stat (reported (Some old) (Some new) n) (failures (Some failed) (Some failed_new) faults faults_new) left written ≡ outcome stat (of_report report) (of_failed report faults faults_new) left written
-kept_report old new failed failed_new n report faults faults_new stat left written a b c d e =
-    λ i. outcome stat (reported (Some (a i)) (Some (sym c i)) (sym e i)) (failures (Some (b i)) (Some (sym d i)) faults faults_new) left written
+    → outcome stat (reported (Some old) (Some new) n) (failures (Some failed) (Some failed_new) before now) left written ≡ outcome stat (of_report report) (of_failed report before now) left written
+kept_report old new failed failed_new n report before now stat left written a b c d e =
+    λ i. outcome stat (reported (Some (a i)) (Some (sym c i)) (sym e i)) (failures (Some (b i)) (Some (sym d i)) before now) left written

@@ -44,8 +44,8 @@ use Rattle.node_run.specs.declared.status.Status.TheVariants as status
 use Rattle.node_run.proofs.Forms.{text_append}
 use Rattle.cyphal.specs.Words.{Command}
 use Rattle.cyphal.specs.Cause.{Outside}
-use Rattle.cyphal.specs.Job.{Told, Outcome, flow_of, is_settled, NotDone}
-use Rattle.cyphal.specs.Plans.{PlanAt}
+use Rattle.cyphal.specs.Job.{CallsAtMost, Told, Outcome, flow_of, is_settled, NotDone}
+use Rattle.cyphal.specs.Plans.{PlanAt, counted_from, plan_calls}
 use Rattle.cyphal.specs.jobs.Run.{HasRunAt}
 use Rattle.cyphal.specs.Expected.{job_asked, job_for, WasDone}
 use Rattle.rx_table.specs.Heard.{heard_as}
@@ -195,22 +195,24 @@ did_run : (words : List (List ℕ)) (told : Told) (came : Outcome) (plan : Plan)
 did_run words told came plan bytes d a = subst (λ (o : Option Command). (job_asked o).did told came) a.command d
 
 -- the run of a plan over told files and a told input
-pub record RunOver (form : Form) (plan : Plan) (tree : Files) (bytes : List ℕ) (told : Told) (came : Outcome) : Type 0 where
+pub record RunOver (form : Form) (root path : List ℕ) (plan : Plan) (tree : Files) (bytes : List ℕ) (told : Told) (came : Outcome) : Type 0 where
   pub mets : List Met
   pub are : AreMet plan tree bytes mets
-  pub ran : Ran form plan mets (log_in plan bytes).refusal came.status came.reported came.failures told.written came.written
-  pub taken : came.status ≡ status.ReadFault → IsOfTaken form plan mets (flow_of told came) came.reported came.failures
+  pub calls : ℕ
+  pub loaded : CallsAtMost (plan_calls root path) told.files came.failures.before.calls calls
+  pub ran : Ran form plan mets (log_in plan bytes).refusal came.status came.reported (counted_from calls came.failures) told.written came.written
+  pub taken : came.status ≡ status.ReadFault → IsOfTaken form plan mets (flow_of told came) came.reported (counted_from calls came.failures)
   pub streamed : IsStreamed form plan mets (flow_of told came) came.status came.reported
 
 module _ (one : HaveOneAnswer × OnePlan) (words : List (List ℕ)) (told : Told) (came : Outcome) (plan : Plan) (bytes : List ℕ) (a : Asked words told plan bytes) where
   -- a run is of the plan that is asked for
-  of_plan : HasRunAt a.form a.root a.path told came → HasRun a.form plan told.files (flow_of told came) came.status came.reported came.failures
+  of_plan : (at : HasRunAt a.form a.root a.path told came) → HasRun a.form plan told.files (flow_of told came) came.status came.reported (counted_from at.run.calls came.failures)
   of_plan r =
       let same : r.plan ≡ plan = one_plan one a.root a.path a.tree r.plan plan (subst (λ f. PlanAt a.root a.path f r.plan) a.is_tree r.is) a.is_plan in
-      subst (λ (q : Plan). HasRun a.form q told.files (flow_of told came) came.status came.reported came.failures) same r.run
+      subst (λ (q : Plan). HasRun a.form q told.files (flow_of told came) came.status came.reported (counted_from r.run.calls came.failures)) same r.run.is
 
   -- over the told files and the told input
-  run_over : HasRunAt a.form a.root a.path told came → RunOver a.form plan a.tree bytes told came
+  run_over : HasRunAt a.form a.root a.path told came → RunOver a.form a.root a.path plan a.tree bytes told came
   run_over at =
       let r = of_plan at in
       let is : r.bytes ≡ bytes = subst (λ (i : Option (List ℕ)). IfSome i (λ (left : List ℕ). r.bytes ≡ left)) a.is_input r.is in
@@ -220,16 +222,18 @@ module _ (one : HaveOneAnswer × OnePlan) (words : List (List ℕ)) (told : Told
           of_log = r.of_log ∙ ap (λ (b : List ℕ). newest_first (log_of (names_of plan) b)) is;
           served = subst (λ (f : Option Files). AreServed f plan (steps plan r.mets)) a.is_tree r.served;
         };
-        ran = subst (λ (b : List ℕ). Ran a.form plan r.mets (log_of (names_of plan) b).refusal came.status came.reported came.failures told.written came.written) is r.ran;
+        calls = at.run.calls;
+        loaded = at.run.loaded;
+        ran = subst (λ (b : List ℕ). Ran a.form plan r.mets (log_of (names_of plan) b).refusal came.status came.reported (counted_from at.run.calls came.failures) told.written came.written) is r.ran;
         taken = r.taken;
         streamed = r.streamed;
       }
 
-  pub did_over : (job_for words).did told came → RunOver a.form plan a.tree bytes told came
+  pub did_over : (job_for words).did told came → RunOver a.form a.root a.path plan a.tree bytes told came
   did_over d = run_over (did_run words told came plan bytes d a)
 
   -- or nothing was done
-  pub run_done : {L : Type 0} (old new : Outside L) → WasDone words told came old new → NotDone told came old new ⊎ RunOver a.form plan a.tree bytes told came
+  pub run_done : {L : Type 0} (old new : Outside L) → WasDone words told came old new → NotDone told came old new ⊎ RunOver a.form a.root a.path plan a.tree bytes told came
   run_done old new (inl n) = inl n
   run_done old new (inr d) = inr (did_over d)
 
@@ -343,7 +347,7 @@ module _ {L : Type 0} (one : HaveOneAnswer × OnePlan) (words : List (List ℕ))
   writes : (plan : Plan) (bytes : List ℕ) (a : Asked words told plan bytes) → Writes a.form plan a.tree bytes came.status told.written came.written
   writes plan bytes a = by_run (run_done one words told came plan bytes a old new done)
     where
-      by_run : NotDone told came old new ⊎ RunOver a.form plan a.tree bytes told came → Writes a.form plan a.tree bytes came.status told.written came.written
+      by_run : NotDone told came old new ⊎ RunOver a.form a.root a.path plan a.tree bytes told came → Writes a.form plan a.tree bytes came.status told.written came.written
       by_run (inl n) =
           let m = met_all (Some a.tree) plan law.served (logged_in plan bytes) in record {
             mets = m.mets;
@@ -355,8 +359,8 @@ module _ {L : Type 0} (one : HaveOneAnswer × OnePlan) (words : List (List ℕ))
           let refusal = (log_in plan bytes).refusal in record {
             mets = r.mets;
             are = r.are;
-            written = λ s. written_whole a.form plan r.mets refusal came.reported came.failures told.written came.written came.status s r.ran;
-            begun = written_first a.form plan r.mets refusal came.reported came.failures told.written came.written came.status r.ran;
+            written = λ s. written_whole a.form plan r.mets refusal came.reported (counted_from r.calls came.failures) told.written came.written came.status s r.ran;
+            begun = written_first a.form plan r.mets refusal came.reported (counted_from r.calls came.failures) told.written came.written came.status r.ran;
           }
 
   pub headline_of : HeadlineOf words told came
@@ -385,25 +389,25 @@ module _ {L : Type 0} (one : HaveOneAnswer × OnePlan) (words : List (List ℕ))
   front_put : (plan : Plan) (bytes : List ℕ) (mine : List Line) → Asked words told plan bytes → HasPut came.reported mine → PutsFront plan bytes mine
   front_put plan bytes mine a h = by_run (run_done one words told came plan bytes a old new done)
     where
-      by_run : NotDone told came old new ⊎ RunOver a.form plan a.tree bytes told came → PutsFront plan bytes mine
+      by_run : NotDone told came old new ⊎ RunOver a.form a.root a.path plan a.tree bytes told came → PutsFront plan bytes mine
       by_run (inl n) =
           let none : [] ≡ mine = same_put mine [] h (n.empty.lines ∙ (h.1 ∙ (ap Some (sym (append-nil h.0)) ∙ ap (λ o. put_behind o []) (sym h.1)))) in
           let m = met_all (Some a.tree) plan law.served (logged_in plan bytes) in
           record { mets = m.mets; is = m.records_are; rest = lines_of plan bytes m.mets; whole = ap (λ t. t ++ lines_of plan bytes m.mets) none }
       by_run (inr r) =
-          let f = front a.form plan r.mets (log_in plan bytes).refusal came.reported came.failures told.written came.written came.status r.ran in
+          let f = front a.form plan r.mets (log_in plan bytes).refusal came.reported (counted_from r.calls came.failures) told.written came.written came.status r.ran in
           record { mets = r.mets; is = r.are.of_log; rest = f.rest; whole = f.whole ∙ ap (λ t. t ++ f.rest) (same_put mine f.mine h f.put) }
 
   -- where all that counts was run
   whole_put : (plan : Plan) (bytes : List ℕ) (mine : List Line) → Asked words told plan bytes → HasPut came.reported mine → is_settled came.status ≡ true → PutsAll plan bytes mine
   whole_put plan bytes mine a h s = by_run (run_done one words told came plan bytes a old new done)
     where
-      by_run : NotDone told came old new ⊎ RunOver a.form plan a.tree bytes told came → PutsAll plan bytes mine
+      by_run : NotDone told came old new ⊎ RunOver a.form a.root a.path plan a.tree bytes told came → PutsAll plan bytes mine
       by_run (inl n) = absurd (both_ways (is_settled came.status) n.not_settled s)
       by_run (inr r) = record {
         mets = r.mets;
         is = r.are.of_log;
-        all = same_put mine (lines_of plan bytes r.mets) h (whole a.form plan r.mets (log_in plan bytes).refusal came.reported came.failures told.written came.written came.status s r.ran);
+        all = same_put mine (lines_of plan bytes r.mets) h (whole a.form plan r.mets (log_in plan bytes).refusal came.reported (counted_from r.calls came.failures) told.written came.written came.status s r.ran);
       }
 
   pub once_of : OncePut words told came

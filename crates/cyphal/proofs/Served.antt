@@ -2,7 +2,7 @@
 use Rattle.std.proofs.Common.{◌≡◌, ◌∙◌, ◌⊎◌, inl, inr, ℕ, false, List, [], ◌∷◌, Option, Some, None, refl, sym, ap, subst}
 use Rattle.frame_log.specs.Log.{log_of}
 use Rattle.report_lines.specs.LineSinks.{put_behind}
-use Rattle.node_core.specs.Steps.{failed_lines, steps}
+use Rattle.node_core.specs.Steps.{Step, failed_lines, steps}
 use Rattle.node_run.specs.Failures.{AreFailures, Failures}
 use Rattle.node_run.specs.declared.form.Form.{Form}
 use Rattle.node_run.specs.Ran.{Ran, names_of}
@@ -11,29 +11,35 @@ use Rattle.node_run.specs.declared.status.Status.TheVariants as status
 use Rattle.cyphal.specs.Words.{Command, Run, command_of}
 use Rattle.cyphal.specs.Cause.{Outside}
 use Rattle.cyphal.specs.Job.{Told, Outcome, is_settled, ReportsNothing}
+use Rattle.cyphal.specs.Plans.{counted_from}
 use Rattle.cyphal.specs.jobs.Run.{HasRunAt}
 use Rattle.cyphal.specs.Expected.{job_asked, job_for, WasDone}
 
 -- from nothing on, some requests are told in which the tree failed, or its count stays
 abbrev pub StaysOrFails : Failures → Type 0
-StaysOrFails f = (f.faults_new ≡ f.faults) ⊎ (f.new ≡ Some [] → ⊥)
+StaysOrFails f = (f.now.faults ≡ f.before.faults) ⊎ (f.new ≡ Some [] → ⊥)
 
 none_told : (line : ℕ) (lines : List ℕ) (new : Option (List ℕ)) → new ≡ Some (line ∷ lines) → new ≡ Some [] → ⊥
 none_told line lines new a b = let bad : Some (line ∷ lines) ≡ Some [] = sym a ∙ b in cc
 
-stays_or_fails : (lines : List ℕ) (f : Failures) → f.old ≡ Some [] → AreFailures lines f → StaysOrFails f
-stays_or_fails [] f old a = inl (a.kept refl)
-stays_or_fails (line ∷ lines) f old a = inr (none_told line lines f.new (a.tells.told ∙ ap (λ o. put_behind o (line ∷ lines)) old))
+stays_or_fails : (all : List Step) (f : Failures) → f.old ≡ Some [] → AreFailures all f → StaysOrFails f
+stays_or_fails all f old a = by_lines (failed_lines all) a.tells.told a.kept
+  where
+    by_lines : (lines : List ℕ) → f.new ≡ put_behind f.old lines → (lines ≡ [] → f.now.faults ≡ f.before.faults) → StaysOrFails f
+    by_lines [] told kept = inl (kept refl)
+    by_lines (line ∷ lines) told kept = inr (none_told line lines f.new (told ∙ ap (λ o. put_behind o (line ∷ lines)) old))
 
 module _ (told : Told) (came : Outcome) where
   run_done : (form : Form) (root path : List ℕ) → came.failures.old ≡ Some [] → came.status ≡ status.Ok → HasRunAt form root path told came → StaysOrFails came.failures
   run_done form root path old ok r =
-      let refusal = (log_of (names_of r.plan) r.run.bytes).refusal in
-      let ran : Ran form r.plan r.run.mets refusal status.Ok came.reported came.failures told.written came.written =
-      subst (λ (s : Status). Ran form r.plan r.run.mets refusal s came.reported came.failures told.written came.written) ok r.run.ran in
-      stays_or_fails (failed_lines (steps r.plan r.run.mets)) came.failures old ran.1.failed
+      let run = r.run.is in
+      let f = counted_from r.run.calls came.failures in
+      let refusal = (log_of (names_of r.plan) run.bytes).refusal in
+      let ran : Ran form r.plan run.mets refusal status.Ok came.reported f told.written came.written =
+      subst (λ (s : Status). Ran form r.plan run.mets refusal s came.reported f told.written came.written) ok run.ran in
+      stays_or_fails (steps r.plan run.mets) f old ran.1.failed
 
-  did_asked : (command : Option Command) → ((job_asked command).serves ≡ false → came.failures.faults_new ≡ came.failures.faults) → came.failures.old ≡ Some [] → came.status ≡ status.Ok
+  did_asked : (command : Option Command) → ((job_asked command).serves ≡ false → came.failures.now.faults ≡ came.failures.before.faults) → came.failures.old ≡ Some [] → came.status ≡ status.Ok
       → (job_asked command).did told came → StaysOrFails came.failures
   did_asked None kept old ok d = absurd d
   did_asked (Some (Run form root path)) kept old ok d = run_done form root path old ok d
@@ -47,7 +53,7 @@ module _ (told : Told) (came : Outcome) where
 
 module _ {L : Type 0} (words : List (List ℕ)) (told : Told) (came : Outcome) (old new : Outside L) (done : WasDone words told came old new) where
   -- where all was done, the tree's count stays, or requests are told in which it failed
-  pub stays_or_told : ((job_for words).serves ≡ false → came.failures.faults_new ≡ came.failures.faults) → came.failures.old ≡ Some [] → came.status ≡ status.Ok → StaysOrFails came.failures
+  pub stays_or_told : ((job_for words).serves ≡ false → came.failures.now.faults ≡ came.failures.before.faults) → came.failures.old ≡ Some [] → came.status ≡ status.Ok → StaysOrFails came.failures
   stays_or_told kept none ok = by_work done
     where
       by_work : WasDone words told came old new → StaysOrFails came.failures

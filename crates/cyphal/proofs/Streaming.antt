@@ -20,7 +20,7 @@ module _ {L : Type 0} (one : HaveOneAnswer × OnePlan) (words : List (List ℕ))
   pub taken_of : WasDone words told came old new → came.status ≡ status.ReadFault → NotDone told came old new ⊎ TakenOf words told came
   taken_of (inl n) e = inl n
   taken_of (inr d) e = inr (λ plan bytes a.
-      (let r = did_over one words told came plan bytes a d in record { mets = r.mets; are = r.are; is = r.taken e }))
+      (let r = did_over one words told came plan bytes a d in record { mets = r.mets; are = r.are; is = record { calls = r.calls; loaded = r.loaded; is = r.taken e } }))
 
   -- a call that did nothing took nothing
   still : HeadlineLaws → (plan : Plan) (bytes : List ℕ) (a : Asked words told plan bytes) → NotDone told came old new
@@ -38,6 +38,6 @@ module _ {L : Type 0} (one : HaveOneAnswer × OnePlan) (words : List (List ℕ))
   pub streamed_of : HeadlineLaws → WasDone words told came old new → StreamedOf words told came
   streamed_of law w plan bytes a = by_run (run_done one words told came plan bytes a old new w)
     where
-      by_run : NotDone told came old new ⊎ RunOver a.form plan a.tree bytes told came → OverMet plan a.tree bytes (λ mets. IsStreamed a.form plan mets (flow_of told came) came.status came.reported)
+      by_run : NotDone told came old new ⊎ RunOver a.form a.root a.path plan a.tree bytes told came → OverMet plan a.tree bytes (λ mets. IsStreamed a.form plan mets (flow_of told came) came.status came.reported)
       by_run (inl n) = still law plan bytes a n
       by_run (inr r) = record { mets = r.mets; are = r.are; is = r.streamed }

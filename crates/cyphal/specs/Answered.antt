@@ -3,7 +3,7 @@ use Rattle.std.specs.Prelude.{◌≡◌, ◌≢◌, ◌⊎◌, ◌↔◌, ◌≤
 use Rattle.cy_outside.specs.Outside.{Rose}
 use Rattle.cy_outside.specs.Written.{behind, Begins}
 use Rattle.report_lines.specs.declared.numbers.Numbers.{Numbers}
-use Rattle.node_run.specs.Failures.{failures}
+use Rattle.node_run.specs.Failures.{failures, tree_counts}
 use Rattle.node_run.specs.Ran.{reported}
 use Rattle.node_run.specs.declared.status.Status.{Status}
 use Rattle.node_run.specs.declared.status.Status.TheVariants as status
@@ -71,13 +71,17 @@ pub record HasSaid (stat : Status) (old new : Stream) : Type 0 where
   pub whole_line : ¬ Rose old.faults new.faults
       → new.written ≡ behind old.written (error_line stat)
 
--- what the program left: the rest of its input, and what is written on its output at its end
+-- what the program left: the rest of its input, and what is written on its output at its end; and
+-- how often its tree had been called before, and then
 pub record Left : Type 0 where
   pub input : Option (List ℕ)
   pub written : Option (List ℕ)
+  pub calls : ℕ
+  pub calls_new : ℕ
 
-abbrev pub left_by : Option (List ℕ) → Option (List ℕ) → Left
-left_by input written = record { input = input; written = written }
+abbrev pub left_by : Option (List ℕ) → Option (List ℕ) → ℕ → ℕ → Left
+left_by input written calls calls_new =
+    record { input = input; written = written; calls = calls; calls_new = calls_new }
 
 -- The program ended with this number: it is that of a status with which the words were answered,
 -- and which was said. It keeps no line of its report, nor those of requests in which the tree
@@ -89,6 +93,8 @@ pub record HasEnded {L : Type 0} (words : List (List ℕ)) (told : Told) (code :
   pub code_is : code ≡ code_of stat
   pub answered :
       let put = reported None None numbers in
-      let failed = failures None None old.tree new.tree in
+      let counts = tree_counts old.tree left.calls in
+      let counts_new = tree_counts new.tree left.calls_new in
+      let failed = failures None None counts counts_new in
       IsAnswered words told (outcome stat put failed left.input left.written) old new
   pub said : HasSaid stat err err_new

@@ -19,8 +19,8 @@ pub record Told : Type 0 where
 abbrev pub told_by : Option Files → Option (List ℕ) → Option (List ℕ) → Told
 told_by files input written = record { files = files; input = input; written = written }
 
--- what a call came to: its status, what it reported, in which requests of files the tree failed,
--- what is left of the input, and what is written at its end
+-- what a call came to: its status, what it reported, in which requests of files the tree failed
+-- and how often it was called, what is left of the input, and what is written at its end
 pub record Outcome : Type 0 where
   pub status : Status
   pub reported : Reported

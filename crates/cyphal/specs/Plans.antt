@@ -7,10 +7,11 @@ use Rattle.cy_outside.specs.Files.{Files, bytes_at, reads_of}
 use Rattle.dsdl_types.specs.declared.namespace.Namespace.{Namespace}
 use Rattle.node_plan.specs.Plan.{PlanIs, Good, Bad, IsPlanOf}
 use Rattle.node_plan.specs.declared.plan.Plan.{Plan}
+use Rattle.node_run.specs.Failures.{Failures, tree_counts}
 use Rattle.node_run.specs.Loaded.{IsLoaded, IsNotLoaded, calls_of}
 use Rattle.node_run.specs.declared.status.Status.{Status}
 use Rattle.node_run.specs.declared.status.Status.TheVariants as status
-use Rattle.cyphal.specs.Job.{is_fault}
+use Rattle.cyphal.specs.Job.{is_fault, CallsAtMost}
 
 -- with which status a command ends over a plan
 abbrev pub PlanEnds : Type 1
@@ -71,3 +72,15 @@ pub record PlanAt (root path : List ℕ) (files : Option Files) (plan : Plan) : 
 abbrev pub plan_calls : List ℕ → List ℕ → Files → ℕ
 plan_calls root path files =
     calls_of root files + reads_of (min (2 ^ 20 + 33) (length (bytes_at files path)))
+
+-- in which requests the tree failed, where its calls are counted from so many on
+abbrev pub counted_from : ℕ → Failures → Failures
+counted_from calls f = record f { before = tree_counts f.before.faults calls }
+
+-- This holds of a call's failures, where the tree's calls are counted from those on that the
+-- namespace of the root and the plan's text took: at most so many as these take.
+pub record SinceLoaded (root path : List ℕ) (files : Option Files) (f : Failures)
+    (holds : Failures → Type 0) : Type 0 where
+  pub calls : ℕ
+  pub loaded : CallsAtMost (plan_calls root path) files f.before.calls calls
+  pub is : holds (counted_from calls f)

@@ -7,6 +7,7 @@ use Rattle.node_run.specs.Streamed.{IsStreamed}
 use Rattle.node_run.specs.Taken.{IsOfTaken}
 use Rattle.cyphal.specs.Job.{Told, Outcome, flow_of}
 use Rattle.cyphal.specs.Headline.{AreMet, Asked}
+use Rattle.cyphal.specs.Plans.{SinceLoaded}
 
 -- the records of the input that count are met, each with what the tree told of a file there, and
 -- this holds of them
@@ -22,7 +23,8 @@ abbrev pub TakenOf : List (List ℕ) → Told → Outcome → Type 0
 TakenOf words told came =
     (plan : Plan) (bytes : List ℕ) (a : Asked words told plan bytes)
     → OverMet plan a.tree bytes
-    (λ mets. IsOfTaken a.form plan mets (flow_of told came) came.reported came.failures)
+    (λ mets. SinceLoaded a.root a.path told.files came.failures
+    (IsOfTaken a.form plan mets (flow_of told came) came.reported))
 
 -- however a run ended: at most 2^28 bytes of the input and one more were taken, and no more than
 -- 8,192 of them before the lines on what came before were written

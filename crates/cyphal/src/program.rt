@@ -35,7 +35,8 @@ pub fn program<T: Tree, L: Source, O: Sink, E: Sink>(
         → tree.new ≡ tree.old }
     ensures ended { let words = map string_bytes words.now in
         let told = told_by (T.files tree.old) (L.left input.old) (O.written out.old) in
-        let left = left_by (L.left input.new) (O.written out.new) in
+        let left = left_by (L.left input.new) (O.written out.new)
+        (T.calls tree.old) (T.calls tree.new) in
         let old = outside (T.faults tree.old) (L.faults input.old) (O.faults out.old) input.old in
         let new = outside (T.faults tree.new) (L.faults input.new) (O.faults out.new) input.new in
         let err_old = stream (E.faults err.old) (E.written err.old) in

@@ -1,7 +1,7 @@
 //! The general call: lines go to a sink of lines.
 ghost use Rattle.std.specs.Prelude.{◌≡◌, false, map, string_bytes};
 ghost use Rattle.cy_outside.specs.Outside.{Rose};
-ghost use Rattle.node_run.specs.Failures.{failures};
+ghost use Rattle.node_run.specs.Failures.{failures, tree_counts};
 ghost use Rattle.node_run.specs.Ran.{reported};
 ghost use Rattle.node_run.specs.declared.status.Status.TheVariants as status;
 ghost use Rattle.cyphal.specs.Answered.{stream, HasSaid, IsAnswered};
@@ -34,8 +34,9 @@ pub fn run_words<T: Tree, L: Source, O: Sink, E: Sink, K: LineSink>(
     ensures answered { let words = map string_bytes words.now in
         let told = told_by (T.files tree.old) (L.left input.old) (O.written out.old) in
         let put = reported (K.lines lines.old) (K.lines lines.new) result.numbers in
-        let failed = failures (K.failed lines.old) (K.failed lines.new)
-        (T.faults tree.old) (T.faults tree.new) in
+        let before = tree_counts (T.faults tree.old) (T.calls tree.old) in
+        let now = tree_counts (T.faults tree.new) (T.calls tree.new) in
+        let failed = failures (K.failed lines.old) (K.failed lines.new) before now in
         let came = outcome result.status put failed (L.left input.new) (O.written out.new) in
         let old = outside (T.faults tree.old) (L.faults input.old) (O.faults out.old) input.old in
         let new = outside (T.faults tree.new) (L.faults input.new) (O.faults out.new) input.new in

@@ -1,6 +1,7 @@
 //! The top call: the report keeps its lines.
 ghost use Rattle.std.specs.Prelude.{◌≡◌, false, map, string_bytes};
 ghost use Rattle.cy_outside.specs.Outside.{Rose};
+ghost use Rattle.node_run.specs.Failures.{tree_counts};
 ghost use Rattle.node_run.specs.Ran.{numbers_of, of_failed, of_report};
 ghost use Rattle.cyphal.specs.Answered.{stream, HasSaid, IsAnswered, IsReported};
 ghost use Rattle.cyphal.specs.Cause.{outside};
@@ -35,7 +36,9 @@ pub fn top<T: Tree, L: Source, O: Sink, E: Sink>(
     ensures answered { let words = map string_bytes words.now in
         let told = told_by (T.files tree.old) (L.left input.old) (O.written out.old) in
         let put = of_report result.report in
-        let failed = of_failed result.report (T.faults tree.old) (T.faults tree.new) in
+        let before = tree_counts (T.faults tree.old) (T.calls tree.old) in
+        let now = tree_counts (T.faults tree.new) (T.calls tree.new) in
+        let failed = of_failed result.report before now in
         let came = outcome result.status put failed (L.left input.new) (O.written out.new) in
         let old = outside (T.faults tree.old) (L.faults input.old) (O.faults out.old) input.old in
         let new = outside (T.faults tree.new) (L.faults input.new) (O.faults out.new) input.new in

@@ -181,9 +181,9 @@ failed_front (s ∷ newer) past =
 record NamesFirst (all : List Step) (f : Failures) : Type 0 where
   past : List Step
   first : FirstOf all past
-  tells : TellsFailures (failed_lines past) f
+  tells : TellsFailures past f
 
-names_all : (all : List Step) (f : Failures) → TellsFailures (failed_lines all) f → NamesFirst all f
+names_all : (all : List Step) (f : Failures) → TellsFailures all f → NamesFirst all f
 names_all all f t = record { past = all; first = record { newer = []; parts = refl }; tells = t }
 
 module _ (form : Form) (plan : Plan) (mets : List Met) (refusal : Option LogError) (r : Reported) (f : Failures) (before after : Option (List ℕ)) where
@@ -206,9 +206,9 @@ lines_are : (lines told : List ℕ) → Some lines ≡ Some ([] ++ told) → tol
 lines_are lines told e = cc
 
 pub failed_named : ((buses : List (List ℕ)) (bytes : List ℕ) → IsAhead 0 0 (log_of buses bytes).records) → FailedAreNamed
-failed_named ordered form plan files flow stat r lines faults faults_new h =
+failed_named ordered form plan files flow stat r lines counts_before counts h =
     let log = log_of (names_of plan) h.bytes in
-    let n = names_first form plan h.mets log.refusal r (failures (Some []) (Some lines) faults faults_new) flow.before flow.after stat h.ran in
+    let n = names_first form plan h.mets log.refusal r (failures (Some []) (Some lines) counts_before counts) flow.before flow.after stat h.ran in
     let is = lines_are lines (failed_lines n.past) n.tells.told in
     let more = failed_front n.first.newer n.past in
     let whole : failed_lines (steps plan h.mets) ≡ failed_lines n.past ++ more.0 = ap failed_lines n.first.parts ∙ more.1 in
@@ -218,5 +218,5 @@ failed_named ordered form plan files flow stat r lines faults faults_new h =
     subst (All (EndsFailed plan h.mets)) (take-append_seam (failed_lines n.past) more.0)
     (All-take (EndsFailed plan h.mets) (length (failed_lines n.past)) (failed_lines n.past ++ more.0) (subst (All (EndsFailed plan h.mets)) whole (failed_end files plan h.mets h.served))) in (
       record { rise = subst IsStrictlyIncreasing is (increasing (failed_lines n.past) rise); ended = subst (All (EndsFailed plan h.mets)) is ended },
-      subst (λ (ls : List ℕ). HasRisen ls faults faults_new) is n.tells.rose,
+      subst (λ (ls : List ℕ). HasRisen ls counts_before.faults counts.faults) is n.tells.rose,
     )

@@ -13,7 +13,7 @@ use Rattle.report_lines.specs.LineSinks.{BeginsList, put_behind}
 use Rattle.node_core.specs.Queues.{Queue, fulls, leaving, waiting}
 use Rattle.node_core.proofs.Waits.{all_stay, none_leaves}
 use Rattle.node_core.specs.Stands.{Stands}
-use Rattle.node_core.specs.Steps.{Step, Tick, Kept, ticks_from, emptying, failed_lines, kept, left, lines, lines_at, lines_behind, moment_of, numbers, pushed, received_at, records, sends}
+use Rattle.node_core.specs.Steps.{Step, Tick, Kept, ticks_from, emptying, kept, left, lines, lines_at, lines_behind, moment_of, numbers, pushed, received_at, records, sends}
 use Rattle.node_core.specs.Types.{type_on}
 use Rattle.node_run.specs.Failures.{Failures, TellsFailures}
 use Rattle.node_run.specs.Forms.{Adds, Style, Types}
@@ -50,7 +50,7 @@ runs_next plan before s past old new h same stands keep style told counted held 
 
 -- Where it breaks off.
 
-pub first_none : (plan : Plan) (newer past : List Step) (refusal : Option LogError) (r : Reported) (f : Failures) → At plan past r → TellsFailures (failed_lines past) f → AtFirst plan (newer ++ past) refusal r f
+pub first_none : (plan : Plan) (newer past : List Step) (refusal : Option LogError) (r : Reported) (f : Failures) → At plan past r → TellsFailures past f → AtFirst plan (newer ++ past) refusal r f
 first_none plan newer past refusal r f a failed = record {
   newer = newer;
   past = past;
@@ -63,7 +63,7 @@ first_none plan newer past refusal r f a failed = record {
 }
 
 -- before it told a line of these steps
-pub broke_none : (plan : Plan) (before : Option (List Line)) (newer past : List Step) (old new : State) (f : Failures) → Runs plan before old past → new.told ≡ old.told → new.numbers ≡ old.numbers → TellsFailures (failed_lines past) f
+pub broke_none : (plan : Plan) (before : Option (List Line)) (newer past : List Step) (old new : State) (f : Failures) → Runs plan before old past → new.told ≡ old.told → new.numbers ≡ old.numbers → TellsFailures past f
     → Broke plan (report_of before new) f (newer ++ past) past
 unfolding first_none
 broke_none plan before newer past old new f h told counted failed = record {
@@ -73,7 +73,7 @@ broke_none plan before newer past old new f h told counted failed = record {
 }
 
 -- when it had told some lines of a step
-pub broke_in : (plan : Plan) (before : Option (List Line)) (s : Step) (past : List Step) (old new : State) (f : Failures) (ls : List Line) → Runs plan before old past → ls ≡ lines_at plan s past → BeginsList ls old.told new.told → new.numbers ≡ old.numbers → TellsFailures (failed_lines past) f
+pub broke_in : (plan : Plan) (before : Option (List Line)) (s : Step) (past : List Step) (old new : State) (f : Failures) (ls : List Line) → Runs plan before old past → ls ≡ lines_at plan s past → BeginsList ls old.told new.told → new.numbers ≡ old.numbers → TellsFailures past f
     → Broke plan (report_of before new) f (s ∷ past) past
 broke_in plan before s past old new f ls h e b counted failed = record {
   first = λ refusal. record {
@@ -153,7 +153,7 @@ pub broke_older : (plan : Plan) (n all past : List Step) (r : Reported) (g : Fai
 broke_older plan n all past r g b = record { first = b.first; behind = λ refusal. first_of (b.first refusal).past (n ++ past) n past (b.behind refusal) refl; within = b.within }
 
 -- a part of what left at the end is reported, and not counted
-abbrev pub first_cut : (plan : Plan) (all : List Step) (r : Reported) (f : Failures) (mid : Option (List Line)) → mid ≡ put_behind r.old (lines plan all) → BeginsList (emptying plan all) mid r.new → r.numbers ≡ numbers plan all → TellsFailures (failed_lines all) f → AtFirst plan all None r f
+abbrev pub first_cut : (plan : Plan) (all : List Step) (r : Reported) (f : Failures) (mid : Option (List Line)) → mid ≡ put_behind r.old (lines plan all) → BeginsList (emptying plan all) mid r.new → r.numbers ≡ numbers plan all → TellsFailures all f → AtFirst plan all None r f
 first_cut plan all r f mid m b counted failed = record {
   newer = [];
   past = all;

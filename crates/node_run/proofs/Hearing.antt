@@ -17,9 +17,9 @@ use Rattle.node_run.specs.Forms.{Adds}
 use Rattle.node_run.specs.Goes.{BreaksOff, Broke, GoesOn, HasGoneOn, IsFew, IsFrom, IsLast, Runs, State, last_tick, next_behind, report_of, ticks_left}
 use Rattle.node_run.specs.Hears.{Hears, IsServedMet, ticks_of}
 use Rattle.node_run.specs.Listens.{BreaksAt, BreaksOn}
-use Rattle.node_run.specs.Failures.{Failures, TellsFailures}
+use Rattle.node_run.specs.Failures.{AreFailures, Failures, TellsFailures, file_request_at, file_requests}
 use Rattle.node_run.specs.Ran.{Reported}
-use Rattle.node_run.proofs.Fails.{tells_later, ticks_fail_not}
+use Rattle.node_run.proofs.Fails.{are_same, tells_later, ticks_ask_not, ticks_fail_not}
 use Rattle.node_run.proofs.Goes.{broke_grow, broke_older, goes_more}
 use Rattle.node_run.proofs.Steps.{length_behind}
 use Rattle.node_run.proofs.Ticks.{Before, before_are}
@@ -55,11 +55,19 @@ module _ (plan : Plan) (before : Option (List Line)) (rec : Record) (past : List
   same : (file : FileReply) → Heard rec file ∷ (ticks ++ steps plan past) ≡ steps plan (met rec file ∷ past)
   same file = ap (λ (ss : List Step). Heard rec file ∷ ss) behind
 
-  -- the tree fails in no tick before it
-  pub failed_same : (file : FileReply) → failed_lines (Heard rec file ∷ steps plan past) ≡ failed_lines (steps plan (met rec file ∷ past))
+  failed_same : (file : FileReply) → failed_lines (Heard rec file ∷ steps plan past) ≡ failed_lines (steps plan (met rec file ∷ past))
   failed_same file =
       ap (λ (ls : List ℕ). ls ++ failed_at (Heard rec file)) (sym (ticks_fail_not first from.number left (steps plan past)))
       ∙ ap failed_lines (same file)
+
+  requests_same : (file : FileReply) → file_requests (Heard rec file ∷ steps plan past) ≡ file_requests (steps plan (met rec file ∷ past))
+  requests_same file =
+      ap (λ (n : ℕ). n + file_request_at (Heard rec file)) (sym (ticks_ask_not first from.number left (steps plan past)))
+      ∙ ap file_requests (same file)
+
+  -- in no tick before it the tree fails, or is called
+  pub failed_heard : (file : FileReply) (f : Failures) → AreFailures (Heard rec file ∷ steps plan past) f → AreFailures (steps plan (met rec file ∷ past)) f
+  failed_heard file f = are_same (Heard rec file ∷ steps plan past) (steps plan (met rec file ∷ past)) f (failed_same file) (requests_same file)
 
   few_here : IsFew (ticks ++ steps plan past)
   few_here =
@@ -72,7 +80,7 @@ module _ (plan : Plan) (before : Option (List Line)) (rec : Record) (past : List
       let all = few_ticks plan rec (met_records past) low in omega (arith, size, all, are.number_is, h.few, few)
 
   -- it broke off in a tick
-  pub broke_ticks : (file : FileReply) (new : State) (f : Failures) → TellsFailures (failed_lines (steps plan past)) f → ((x : ℕ) → IsFrom x from.number from.next rec.moment → BreaksOff (ticks_from x from.number left) old new)
+  pub broke_ticks : (file : FileReply) (new : State) (f : Failures) → TellsFailures (steps plan past) f → ((x : ℕ) → IsFrom x from.number from.next rec.moment → BreaksOff (ticks_from x from.number left) old new)
       → Broke plan (report_of before new) f (steps plan (met rec file ∷ past)) (steps plan past)
   broke_ticks file new f failed b =
       subst (λ (all : List Step). Broke plan (report_of before new) f all (steps plan past)) (same file)
@@ -91,7 +99,7 @@ module _ (plan : Plan) (before : Option (List Line)) (rec : Record) (past : List
         served_met told file (subst (λ (p : Plan). IsServedAt told p (Heard rec file) (ticks ++ steps plan past)) runs_mid.same (by (ticks ++ steps plan past) runs_mid.stands))
 
     -- or in the record's step
-    pub breaks_at : (told : Option Files) (new : State) (f since : Failures) → TellsFailures (failed_lines (steps plan past)) since → BreaksOn told rec mid new f → BreaksAt told plan rec (ticks ++ steps plan past) (report_of before new) since
+    pub breaks_at : (told : Option Files) (new : State) (f since : Failures) → TellsFailures (steps plan past) since → BreaksOn told rec mid new f → BreaksAt told plan rec (ticks ++ steps plan past) (report_of before new) since
     breaks_at told new f since failed b = b.breaks plan before (ticks ++ steps plan past) since runs_mid (tells_later first from.number left (steps plan past) since failed)
 
     pub served_broken : (told : Option Files) (r : Reported) (f : Failures) (b : BreaksAt told plan rec (ticks ++ steps plan past) r f) → IsServedMet told plan (met rec b.file) past

@@ -21,7 +21,7 @@ use Rattle.node_plan.specs.declared.plan.BusPlan.{BusPlan}
 use Rattle.node_plan.specs.declared.plan.Plan.{Plan}
 use Rattle.report_lines.specs.declared.line.Line.{Line}
 use Rattle.report_lines.specs.declared.numbers.Numbers.{Numbers}
-use Rattle.node_core.specs.Steps.{AreServed, Met, Step, emptying, failed_lines, first_of, lines, met_records, numbers, steps, ticks_before, ticks_done, ticks_from, ticks_until, ticks_upto}
+use Rattle.node_core.specs.Steps.{AreServed, Met, Step, emptying, first_of, lines, met_records, numbers, steps, ticks_before, ticks_done, ticks_from, ticks_until, ticks_upto}
 use Rattle.report_lines.specs.LineSinks.{put_behind}
 use Rattle.node_run.specs.declared.log.running.Running.{Running}
 use Rattle.node_run.specs.declared.status.Status.{Status}
@@ -60,8 +60,8 @@ are_served s told plan (it ∷ past) may =
 
 -- What a run has reported, and in which requests the tree failed, at each of its stages.
 pub record AreRuns (plan : Plan) (before : Option (List Line)) (s : State) (sent : ℕ) (f : Failures) (stages : Stages Said) : Type 0 where
-  pub heard : (past : List Said) → stages.heard past → OfSaid (λ mets. Runs plan before s (steps plan mets) × AreFailures (failed_lines (steps plan mets)) f) past
-  pub ended : (past : List Said) → stages.ended past → OfSaid (λ mets. HasEnded plan (report_of before s) sent mets × AreFailures (failed_lines (steps plan mets)) f) past
+  pub heard : (past : List Said) → stages.heard past → OfSaid (λ mets. Runs plan before s (steps plan mets) × AreFailures (steps plan mets) f) past
+  pub ended : (past : List Said) → stages.ended past → OfSaid (λ mets. HasEnded plan (report_of before s) sent mets × AreFailures (steps plan mets) f) past
   pub broke : (past : List Said) → stages.broke past → OfBroken (BrokeOff plan (report_of before s) f) past
   pub cut : (past : List Said) → stages.cut_short past → OfSaid (CutShort plan (report_of before s) f) past
 
@@ -113,7 +113,7 @@ module _ (form : Form) (told : Option Files) (plan : Plan) (before : Option (Lis
   -- what holds of records that were heard
   record IsDone (is : Option LogError) (r : Reported) (past : List Said) : Type 0 where
     at : Tells (due_lines plan (steps_of past) is) (due_numbers plan (steps_of past) is) r
-    failed : AreFailures (failed_lines (steps_of past)) f
+    failed : AreFailures (steps_of past) f
     said : AreSaid past
 
   done_heard : (e : LogError) (past : List Said) → stages.heard past → IsDone (Some e) steps_report past

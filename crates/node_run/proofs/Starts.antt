@@ -27,7 +27,7 @@ use Rattle.node_run.specs.Goes.{State, report_of}
 use Rattle.node_run.specs.Hears.{Hears, Said, mets_of, next_of, run_voice, ticks_of}
 use Rattle.node_run.proofs.Waits.{none_rounds}
 use Rattle.node_run.specs.declared.status.Status.TheVariants as status
-use Rattle.node_run.specs.Failures.{failures}
+use Rattle.node_run.specs.Failures.{TreeCounts, failures}
 use Rattle.node_run.specs.Forms.{Form, Text, Json, Style}
 use Rattle.node_run.specs.HasRun.{HasRun}
 use Rattle.node_run.specs.Ran.{names_of, newest_first, reported, no_numbers, At, AtFirst, BeginsSteps, IsBegun, due_lines, whole_text}
@@ -95,16 +95,16 @@ steps_none form plan all before =
     record { came = []; first = record { newer = all; parts = sym (append-nil all) }; said = []; spelled = spells_none form (type_on plan) plan.buses; written = begins_none [] before }
 
 -- memory was wanting before the first record
-pub has_none : (style : Style) (told : Option Files) (plan : Plan) (left : Option (List ℕ)) (lines : Option (List Line)) (bound : ℕ) (before : Option (List ℕ)) (failed : Option (List ℕ)) (faults : ℕ) → bound ≡ bound_of plan
-    → HasRun style.form plan told (flow left left before before) status.NoMemory (reported lines lines (record no_numbers { bound = bound })) (failures failed failed faults faults)
-has_none style told plan left lines bound before failed faults b =
+pub has_none : (style : Style) (told : Option Files) (plan : Plan) (left : Option (List ℕ)) (lines : Option (List Line)) (bound : ℕ) (before : Option (List ℕ)) (failed : Option (List ℕ)) (counts : TreeCounts) → bound ≡ bound_of plan
+    → HasRun style.form plan told (flow left left before before) status.NoMemory (reported lines lines (record no_numbers { bound = bound })) (failures failed failed counts counts)
+has_none style told plan left lines bound before failed counts b =
     let log = log_of (names_of plan) (unwrap_or left []) in
     let some = some_mets style told plan (newest_first log) in
     let mets = mets_of some.events in
     let all = steps plan mets in
     let r = reported lines lines (record no_numbers { bound = bound }) in
-    let f = failures failed failed faults faults in
-    let first = subst (λ (ss : List Step). AtFirst plan ss log.refusal r f) (append-nil all) (first_none plan all [] log.refusal r f (at_none plan lines 0 bound (sym (held_none plan)) b) (failed_none failed faults).tells) in record {
+    let f = failures failed failed counts counts in
+    let first = subst (λ (ss : List Step). AtFirst plan ss log.refusal r f) (append-nil all) (first_none plan all [] log.refusal r f (at_none plan lines 0 bound (sym (held_none plan)) b) (failed_none failed counts).tells) in record {
       bytes = unwrap_or left [];
       is = told_none left;
       mets = mets;

@@ -14,7 +14,7 @@ use Rattle.node_core.specs.Heard.{IsElsewhere}
 use Rattle.node_core.specs.Quick.{AsksNothing}
 use Rattle.node_core.specs.Shapes.{port_schema}
 use Rattle.node_core.specs.Stands.{Gives, Holds, IsWithinBound, Stands, StandsAsBefore, Takes, TellsBadCrc}
-use Rattle.node_core.specs.Steps.{Step, Heard, IsServedAt, Kept, failed_lines, got, held_at, is_bad_at, is_nosession, is_rx, kept, lines_at, one_if, pushed, records, request_on, sends}
+use Rattle.node_core.specs.Steps.{Step, Heard, IsServedAt, Kept, got, held_at, is_bad_at, is_nosession, is_rx, kept, lines_at, one_if, pushed, records, request_on, sends}
 use Rattle.node_core.specs.Types.{type_on}
 use Rattle.node_core.specs.declared.came.Came.{Came}
 use Rattle.node_core.specs.declared.file_reply.FileReply.{FileReply}
@@ -138,7 +138,7 @@ served_by told rec old node ls request bad file c s past stands =
     (subst (λ (p : Plan). IsServed told p request file) c.same s)
 
 -- It broke off before it told of the record.
-pub broke_untold : (files : Option Files) (plan : Plan) (before : Option (List Line)) (rec : Record) (past : List Step) (old new : State) (since : Failures) → Runs plan before old past → TellsFailures (failed_lines past) since → new.told ≡ old.told → new.numbers ≡ old.numbers
+pub broke_untold : (files : Option Files) (plan : Plan) (before : Option (List Line)) (rec : Record) (past : List Step) (old new : State) (since : Failures) → Runs plan before old past → TellsFailures past since → new.told ≡ old.told → new.numbers ≡ old.numbers
     → BreaksAt files plan rec past (report_of before new) since
 broke_untold files plan before rec past old new since h failed told counted =
     let some = something_served files plan rec past in record {
@@ -188,7 +188,7 @@ module _ (plan : Plan) (before : Option (List Line)) (rec : Record) (past : List
     served_there files d = subst (λ (p : Plan). IsServed files p request file) (sym plan_is) (subst (λ (r : Option Request). IsServed files plan r file) (sym asked_is) d)
 
     -- it broke off when its own lines were told, and the first of those that follow
-    broke_behind : (new : State) (since : Failures) (o : Option (List Line)) → TellsFailures (failed_lines past) since → o ≡ put_behind old.told told → BeginsList due o new.told → new.numbers ≡ old.numbers → Broke plan (report_of before new) since (s ∷ past) past
+    broke_behind : (new : State) (since : Failures) (o : Option (List Line)) → TellsFailures past since → o ≡ put_behind old.told told → BeginsList due o new.told → new.numbers ≡ old.numbers → Broke plan (report_of before new) since (s ∷ past) past
     broke_behind new since o failed put b same =
         broke_in plan before s past old new since _ h (all_lines_are plan before s past old h k (answered node.plan request file k) ek em told full lines_are ef) (begins_later told _ old.told o new.told put b) same failed
 
@@ -225,7 +225,7 @@ module _ (plan : Plan) (before : Option (List Line)) (rec : Record) (past : List
           }
 
   -- it broke off in what follows
-  pub broke_following : (files : Option Files) (style : Style) (o : Option (List Line)) (new : State) (f since : Failures) → TellsFailures (failed_lines past) since → o ≡ put_behind old.told told
+  pub broke_following : (files : Option Files) (style : Style) (o : Option (List Line)) (new : State) (f since : Failures) → TellsFailures past since → o ≡ put_behind old.told told
       → BrokeFollowing files rec request (state node style o old.numbers) new f → BreaksAt files plan rec past (report_of before new) since
   broke_following files style o new f since failed put b =
       let some = something_served files plan rec past in

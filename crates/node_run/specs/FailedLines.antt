@@ -6,7 +6,7 @@ use Rattle.node_plan.specs.declared.plan.Plan.{Plan}
 use Rattle.node_core.specs.Files.{is_failed}
 use Rattle.node_core.specs.Steps.{Met, got, met_records, request_on}
 use Rattle.node_core.specs.declared.request.Request.{Request}
-use Rattle.node_run.specs.Failures.{HasRisen, failures}
+use Rattle.node_run.specs.Failures.{HasRisen, TreeCounts, failures}
 use Rattle.node_run.specs.Forms.{Form}
 use Rattle.node_run.specs.HasRun.{HasRun}
 use Rattle.node_run.specs.Ran.{Reported}
@@ -35,6 +35,6 @@ pub record NamesRequests (plan : Plan) (mets : List Met) (lines : List ℕ) : Ty
 abbrev pub FailedAreNamed : Type 0
 FailedAreNamed =
     (form : Form) (plan : Plan) (files : Option Files) (flow : Flow) (stat : Status) (r : Reported)
-    (lines : List ℕ) (faults faults_new : ℕ)
-    → (h : HasRun form plan files flow stat r (failures (Some []) (Some lines) faults faults_new))
-    → NamesRequests plan h.mets lines × HasRisen lines faults faults_new
+    (lines : List ℕ) (before now : TreeCounts)
+    → (h : HasRun form plan files flow stat r (failures (Some []) (Some lines) before now))
+    → NamesRequests plan h.mets lines × HasRisen lines before.faults now.faults

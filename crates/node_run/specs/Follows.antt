@@ -99,9 +99,9 @@ request_ended node rec came = came_request came (came_lines node rec came)
 pub record IsFollowed {W K T E : Type 0} (v : Views W K T) (rec : Record) (request : Option Request)
     (old new : Running W K T) (before after : List ℕ) (result : Result (Unit {0}) E) : Type 0 where
   pub same : IsSameRun v.style v.files old new
-  pub ok : let f = failures_in v.failed v.faults old new in
+  pub ok : let f = failures_in v.failed v.faults v.calls old new in
       OnOk result (HasFollowed (v.files old.tree.now) rec request
       (state_in v.style v.lines old) (state_in v.style v.lines new) before after f)
-  pub err : let f = failures_in v.failed v.faults old new in
+  pub err : let f = failures_in v.failed v.faults v.calls old new in
       OnErr result (BrokeFollowing (v.files old.tree.now) rec request
       (state_in v.style v.lines old) (state_in v.style v.lines new) f)

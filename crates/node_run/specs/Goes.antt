@@ -14,7 +14,7 @@ use Rattle.node_core.specs.Keeps.{keeps}
 use Rattle.report_lines.specs.LineSinks.{put_behind}
 use Rattle.node_core.specs.Queues.{Queue, waiting}
 use Rattle.node_core.specs.Stands.{Stands}
-use Rattle.node_core.specs.Steps.{Step, failed_lines, records, kept, lines, lines_behind}
+use Rattle.node_core.specs.Steps.{Step, records, kept, lines, lines_behind}
 use Rattle.node_run.specs.declared.log.clock.Clock.{Clock}
 use Rattle.node_run.specs.declared.log.running.Running.{Running}
 use Rattle.node_core.specs.Types.{type_on}
@@ -65,7 +65,7 @@ pub record Broke (plan : Plan) (r : Reported) (f : Failures) (all past : List St
 -- it has not
 abbrev pub unbroken : (plan : Plan) (before : Option (List Line)) (s : State) (f : Failures)
     (all past : List Step) → FirstOf all past → Runs plan before s all
-    → TellsFailures (failed_lines all) f → Broke plan (report_of before s) f all past
+    → TellsFailures all f → Broke plan (report_of before s) f all past
 unbroken plan before s f all past of_past h failed = record {
   first = λ refusal. record {
     newer = [];
@@ -107,7 +107,7 @@ GoesOn newer old new gathered_old gathered_new =
 abbrev pub BreaksOff : List Step → State → State → Type 0
 BreaksOff newer old new =
     (plan : Plan) (before : Option (List Line)) (past : List Step) (f : Failures)
-    → IsFew (newer ++ past) → Runs plan before old past → TellsFailures (failed_lines past) f
+    → IsFew (newer ++ past) → Runs plan before old past → TellsFailures past f
     → Broke plan (report_of before new) f (newer ++ past) past
 
 -- the numbers with so many more frames that were sent

@@ -8,12 +8,12 @@ use Rattle.log_loop.specs.Voice.{Voice}
 use Rattle.node_plan.specs.declared.plan.Plan.{Plan}
 use Rattle.node_core.specs.Keeps.{IsServedBy}
 use Rattle.node_core.specs.Laws.{SomethingServed}
-use Rattle.node_core.specs.Steps.{Heard, IsServedAt, Met, Step, failed_lines, lines_on, met}
+use Rattle.node_core.specs.Steps.{Heard, IsServedAt, Met, Step, lines_on, met}
 use Rattle.node_core.specs.Steps.{met_records, new_steps, steps, ticks_before}
 use Rattle.node_core.specs.declared.file_reply.FileReply.{FileReply}
 use Rattle.report_lines.specs.declared.line.Line.{Line}
 use Rattle.node_run.specs.Failures.{AreFailures, Failures, FailsAs, FailsUntold, TellsFailures}
-use Rattle.node_run.specs.Failures.{failures}
+use Rattle.node_run.specs.Failures.{failures, tree_counts}
 use Rattle.node_run.specs.Forms.{Style}
 use Rattle.node_run.specs.Goes.{Broke, GoesOn, Runs, State, report_of, state_in, unbroken}
 use Rattle.node_run.specs.Hears.{AreSaid, AreSaidButNewest, BrokeOff, CutShort, HasEnded, Hears}
@@ -31,12 +31,14 @@ pub record IsOver {W K T : Type 0} (style_of : W → Style) (files : T → Optio
   pub told : files new.tree.now ≡ files old.tree.now
   pub style : style_of new.writer.now ≡ style_of old.writer.now
 
--- the requests in which the tree of a run failed, by what its sink and its tree tell of that
-abbrev pub failures_in : {W K T : Type 0} → (K → Option (List ℕ)) → (T → ℕ) → Running W K T
-    → Running W K T → Failures
-failures_in failed faults old new =
+-- the requests in which the tree of a run failed, and how often it was called, by what its sink
+-- and its tree tell of that
+abbrev pub failures_in : {W K T : Type 0} → (K → Option (List ℕ)) → (T → ℕ) → (T → ℕ)
+    → Running W K T → Running W K T → Failures
+failures_in failed faults calls old new =
     failures (failed old.lines.now) (failed new.lines.now)
-    (faults old.tree.now) (faults new.tree.now)
+    (tree_counts (faults old.tree.now) (calls old.tree.now))
+    (tree_counts (faults new.tree.now) (calls new.tree.now))
 
 -- it asked its tree nothing, and told of no request in which that failed
 pub record AsksNone {W K T : Type 0} (style_of : W → Style) (failed : K → Option (List ℕ))
@@ -53,11 +55,18 @@ pub record Views (W K T : Type 0) : Type 0 where
   pub failed : K → Option (List ℕ)
   pub files : T → Option Files
   pub faults : T → ℕ
+  pub calls : T → ℕ
 
 abbrev pub views : {W K T : Type 0} → (W → Style) → (K → Option (List Line))
-    → (K → Option (List ℕ)) → (T → Option Files) → (T → ℕ) → Views W K T
-views style lines failed files faults =
-    record { style = style; lines = lines; failed = failed; files = files; faults = faults }
+    → (K → Option (List ℕ)) → (T → Option Files) → (T → ℕ) → (T → ℕ) → Views W K T
+views style lines failed files faults calls = record {
+  style = style;
+  lines = lines;
+  failed = failed;
+  files = files;
+  faults = faults;
+  calls = calls;
+}
 
 -- what a run says over a log, by what it is at first
 abbrev pub voice_of : {W K T : Type 0} → Views W K T → Running W K T → Voice Said
@@ -68,9 +77,9 @@ abbrev pub reported_since : {W K T : Type 0} → Views W K T → Running W K T �
     → Reported
 reported_since v first now = report_of (v.lines first.lines.now) (state_in v.style v.lines now)
 
--- and the requests in which its tree failed
+-- and the requests in which its tree failed, and how often that was called
 abbrev pub failed_since : {W K T : Type 0} → Views W K T → Running W K T → Running W K T → Failures
-failed_since v first now = failures_in v.failed v.faults first now
+failed_since v first now = failures_in v.failed v.faults v.calls first now
 
 -- a run that was this at first heard these records
 pub record HasHeardAll {W K T : Type 0} (v : Views W K T) (first now : Running W K T)
@@ -78,16 +87,14 @@ pub record HasHeardAll {W K T : Type 0} (v : Views W K T) (first now : Running W
   pub over : IsOver v.style v.files first now
   pub hears : let s = state_in v.style v.lines now in
       Hears first.node.now.plan (v.lines first.lines.now) s now.clock past
-  pub failed : let lines = failed_lines (steps first.node.now.plan past) in
-      AreFailures lines (failed_since v first now)
+  pub failed : AreFailures (steps first.node.now.plan past) (failed_since v first now)
 
 -- behind these records it has said its last line
 pub record HasEndedBehind {W K T : Type 0} (v : Views W K T) (first now : Running W K T)
     (past : List Met) : Type 0 where
   pub over : IsOver v.style v.files first now
   pub ended : HasEnded first.node.now.plan (reported_since v first now) now.sent past
-  pub failed : let lines = failed_lines (steps first.node.now.plan past) in
-      AreFailures lines (failed_since v first now)
+  pub failed : AreFailures (steps first.node.now.plan past) (failed_since v first now)
 
 -- it broke off in a step of the newest of these records, or behind them
 pub record HasBrokenOff {W K T : Type 0} (v : Views W K T) (first now : Running W K T)
@@ -171,6 +178,6 @@ pub record BreaksAt (told : Option Files) (plan : Plan) (rec : Record) (past : L
 pub record BreaksOn (told : Option Files) (rec : Record) (old new : State)
     (f : Failures) : Type 0 where
   pub breaks : (plan : Plan) (before : Option (List Line)) (past : List Step) (since : Failures)
-      → Runs plan before old past → TellsFailures (failed_lines past) since
+      → Runs plan before old past → TellsFailures past since
       → BreaksAt told plan rec past (report_of before new) since
   pub untold : FailsUntold f

@@ -13,13 +13,13 @@ use Rattle.report_lines.specs.declared.line.Line.{Line}
 use Rattle.report_lines.specs.declared.numbers.Numbers.{Numbers}
 use Rattle.report_lines.specs.LineSinks.{put_behind}
 use Rattle.node_core.specs.Steps.{Met, Step, steps, lines, lines_at, emptying, all_lines, numbers}
-use Rattle.node_core.specs.Steps.{end_numbers, failed_lines}
+use Rattle.node_core.specs.Steps.{end_numbers}
 use Rattle.node_core.specs.Types.{type_on}
 use Rattle.text_lines.specs.Text.{text, end_text}
 use Rattle.json_lines.specs.Text.{end_json}
 use Rattle.log_loop.specs.declared.ended.Ended.{Ended}
 use Rattle.log_loop.specs.declared.ended.Ended.TheVariants as end
-use Rattle.node_run.specs.Failures.{Failures, AreFailures, TellsFailures, failures}
+use Rattle.node_run.specs.Failures.{Failures, AreFailures, TellsFailures, TreeCounts, failures}
 use Rattle.node_run.specs.Forms.{Form, Text, Json, Spells}
 use Rattle.node_run.specs.declared.report.Report.{Report}
 use Rattle.node_run.specs.declared.status.Status.{Status}
@@ -46,9 +46,10 @@ numbers_of r = record { records = r.records; delivered = r.delivered; badcrc = r
 abbrev pub of_report : Report → Reported
 of_report r = reported (Some []) (Some r.lines) (numbers_of r)
 
--- the requests in which the tree failed that a report has, where it had none before
-abbrev pub of_failed : Report → ℕ → ℕ → Failures
-of_failed r faults faults_new = failures (Some []) (Some r.failed) faults faults_new
+-- the requests in which the tree failed that a report has, where it had none before, by the
+-- tree's counts before and now
+abbrev pub of_failed : Report → TreeCounts → TreeCounts → Failures
+of_failed r before now = failures (Some []) (Some r.failed) before now
 
 -- the numbers of nothing
 abbrev pub no_numbers : Numbers
@@ -110,7 +111,7 @@ pub record AtFirst (plan : Plan) (all : List Step) (refusal : Option LogError) (
   pub rest : List Line
   pub next : next_lines plan newer past refusal ≡ told ++ rest
   pub at : Tells (lines plan past ++ told) (numbers plan past) r
-  pub failed : TellsFailures (failed_lines past) f
+  pub failed : TellsFailures past f
 
 -- the last line comes only where the log was read to its end
 abbrev pub end_part : Plan → List Step → Option LogError → List ℕ
@@ -161,7 +162,7 @@ IsBegun Json plan all refusal before after = IsJsonBegun plan all refusal before
 pub record Settled (form : Form) (plan : Plan) (all : List Step) (refusal : Option LogError)
     (r : Reported) (f : Failures) (before after : Option (List ℕ)) : Type 0 where
   pub at : Tells (due_lines plan all refusal) (due_numbers plan all refusal) r
-  pub failed : AreFailures (failed_lines all) f
+  pub failed : AreFailures all f
   pub written : IsWritten form plan all refusal before after
 
 -- a beginning of a text of the lines of the first of these steps is written, and nothing else
@@ -187,7 +188,7 @@ pub record Begun (form : Form) (plan : Plan) (all : List Step) (refusal : Option
 pub record CutOff (form : Form) (plan : Plan) (all : List Step) (refusal : Option LogError)
     (r : Reported) (f : Failures) (before after : Option (List ℕ)) : Type 0 where
   pub first : AtFirst plan all refusal r f
-  pub failed : AreFailures (failed_lines first.past) f
+  pub failed : AreFailures first.past f
   pub of_first : ((first.told ≡ []) × BeginsSteps form plan first.past before after)
       ⊎ ((first.newer ≡ []) × (first.rest ≡ []))
   pub written : IsBegun form plan all refusal before after

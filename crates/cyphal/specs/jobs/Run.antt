@@ -8,18 +8,20 @@ use Rattle.node_run.specs.Ran.{names_of}
 use Rattle.cyphal.specs.Job.{Told, Outcome, Job, flow_of}
 use Rattle.cyphal.specs.MayEnd.{of_plan, of_log}
 use Rattle.cyphal.specs.LogEnds.{EndsAsLog}
-use Rattle.cyphal.specs.Plans.{PlanEnds, EndsAt, PlanAt, plan_calls}
+use Rattle.cyphal.specs.Plans.{PlanEnds, EndsAt, PlanAt, SinceLoaded, plan_calls}
 
 -- a run of a plan ends as the log of the input does
 abbrev pub over : Option (List ℕ) → PlanEnds
 over input plan stat = EndsAsLog (names_of plan) input stat
 
--- the plan at a path was run over the input and the files of the tree, and the report written in a
--- form; the memory bound is the plan's however the run ended
+-- The plan at a path was run over the input and the files of the tree, and the report written in a
+-- form: of the tree, all calls behind the plan's reading are those of the run. The memory bound is
+-- the plan's however the run ended.
 pub record HasRunAt (form : Form) (root path : List ℕ) (told : Told) (came : Outcome) : Type 0 where
   pub plan : Plan
   pub is : PlanAt root path told.files plan
-  pub run : HasRun form plan told.files (flow_of told came) came.status came.reported came.failures
+  pub run : SinceLoaded root path told.files came.failures
+      (HasRun form plan told.files (flow_of told came) came.status came.reported)
   pub bound : came.reported.numbers.bound ≡ bound_of plan
 
 abbrev pub run_job : Form → List ℕ → List ℕ → Job

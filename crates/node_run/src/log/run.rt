@@ -3,7 +3,7 @@ ghost use Rattle.std.specs.Prelude.{◌≡◌, ◌≢◌, ◌≤◌, [], map};
 ghost use Rattle.cy_outside.specs.Outside.{Rose};
 ghost use Rattle.node_plan.specs.Bound.{bound_of};
 ghost use Rattle.node_plan.specs.IsPlan.{IsPlan};
-ghost use Rattle.node_run.specs.Failures.{failures};
+ghost use Rattle.node_run.specs.Failures.{failures, tree_counts};
 ghost use Rattle.node_run.specs.Forms.{Text, Json};
 ghost use Rattle.node_run.specs.HasRun.{HasRun};
 ghost use Rattle.node_run.specs.Ran.{IsEmpty, end_sent, names_of, of_failed, of_report};
@@ -41,8 +41,9 @@ pub fn run_over<T: Tree, L: Source, O: Sink, K: LineSink>(
 ) -> Status
     requires plan { IsPlan plan }
     ensures ran { let r = reported (K.lines lines.old) (K.lines lines.new) numbers.new in
-        let f = failures (K.failed lines.old) (K.failed lines.new)
-        (T.faults tree.old) (T.faults tree.new) in
+        let old = tree_counts (T.faults tree.old) (T.calls tree.old) in
+        let new = tree_counts (T.faults tree.new) (T.calls tree.new) in
+        let f = failures (K.failed lines.old) (K.failed lines.new) old new in
         let flow = flow (L.left input.old) (L.left input.new)
         (O.written out.old) (O.written out.new) in
         HasRun Text plan (T.files tree.old) flow result r f }
@@ -71,8 +72,9 @@ pub fn run_in<T: Tree, L: Source, O: Sink, K: LineSink>(
 ) -> Status
     requires plan { IsPlan plan }
     ensures ran { let r = reported (K.lines lines.old) (K.lines lines.new) numbers.new in
-        let f = failures (K.failed lines.old) (K.failed lines.new)
-        (T.faults tree.old) (T.faults tree.new) in
+        let old = tree_counts (T.faults tree.old) (T.calls tree.old) in
+        let new = tree_counts (T.faults tree.new) (T.calls tree.new) in
+        let f = failures (K.failed lines.old) (K.failed lines.new) old new in
         let flow = flow (L.left input.old) (L.left input.new)
         (O.written out.old) (O.written out.new) in
         HasRun form plan (T.files tree.old) flow result r f }
@@ -102,8 +104,9 @@ fn run_json<T: Tree, L: Source, O: Sink, K: LineSink>(
 ) -> Status
     requires plan { IsPlan plan }
     ensures ran { let r = reported (K.lines lines.old) (K.lines lines.new) numbers.new in
-        let f = failures (K.failed lines.old) (K.failed lines.new)
-        (T.faults tree.old) (T.faults tree.new) in
+        let old = tree_counts (T.faults tree.old) (T.calls tree.old) in
+        let new = tree_counts (T.faults tree.new) (T.calls tree.new) in
+        let f = failures (K.failed lines.old) (K.failed lines.new) old new in
         let flow = flow (L.left input.old) (L.left input.new)
         (O.written out.old) (O.written out.new) in
         HasRun Json plan (T.files tree.old) flow result r f }
@@ -133,8 +136,9 @@ fn run_with<W: ReportWriter, T: Tree, L: Source, O: Sink, K: LineSink>(
     requires plan { IsPlan plan }
     requires buses { (W.style writer.old).buses ≡ plan.buses }
     ensures ran { let r = reported (K.lines lines.old) (K.lines lines.new) numbers.new in
-        let f = failures (K.failed lines.old) (K.failed lines.new)
-        (T.faults tree.old) (T.faults tree.new) in
+        let old = tree_counts (T.faults tree.old) (T.calls tree.old) in
+        let new = tree_counts (T.faults tree.new) (T.calls tree.new) in
+        let f = failures (K.failed lines.old) (K.failed lines.new) old new in
         let flow = flow (L.left input.old) (L.left input.new)
         (O.written out.old) (O.written out.new) in
         HasRun (W.style writer.old).form plan (T.files tree.old) flow result r f }
@@ -177,7 +181,9 @@ pub fn run_log<T: Tree, L: Source, O: Sink>(
 ) -> Status
     requires plan { IsPlan plan }
     requires empty { IsEmpty report.old }
-    ensures ran { let f = of_failed report.new (T.faults tree.old) (T.faults tree.new) in
+    ensures ran { let old = tree_counts (T.faults tree.old) (T.calls tree.old) in
+        let new = tree_counts (T.faults tree.new) (T.calls tree.new) in
+        let f = of_failed report.new old new in
         let flow = flow (L.left input.old) (L.left input.new)
         (O.written out.old) (O.written out.new) in
         HasRun Text plan (T.files tree.old) flow result (of_report report.new) f }

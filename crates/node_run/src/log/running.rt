@@ -54,19 +54,24 @@ pub struct Running<'a, 'w, W, K, T> {
 impl<'a, 'w, W: ReportWriter, K: LineSink, T: Tree> Listener for Running<'a, 'w, W, K, T> {
     ghost event = { Said };
 
-    ghost voice = { λ first. voice_of (views W.style K.lines K.failed T.files T.faults) first };
+    ghost voice = { λ first.
+        voice_of (views W.style K.lines K.failed T.files T.faults T.calls) first };
 
     ghost heard = { λ first now past.
-        OfSaid (HasHeardAll (views W.style K.lines K.failed T.files T.faults) first now) past };
+        OfSaid (HasHeardAll (views W.style K.lines K.failed T.files T.faults T.calls)
+        first now) past };
 
     ghost ended = { λ first now past.
-        OfSaid (HasEndedBehind (views W.style K.lines K.failed T.files T.faults) first now) past };
+        OfSaid (HasEndedBehind (views W.style K.lines K.failed T.files T.faults T.calls)
+        first now) past };
 
     ghost broke = { λ first now past.
-        OfBroken (HasBrokenOff (views W.style K.lines K.failed T.files T.faults) first now) past };
+        OfBroken (HasBrokenOff (views W.style K.lines K.failed T.files T.faults T.calls)
+        first now) past };
 
     ghost cut_short = { λ first now past.
-        OfSaid (IsCutShort (views W.style K.lines K.failed T.files T.faults) first now) past };
+        OfSaid (IsCutShort (views W.style K.lines K.failed T.files T.faults T.calls)
+        first now) past };
 
     ghost latest = { λ run. latest_of run.node.now run.clock };
 
@@ -100,7 +105,7 @@ impl<'a, 'w, W: ReportWriter, K: LineSink, T: Tree> Listener for Running<'a, 'w,
     }
 
     ghost heard_broke = { λ first now past h.
-        unbroken_said (views W.style K.lines K.failed T.files T.faults) first now past h };
+        unbroken_said (views W.style K.lines K.failed T.files T.faults T.calls) first now past h };
 
     ghost comes = { λ first rec past.
         some_said something_served (W.style first.writer.now) (T.files first.tree.now)
@@ -121,11 +126,11 @@ impl<'a, 'w, W: ReportWriter, K: LineSink, T: Tree> Running<'a, 'w, W, K, T> {
         ensures next { self.new.clock.next ≡ self.old.clock.next }
         ensures last { let qs = (keeps self.new.node.now).queues in
             OnOk result (IsLast rec.now.moment qs self.new.clock.last) }
-        ensures ok { let f = failures_in K.failed T.faults self.old self.new in
+        ensures ok { let f = failures_in K.failed T.faults T.calls self.old self.new in
             OnOk result (HasTaken (T.files self.old.tree.now) rec.now
             (state_in W.style K.lines self.old) (state_in W.style K.lines self.new)
             (text_of gathered.old) (text_of gathered.new) f) }
-        ensures err { let f = failures_in K.failed T.faults self.old self.new in
+        ensures err { let f = failures_in K.failed T.faults T.calls self.old self.new in
             OnErr result (BreaksOn (T.files self.old.tree.now) rec.now
             (state_in W.style K.lines self.old) (state_in W.style K.lines self.new) f) }
     {
@@ -150,11 +155,11 @@ impl<'a, 'w, W: ReportWriter, K: LineSink, T: Tree> Running<'a, 'w, W, K, T> {
         ensures next { self.new.clock.next ≡ self.old.clock.next }
         ensures last { let qs = (keeps self.new.node.now).queues in
             OnOk result (IsLast rec.now.moment qs self.new.clock.last) }
-        ensures ok { let f = failures_in K.failed T.faults self.old self.new in
+        ensures ok { let f = failures_in K.failed T.faults T.calls self.old self.new in
             OnOk result (HasTaken (T.files self.old.tree.now) rec.now
             (state_in W.style K.lines self.old) (state_in W.style K.lines self.new)
             (text_of gathered.old) (text_of gathered.new) f) }
-        ensures err { let f = failures_in K.failed T.faults self.old self.new in
+        ensures err { let f = failures_in K.failed T.faults T.calls self.old self.new in
             OnErr result (BreaksOn (T.files self.old.tree.now) rec.now
             (state_in W.style K.lines self.old) (state_in W.style K.lines self.new) f) }
     {
@@ -182,11 +187,11 @@ impl<'a, 'w, W: ReportWriter, K: LineSink, T: Tree> Running<'a, 'w, W, K, T> {
         ensures next { self.new.clock.next ≡ self.old.clock.next }
         ensures last { let qs = (keeps self.new.node.now).queues in
             OnOk result (IsLast rec.now.moment qs self.new.clock.last) }
-        ensures ok { let f = failures_in K.failed T.faults self.old self.new in
+        ensures ok { let f = failures_in K.failed T.faults T.calls self.old self.new in
             OnOk result (HasTaken (T.files self.old.tree.now) rec.now
             (state_in W.style K.lines self.old) (state_in W.style K.lines self.new)
             (text_of gathered.old) (text_of gathered.new) f) }
-        ensures err { let f = failures_in K.failed T.faults self.old self.new in
+        ensures err { let f = failures_in K.failed T.faults T.calls self.old self.new in
             OnErr result (BreaksOn (T.files self.old.tree.now) rec.now
             (state_in W.style K.lines self.old) (state_in W.style K.lines self.new) f) }
     {
@@ -211,11 +216,11 @@ impl<'a, 'w, W: ReportWriter, K: LineSink, T: Tree> Running<'a, 'w, W, K, T> {
         ensures next { self.new.clock.next ≡ self.old.clock.next }
         ensures last { let qs = (keeps self.new.node.now).queues in
             OnOk result (IsLast rec.now.moment qs self.new.clock.last) }
-        ensures ok { let f = failures_in K.failed T.faults self.old self.new in
+        ensures ok { let f = failures_in K.failed T.faults T.calls self.old self.new in
             OnOk result (HasTaken (T.files self.old.tree.now) rec.now
             (state_in W.style K.lines self.old) (state_in W.style K.lines self.new)
             (text_of gathered.old) (text_of gathered.new) f) }
-        ensures err { let f = failures_in K.failed T.faults self.old self.new in
+        ensures err { let f = failures_in K.failed T.faults T.calls self.old self.new in
             OnErr result (BreaksOn (T.files self.old.tree.now) rec.now
             (state_in W.style K.lines self.old) (state_in W.style K.lines self.new) f) }
     {
@@ -245,7 +250,7 @@ impl<'a, 'w, W: ReportWriter, K: LineSink, T: Tree> Running<'a, 'w, W, K, T> {
         requires { let request = request_ended self.old.node.now rec.now came in
             ForSome request (IsRequestTo self.old.node.now.plan.node) }
         ensures followed { let request = request_ended self.old.node.now rec.now came in
-            IsFollowed (views W.style K.lines K.failed T.files T.faults) rec.now request
+            IsFollowed (views W.style K.lines K.failed T.files T.faults T.calls) rec.now request
             self.old self.new (text_of gathered.old) (text_of gathered.new) result }
         ensures last { let qs = (keeps self.new.node.now).queues in
             OnOk result (IsLast rec.now.moment qs self.new.clock.last) }
@@ -263,7 +268,7 @@ impl<'a, 'w, W: ReportWriter, K: LineSink, T: Tree> Running<'a, 'w, W, K, T> {
         requires { let request = request_ended self.old.node.now rec.now came in
             ForSome request (IsRequestTo self.old.node.now.plan.node) }
         ensures followed { let request = request_ended self.old.node.now rec.now came in
-            IsFollowed (views W.style K.lines K.failed T.files T.faults) rec.now request
+            IsFollowed (views W.style K.lines K.failed T.files T.faults T.calls) rec.now request
             self.old self.new (text_of gathered.old) (text_of gathered.new) result }
         ensures last { let qs = (keeps self.new.node.now).queues in
             OnOk result (IsLast rec.now.moment qs self.new.clock.last) }
@@ -278,7 +283,8 @@ impl<'a, 'w, W: ReportWriter, K: LineSink, T: Tree> Running<'a, 'w, W, K, T> {
     /// Lets frames leave behind a record that asked nothing. Where none wait, nothing is done.
     #[inline(always)]
     fn leave(&mut self, rec: &Record, gathered: &mut TextBuffer) -> Result<(), NoMemory>
-        ensures followed { IsFollowed (views W.style K.lines K.failed T.files T.faults) rec.now None
+        ensures followed {
+            IsFollowed (views W.style K.lines K.failed T.files T.faults T.calls) rec.now None
             self.old self.new (text_of gathered.old) (text_of gathered.new) result }
         ensures last { let qs = (keeps self.new.node.now).queues in
             OnOk result (IsLast rec.now.moment qs self.new.clock.last) }
@@ -294,7 +300,8 @@ impl<'a, 'w, W: ReportWriter, K: LineSink, T: Tree> Running<'a, 'w, W, K, T> {
     /// The same, where some wait.
     #[inline(never)]
     fn leave_some(&mut self, rec: &Record, gathered: &mut TextBuffer) -> Result<(), NoMemory>
-        ensures followed { IsFollowed (views W.style K.lines K.failed T.files T.faults) rec.now None
+        ensures followed {
+            IsFollowed (views W.style K.lines K.failed T.files T.faults T.calls) rec.now None
             self.old self.new (text_of gathered.old) (text_of gathered.new) result }
         ensures last { OnOk result (self.new.clock.last ≡ rec.now.moment) }
     {
@@ -323,7 +330,7 @@ impl<'a, 'w, W: ReportWriter, K: LineSink, T: Tree> Running<'a, 'w, W, K, T> {
     ) -> Result<(), NoMemory>
         requires { IsRequestTo self.old.node.now.plan.node request }
         ensures followed { let asked = Some request in
-            IsFollowed (views W.style K.lines K.failed T.files T.faults) rec.now asked
+            IsFollowed (views W.style K.lines K.failed T.files T.faults T.calls) rec.now asked
             self.old self.new (text_of gathered.old) (text_of gathered.new) result }
         ensures last { OnOk result (self.new.clock.last ≡ rec.now.moment) }
     {

@@ -1,7 +1,7 @@
 use Rattle.std.proofs.Common.{inl, inr, ℕ, true, Option, refl, subst}
 use Rattle.node_plan.specs.declared.plan.Plan.{Plan}
 use Rattle.cy_outside.specs.Files.{Files}
-use Rattle.node_run.specs.Failures.{failures}
+use Rattle.node_run.specs.Failures.{failures, tree_counts}
 use Rattle.node_run.specs.HasRun.{HasRun}
 use Rattle.node_run.specs.ValueLines.{flow}
 use Rattle.node_run.specs.Ran.{reported}
@@ -44,7 +44,8 @@ returns-clause-done g c =
     let files = g.T.Tree.files c.args.tree.now in
     let told = flow (g.L.Source.left c.args.input.now) (g.L.Source.left run.new.input) (g.O.Sink.written c.args.out.now) (g.O.Sink.written run.new.out) in
     let put = reported (g.K.LineSink.lines c.args.lines.now) (g.K.LineSink.lines run.new.lines) run.new.numbers in
-    let failed = λ (faults : ℕ). failures (g.K.LineSink.failed c.args.lines.now) (g.K.LineSink.failed run.new.lines) faults (g.T.Tree.faults run.new.tree) in
+    let calls = g.T.Tree.calls c.plan_at.new.tree in
+    let failed = λ (faults : ℕ). failures (g.K.LineSink.failed c.args.lines.now) (g.K.LineSink.failed run.new.lines) (tree_counts faults calls) (tree_counts (g.T.Tree.faults run.new.tree) (g.T.Tree.calls run.new.tree)) in
     let ran = subst (λ (f : Option Files). HasRun form plan f told run.result put (failed (g.T.Tree.faults c.args.tree.now))) c.in-Ok.ensures.files
     (subst (λ (n : ℕ). HasRun form plan (g.T.Tree.files c.plan_at.new.tree) told run.result put (failed n)) c.in-Ok.ensures.cause done.ran) in
     record {
@@ -60,6 +61,6 @@ returns-clause-done g c =
         unwritten = done.unwritten;
         unserved = λ e. absurd cc;
       };
-      ran = inr (record { plan = plan; is = c.in-Ok.ensures.plan; run = ran; bound = done.bound });
+      ran = inr (record { plan = plan; is = c.in-Ok.ensures.plan; run = record { calls = calls; loaded = c.in-Ok.ensures.calls; is = ran }; bound = done.bound });
       held = done.held;
     }

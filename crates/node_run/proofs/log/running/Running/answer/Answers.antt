@@ -1,6 +1,7 @@
 use Rattle.std.proofs.Common.{◌∙◌, ◌++◌, ◌∷◌, [], Bool, List, Some, length, refl, sym, ap, ap₂, subst, append-nil, rules}
 use Rattle.std.specs.Prelude.{if◌then◌else◌}
 use Rattle.line_text.specs.Buffer.{text_of}
+use Rattle.node_core.specs.Files.{root_of}
 use Rattle.node_core.specs.Keeps.{keeps}
 use Rattle.report_lines.specs.LineSinks.{BeginsList, put_behind}
 use Rattle.node_core.specs.Queues.{leaving}
@@ -12,6 +13,7 @@ use Rattle.node_core.proofs.Steps.{on_err}
 use Rattle.node_run.specs.Follows.{asked, following}
 use Rattle.node_run.specs.Goes.{with_sent}
 use Rattle.node_run.specs.Tells.{HasTold}
+use Rattle.node_run.proofs.Fails.{calls_for}
 use Rattle.node_run.proofs.SameNodes.{same_by, same_then, still}
 use Rattle.node_run.proofs.Tells.{begins_none}
 use Rattle.node_run.proofs.log.running.Running.answer.Goals as goal
@@ -37,7 +39,7 @@ returns-in_err-file-clause-followed g c =
             uncounted = refl;
           };
         };
-        untold = record { told = refl; count = c.serve.ensures.count };
+        untold = record { told = refl; count = c.serve.ensures.count; called = c.serve.ensures.calls };
       });
     }
 
@@ -63,7 +65,7 @@ returns-in_err-full-clause-followed g c =
             uncounted = refl;
           };
         };
-        untold = record { told = refl; count = c.serve.ensures.count };
+        untold = record { told = refl; count = c.serve.ensures.count; called = c.serve.ensures.calls };
       });
     }
 
@@ -91,7 +93,7 @@ returns-in_err-sent-clause-followed g c =
             uncounted = refl;
           };
         };
-        untold = record { told = c.send.ensures.untold; count = c.serve.ensures.count };
+        untold = record { told = c.send.ensures.untold; count = c.serve.ensures.count; called = c.serve.ensures.calls };
       });
     }
 
@@ -121,7 +123,7 @@ returns-in_err-tell_failed-clause-followed g c =
             uncounted = refl;
           };
         };
-        untold = record { told = c.in_err-tell_failed.ensures.err ∙ c.send.ensures.untold; count = c.serve.ensures.count };
+        untold = record { told = c.in_err-tell_failed.ensures.err ∙ c.send.ensures.untold; count = c.serve.ensures.count; called = c.serve.ensures.calls };
       });
     }
 
@@ -132,6 +134,7 @@ returns-clause-followed g c =
     let lines = g.K.LineSink.lines in
     let m = c.args.rec.now.moment in
     let line = c.args.rec.now.line in
+    let calls = g.T.Tree.calls in
     let file = c.in_ok-file.file in
     let sent = c.in_ok-sent.ensures in
     let reply = c.in_ok-full.ensures in
@@ -155,6 +158,8 @@ returns-clause-followed g c =
         fails = record {
           told = c.in_ok-tell_failed.ensures.told ∙ ap₂ (λ o (failed : Bool). put_behind o (if failed then line ∷ [] else [])) c.send.ensures.untold c.is_failed.ensures;
           cause = c.in_ok-file.ensures.cause;
+          called = calls_for (g.T.Tree.files self.tree.now) (root_of self.node.now.plan.serve) c.args.request.question file (calls self.tree.now) (calls c.serve.new.tree) c.in_ok-file.ensures.served
+              (λ none. ap calls (c.serve.ensures.unasked none)) c.serve.ensures.calls;
         };
       };
       err = tt;

@@ -31,7 +31,7 @@ returns-then-waiting-eq0-clause-followed g c =
           told = none_told (g.W.ReportWriter.style self.writer.now) (type_on self.node.now.plan) m k.queues (text_of c.args.gathered.now) (lines self.lines.now) quiet;
           counted = none_sent m k.queues self.tally.numbers low quiet;
         };
-        fails = record { told = put_none (g.K.LineSink.failed self.lines.now); cause = refl };
+        fails = record { told = put_none (g.K.LineSink.failed self.lines.now); cause = refl; called = omega arith };
       };
       err = tt;
     }

@@ -38,7 +38,7 @@ returns-in_err-sent-clause-followed g c =
             uncounted = refl;
           };
         };
-        untold = record { told = c.send.ensures.untold; count = omega arith };
+        untold = record { told = c.send.ensures.untold; count = omega arith; called = omega arith };
       });
     }
 
@@ -65,7 +65,7 @@ returns-clause-followed g c =
           told = subst (λ (ls : List Line). HasTold (g.W.ReportWriter.style self.writer.now) (type_on self.node.now.plan) ls (text_of c.args.gathered.now) (text_of c.send.new.gathered) (lines self.lines.now) (lines c.send.new.lines)) all (sent.told (type_on self.node.now.plan));
           counted = c.send-2.ensures ∙ ap (with_sent self.tally.numbers) sent.sent;
         };
-        fails = record { told = c.send.ensures.untold ∙ put_none (failed self.lines.now); cause = refl };
+        fails = record { told = c.send.ensures.untold ∙ put_none (failed self.lines.now); cause = refl; called = omega arith };
       };
       err = tt;
     }

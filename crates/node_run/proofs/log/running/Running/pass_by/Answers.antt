@@ -46,5 +46,5 @@ returns-clause-ok g c =
       goes = λ plan before past few h.
           goes_behind plan before rec past (state_in style lines self) h node [] None false to x.file written put text text after refl (λ types are. told_none written types text put) fin same.node same.over.style x.follows few c.of-seen.result c.held.result _
           c.of-seen.ensures.delivered c.of-seen.ensures.badcrc c.of-seen.ensures.nosession c.held.ensures.held c.held.ensures.bound c.count.ensures;
-      fails = record { told = x.fails.told; cause = x.fails.cause };
+      fails = record { told = x.fails.told; cause = x.fails.cause; called = x.fails.called };
     }

@@ -33,7 +33,7 @@ returns-in_err-came-clause-err g c =
     let new = state c.step.new.self (style self.writer.now) (lines self.lines.now) self.tally.numbers in
     on_err _ c.from_residual.result (record {
       breaks = λ plan before past since h failed. broke_untold files plan before c.args.rec.now past old new since h failed refl refl;
-      untold = record { told = refl; count = omega arith };
+      untold = record { told = refl; count = omega arith; called = omega arith };
     })
 
 -- it is no frame for the node
@@ -85,7 +85,7 @@ returns-then-is_none-clause-ok g c =
       goes = λ plan before past few h.
           goes_behind plan before rec past (state_in style lines self) h node [] None came.badcrc to x.file written put text text after refl (λ types are. told_none written types text put) fin same.node same.over.style x.follows few c.of-seen.result c.held.result _
           c.of-seen.ensures.delivered c.of-seen.ensures.badcrc c.of-seen.ensures.nosession c.held.ensures.held c.held.ensures.bound c.count.ensures;
-      fails = record { told = x.fails.told; cause = x.fails.cause };
+      fails = record { told = x.fails.told; cause = x.fails.cause; called = x.fails.called };
     }
 
 -- it is one
@@ -99,7 +99,7 @@ returns-in_err-tell-clause-err g c =
     let new = state c.step.new.self (style c.tell.new.writer) (lines c.tell.new.lines) self.tally.numbers in
     on_err _ c.from_residual-in_err-tell.result (record {
       breaks = λ plan before past since h failed. broke_untold files plan before c.args.rec.now past (state_in style lines self) new since h failed c.in_err-tell.ensures.err refl;
-      untold = record { told = c.tell.ensures.untold; count = omega arith };
+      untold = record { told = c.tell.ensures.untold; count = omega arith; called = omega arith };
     })
 
 pub follow-requires : goal.follow-requires
@@ -128,7 +128,7 @@ returns-in_err-follow-clause-err g c =
     on_err _ c.from_residual-in_err-follow.result (record {
       breaks = λ plan before past since h failed.
           broke_following plan before rec past (state_in style lines self) h node told request came.badcrc to files (style c.tell.new.writer) (lines c.tell.new.lines) (state_in style lines c.follow.new.self) _ since failed c.in_ok-tell.ensures.adds part;
-      untold = record { told = part.untold.told ∙ c.tell.ensures.untold; count = part.untold.count };
+      untold = record { told = part.untold.told ∙ c.tell.ensures.untold; count = part.untold.count; called = part.untold.called };
     })
 
 pub returns-clause-ok : goal.returns-clause-ok
@@ -161,5 +161,5 @@ returns-clause-ok g c =
       goes = λ plan before past few h.
           goes_behind plan before rec past (state_in style lines self) h node told request came.badcrc to x.file written put text now after c.tell.ensures.style first fin same.node same.over.style x.follows few c.of-seen-2.result c.held-2.result _
           c.of-seen-2.ensures.delivered c.of-seen-2.ensures.badcrc c.of-seen-2.ensures.nosession c.held-2.ensures.held c.held-2.ensures.bound c.count-2.ensures;
-      fails = record { told = x.fails.told ∙ ap (λ o. put_behind o (failed_at (Heard rec x.file))) c.tell.ensures.untold; cause = x.fails.cause };
+      fails = record { told = x.fails.told ∙ ap (λ o. put_behind o (failed_at (Heard rec x.file))) c.tell.ensures.untold; cause = x.fails.cause; called = x.fails.called };
     }

@@ -41,7 +41,7 @@ returns-in_err-seen-clause-err g c =
     let new = state c.quick.new.self (style c.tell_quick.new.writer) (lines c.tell_quick.new.lines) self.tally.numbers in
     on_err _ c.from_residual.result (record {
       breaks = λ plan before past since h failed. broke_untold files plan before c.args.rec.now past (state_in style lines self) new since h failed c.in_err-seen.ensures.err refl;
-      untold = record { told = c.tell_quick.ensures.untold; count = omega arith };
+      untold = record { told = c.tell_quick.ensures.untold; count = omega arith; called = omega arith };
     })
 
 pub returns-in_err-leave-clause-count : goal.returns-in_err-leave-clause-count
@@ -63,7 +63,7 @@ returns-in_err-leave-clause-err g c =
     on_err _ c.from_residual-in_err-leave.result (record {
       breaks = λ plan before past since h failed.
           broke_following plan before rec past (state_in style lines self) h node told None bad to files (style c.tell_quick.new.writer) (lines c.tell_quick.new.lines) (state_in style lines c.leave.new.self) _ since failed (c.in_ok-seen.ensures.told (type_at node.table) (λ key. refl)).put part;
-      untold = record { told = part.untold.told ∙ c.tell_quick.ensures.untold; count = part.untold.count };
+      untold = record { told = part.untold.told ∙ c.tell_quick.ensures.untold; count = part.untold.count; called = part.untold.called };
     })
 
 pub returns-clause-ok : goal.returns-clause-ok
@@ -92,5 +92,5 @@ returns-clause-ok g c =
       goes = λ plan before past few h.
           goes_behind plan before rec past (state_in style lines self) h node told None bad to x.file written put text now after c.tell_quick.ensures.style c.in_ok-seen.ensures.told fin same.node same.over.style x.follows few c.in_ok-seen.seen c.held.result _
           counts.delivered counts.badcrc counts.nosession c.held.ensures.held c.held.ensures.bound c.count.ensures;
-      fails = record { told = x.fails.told ∙ ap (λ o. put_behind o (failed_at (Heard rec x.file))) c.tell_quick.ensures.untold; cause = x.fails.cause };
+      fails = record { told = x.fails.told ∙ ap (λ o. put_behind o (failed_at (Heard rec x.file))) c.tell_quick.ensures.untold; cause = x.fails.cause; called = x.fails.called };
     }

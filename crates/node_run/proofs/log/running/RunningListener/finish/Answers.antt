@@ -3,10 +3,10 @@ use Rattle.line_text.specs.Buffer.{text_of}
 use Rattle.report_lines.specs.declared.line.Line.{Line}
 use Rattle.report_lines.specs.declared.numbers.Numbers.{Numbers}
 use Rattle.report_lines.specs.LineSinks.{BeginsList, put_behind}
-use Rattle.node_core.specs.Steps.{emptying, failed_lines, lines, steps}
+use Rattle.node_core.specs.Steps.{emptying, lines, steps}
 use Rattle.node_core.specs.Types.{type_on}
 use Rattle.node_core.proofs.Steps.{on_err}
-use Rattle.node_run.specs.Failures.{failures}
+use Rattle.node_run.specs.Failures.{failures, tree_counts}
 use Rattle.node_run.specs.Goes.{state_in}
 use Rattle.node_run.specs.Hears.{mets_of}
 use Rattle.node_run.specs.Ran.{reported}
@@ -30,10 +30,10 @@ returns-in_err-emptied-clause-cut_short g c =
       met = record {
         over = record { lines = hh.met.over.lines; tree = hh.met.over.tree; told = hh.met.over.told; style = c.empty.ensures.style ∙ hh.met.over.style };
         cut = record {
-          first = first_cut plan all (reported (K first.lines.now) (K c.empty.new.lines) self.tally.numbers) (failures (g.K.LineSink.failed first.lines.now) (g.K.LineSink.failed c.empty.new.lines) (g.T.Tree.faults first.tree.now) (g.T.Tree.faults self.tree.now))
+          first = first_cut plan all (reported (K first.lines.now) (K c.empty.new.lines) self.tally.numbers) (failures (g.K.LineSink.failed first.lines.now) (g.K.LineSink.failed c.empty.new.lines) (tree_counts (g.T.Tree.faults first.tree.now) (g.T.Tree.calls first.tree.now)) (tree_counts (g.T.Tree.faults self.tree.now) (g.T.Tree.calls self.tree.now)))
               (K self.lines.now) h.runs.at.reported
               (subst (λ (ls : List Line). BeginsList ls (K self.lines.now) (K c.empty.new.lines)) same c.in_err-emptied.ensures.err) h.runs.at.counted
-              (failed_stay (failed_lines all) (g.K.LineSink.failed first.lines.now) (g.K.LineSink.failed self.lines.now) (g.K.LineSink.failed c.empty.new.lines) (g.T.Tree.faults first.tree.now) (g.T.Tree.faults self.tree.now) c.empty.ensures.untold hh.met.failed).tells;
+              (failed_stay all (g.K.LineSink.failed first.lines.now) (g.K.LineSink.failed self.lines.now) (g.K.LineSink.failed c.empty.new.lines) (tree_counts (g.T.Tree.faults first.tree.now) (g.T.Tree.calls first.tree.now)) (tree_counts (g.T.Tree.faults self.tree.now) (g.T.Tree.calls self.tree.now)) c.empty.ensures.untold hh.met.failed).tells;
           behind = record { newer = []; parts = refl };
           within = h.runs.within;
         };
@@ -55,10 +55,10 @@ returns-in_err-push_end-clause-cut_short g c =
       met = record {
         over = record { lines = hh.met.over.lines; tree = hh.met.over.tree; told = hh.met.over.told; style = c.empty.ensures.style ∙ hh.met.over.style };
         cut = record {
-          first = first_cut plan all (reported (K first.lines.now) (K c.empty.new.lines) self.tally.numbers) (failures (g.K.LineSink.failed first.lines.now) (g.K.LineSink.failed c.empty.new.lines) (g.T.Tree.faults first.tree.now) (g.T.Tree.faults self.tree.now))
+          first = first_cut plan all (reported (K first.lines.now) (K c.empty.new.lines) self.tally.numbers) (failures (g.K.LineSink.failed first.lines.now) (g.K.LineSink.failed c.empty.new.lines) (tree_counts (g.T.Tree.faults first.tree.now) (g.T.Tree.calls first.tree.now)) (tree_counts (g.T.Tree.faults self.tree.now) (g.T.Tree.calls self.tree.now)))
               (K self.lines.now) h.runs.at.reported
               (record { front = emptying plan all; rest = []; whole = sym (append-nil (emptying plan all)); put = put ∙ ap (put_behind (K self.lines.now)) same }) h.runs.at.counted
-              (failed_stay (failed_lines all) (g.K.LineSink.failed first.lines.now) (g.K.LineSink.failed self.lines.now) (g.K.LineSink.failed c.empty.new.lines) (g.T.Tree.faults first.tree.now) (g.T.Tree.faults self.tree.now) c.empty.ensures.untold hh.met.failed).tells;
+              (failed_stay all (g.K.LineSink.failed first.lines.now) (g.K.LineSink.failed self.lines.now) (g.K.LineSink.failed c.empty.new.lines) (tree_counts (g.T.Tree.faults first.tree.now) (g.T.Tree.calls first.tree.now)) (tree_counts (g.T.Tree.faults self.tree.now) (g.T.Tree.calls self.tree.now)) c.empty.ensures.untold hh.met.failed).tells;
           behind = record { newer = []; parts = refl };
           within = h.runs.within;
         };
@@ -80,7 +80,7 @@ returns-clause-ended g c first past hh =
     let sent = sent_at_end plan all h.runs.is few self.tally.numbers.sent (ap (λ (n : Numbers). n.sent) h.runs.at.counted) c.in_ok-emptied.emptied (c.in_ok-emptied.ensures.sent ∙ ap length same) in record {
       met = record {
         over = record { lines = hh.met.over.lines; tree = hh.met.over.tree; told = hh.met.over.told; style = c.empty.ensures.style ∙ hh.met.over.style };
-        failed = failed_stay (failed_lines all) (g.K.LineSink.failed first.lines.now) (g.K.LineSink.failed self.lines.now) (g.K.LineSink.failed c.empty.new.lines) (g.T.Tree.faults first.tree.now) (g.T.Tree.faults self.tree.now) c.empty.ensures.untold hh.met.failed;
+        failed = failed_stay all (g.K.LineSink.failed first.lines.now) (g.K.LineSink.failed self.lines.now) (g.K.LineSink.failed c.empty.new.lines) (tree_counts (g.T.Tree.faults first.tree.now) (g.T.Tree.calls first.tree.now)) (tree_counts (g.T.Tree.faults self.tree.now) (g.T.Tree.calls self.tree.now)) c.empty.ensures.untold hh.met.failed;
         ended = record {
           at = record { reported = put ∙ (ap (λ o. put_behind o (emptying plan all)) h.runs.at.reported ∙ put_more (K first.lines.now) (lines plan all) (emptying plan all)); counted = h.runs.at.counted };
           sent_is = c.saturating_add-sent.ensures ∙ sent;

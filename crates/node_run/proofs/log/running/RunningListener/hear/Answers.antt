@@ -11,7 +11,7 @@ use Rattle.node_run.proofs.log.running.RunningListener.hear.Goals as goal
 
 pub returns-in_err-tick_up_to-clause-broke : goal.returns-in_err-tick_up_to-clause-broke
 returns-in_err-tick_up_to-clause-broke g c =
-    let v = views g.W.ReportWriter.style g.K.LineSink.lines g.K.LineSink.failed g.T.Tree.files g.T.Tree.faults in
+    let v = views g.W.ReportWriter.style g.K.LineSink.lines g.K.LineSink.failed g.T.Tree.files g.T.Tree.faults g.T.Tree.calls in
     let self = c.args.self.now in
     let rec = c.args.rec.now in
     let last : last_tick self.clock.number self.clock.next ≤ rec.moment = omega (arith, c.requires.moment) in
@@ -20,7 +20,7 @@ returns-in_err-tick_up_to-clause-broke g c =
 
 pub returns-clause-heard : goal.returns-clause-heard
 returns-clause-heard g c =
-    let v = views g.W.ReportWriter.style g.K.LineSink.lines g.K.LineSink.failed g.T.Tree.files g.T.Tree.faults in
+    let v = views g.W.ReportWriter.style g.K.LineSink.lines g.K.LineSink.failed g.T.Tree.files g.T.Tree.faults g.T.Tree.calls in
     let self = c.args.self.now in
     let rec = c.args.rec.now in
     let last : last_tick self.clock.number self.clock.next ≤ rec.moment = omega (arith, c.requires.moment) in
@@ -34,7 +34,7 @@ returns-clause-heard g c =
 
 pub returns-clause-broke : goal.returns-clause-broke
 returns-clause-broke g c =
-    let v = views g.W.ReportWriter.style g.K.LineSink.lines g.K.LineSink.failed g.T.Tree.files g.T.Tree.faults in
+    let v = views g.W.ReportWriter.style g.K.LineSink.lines g.K.LineSink.failed g.T.Tree.files g.T.Tree.faults g.T.Tree.calls in
     let self = c.args.self.now in
     let rec = c.args.rec.now in
     let last : last_tick self.clock.number self.clock.next ≤ rec.moment = omega (arith, c.requires.moment) in
