@@ -4,7 +4,7 @@ ghost use Rattle.cy_outside.specs.Outside.{Rose};
 ghost use Rattle.node_plan.specs.Bound.{bound_of};
 ghost use Rattle.node_plan.specs.IsPlan.{IsPlan};
 ghost use Rattle.node_run.specs.Failures.{failures, tree_counts};
-ghost use Rattle.node_run.specs.Forms.{Text, Json};
+ghost use Rattle.node_run.specs.Forms.{Text};
 ghost use Rattle.node_run.specs.HasRun.{HasRun};
 ghost use Rattle.node_run.specs.Ran.{IsEmpty, end_sent, names_of, of_failed, of_report};
 ghost use Rattle.node_run.specs.Ran.{reported, status_of};
@@ -59,7 +59,7 @@ pub fn run_over<T: Tree, L: Source, O: Sink, K: LineSink>(
     run_with(alloc, plan, &mut writer, tree, input, out, lines, numbers)
 }
 
-/// The same, written in a form.
+/// The same, written in a form: as text, or as JSON lines (RFC 8259), an object a line.
 pub fn run_in<T: Tree, L: Source, O: Sink, K: LineSink>(
     alloc: Global,
     form: Form,
@@ -88,38 +88,11 @@ pub fn run_in<T: Tree, L: Source, O: Sink, K: LineSink>(
 {
     match form {
         Form::Text => run_over(alloc, plan, tree, input, out, lines, numbers),
-        Form::Json => run_json(alloc, plan, tree, input, out, lines, numbers),
+        Form::Json => {
+            let mut writer = JsonWriter::new(alloc, &plan.buses);
+            run_with(alloc, plan, &mut writer, tree, input, out, lines, numbers)
+        }
     }
-}
-
-/// The same, written as JSON lines (RFC 8259): an object a line.
-fn run_json<T: Tree, L: Source, O: Sink, K: LineSink>(
-    alloc: Global,
-    plan: Plan,
-    tree: &mut T,
-    input: &mut L,
-    out: &mut O,
-    lines: &mut K,
-    numbers: &mut Numbers,
-) -> Status
-    requires plan { IsPlan plan }
-    ensures ran { let r = reported (K.lines lines.old) (K.lines lines.new) numbers.new in
-        let old = tree_counts (T.faults tree.old) (T.calls tree.old) in
-        let new = tree_counts (T.faults tree.new) (T.calls tree.new) in
-        let f = failures (K.failed lines.old) (K.failed lines.new) old new in
-        let flow = flow (L.left input.old) (L.left input.new)
-        (O.written out.old) (O.written out.new) in
-        HasRun Json plan (T.files tree.old) flow result r f }
-    ensures files { T.files tree.new ≡ T.files tree.old }
-    ensures read { result ≡ Status.ReadFault → Rose (L.faults input.old) (L.faults input.new) }
-    ensures write { result ≡ Status.WriteFault → Rose (O.faults out.old) (O.faults out.new) }
-    ensures unread { result ≢ Status.ReadFault → L.faults input.new ≡ L.faults input.old }
-    ensures unwritten { result ≢ Status.WriteFault → O.faults out.new ≡ O.faults out.old }
-    ensures bound { numbers.new.bound ≡ bound_of plan }
-    ensures held { numbers.new.held ≤ numbers.new.bound }
-{
-    let mut writer = JsonWriter::new(alloc, &plan.buses);
-    run_with(alloc, plan, &mut writer, tree, input, out, lines, numbers)
 }
 
 /// The same, written as a writer of the plan's lines does.
