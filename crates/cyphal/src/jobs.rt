@@ -1,11 +1,11 @@
 //! The commands: a file does what each asks for, or what those do that differ in what they are
 //! given.
-ghost use Rattle.std.specs.Prelude.{◌≡◌, false};
+ghost use Rattle.std.specs.Prelude.{◌≡◌, ◌⊎◌, false, true};
 ghost use Rattle.cy_outside.specs.Outside.{Rose};
 ghost use Rattle.node_run.specs.Failures.{failures, tree_counts};
 ghost use Rattle.node_run.specs.Ran.{reported};
 ghost use Rattle.cyphal.specs.CarriedOut.{IsCarriedOut};
-ghost use Rattle.cyphal.specs.Cause.{outside};
+ghost use Rattle.cyphal.specs.Cause.{outside, is_refused};
 ghost use Rattle.cyphal.specs.Job.{outcome, told_by, CallsAtMost};
 ghost use Rattle.cyphal.specs.Words.{asked_by};
 ghost use Rattle.cyphal.specs.jobs.{job_of};
@@ -66,7 +66,8 @@ pub fn carry_out<T: Tree, L: Source, O: Sink, K: LineSink>(
         let old = outside (T.faults tree.old) (L.faults input.old) (O.faults out.old) input.old in
         let new = outside (T.faults tree.new) (L.faults input.new) (O.faults out.new) input.new in
         IsCarriedOut (job_of (asked_by given.entry)) told came old new }
-    ensures called { let job = job_of (asked_by given.entry) in job.serves ≡ false
+    ensures called { let job = job_of (asked_by given.entry) in
+        (job.serves ≡ false) ⊎ (is_refused result.status ≡ true)
         → CallsAtMost job.needs (T.files tree.old) (T.calls tree.old) (T.calls tree.new) }
     ensures needed { let needs = (job_of (asked_by given.entry)).needs in
         result.status ≡ Status.ReadFault → ¬ Rose (L.faults input.old) (L.faults input.new)

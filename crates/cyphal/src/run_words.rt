@@ -1,11 +1,11 @@
 //! The general call: lines go to a sink of lines.
-ghost use Rattle.std.specs.Prelude.{◌≡◌, false, map, string_bytes};
+ghost use Rattle.std.specs.Prelude.{◌≡◌, ◌⊎◌, false, true, map, string_bytes};
 ghost use Rattle.cy_outside.specs.Outside.{Rose};
 ghost use Rattle.node_run.specs.Failures.{failures, tree_counts};
 ghost use Rattle.node_run.specs.Ran.{reported};
 ghost use Rattle.node_run.specs.declared.status.Status.TheVariants as status;
 ghost use Rattle.cyphal.specs.Answered.{stream, HasSaid, IsAnswered};
-ghost use Rattle.cyphal.specs.Cause.{outside};
+ghost use Rattle.cyphal.specs.Cause.{outside, is_refused};
 ghost use Rattle.cyphal.specs.Expected.{job_for};
 ghost use Rattle.cyphal.specs.Job.{outcome, told_by, CallsAtMost};
 
@@ -47,8 +47,10 @@ pub fn run_words<T: Tree, L: Source, O: Sink, E: Sink, K: LineSink>(
     ensures said { let old = stream (E.faults err.old) (E.written err.old) in
         HasSaid result.status old (stream (E.faults err.new) (E.written err.new)) }
     ensures quiet { result.status ≡ status.Ok → err.new ≡ err.old }
-    // A command that serves no files calls the tree no more often than it needs.
-    ensures called { let job = job_for (map string_bytes words.now) in job.serves ≡ false
+    // A command that serves no files, or whose words, plan or root are refused, calls the tree no more
+    // often than it needs.
+    ensures called { let job = job_for (map string_bytes words.now) in
+        (job.serves ≡ false) ⊎ (is_refused result.status ≡ true)
         → CallsAtMost job.needs (T.files tree.old) (T.calls tree.old) (T.calls tree.new) }
     // A read fault of the tree is one of a call that the command needs.
     ensures needed { let needs = (job_for (map string_bytes words.now)).needs in

@@ -1,10 +1,10 @@
 //! What the words ask for is done here, by the command that they are.
-ghost use Rattle.std.specs.Prelude.{◌≡◌, ◌↔◌, None, false, map, string_bytes};
+ghost use Rattle.std.specs.Prelude.{◌≡◌, ◌⊎◌, ◌↔◌, None, false, true, map, string_bytes};
 ghost use Rattle.cy_outside.specs.Outside.{Rose};
 ghost use Rattle.node_run.specs.Failures.{failures, tree_counts};
 ghost use Rattle.node_run.specs.Ran.{reported};
 ghost use Rattle.cyphal.specs.CarriedOut.{IsCarriedOut};
-ghost use Rattle.cyphal.specs.Cause.{outside};
+ghost use Rattle.cyphal.specs.Cause.{outside, is_refused};
 ghost use Rattle.cyphal.specs.Expected.{job_for};
 ghost use Rattle.cyphal.specs.Job.{outcome, told_by, CallsAtMost};
 ghost use Rattle.cyphal.specs.Words.{command_of};
@@ -40,7 +40,8 @@ pub fn work<T: Tree, L: Source, O: Sink, K: LineSink>(
         let old = outside (T.faults tree.old) (L.faults input.old) (O.faults out.old) input.old in
         let new = outside (T.faults tree.new) (L.faults input.new) (O.faults out.new) input.new in
         IsCarriedOut (job_for (map string_bytes words.now)) told came old new }
-    ensures called { let job = job_for (map string_bytes words.now) in job.serves ≡ false
+    ensures called { let job = job_for (map string_bytes words.now) in
+        (job.serves ≡ false) ⊎ (is_refused result.status ≡ true)
         → CallsAtMost job.needs (T.files tree.old) (T.calls tree.old) (T.calls tree.new) }
     ensures needed { let needs = (job_for (map string_bytes words.now)).needs in
         result.status ≡ Status.ReadFault → ¬ Rose (L.faults input.old) (L.faults input.new)

@@ -1,10 +1,10 @@
 //! `run ROOT PLAN` and `json ROOT PLAN`: a plan over the log of the input.
-ghost use Rattle.std.specs.Prelude.{◌≡◌};
+ghost use Rattle.std.specs.Prelude.{◌≡◌, true};
 ghost use Rattle.cy_outside.specs.Outside.{Rose};
 ghost use Rattle.node_run.specs.Failures.{failures, tree_counts};
 ghost use Rattle.node_run.specs.Ran.{reported};
 ghost use Rattle.cyphal.specs.CarriedOut.{IsCarriedOut};
-ghost use Rattle.cyphal.specs.Cause.{outside};
+ghost use Rattle.cyphal.specs.Cause.{outside, is_refused};
 ghost use Rattle.cyphal.specs.Job.{outcome, told_by, CallsAtMost};
 ghost use Rattle.cyphal.specs.Plans.{plan_calls};
 ghost use Rattle.cyphal.specs.jobs.Run.{run_job};
@@ -38,6 +38,8 @@ pub fn run_plan<T: Tree, L: Source, O: Sink, K: LineSink>(
         let old = outside (T.faults tree.old) (L.faults input.old) (O.faults out.old) input.old in
         let new = outside (T.faults tree.new) (L.faults input.new) (O.faults out.new) input.new in
         IsCarriedOut (run_job form root.now path.now) told came old new }
+    ensures refused { is_refused result.status ≡ true → CallsAtMost (plan_calls root.now path.now)
+        (T.files tree.old) (T.calls tree.old) (T.calls tree.new) }
     ensures needed { let needs = plan_calls root.now path.now in
         result.status ≡ Status.ReadFault → ¬ Rose (L.faults input.old) (L.faults input.new)
         → CallsAtMost needs (T.files tree.old) (T.calls tree.old) (T.calls tree.new) }

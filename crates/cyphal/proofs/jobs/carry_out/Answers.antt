@@ -1,4 +1,7 @@
-use Rattle.std.proofs.Common.{inr, refl}
+use Rattle.std.proofs.Common.{◌≡◌, false, inl, inr, refl, subst, sym}
+use Rattle.cyphal.specs.Words.{asked_by}
+use Rattle.cyphal.specs.jobs.{job_of}
+use Rattle.cyphal.specs.declared.words.Accepted.{Accepted}
 use Rattle.cyphal.proofs.CarriedOut.{for_given, printed_out, read_out}
 use Rattle.cyphal.proofs.TreeCalls.{given_calls, no_calls}
 use Rattle.cyphal.proofs.statuses.Among.{compile_among, compat_among, versions_among, gen_among, log_among}
@@ -112,6 +115,12 @@ returns-in-Migrate-clause-called g c = λ _. given_calls _ _ _ _ _ c.in-Migrate.
 
 pub returns-in-Explain-clause-called : goal.returns-in-Explain-clause-called
 returns-in-Explain-clause-called g c = λ _. given_calls _ _ _ _ _ c.in-Explain.is c.explain_plan.ensures.calls
+
+pub returns-in-Run-clause-called : goal.returns-in-Run-clause-called
+returns-in-Run-clause-called g c h = elim h [
+  | inl serves ↦ absurd (subst (λ (it : Accepted). (job_of (asked_by it)).serves ≡ false → ⊥) (sym c.in-Run.is) (λ e. cc) serves)
+  | inr refused ↦ given_calls _ _ _ _ _ c.in-Run.is (c.run_plan.ensures.refused refused)
+]
 
 pub returns-in-Gen-clause-called : goal.returns-in-Gen-clause-called
 returns-in-Gen-clause-called g c = λ _. given_calls _ _ _ _ _ c.in-Gen.is (no_calls (λ files. 0) _ _)

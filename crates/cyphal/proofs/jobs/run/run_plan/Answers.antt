@@ -30,6 +30,12 @@ returns-in-Err-clause-done g c =
 pub returns-in-Err-clause-needed : goal.returns-in-Err-clause-needed
 returns-in-Err-clause-needed g c = λ fault input. c.in-Err.ensures.calls
 
+pub returns-in-Err-clause-refused : goal.returns-in-Err-clause-refused
+returns-in-Err-clause-refused g c = λ refused. c.in-Err.ensures.calls
+
+pub returns-clause-refused : goal.returns-clause-refused
+returns-clause-refused g c = λ refused. absurd (run_not_refused c.args.form c.in-Ok.plan _ _ c.run_in-status.result _ _ c.run_in-status.ensures.ran refused)
+
 pub returns-clause-needed : goal.returns-clause-needed
 returns-clause-needed g c = λ fault input. absurd (input (c.run_in-status.ensures.read fault))
 
