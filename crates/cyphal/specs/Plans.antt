@@ -73,12 +73,12 @@ abbrev pub plan_calls : List ℕ → List ℕ → Files → ℕ
 plan_calls root path files =
     calls_of root files + reads_of (min (2 ^ 20 + 33) (length (bytes_at files path)))
 
--- in which requests the tree failed, where its calls are counted from so many on
+-- in which requests the tree failed, with its calls counted from so many on
 abbrev pub counted_from : ℕ → Failures → Failures
 counted_from calls f = record f { before = tree_counts f.before.faults calls }
 
--- This holds of a call's failures, where the tree's calls are counted from those on that the
--- namespace of the root and the plan's text took: at most so many as these take.
+-- The namespace of the root and the plan's text were read first, by at most as many calls of the
+-- tree as they take. Of the failures, with the calls counted from there on, this holds.
 pub record SinceLoaded (root path : List ℕ) (files : Option Files) (f : Failures)
     (holds : Failures → Type 0) : Type 0 where
   pub calls : ℕ

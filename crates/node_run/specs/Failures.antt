@@ -26,7 +26,7 @@ pub record Failures : Type 0 where
 abbrev pub failures : Option (List ℕ) → Option (List ℕ) → TreeCounts → TreeCounts → Failures
 failures old new before now = record { old = old; new = new; before = before; now = now }
 
--- whether a request of a file was answered, by what the tree told of one: 1 where it was, else 0
+-- 1 where a request of a file was answered, by what the tree told of the file, and else 0
 abbrev pub one_if_file : FileReply → ℕ
 one_if_file files.NoFile = 0
 one_if_file (files.Info reply) = 1
@@ -55,8 +55,8 @@ pub record TellsFailures (all : List Step) (f : Failures) : Type 0 where
   pub rose : HasRisen (failed_lines all) f.before.faults f.now.faults
   pub called : f.now.calls ≤ f.before.calls + file_requests all + 1
 
--- None broke off. The tree failed in no other request: where there is none, its count stays. And it
--- was called for no other, and for each of a file at most once.
+-- None broke off: the tree failed in no other request, so where there is none its count of faults
+-- stays, and it was called at most once for each request of a file.
 pub record AreFailures (all : List Step) (f : Failures) : Type 0 where
   pub tells : TellsFailures all f
   pub kept : failed_lines all ≡ [] → f.now.faults ≡ f.before.faults

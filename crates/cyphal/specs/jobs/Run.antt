@@ -15,8 +15,8 @@ abbrev pub over : Option (List ℕ) → PlanEnds
 over input plan stat = EndsAsLog (names_of plan) input stat
 
 -- The plan at a path was run over the input and the files of the tree, and the report written in a
--- form: of the tree, all calls behind the plan's reading are those of the run. The memory bound is
--- the plan's however the run ended.
+-- form; behind the plan's reading the tree was called by the run alone. The memory bound is the
+-- plan's however the run ended.
 pub record HasRunAt (form : Form) (root path : List ℕ) (told : Told) (came : Outcome) : Type 0 where
   pub plan : Plan
   pub is : PlanAt root path told.files plan

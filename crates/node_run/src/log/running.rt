@@ -283,8 +283,8 @@ impl<'a, 'w, W: ReportWriter, K: LineSink, T: Tree> Running<'a, 'w, W, K, T> {
     /// Lets frames leave behind a record that asked nothing. Where none wait, nothing is done.
     #[inline(always)]
     fn leave(&mut self, rec: &Record, gathered: &mut TextBuffer) -> Result<(), NoMemory>
-        ensures followed {
-            IsFollowed (views W.style K.lines K.failed T.files T.faults T.calls) rec.now None
+        ensures followed { let v = views W.style K.lines K.failed T.files T.faults T.calls in
+            IsFollowed v rec.now None
             self.old self.new (text_of gathered.old) (text_of gathered.new) result }
         ensures last { let qs = (keeps self.new.node.now).queues in
             OnOk result (IsLast rec.now.moment qs self.new.clock.last) }
@@ -300,8 +300,8 @@ impl<'a, 'w, W: ReportWriter, K: LineSink, T: Tree> Running<'a, 'w, W, K, T> {
     /// The same, where some wait.
     #[inline(never)]
     fn leave_some(&mut self, rec: &Record, gathered: &mut TextBuffer) -> Result<(), NoMemory>
-        ensures followed {
-            IsFollowed (views W.style K.lines K.failed T.files T.faults T.calls) rec.now None
+        ensures followed { let v = views W.style K.lines K.failed T.files T.faults T.calls in
+            IsFollowed v rec.now None
             self.old self.new (text_of gathered.old) (text_of gathered.new) result }
         ensures last { OnOk result (self.new.clock.last ≡ rec.now.moment) }
     {
