@@ -1,12 +1,12 @@
 -- The names in a word, cut at its commas.
-use Rattle.std.proofs.Common.{◌≡◌, ◌∙◌, ℕ, ◌+◌, Bool, true, false, ◌==◌, ◌&&◌, List, [], ◌∷◌, ◌++◌, length, Option, Some, None, refl, sym, ap, arith}
+use Rattle.std.proofs.Common.{◌≡◌, ◌∙◌, ℕ, ◌+◌, Bool, true, false, ◌==◌, ◌&&◌, List, [], ◌∷◌, ◌++◌, length, None, refl, sym, ap, arith}
 use Rattle.std.proofs.lemmas.Bool.Decides.{nat_tests}
 use Rattle.std.proofs.lemmas.List.Folds.{list_all-append}
 use Rattle.std.proofs.lemmas.List.Splits.{join_with_byte-slice_split, length-slice_split}
 use Rattle.std.specs.List.{list_all, slice_split, join_with_byte, count_by}
 use Rattle.std.specs.Prelude.{nat_le}
 use Rattle.node_plan.specs.Names.{is_bus_name, is_name_byte}
-use Rattle.cyphal.specs.BusNames.{is_bus, all_differ, are_buses, buses_among}
+use Rattle.cyphal.specs.BusNames.{is_bus, buses_among}
 
 abbrev pub is_comma : ℕ → Bool
 is_comma byte = byte == 44

@@ -1,7 +1,6 @@
 -- The status of a log that is brought into order is that of its lines.
 use Rattle.std.proofs.Common.{◌≡◌, ◌∙◌, ◌++◌, ℕ, true, false, List, Option, Some, None, is_some, refl, sym, ap, subst, append-nil}
 use Rattle.line_loop.specs.Gone.{HasGone, Said}
-use Rattle.line_loop.specs.Input.{IsTaken}
 use Rattle.line_loop.specs.Reply.{IsReply}
 use Rattle.line_loop.specs.declared.ended.LinesEnded.{LinesEnded}
 use Rattle.line_loop.specs.declared.ended.LinesEnded.TheVariants as lines
@@ -9,7 +8,6 @@ use Rattle.line_loop.proofs.Replies.{one_reply}
 use Rattle.line_order.specs.Answers.{order_voice}
 use Rattle.line_order.specs.declared.refusal.Refusal.{Refusal}
 use Rattle.line_order.proofs.LawLemmas.{one_answer}
-use Rattle.log_loop.specs.declared.ended.Ended.{Ended}
 use Rattle.node_run.specs.Ran.{status_of}
 use Rattle.node_run.specs.declared.status.Status.{Status}
 use Rattle.cyphal.specs.Job.{is_fault}

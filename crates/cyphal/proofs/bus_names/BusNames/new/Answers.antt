@@ -1,4 +1,4 @@
-use Rattle.std.proofs.Common.{◌≡◌, ◌∙◌, ◌∷◌, ap, sym, arith, ℕ, List, Some, None}
+use Rattle.std.proofs.Common.{◌∙◌, ◌∷◌, ap, sym, arith, ℕ, List, Some, None}
 use Rattle.std.proofs.lemmas.Str.Pattern.{split_parts}
 use Rattle.std.specs.List.{slice_split}
 use Rattle.clap.proofs.CutLemmas.{slice_split-Lacks, slice_split-at}
