@@ -13,8 +13,6 @@ ghost use Rattle.cyphal.specs.jobs.{job_of};
 pub mod bound;
 pub mod compat;
 pub mod compile;
-pub mod decoded;
-pub mod encoded;
 pub mod explain;
 pub mod fetch;
 pub mod generated;
@@ -23,6 +21,7 @@ pub mod ordered;
 pub mod reach;
 pub mod run;
 pub mod survey;
+pub mod values;
 pub mod versions;
 
 use crate::counted::Counted;
@@ -31,8 +30,6 @@ use bound::bound_plan;
 use compat::compat_types;
 use compile::compile_root;
 use cy_outside::{Sink, Source, Tree};
-use decoded::decode_lines;
-use encoded::encode_lines;
 use explain::explain_plan;
 use fetch::fetch_file;
 use generated::generated;
@@ -44,6 +41,7 @@ use reach::{Hearing, hear_log};
 use run::run_plan;
 use std::alloc::Global;
 use survey::survey_buses;
+use values::{Direction, answer_lines};
 use versions::compare_versions;
 
 /// Does what a command asks for.
@@ -82,10 +80,10 @@ pub fn carry_out<T: Tree, L: Source, O: Sink, K: LineSink>(
             Counted::nothing(compare_versions(alloc, root, tree, out))
         }
         Accepted::Encode { root, name } => {
-            Counted::nothing(encode_lines(alloc, root, name, tree, input, out))
+            Counted::nothing(answer_lines(alloc, Direction::Encode, root, name, tree, input, out))
         }
         Accepted::Decode { root, name } => {
-            Counted::nothing(decode_lines(alloc, root, name, tree, input, out))
+            Counted::nothing(answer_lines(alloc, Direction::Decode, root, name, tree, input, out))
         }
         Accepted::Run { form, root, plan } => {
             run_plan(alloc, form, root, plan, tree, input, out, lines)

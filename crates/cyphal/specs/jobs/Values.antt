@@ -4,12 +4,21 @@ use Rattle.std.specs.Prelude.{◌≡◌, ◌⊎◌, ℕ, true, false, ◌&&◌, 
 use Rattle.cy_outside.specs.Files.{Files}
 use Rattle.dsdl_types.specs.Definitions.{IsNamespace}
 use Rattle.dsdl_types.specs.declared.namespace.Namespace.{Namespace}
+use Rattle.value_lines.specs.Decoded.{Decodes}
+use Rattle.value_lines.specs.Encoded.{Encodes}
 use Rattle.node_run.specs.Loaded.{is_none, IsLoaded, IsNotLoaded, calls_of}
 use Rattle.node_run.specs.NamedTypes.{message_named}
 use Rattle.node_run.specs.ValueLines.{Answering, Flow, AreStreamed, Ends, HasAnsweredLines}
 use Rattle.node_run.specs.declared.status.Status.{Status}
 use Rattle.cyphal.specs.Job.{Told, Job, ReportsNothing, flow_of, is_fault}
 use Rattle.cyphal.specs.MayEnd.{of_root, of_values}
+use Rattle.cyphal.specs.declared.jobs.values.Direction.{Direction}
+use Rattle.cyphal.specs.declared.jobs.values.Direction.TheVariants as direction
+
+-- what answers a line, by which way its values go
+abbrev pub answers_by : Direction → Answering
+answers_by direction.Encode = Encodes
+answers_by direction.Decode = Decodes
 
 -- the root has a namespace, whose types keep the rules, and answering the lines of the input in it
 -- comes to this status

@@ -27,15 +27,15 @@ returns-in-Versions-clause-done g c =
 
 pub returns-in-Encode-clause-done : goal.returns-in-Encode-clause-done
 returns-in-Encode-clause-done g c =
-    let done = c.encode_lines.ensures in
+    let done = c.answer_lines.ensures in
     for_given _ _ _ _ _ _ c.in-Encode.is
-    (read_out _ _ c.encode_lines.result _ _ refl c.nothing-in-Encode.result c.nothing-in-Encode.ensures g.L.Source.left _ _ _ _ refl done.answer done.among done.cause done.ran (λ d n. (d, n)))
+    (read_out _ _ c.answer_lines.result _ _ refl c.nothing-in-Encode.result c.nothing-in-Encode.ensures g.L.Source.left _ _ _ _ refl done.answer done.among done.cause done.ran (λ d n. (d, n)))
 
 pub returns-in-Decode-clause-done : goal.returns-in-Decode-clause-done
 returns-in-Decode-clause-done g c =
-    let done = c.decode_lines.ensures in
+    let done = c.answer_lines-in-Decode.ensures in
     for_given _ _ _ _ _ _ c.in-Decode.is
-    (read_out _ _ c.decode_lines.result _ _ refl c.nothing-in-Decode.result c.nothing-in-Decode.ensures g.L.Source.left _ _ _ _ refl done.answer done.among done.cause done.ran (λ d n. (d, n)))
+    (read_out _ _ c.answer_lines-in-Decode.result _ _ refl c.nothing-in-Decode.result c.nothing-in-Decode.ensures g.L.Source.left _ _ _ _ refl done.answer done.among done.cause done.ran (λ d n. (d, n)))
 
 pub returns-in-Run-clause-done : goal.returns-in-Run-clause-done
 returns-in-Run-clause-done g c =
@@ -102,10 +102,10 @@ pub returns-in-Compat-clause-called : goal.returns-in-Compat-clause-called
 returns-in-Compat-clause-called g c = λ _. given_calls _ _ _ _ _ c.in-Compat.is c.compat_types.ensures.calls
 
 pub returns-in-Encode-clause-called : goal.returns-in-Encode-clause-called
-returns-in-Encode-clause-called g c = λ _. given_calls _ _ _ _ _ c.in-Encode.is c.encode_lines.ensures.calls
+returns-in-Encode-clause-called g c = λ _. given_calls _ _ _ _ _ c.in-Encode.is c.answer_lines.ensures.calls
 
 pub returns-in-Decode-clause-called : goal.returns-in-Decode-clause-called
-returns-in-Decode-clause-called g c = λ _. given_calls _ _ _ _ _ c.in-Decode.is c.decode_lines.ensures.calls
+returns-in-Decode-clause-called g c = λ _. given_calls _ _ _ _ _ c.in-Decode.is c.answer_lines-in-Decode.ensures.calls
 
 pub returns-in-Bound-clause-called : goal.returns-in-Bound-clause-called
 returns-in-Bound-clause-called g c = λ _. given_calls _ _ _ _ _ c.in-Bound.is c.bound_plan.ensures.calls
@@ -150,10 +150,10 @@ pub returns-in-Compat-clause-needed : goal.returns-in-Compat-clause-needed
 returns-in-Compat-clause-needed g c = λ _ _. given_calls _ _ _ _ _ c.in-Compat.is c.compat_types.ensures.calls
 
 pub returns-in-Encode-clause-needed : goal.returns-in-Encode-clause-needed
-returns-in-Encode-clause-needed g c = λ _ _. given_calls _ _ _ _ _ c.in-Encode.is c.encode_lines.ensures.calls
+returns-in-Encode-clause-needed g c = λ _ _. given_calls _ _ _ _ _ c.in-Encode.is c.answer_lines.ensures.calls
 
 pub returns-in-Decode-clause-needed : goal.returns-in-Decode-clause-needed
-returns-in-Decode-clause-needed g c = λ _ _. given_calls _ _ _ _ _ c.in-Decode.is c.decode_lines.ensures.calls
+returns-in-Decode-clause-needed g c = λ _ _. given_calls _ _ _ _ _ c.in-Decode.is c.answer_lines-in-Decode.ensures.calls
 
 pub returns-in-Bound-clause-needed : goal.returns-in-Bound-clause-needed
 returns-in-Bound-clause-needed g c = λ _ _. given_calls _ _ _ _ _ c.in-Bound.is c.bound_plan.ensures.calls
