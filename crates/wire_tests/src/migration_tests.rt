@@ -4,7 +4,7 @@ use node_plan::{PlanError, PlanWhy, migrate};
 use std::test::Fail;
 
 /// Texts of plans, and what they become.
-const MIGRATED: [(&[u8], &[u8]); 8] = [
+const MIGRATED: &[(&[u8], &[u8])] = &[
     (
         b"plan 1\nnode 42\nbus can0\nmtu 64\nsilent",
         b"plan 2\nnode 42\nbus can0 64 4096\n\nsilent",
@@ -42,7 +42,7 @@ const MIGRATED: [(&[u8], &[u8]); 8] = [
 #[test]
 fn version_2_of_each_plan(rt: HostRuntime) -> Result<(), Fail> {
     let names = no_types(rt.alloc());
-    for (text, wanted) in MIGRATED {
+    for &(text, wanted) in MIGRATED {
         let made = migrate(rt.alloc(), text, &names)?;
         assert_eq!(rt; made.as_slice(), wanted);
         let again = migrate(rt.alloc(), made.as_slice(), &names)?;

@@ -25,41 +25,53 @@ fn a_real_tree_reads_the_systems_files(rt: HostRuntime) -> Result<(), Fail> {
     fs::write(&rt, "a-tree/hello.txt", "hello\n")?;
     fs::write(&rt, "a-tree/notes/list.txt", "first\nsecond\n")?;
     let mut tree = RealTree::new(&rt);
-    let mut buf = [b'-'; 4];
-    assert_eq!(rt; tree.size("a-tree/hello.txt")?, Size::File(6));
-    assert_eq!(rt; tree.size("a-tree/notes")?, Size::Folder);
-    assert_eq!(rt; tree.size("a-tree/none")?, Size::Absent);
-    assert_eq!(rt;
-        tree.read_at("a-tree/hello.txt", 4, &mut buf)?,
-        Got::Bytes(2)
-    );
-    assert_eq!(rt; buf, *b"o\n--");
-    assert_eq!(rt;
-        tree.read_at("a-tree/hello.txt", 6, &mut buf)?,
-        Got::Bytes(0)
-    );
-    assert_eq!(rt;
-        tree.read_at("a-tree/hello.txt/none", 0, &mut buf)?,
-        Got::Absent
-    );
-    assert_eq!(rt; tree.read_at("a-tree/notes", 0, &mut buf)?, Got::Folder);
-    assert!(rt;
-        matches!(
-            tree.list(rt.alloc(), "a-tree/hello.txt")?,
-            Listing::NotFolder
-        )
-    );
-    assert!(rt; matches!(tree.list(rt.alloc(), "a-tree/none")?, Listing::Absent));
-    match tree.list(rt.alloc(), "a-tree/notes")? {
-        Listing::Entries(entries) => assert_eq!(rt; named(&entries), (2, true, true)),
-        _ => assert!(rt; false),
-    }
-    assert_eq!(rt; tree.size("a\0b"), Err(TreeError::Failed));
-    assert_eq!(rt; tree.read_at("a\0b", 0, &mut buf), Err(TreeError::Failed));
-    assert!(rt; matches!(tree.list(rt.alloc(), "a\0b"), Err(TreeError::Failed)));
+    assert!(rt; tells_sizes(&mut tree)?);
+    assert!(rt; tells_bytes(&mut tree)?);
+    assert!(rt; tells_entries(rt.alloc(), &mut tree)?);
+    assert!(rt; fails_at_no_path(rt.alloc(), &mut tree));
     assert_eq!(rt; tree.faults, 3);
     fs::remove_dir_all(&rt, "a-tree")?;
     Ok(())
+}
+
+/// Whether it tells of the test's files how large they are.
+fn tells_sizes<T: Tree>(tree: &mut T) -> Result<bool, TreeError> {
+    Ok(
+        tree.size("a-tree/hello.txt")? == Size::File(6)
+            && tree.size("a-tree/notes")? == Size::Folder
+            && tree.size("a-tree/none")? == Size::Absent,
+    )
+}
+
+/// Whether it tells their bytes.
+fn tells_bytes<T: Tree>(tree: &mut T) -> Result<bool, TreeError> {
+    let mut buf = [b'-'; 4];
+    Ok(
+        tree.read_at("a-tree/hello.txt", 4, &mut buf)? == Got::Bytes(2)
+            && buf == *b"o\n--"
+            && tree.read_at("a-tree/hello.txt", 6, &mut buf)? == Got::Bytes(0)
+            && tree.read_at("a-tree/hello.txt/none", 0, &mut buf)? == Got::Absent
+            && tree.read_at("a-tree/notes", 0, &mut buf)? == Got::Folder,
+    )
+}
+
+/// Whether it tells what stands in their folder.
+fn tells_entries<T: Tree>(alloc: Global, tree: &mut T) -> Result<bool, TreeError> {
+    let is_file = matches!(tree.list(alloc, "a-tree/hello.txt")?, Listing::NotFolder);
+    let is_absent = matches!(tree.list(alloc, "a-tree/none")?, Listing::Absent);
+    let is_listed = match tree.list(alloc, "a-tree/notes")? {
+        Listing::Entries(entries) => named(&entries) == (2, true, true),
+        _ => false,
+    };
+    Ok(is_file && is_absent && is_listed)
+}
+
+/// Whether each of its calls fails where there can be no such path.
+fn fails_at_no_path<T: Tree>(alloc: Global, tree: &mut T) -> bool {
+    let mut buf = [b'-'; 4];
+    tree.size("a\0b") == Err(TreeError::Failed)
+        && tree.read_at("a\0b", 0, &mut buf) == Err(TreeError::Failed)
+        && matches!(tree.list(alloc, "a\0b"), Err(TreeError::Failed))
 }
 
 #[test]

@@ -17,7 +17,7 @@ fn text_of(alloc: Global, rest: &[u8]) -> Result<Vec<u8>, AllocError> {
 }
 
 /// Plans that are refused without types, with the line and the reason.
-const REFUSED: [(&[u8], u32, PlanWhy); 73] = [
+const REFUSED: &[(&[u8], u32, PlanWhy)] = &[
     (b"", 1, PlanWhy::Line),
     (b"# nothing\n\n", 3, PlanWhy::Line),
     (b"plan 1\n", 2, PlanWhy::Line),
@@ -114,7 +114,7 @@ const REFUSED: [(&[u8], u32, PlanWhy); 73] = [
 ];
 
 /// Lines `info` that are refused, with the reason.
-const REFUSED_INFO: [(&[u8], PlanWhy); 16] = [
+const REFUSED_INFO: &[(&[u8], PlanWhy)] = &[
     (
         b"info 1.0 2.0 0123456789abcDEF 000102030405060708090a0b0c0d0e0F ",
         PlanWhy::Line,
@@ -182,7 +182,7 @@ const REFUSED_INFO: [(&[u8], PlanWhy); 16] = [
 ];
 
 /// Subscriptions that are refused in the namespace of the tests, with the line and the reason.
-const REFUSED_TYPES: [(&[u8], u32, PlanWhy); 14] = [
+const REFUSED_TYPES: &[(&[u8], u32, PlanWhy)] = &[
     (b"sub 100 2 demo.Small.1.2\n", 6, PlanWhy::UnknownType),
     (b"sub 100 2 demo.Small\n", 6, PlanWhy::UnknownType),
     (b"sub 100 2 demo.small.1.0\n", 6, PlanWhy::UnknownType),
@@ -214,7 +214,7 @@ const REFUSED_TYPES: [(&[u8], u32, PlanWhy); 14] = [
 #[test]
 fn the_first_refused_line(rt: HostRuntime) {
     let names = no_types(rt.alloc());
-    for (text, n, why) in REFUSED {
+    for &(text, n, why) in REFUSED {
         match read_plan(rt.alloc(), text, &names) {
             Ok(_) => panic!(rt; "line {n} isn't refused"),
             Err(error) => assert_eq!(rt; error, PlanError::Refused { n, why }),
@@ -225,7 +225,7 @@ fn the_first_refused_line(rt: HostRuntime) {
 #[test]
 fn infos_that_are_refused(rt: HostRuntime) -> Result<(), AllocError> {
     let names = no_types(rt.alloc());
-    for (line, why) in REFUSED_INFO {
+    for &(line, why) in REFUSED_INFO {
         let text = text_of(rt.alloc(), line)?;
         match read_plan(rt.alloc(), text.as_slice(), &names) {
             Ok(_) => panic!(rt; "it isn't refused"),
@@ -250,7 +250,7 @@ fn infos_that_are_refused(rt: HostRuntime) -> Result<(), AllocError> {
 #[test]
 fn types_that_are_refused(rt: HostRuntime) -> Result<(), Fail> {
     let names = demo_types(rt.alloc())?;
-    for (rest, n, why) in REFUSED_TYPES {
+    for &(rest, n, why) in REFUSED_TYPES {
         let text = text_of(rt.alloc(), rest)?;
         match read_plan(rt.alloc(), text.as_slice(), &names) {
             Ok(_) => panic!(rt; "line {n} isn't refused"),
@@ -308,7 +308,7 @@ fn plans_that_are_read(rt: HostRuntime) -> Result<(), AllocError> {
 }
 
 /// The MTU and the rate of each bus of a plan that is read.
-const BUSES: [(&[u8], &[(u8, u32)]); 6] = [
+const BUSES: &[(&[u8], &[(u8, u32)])] = &[
     (b"plan 1\nnode 1\nbus a\nbus b\n", &[(8, 4096), (8, 4096)]),
     (
         b"plan 1\nnode 1\nbus a\nmtu 64\nbus b\n",
@@ -326,7 +326,7 @@ const BUSES: [(&[u8], &[(u8, u32)]); 6] = [
 #[test]
 fn each_bus_has_an_mtu_and_a_rate(rt: HostRuntime) {
     let names = no_types(rt.alloc());
-    for (text, wanted) in BUSES {
+    for &(text, wanted) in BUSES {
         match read_plan(rt.alloc(), text, &names) {
             Err(error) => panic!(rt; "{error:?}"),
             Ok(plan) => {
@@ -427,7 +427,7 @@ fn no_more_than_64_subscriptions(rt: HostRuntime) -> Result<(), AllocError> {
 
 /// Where the only line stands that says something, how long the text is, and the line that is
 /// refused: the number of the last one, or of that behind it where the text isn't too long.
-const LONG_TEXTS: [(&[u8], usize, usize, u32); 8] = [
+const LONG_TEXTS: &[(&[u8], usize, usize, u32)] = &[
     (b"plan 1\n#", 0, 1 << 20, 3),
     (b"plan 1\n#", 0, (1 << 20) + 1, 2),
     (b"plan 2\n#", 0, (1 << 20) + 1, 3),
@@ -441,7 +441,7 @@ const LONG_TEXTS: [(&[u8], usize, usize, u32); 8] = [
 #[test]
 fn no_more_than_a_mebibyte(rt: HostRuntime) -> Result<(), AllocError> {
     let names = no_types(rt.alloc());
-    for (lines, place, len, n) in LONG_TEXTS {
+    for &(lines, place, len, n) in LONG_TEXTS {
         let mut text = vec![in rt.alloc(); b'#'; place]?;
         text.extend_from_slice(lines)?;
         let rest = vec![in rt.alloc(); b'#'; len.saturating_sub(text.len())]?;

@@ -6,7 +6,7 @@ use std::test::Fail;
 use std_types::register_value::RegisterValue;
 
 /// Plans that are refused, with the line and the reason.
-const REFUSED: [(&[u8], u32, PlanWhy); 23] = [
+const REFUSED: &[(&[u8], u32, PlanWhy)] = &[
     (b"plan 2\nregister a rw\n", 2, PlanWhy::Line),
     (b"plan 2\nregister a rw \n", 2, PlanWhy::Line),
     (b"plan 2\nregister  rw {empty: {}}\n", 2, PlanWhy::Line),
@@ -99,7 +99,7 @@ const REFUSED: [(&[u8], u32, PlanWhy); 23] = [
 #[test]
 fn registers_that_are_refused(rt: HostRuntime) {
     let names = no_types(rt.alloc());
-    for (text, n, why) in REFUSED {
+    for &(text, n, why) in REFUSED {
         match read_plan(rt.alloc(), text, &names) {
             Ok(_) => panic!(rt; "line {n} isn't refused"),
             Err(error) => assert_eq!(rt; error, PlanError::Refused { n, why }),

@@ -4,7 +4,7 @@ use node_plan::{PlanError, PlanWhy, bound, read_plan};
 use std::test::Fail;
 
 /// Plans that are refused, with the line and the reason.
-const REFUSED: [(&[u8], u32, PlanWhy); 14] = [
+const REFUSED: &[(&[u8], u32, PlanWhy)] = &[
     (b"serve srv\nplan 1\n", 1, PlanWhy::Line),
     (b"plan 1\nserve\n", 2, PlanWhy::Line),
     (b"plan 1\nserve \n", 2, PlanWhy::Line),
@@ -24,7 +24,7 @@ const REFUSED: [(&[u8], u32, PlanWhy); 14] = [
 #[test]
 fn folders_that_are_refused(rt: HostRuntime) {
     let names = no_types(rt.alloc());
-    for (text, n, why) in REFUSED {
+    for &(text, n, why) in REFUSED {
         match read_plan(rt.alloc(), text, &names) {
             Ok(_) => panic!(rt; "line {n} isn't refused"),
             Err(error) => assert_eq!(rt; error, PlanError::Refused { n, why }),
@@ -33,7 +33,7 @@ fn folders_that_are_refused(rt: HostRuntime) {
 }
 
 /// Plans that are read, with the path of the folder that the node serves.
-const READ: [(&[u8], &[u8]); 5] = [
+const READ: &[(&[u8], &[u8])] = &[
     (b"plan 1\nnode 1\nbus a\nserve srv\n", b"srv"),
     (b"plan 2\nserve srv/a#b\nnode 1\nbus a 8 1", b"srv/a#b"),
     (
@@ -47,7 +47,7 @@ const READ: [(&[u8], &[u8]); 5] = [
 #[test]
 fn folders_that_are_read(rt: HostRuntime) -> Result<(), Fail> {
     let names = no_types(rt.alloc());
-    for (text, wanted) in READ {
+    for &(text, wanted) in READ {
         let plan = read_plan(rt.alloc(), text, &names)?;
         let Some(path) = &plan.serve else {
             panic!(rt; "no folder is served");
@@ -58,7 +58,7 @@ fn folders_that_are_read(rt: HostRuntime) -> Result<(), Fail> {
 }
 
 /// Plans with the numbers of their services, and how many bytes all ports may hold at most.
-const SERVICES: [(&[u8], &[u16], u64); 4] = [
+const SERVICES: &[(&[u8], &[u16], u64)] = &[
     (b"plan 2\nnode 1\nbus a 8 1\n", &[430], 0),
     (
         b"plan 2\nnode 1\nbus a 8 1\nserve srv\n",
@@ -80,7 +80,7 @@ const SERVICES: [(&[u8], &[u16], u64); 4] = [
 #[test]
 fn services_of_a_folder(rt: HostRuntime) -> Result<(), Fail> {
     let names = no_types(rt.alloc());
-    for (text, ports, most) in SERVICES {
+    for &(text, ports, most) in SERVICES {
         let plan = read_plan(rt.alloc(), text, &names)?;
         let services = plan.services();
         assert_eq!(rt; services.len(), ports.len());
