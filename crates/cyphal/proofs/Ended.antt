@@ -1,10 +1,10 @@
 -- Where neither the input nor the output failed.
-use Rattle.std.proofs.Common.{◌≡◌, inl, inr, Bool, false, refl}
+use Rattle.std.proofs.Common.{◌≡◌, inl, inr, Bool, false, true, refl}
 use Rattle.cyphal.specs.ErrorLine.{code_of}
 use Rattle.cy_outside.specs.Outside.{Rose}
 use Rattle.node_run.specs.declared.status.Status.{Status}
 use Rattle.node_run.specs.declared.status.Status.TheVariants as status
-use Rattle.cyphal.specs.Cause.{Outside, EndsAsDue, HasCauseOver}
+use Rattle.cyphal.specs.Cause.{Outside, EndsAsDue, HasCauseOver, is_refusal, is_refused}
 use Rattle.cyphal.specs.Job.{is_fault}
 
 module _ {L : Type 0} (due : Status) (old new : Outside L) (takes serves : Bool) where
@@ -57,3 +57,19 @@ is_read_fault status.LogLong e = absurd cc
 is_read_fault (status.NoFile path) e = absurd cc
 is_read_fault status.WriteFault e = absurd cc
 is_read_fault status.NoMemory e = absurd cc
+
+-- a status whose number is that of a refusal is one
+pub is_refused_by : (stat : Status) → is_refusal (code_of stat) ≡ true → is_refused stat ≡ true
+is_refused_by status.Usage e = refl
+is_refused_by (status.Dsdl file n why) e = refl
+is_refused_by (status.Plan n why) e = refl
+is_refused_by (status.NotNewer path why) e = refl
+is_refused_by (status.NoFile path) e = refl
+is_refused_by status.Ok e = absurd cc
+is_refused_by (status.Log n why) e = absurd cc
+is_refused_by (status.Text line) e = absurd cc
+is_refused_by (status.Unreadable line path why) e = absurd cc
+is_refused_by status.LogLong e = absurd cc
+is_refused_by status.ReadFault e = absurd cc
+is_refused_by status.WriteFault e = absurd cc
+is_refused_by status.NoMemory e = absurd cc

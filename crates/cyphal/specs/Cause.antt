@@ -1,5 +1,5 @@
 -- Why a command ended as it did.
-use Rattle.std.specs.Prelude.{◌≡◌, ◌≢◌, ◌⊎◌, ℕ, Bool, true, false}
+use Rattle.std.specs.Prelude.{◌≡◌, ◌≢◌, ◌⊎◌, ◌==◌, ◌||◌, ℕ, Bool, true, false}
 use Rattle.cy_outside.specs.Outside.{Rose}
 use Rattle.node_run.specs.declared.status.Status.{Status}
 use Rattle.node_run.specs.declared.status.Status.TheVariants as status
@@ -39,6 +39,10 @@ is_refused (status.Plan line why) = true
 is_refused (status.NotNewer path why) = true
 is_refused (status.NoFile path) = true
 is_refused other = false
+
+-- the same of the numbers with which a program ends
+abbrev pub is_refusal : ℕ → Bool
+is_refusal code = code == 1 || code == 2 || code == 3 || code == 7 || code == 12
 
 -- The same of any command: the count of the input rises at a read fault alone. By whether it takes
 -- of the input: where it does not, where it is refused, or where the tree failed, the input stays

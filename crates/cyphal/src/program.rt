@@ -1,8 +1,8 @@
 //! The whole program, over any outside.
-ghost use Rattle.std.specs.Prelude.{◌≡◌, None, IfSome, IsSome, false, map, string_bytes};
+ghost use Rattle.std.specs.Prelude.{◌≡◌, ◌⊎◌, None, IfSome, IsSome, false, true, map, string_bytes};
 ghost use Rattle.cy_outside.specs.Outside.{Rose};
 ghost use Rattle.cyphal.specs.Answered.{left_by, stream, HasEnded};
-ghost use Rattle.cyphal.specs.Cause.{outside};
+ghost use Rattle.cyphal.specs.Cause.{outside, is_refusal};
 ghost use Rattle.cyphal.specs.Expected.{job_for};
 ghost use Rattle.cyphal.specs.Help.{own_answer, HasAnswered, HasOwnCause};
 ghost use Rattle.cyphal.specs.Job.{told_by, CallsAtMost};
@@ -42,8 +42,10 @@ pub fn program<T: Tree, L: Source, O: Sink, E: Sink>(
         let err_old = stream (E.faults err.old) (E.written err.old) in
         let err_new = stream (E.faults err.new) (E.written err.new) in
         own_answer words ≡ None → HasEnded words told result left old new err_old err_new }
-    // A command that serves no files calls the tree no more often than it needs.
-    ensures called { let job = job_for (map string_bytes words.now) in job.serves ≡ false
+    // A command that serves no files, or that is refused, calls the tree no more often than it
+    // needs.
+    ensures called { let job = job_for (map string_bytes words.now) in
+        (job.serves ≡ false) ⊎ (is_refusal result ≡ true)
         → CallsAtMost job.needs (T.files tree.old) (T.calls tree.old) (T.calls tree.new) }
     // A read fault of the tree is one of a call that the command needs.
     ensures needed { let needs = (job_for (map string_bytes words.now)).needs in

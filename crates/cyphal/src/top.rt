@@ -54,8 +54,8 @@ pub fn top<T: Tree, L: Source, O: Sink, E: Sink>(
     ensures said { let old = stream (E.faults err.old) (E.written err.old) in
         HasSaid result.status old (stream (E.faults err.new) (E.written err.new)) }
     ensures quiet { result.status ≡ Status.Ok → err.new ≡ err.old }
-    // A command that serves no files, or whose words, plan or root are refused, calls the tree no more
-    // often than it needs.
+    // A command that serves no files, or whose words, plan or root are refused, calls the tree no
+    // more often than it needs.
     ensures called { let job = job_for (map string_bytes words.now) in
         (job.serves ≡ false) ⊎ (is_refused result.status ≡ true)
         → CallsAtMost job.needs (T.files tree.old) (T.calls tree.old) (T.calls tree.new) }
