@@ -1,5 +1,5 @@
 //! Versions and ports that clash.
-use cy_bits::{List, NoMemory};
+use cy_bits::List;
 use dsdl_clash::{first_port_clash, first_version_clash};
 use dsdl_names::{NameError, parse_file_name};
 use dsdl_types::{Body, Definition, Parts, Schema, Shared};
@@ -25,41 +25,39 @@ fn definition(
     })
 }
 
-/// The first clash of versions and the first clash of ports of two types.
+/// The first clash of versions and the first clash of ports of two files' types, of which the
+/// second has this extent.
 fn clashes(
     alloc: Global,
-    a: Definition,
-    b: Definition,
-) -> Result<(Option<usize>, Option<usize>), NoMemory> {
+    first: &str,
+    second: &str,
+    extent: u64,
+) -> Result<(Option<usize>, Option<usize>), NameError> {
     let mut both = List::empty(alloc);
-    both.push(a)?;
-    both.push(b)?;
+    both.push(definition(alloc, first, 0, true)?)?;
+    both.push(definition(alloc, second, extent, true)?)?;
     let versions = first_version_clash(alloc, both.as_slice())?;
     let ports = first_port_clash(alloc, both.as_slice())?;
     Ok((versions, ports))
 }
 
+/// Two files, the extent of the second type, and the first clash of versions and of ports.
+const PAIRS: &[(&str, &str, u64, Option<usize>, Option<usize>)] = &[
+    ("a/A.1.0.dsdl", "a/B.1.0.dsdl", 64, None, None),
+    ("a/5.A.1.0.dsdl", "a/A.1.0.dsdl", 0, Some(1), None),
+    ("a/A.1.0.dsdl", "a/A.1.1.dsdl", 0, None, None),
+    ("a/A.1.0.dsdl", "a/A.1.1.dsdl", 64, Some(1), None),
+    ("a/A.0.1.dsdl", "a/A.0.2.dsdl", 64, None, None),
+    ("a/5.A.1.0.dsdl", "a/5.B.1.0.dsdl", 0, None, Some(1)),
+    ("a/5.A.1.0.dsdl", "a/5.A.2.0.dsdl", 0, None, Some(1)),
+    ("a/5.A.0.1.dsdl", "a/5.A.1.0.dsdl", 0, None, None),
+    ("a/5.A.1.0.dsdl", "a/6.B.1.0.dsdl", 0, None, None),
+];
+
 #[test]
 fn two_types(rt: HostRuntime) {
-    let rows = [
-        ("a/A.1.0.dsdl", "a/B.1.0.dsdl", 64, None, None),
-        ("a/5.A.1.0.dsdl", "a/A.1.0.dsdl", 0, Some(1), None),
-        ("a/A.1.0.dsdl", "a/A.1.1.dsdl", 0, None, None),
-        ("a/A.1.0.dsdl", "a/A.1.1.dsdl", 64, Some(1), None),
-        ("a/A.0.1.dsdl", "a/A.0.2.dsdl", 64, None, None),
-        ("a/5.A.1.0.dsdl", "a/5.B.1.0.dsdl", 0, None, Some(1)),
-        ("a/5.A.1.0.dsdl", "a/5.A.2.0.dsdl", 0, None, Some(1)),
-        ("a/5.A.0.1.dsdl", "a/5.A.1.0.dsdl", 0, None, None),
-        ("a/5.A.1.0.dsdl", "a/6.B.1.0.dsdl", 0, None, None),
-    ];
-    for (first, second, extent, versions, ports) in rows {
-        let (Ok(a), Ok(b)) = (
-            definition(rt.alloc(), first, 0, true),
-            definition(rt.alloc(), second, extent, true),
-        ) else {
-            continue;
-        };
-        if let Ok(found) = clashes(rt.alloc(), a, b) {
+    for &(first, second, extent, versions, ports) in PAIRS {
+        if let Ok(found) = clashes(rt.alloc(), first, second, extent) {
             assert!(rt; found.0 == versions, "versions of {first} and {second}");
             assert!(rt; found.1 == ports, "ports of {first} and {second}");
         }

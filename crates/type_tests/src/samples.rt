@@ -59,41 +59,72 @@ fn typed(alloc: Global, sign: char, number: u8, item: Schema) -> Result<Schema, 
     })
 }
 
+/// The composite type that a sign makes of fields, with this extent.
+fn composite(
+    alloc: Global,
+    sign: char,
+    extent: u8,
+    fields: List<Field>,
+) -> Result<Schema, NoMemory> {
+    let body = Body {
+        fields: Shared::new(alloc, fields)?,
+        extent: u64::from(extent),
+        sealed: sign == '!',
+    };
+    Ok(if sign == '|' {
+        Schema::Union(body)
+    } else {
+        Schema::Struct(body)
+    })
+}
+
+/// Gives a type as a field to the composite that began last.
+fn give(
+    alloc: Global,
+    open: &mut Vec<List<Field>>,
+    name: &str,
+    schema: Schema,
+) -> Result<(), Fail> {
+    let mut fields = open.pop().ok_or("a composite")?;
+    fields.push(field(alloc, name, schema)?)?;
+    open.push(fields)?;
+    Ok(())
+}
+
+/// The type that a word makes of the last one.
+fn next(
+    alloc: Global,
+    open: &mut Vec<List<Field>>,
+    last: Schema,
+    word: &str,
+) -> Result<Schema, Fail> {
+    let mut rest = word.chars();
+    let sign = rest.next().ok_or("a word")?;
+    let number: u8 = rest.as_str().parse().unwrap_or(0);
+    match sign {
+        '{' => {
+            open.push(List::empty(alloc))?;
+            Ok(last)
+        }
+        '.' => {
+            give(alloc, open, rest.as_str(), last)?;
+            Ok(Schema::Bool)
+        }
+        '}' | '|' | '!' => {
+            let fields = open.pop().ok_or("a composite")?;
+            Ok(composite(alloc, sign, number, fields)?)
+        }
+        _ => Ok(typed(alloc, sign, number, last)?),
+    }
+}
+
 /// The type of a text. Each word of `typed` makes a type, which `.name` gives as a field to the composite that `{`
 /// began; `}64`, `|64` and `!64` end that as a structure, a union and a sealed structure of this extent.
 pub fn schema_of(alloc: Global, text: &str) -> Result<Schema, Fail> {
     let mut last = Schema::Bool;
     let mut open = Vec::new(alloc);
     for word in text.split_whitespace() {
-        let mut rest = word.chars();
-        let sign = rest.next().ok_or("a word")?;
-        let number: u8 = rest.as_str().parse().unwrap_or(0);
-        last = match sign {
-            '{' => {
-                open.push(List::empty(alloc))?;
-                last
-            }
-            '.' => {
-                let mut fields = open.pop().ok_or("a composite")?;
-                fields.push(field(alloc, rest.as_str(), last)?)?;
-                open.push(fields)?;
-                Schema::Bool
-            }
-            '}' | '|' | '!' => {
-                let fields = open.pop().ok_or("a composite")?;
-                let body = Body {
-                    fields: Shared::new(alloc, fields)?,
-                    extent: u64::from(number),
-                    sealed: sign == '!',
-                };
-                if sign == '|' {
-                    Schema::Union(body)
-                } else {
-                    Schema::Struct(body)
-                }
-            }
-            _ => typed(alloc, sign, number, last)?,
-        };
+        last = next(alloc, &mut open, last, word)?;
     }
     Ok(last)
 }

@@ -12,11 +12,11 @@ use dsdl_types::laws::shape_laws;
 use dsdl_types::{
     Body, Definition, Namespace, Parts, Schema, Shape, Shared, Step, Value, path_text, zero_of,
 };
-use std::alloc::Global;
+use std::alloc::{AllocError, Global};
 use std::test::Fail;
 
 /// Types, each with the text of its zero.
-const ZEROS: [(&str, &str); 6] = [
+const ZEROS: &[(&str, &str)] = &[
     ("b", "f"),
     ("u8", "0"),
     ("b *3", "[fff]"),
@@ -26,32 +26,31 @@ const ZEROS: [(&str, &str); 6] = [
 ];
 
 /// The value's text: `f` and `t`, a number, `b` for the raw bits 0.
-fn show(text: &mut String, value: &Value) -> Result<(), NoMemory> {
+fn show(text: &mut String, value: &Value) -> Result<(), AllocError> {
     match value {
-        Value::Bool(truth) => text.push_str(if *truth { "t" } else { "f" })?,
-        Value::Num(number) => text.push_str(if *number == 0 { "0" } else { "n" })?,
-        Value::Bits(bits) => text.push_str(if *bits == 0 { "b" } else { "x" })?,
+        Value::Bool(truth) => text.push_str(if *truth { "t" } else { "f" }),
+        Value::Num(number) => text.push_str(if *number == 0 { "0" } else { "n" }),
+        Value::Bits(bits) => text.push_str(if *bits == 0 { "b" } else { "x" }),
         Value::Items(items) => {
             text.push_str("[")?;
             for item in items.as_slice() {
                 show(text, item)?;
             }
-            text.push_str("]")?;
+            text.push_str("]")
         }
         Value::Struct(fields) => {
             text.push_str("{")?;
             for field in fields.as_slice() {
                 show(text, field)?;
             }
-            text.push_str("}")?;
+            text.push_str("}")
         }
         Value::Union { tag, value } => {
             text.push_str(if *tag == 0 { "(0" } else { "(n" })?;
             show(text, value.get())?;
-            text.push_str(")")?;
+            text.push_str(")")
         }
     }
-    Ok(())
 }
 
 /// The text of the zero, from copies of the schema and of the zero.
@@ -63,43 +62,54 @@ fn zero_text(alloc: Global, schema: &Schema) -> Result<String, NoMemory> {
     Ok(text)
 }
 
-/// The ports of the definitions that are found by these names.
-fn found(alloc: Global, names: &[&str]) -> Result<Vec<Option<Option<u16>>>, NoMemory> {
+/// A message with a port.
+fn message(alloc: Global, name: &str, port: u16) -> Result<Definition, NoMemory> {
+    let Ok(id) = parse_type_id(alloc, name) else {
+        return Err(NoMemory);
+    };
+    Ok(Definition {
+        id,
+        port: Some(port),
+        types: List::empty(alloc),
+        parts: Parts::Message(Schema::Bool),
+    })
+}
+
+/// A namespace that has one name twice.
+fn namespace(alloc: Global) -> Result<Namespace, NoMemory> {
     let mut definitions = List::empty(alloc);
-    for (name, port) in [("a.B.1.0", 1), ("a.C.1.0", 2), ("a.B.1.0", 3)] {
-        let Ok(id) = parse_type_id(alloc, name) else {
-            return Err(NoMemory);
-        };
-        definitions.push(Definition {
-            id,
-            port: Some(port),
-            types: List::empty(alloc),
-            parts: Parts::Message(Schema::Bool),
-        })?;
-    }
-    let namespace = Namespace {
+    definitions.push(message(alloc, "a.B.1.0", 1)?)?;
+    definitions.push(message(alloc, "a.C.1.0", 2)?)?;
+    definitions.push(message(alloc, "a.B.1.0", 3)?)?;
+    Ok(Namespace {
         definitions,
         prints: List::empty(alloc),
+    })
+}
+
+/// The port of the definition that is found by this name.
+fn found(alloc: Global, name: &str) -> Result<Option<Option<u16>>, NoMemory> {
+    let namespace = namespace(alloc)?;
+    let Ok(id) = parse_type_id(alloc, name) else {
+        return Err(NoMemory);
     };
-    let mut ports = Vec::new(alloc);
-    for name in names {
-        let Ok(id) = parse_type_id(alloc, name) else {
-            return Err(NoMemory);
-        };
-        ports.push(namespace.find(&id).map(|definition| definition.port))?;
+    Ok(namespace.find(&id).map(|definition| definition.port))
+}
+
+/// The name of a step, or its place where the name is `#`.
+fn step_of(alloc: Global, name: &str, place: u32) -> Result<Step, NoMemory> {
+    if name == "#" {
+        Ok(Step::Index(place))
+    } else {
+        Ok(Step::Name(Text::from_str(alloc, name)?))
     }
-    Ok(ports)
 }
 
 /// The text of the path through these names and places: a name, or a place behind `#`.
 fn path_of(alloc: Global, steps: &[(&str, u32)]) -> Result<Text, NoMemory> {
     let mut path = Vec::new(alloc);
     for (name, place) in steps {
-        path.push(if *name == "#" {
-            Step::Index(*place)
-        } else {
-            Step::Name(Text::from_str(alloc, name)?)
-        })?;
+        path.push(step_of(alloc, name, *place)?)?;
     }
     path_text(alloc, path.as_slice())
 }
@@ -150,34 +160,42 @@ fn shapes(rt: HostRuntime) {
     assert!(rt; kept(&own) == (1, false), "shape");
 }
 
+/// The text of the zero of the type of a text.
+fn zero_of_text(alloc: Global, text: &str) -> Result<String, Fail> {
+    Ok(zero_text(alloc, &schema_of(alloc, text)?)?)
+}
+
 #[test]
 fn zeros(rt: HostRuntime) -> Result<(), Fail> {
-    for (schema, want) in &ZEROS {
-        let schema = schema_of(rt.alloc(), schema)?;
-        let text = zero_text(rt.alloc(), &schema)?;
-        assert_eq!(rt; text.as_str(), *want);
+    for &(schema, want) in ZEROS {
+        let text = zero_of_text(rt.alloc(), schema)?;
+        assert_eq!(rt; text.as_str(), want);
     }
     Ok(())
 }
 
 #[test]
-fn finds(rt: HostRuntime) {
-    let names = ["a.B.1.0", "a.C.1.0", "a.C.1.1", "a.c.1.0"];
-    let ports = found(rt.alloc(), &names).expect(&rt, "memory");
-    let want = [Some(Some(1)), Some(Some(2)), None, None];
-    assert!(rt; ports.as_slice() == want.as_slice(), "found");
+fn finds(rt: HostRuntime) -> Result<(), NoMemory> {
+    let alloc = rt.alloc();
+    assert_eq!(rt; found(alloc, "a.B.1.0")?, Some(Some(1)));
+    assert_eq!(rt; found(alloc, "a.C.1.0")?, Some(Some(2)));
+    assert_eq!(rt; found(alloc, "a.C.1.1")?, None);
+    assert_eq!(rt; found(alloc, "a.c.1.0")?, None);
+    Ok(())
 }
 
+/// Steps, and the text of the path through them.
+const PATHS: &[(&[(&str, u32)], &str)] = &[
+    (&[], "."),
+    (&[("#", 10)], "[10]"),
+    (&[("a", 0), ("b", 0), ("#", 2), ("c", 0)], "a.b[2].c"),
+];
+
 #[test]
-fn paths(rt: HostRuntime) {
-    let whole: [(&str, u32); 0] = [];
-    let rows: [(&[(&str, u32)], &str); 3] = [
-        (&whole, "."),
-        (&[("#", 10)], "[10]"),
-        (&[("a", 0), ("b", 0), ("#", 2), ("c", 0)], "a.b[2].c"),
-    ];
-    for (steps, want) in rows {
-        let path = path_of(rt.alloc(), steps).expect(&rt, "memory");
+fn paths(rt: HostRuntime) -> Result<(), NoMemory> {
+    for &(steps, want) in PATHS {
+        let path = path_of(rt.alloc(), steps)?;
         assert!(rt; path.as_str() == want, "at {want}");
     }
+    Ok(())
 }

@@ -9,6 +9,7 @@ use crate::samples::{array, field, uint};
 use cy_bits::{Boxed, List, NoMemory, Text};
 use dsdl_types::{Body, Cast, Field, Schema, Shared, Value};
 use std::alloc::Global;
+use std::process::Abort;
 use value_text::{TextError, print_value, read_value};
 
 /// The fields `first` and `second`.
@@ -95,25 +96,31 @@ fn truth_text(alloc: Global, truth: bool) -> Result<Text, NoMemory> {
     print_value(alloc, &schema, &Value::Struct(values))
 }
 
-/// Texts of values, each with what it must be.
-fn rows(alloc: Global) -> Result<Vec<(Text, &'static str)>, NoMemory> {
-    let mut rows = Vec::new(alloc);
-    rows.push((union_text(alloc, 1, 65282)?, "{b: [1, 65282]}"))?;
-    rows.push((union_text(alloc, 0, -128)?, "{b: [0, -128]}"))?;
-    rows.push((struct_text(alloc, 0x3C00, 3, 1)?, "{f: 0x3C00, x: #0301}"))?;
-    rows.push((struct_text(alloc, 11, 300, 1)?, "{f: 0x000B, x: [300, 1]}"))?;
-    rows.push((truth_text(alloc, true)?, "{t: true}"))?;
-    let outer = outer_text(alloc, 5, 4660, 9)?;
-    rows.push((outer, "{inner: {a: 5, b: 4660}, z: 9}"))?;
-    Ok(rows)
+/// The text of a value is this.
+fn is(rt: &impl Abort, text: Result<Text, NoMemory>, want: &str) -> Result<(), NoMemory> {
+    let text = text?;
+    assert!(rt; text.as_str() == want, "at {want}");
+    Ok(())
 }
 
 #[test]
-fn prints(rt: HostRuntime) {
-    let rows = rows(rt.alloc()).expect(&rt, "memory");
-    for (text, want) in &rows {
-        assert!(rt; text.as_str() == *want, "at {want}");
-    }
+fn prints(rt: HostRuntime) -> Result<(), NoMemory> {
+    let alloc = rt.alloc();
+    is(&rt, union_text(alloc, 1, 65282), "{b: [1, 65282]}")?;
+    is(&rt, union_text(alloc, 0, -128), "{b: [0, -128]}")?;
+    is(
+        &rt,
+        struct_text(alloc, 0x3C00, 3, 1),
+        "{f: 0x3C00, x: #0301}",
+    )?;
+    is(
+        &rt,
+        struct_text(alloc, 11, 300, 1),
+        "{f: 0x000B, x: [300, 1]}",
+    )?;
+    is(&rt, truth_text(alloc, true), "{t: true}")?;
+    let outer = outer_text(alloc, 5, 4660, 9);
+    is(&rt, outer, "{inner: {a: 5, b: 4660}, z: 9}")
 }
 
 /// `float16 f`, `uint8[<=2] x`.
@@ -154,34 +161,48 @@ fn reads(alloc: Global, schema: &Schema, line: &str) -> Result<bool, NoMemory>
     }
 }
 
-#[test]
-fn reads_structures(rt: HostRuntime) {
-    let schema = part(rt.alloc()).expect(&rt, "memory");
-    for (line, is_text) in &[
-        ("{f: 0x3C00, x: #0301}", true),
-        ("{f: 0x000B, x: [300, -1]}", true),
-        ("{f: 0x3c00, x: #0301}", false),
-        ("{f:0x3C00, x: #0301}", false),
-        ("{f: 0x3C00, x: [3, 1]}", false),
-        ("{g: 0x3C00, x: #0301}", false),
-        ("{f: 0x3C00, x: #0301} ", false),
-    ] {
-        let read = reads(rt.alloc(), &schema, line).expect(&rt, "memory");
-        assert!(rt; read == *is_text, "at {line}");
-    }
+/// Whether a line gives a value of `float16 f`, `uint8[<=2] x`.
+fn reads_part(alloc: Global, line: &str) -> Result<bool, NoMemory> {
+    reads(alloc, &part(alloc)?, line)
 }
 
+/// Lines, and whether each gives such a value.
+const PARTS: &[(&str, bool)] = &[
+    ("{f: 0x3C00, x: #0301}", true),
+    ("{f: 0x000B, x: [300, -1]}", true),
+    ("{f: 0x3c00, x: #0301}", false),
+    ("{f:0x3C00, x: #0301}", false),
+    ("{f: 0x3C00, x: [3, 1]}", false),
+    ("{g: 0x3C00, x: #0301}", false),
+    ("{f: 0x3C00, x: #0301} ", false),
+];
+
 #[test]
-fn reads_unions(rt: HostRuntime) {
-    let schema = choice(rt.alloc()).expect(&rt, "memory");
-    for (line, is_text) in &[
-        ("{b: [1, 65282]}", true),
-        ("{a: 18446744073709551615}", true),
-        ("{a: 18446744073709551616}", false),
-        ("{b: [01, 2]}", false),
-        ("{c: 1}", false),
-    ] {
-        let read = reads(rt.alloc(), &schema, line).expect(&rt, "memory");
-        assert!(rt; read == *is_text, "at {line}");
+fn reads_structures(rt: HostRuntime) -> Result<(), NoMemory> {
+    for &(line, is_text) in PARTS {
+        assert!(rt; reads_part(rt.alloc(), line)? == is_text, "at {line}");
     }
+    Ok(())
+}
+
+/// Whether a line gives a value of `@union`, `uint8 a`, `uint16[<=2] b`.
+fn reads_choice(alloc: Global, line: &str) -> Result<bool, NoMemory> {
+    reads(alloc, &choice(alloc)?, line)
+}
+
+/// Lines, and whether each gives such a value.
+const CHOICES: &[(&str, bool)] = &[
+    ("{b: [1, 65282]}", true),
+    ("{a: 18446744073709551615}", true),
+    ("{a: 18446744073709551616}", false),
+    ("{b: [01, 2]}", false),
+    ("{c: 1}", false),
+];
+
+#[test]
+fn reads_unions(rt: HostRuntime) -> Result<(), NoMemory> {
+    for &(line, is_text) in CHOICES {
+        assert!(rt; reads_choice(rt.alloc(), line)? == is_text, "at {line}");
+    }
+    Ok(())
 }

@@ -6,7 +6,7 @@ use std::alloc::Global;
 use std::test::Fail;
 
 /// A new type, an old one, and what is to be said of them.
-const ROWS: [(&str, &str, &str); 17] = [
+const ROWS: &[(&str, &str, &str)] = &[
     // The first is newer.
     ("{ u8 .a u16 .b }64", "{ u8 .a }64", "newer"),
     (
@@ -50,22 +50,23 @@ const ROWS: [(&str, &str, &str); 17] = [
 fn text_of(alloc: Global, verdict: &Verdict) -> Result<String, NoMemory> {
     let mut text = String::new(alloc);
     match verdict {
-        Verdict::Yes => text.push_str("newer")?,
-        Verdict::No { path, why } => {
-            text.push_str(path.as_str())?;
-            write!(text, ": {why:?}")?;
-        }
-    }
+        Verdict::Yes => text.push_str("newer"),
+        Verdict::No { path, why } => write!(text, "{}: {why:?}", path.as_str()),
+    }?;
     Ok(text)
+}
+
+/// The text of the verdict on the types of two texts.
+fn verdict_on(alloc: Global, new: &str, old: &str) -> Result<String, Fail> {
+    let verdict = newer(alloc, &schema_of(alloc, new)?, &schema_of(alloc, old)?)?;
+    Ok(text_of(alloc, &verdict)?)
 }
 
 #[test]
 fn verdicts(rt: HostRuntime) -> Result<(), Fail> {
-    let alloc = rt.alloc();
-    for (new, old, want) in &ROWS {
-        let verdict = newer(alloc, &schema_of(alloc, new)?, &schema_of(alloc, old)?)?;
-        let text = text_of(alloc, &verdict)?;
-        assert_eq!(rt; text.as_str(), *want, "{new} and {old}");
+    for &(new, old, want) in ROWS {
+        let text = verdict_on(rt.alloc(), new, old)?;
+        assert_eq!(rt; text.as_str(), want, "{new} and {old}");
     }
     Ok(())
 }
