@@ -1,7 +1,7 @@
 //! Lines of values that are encoded and decoded.
-use crate::samples::{CHOICE, EMPTY, LIST, NUMBERS, OUTER, SHORT, SIMPLES, layouts};
+use crate::samples::{CHOICE, EMPTY, LIST, NUMBERS, OUTER, SHORT, SIMPLES, layout_at};
 use cy_bits::NoMemory;
-use layout::Layout;
+use layout::{Layout, LayoutError};
 use line_loop::{LineListener, LineStop};
 use line_text::TextBuffer;
 use std::alloc::Global;
@@ -40,18 +40,28 @@ fn answer<M: LineListener<Refusal = Refusal>>(
     Ok(gathered)
 }
 
-fn encoded(alloc: Global, layout: &Layout, line: &[u8]) -> Result<TextBuffer, NoMemory> {
-    let schema = &layout.schema;
-    answer(alloc, &mut Encoder::new(alloc, schema), line)
+/// Whether a line is answered so.
+fn answers<M: LineListener<Refusal = Refusal>>(
+    alloc: Global,
+    listener: &mut M,
+    line: &[u8],
+    want: &str,
+) -> Result<bool, NoMemory> {
+    Ok(answer(alloc, listener, line)?.as_slice() == want.as_bytes())
 }
 
-fn decoded(alloc: Global, layout: &Layout, line: &[u8]) -> Result<TextBuffer, NoMemory> {
-    let schema = &layout.schema;
-    answer(alloc, &mut Decoder::new(alloc, schema), line)
+/// Whether a line is encoded so.
+fn encodes(alloc: Global, layout: &Layout, line: &[u8], want: &str) -> Result<bool, NoMemory> {
+    answers(alloc, &mut Encoder::new(alloc, &layout.schema), line, want)
+}
+
+/// Whether a line is decoded so.
+fn decodes(alloc: Global, layout: &Layout, line: &[u8], want: &str) -> Result<bool, NoMemory> {
+    answers(alloc, &mut Decoder::new(alloc, &layout.schema), line, want)
 }
 
 /// Texts of values and their hex.
-const ENCODINGS: [Row; 26] = [
+const ENCODINGS: &[Row] = &[
     (NUMBERS, "{a: 300, b: 300}", "FF2C\n"),
     (NUMBERS, "{a: -1, b: -1}", "00FF\n"),
     (NUMBERS, "{a: 0, b: 0}", "0000\n"),
@@ -91,7 +101,7 @@ const ENCODINGS: [Row; 26] = [
 ];
 
 /// The hex of bytes and the text of the value that they read as.
-const DECODINGS: [Row; 28] = [
+const DECODINGS: &[Row] = &[
     (NUMBERS, "FF2C", "{a: 255, b: 44}\n"),
     (NUMBERS, "fF2c", "{a: 255, b: 44}\n"),
     (SHORT, "020301", "{x: #0301}\n"),
@@ -137,44 +147,60 @@ const DECODINGS: [Row; 28] = [
     ),
 ];
 
-#[test]
-fn encodings(rt: HostRuntime) {
-    let layouts = layouts(rt.alloc()).expect(&rt, "memory");
-    for (which, line, want) in &ENCODINGS {
-        let layout = layouts.get(*which).expect(&rt, "a layout");
-        let answer = encoded(rt.alloc(), layout, line.as_bytes()).expect(&rt, "memory");
-        assert!(rt; answer.as_slice() == want.as_bytes(), "{line}: {want}");
-    }
+/// Whether a row's line is encoded as it says.
+fn encodes_row(alloc: Global, &(place, line, want): &Row) -> Result<bool, LayoutError> {
+    let layout = layout_at(alloc, place)?;
+    Ok(encodes(alloc, &layout, line.as_bytes(), want)?)
+}
+
+/// Whether a row's line is decoded as it says.
+fn decodes_row(alloc: Global, &(place, line, want): &Row) -> Result<bool, LayoutError> {
+    let layout = layout_at(alloc, place)?;
+    Ok(decodes(alloc, &layout, line.as_bytes(), want)?)
 }
 
 #[test]
-fn decodings(rt: HostRuntime) {
-    let layouts = layouts(rt.alloc()).expect(&rt, "memory");
-    for (which, line, want) in &DECODINGS {
-        let layout = layouts.get(*which).expect(&rt, "a layout");
-        let answer = decoded(rt.alloc(), layout, line.as_bytes()).expect(&rt, "memory");
-        assert!(rt; answer.as_slice() == want.as_bytes(), "{line}: {want}");
+fn encodings(rt: HostRuntime) -> Result<(), LayoutError> {
+    for row in ENCODINGS {
+        assert!(rt; encodes_row(rt.alloc(), row)?, "{}: {}", row.1, row.2);
     }
+    Ok(())
+}
+
+#[test]
+fn decodings(rt: HostRuntime) -> Result<(), LayoutError> {
+    for row in DECODINGS {
+        assert!(rt; decodes_row(rt.alloc(), row)?, "{}: {}", row.1, row.2);
+    }
+    Ok(())
+}
+
+/// Lines of two numbers that the same decoder is given, and what answers each.
+const IN_A_ROW: &[(&str, &str)] = &[
+    ("FFFFFFFFFFFFFFFFFFFFFFFFFFFFFFFFFFFF", "{a: 255, b: 255}\n"),
+    ("01", "{a: 1, b: 0}\n"),
+    ("0G", "7: Text"),
+    ("", "{a: 0, b: 0}\n"),
+    ("0203", "{a: 2, b: 3}\n"),
+];
+
+/// The first of these lines that a decoder doesn't answer so.
+fn first_other(alloc: Global, layout: &Layout) -> Result<Option<&'static str>, NoMemory> {
+    let mut decoder = Decoder::new(alloc, &layout.schema);
+    for &(line, want) in IN_A_ROW {
+        if !answers(alloc, &mut decoder, line.as_bytes(), want)? {
+            return Ok(Some(line));
+        }
+    }
+    Ok(None)
 }
 
 /// What a line says doesn't depend on those that the same decoder was given before.
 #[test]
-fn lines_in_a_row(rt: HostRuntime) {
-    let alloc = rt.alloc();
-    let layouts = layouts(alloc).expect(&rt, "memory");
-    let layout = layouts.get(NUMBERS).expect(&rt, "a layout");
-    let schema = &layout.schema;
-    let mut decoder = Decoder::new(alloc, schema);
-    for (line, want) in [
-        ("FFFFFFFFFFFFFFFFFFFFFFFFFFFFFFFFFFFF", "{a: 255, b: 255}\n"),
-        ("01", "{a: 1, b: 0}\n"),
-        ("0G", "7: Text"),
-        ("", "{a: 0, b: 0}\n"),
-        ("0203", "{a: 2, b: 3}\n"),
-    ] {
-        let answer = answer(alloc, &mut decoder, line.as_bytes()).expect(&rt, "memory");
-        assert!(rt; answer.as_slice() == want.as_bytes(), "{line}: {want}");
-    }
+fn lines_in_a_row(rt: HostRuntime) -> Result<(), LayoutError> {
+    let layout = layout_at(rt.alloc(), NUMBERS)?;
+    assert_eq!(rt; first_other(rt.alloc(), &layout)?, None);
+    Ok(())
 }
 
 /// So many digits.
@@ -182,23 +208,30 @@ fn zeros(alloc: Global, count: usize) -> Result<Vec<u8>, NoMemory> {
     Ok(vec![in alloc; b'0'; count]?)
 }
 
+/// Whether a longer line is refused, both ways and as the loop refuses it.
+fn refuses_longer(alloc: Global, layout: &Layout) -> Result<bool, NoMemory> {
+    let line = zeros(alloc, LONGEST_LINE + 2)?;
+    let decoded = Decoder::new(alloc, &layout.schema).too_long(NUMBER);
+    let encoded = Encoder::new(alloc, &layout.schema).too_long(NUMBER);
+    Ok(
+        decodes(alloc, layout, &line, "7: Text")?
+            && encodes(alloc, layout, &line, "7: Text")?
+            && matches!(decoded, Refusal::Text { line: NUMBER })
+            && matches!(encoded, Refusal::Text { line: NUMBER }),
+    )
+}
+
+/// Whether the longest line is decoded.
+fn decodes_longest(alloc: Global, layout: &Layout) -> Result<bool, NoMemory> {
+    let line = zeros(alloc, LONGEST_LINE)?;
+    decodes(alloc, layout, &line, "{a: 0, b: 0}\n")
+}
+
 /// The longest line is decoded, and a longer one is refused, as the loop refuses it.
 #[test]
-fn long_lines(rt: HostRuntime) {
-    let alloc = rt.alloc();
-    let layouts = layouts(alloc).expect(&rt, "memory");
-    let layout = layouts.get(NUMBERS).expect(&rt, "a layout");
-    let line = zeros(alloc, LONGEST_LINE).expect(&rt, "memory");
-    let longest = decoded(alloc, layout, &line).expect(&rt, "memory");
-    assert!(rt; longest.as_slice() == b"{a: 0, b: 0}\n".as_slice());
-    let line = zeros(alloc, LONGEST_LINE + 2).expect(&rt, "memory");
-    let longer = decoded(alloc, layout, &line).expect(&rt, "memory");
-    assert!(rt; longer.as_slice() == b"7: Text".as_slice());
-    let longer = encoded(alloc, layout, &line).expect(&rt, "memory");
-    assert!(rt; longer.as_slice() == b"7: Text".as_slice());
-    let schema = &layout.schema;
-    let refusal = Decoder::new(alloc, schema).too_long(NUMBER);
-    assert!(rt; matches!(refusal, Refusal::Text { line: NUMBER }));
-    let refusal = Encoder::new(alloc, schema).too_long(NUMBER);
-    assert!(rt; matches!(refusal, Refusal::Text { line: NUMBER }));
+fn long_lines(rt: HostRuntime) -> Result<(), LayoutError> {
+    let layout = layout_at(rt.alloc(), NUMBERS)?;
+    assert!(rt; decodes_longest(rt.alloc(), &layout)?);
+    assert!(rt; refuses_longer(rt.alloc(), &layout)?);
+    Ok(())
 }

@@ -3,11 +3,11 @@ ghost use Rattle.std.specs.Prelude.{◌≡◌, ◌≤◌, ◌+◌, ◌^◌, IfOk
 ghost use Rattle.line_text.specs.Buffer.{text_of};
 
 use crate::samples::{
-    CHOICE, EMPTY, KINDS, LIST, NEWER_OUTER, NUMBERS, OUTER, SHORT, SIMPLES, layouts,
+    CHOICE, EMPTY, KINDS, LIST, NEWER_OUTER, NUMBERS, OUTER, SHORT, SIMPLES, layout_at,
 };
 use cy_bits::NoMemory;
 use dsdl_types::laws::{readings_stored, rules_suffice};
-use layout::Layout;
+use layout::{Layout, LayoutError};
 use line_text::TextBuffer;
 use std::alloc::Global;
 use value_put::{Bits, Stop, put_own};
@@ -15,7 +15,7 @@ use value_text::print_value;
 use wire_values::{ReadError, read_as};
 
 /// Payloads with the place of their type.
-const PAYLOADS: [(usize, &[u8]); 14] = [
+const PAYLOADS: &[(usize, &[u8])] = &[
     (OUTER, &[1, 0, 0, 0, 5, 9]),
     (OUTER, &[3, 0, 0, 0, 5, 0x34, 0x12, 9]),
     (NEWER_OUTER, &[1, 0, 0, 0, 5, 9]),
@@ -62,6 +62,16 @@ fn printed(alloc: Global, layout: &Layout, bytes: &[u8]) -> Result<Option<TextBu
     }
 }
 
+/// Whether bytes read as a value of this text.
+fn is_printed(alloc: Global, layout: &Layout, bytes: &[u8], text: &[u8]) -> Result<bool, NoMemory>
+    requires { length bytes.now ≤ 2 ^ 20 }
+{
+    match printed(alloc, layout, bytes)? {
+        Some(wanted) => Ok(text == wanted.as_slice()),
+        None => Ok(false),
+    }
+}
+
 /// Some bytes, and behind them sixteen that don't count.
 fn with_slack(alloc: Global, bytes: &[u8]) -> Result<TextBuffer, NoMemory>
     ensures { IfOk result (λ buffer. length (text_of buffer) ≡ length bytes.now + 16) }
@@ -94,10 +104,7 @@ fn agrees(alloc: Global, layout: &Layout, bytes: &[u8]) -> Result<bool, NoMemory
     let Some(text) = put(alloc, layout, bytes)? else {
         return Ok(true);
     };
-    match printed(alloc, layout, bytes)? {
-        Some(wanted) => Ok(text.as_slice() == wanted.as_slice()),
-        None => Ok(false),
-    }
+    is_printed(alloc, layout, bytes, text.as_slice())
 }
 
 /// Bytes of which one is another.
@@ -109,51 +116,90 @@ pub fn broken(alloc: Global, bytes: &[u8], place: usize, byte: u8) -> Result<Vec
     Ok(broken)
 }
 
+/// Whether a payload is put, as it is printed.
+fn is_put(alloc: Global, place: usize, bytes: &[u8]) -> Result<bool, LayoutError> {
+    let layout = layout_at(alloc, place)?;
+    if bytes.len() > 1000 {
+        return Ok(false);
+    }
+    let Some(text) = put(alloc, &layout, bytes)? else {
+        return Ok(false);
+    };
+    Ok(is_printed(alloc, &layout, bytes, text.as_slice())?)
+}
+
 /// Each payload is put, as it is printed.
 #[test]
-fn whole(rt: HostRuntime) {
-    let layouts = layouts(rt.alloc()).expect(&rt, "memory");
-    for (which, bytes) in &PAYLOADS {
-        let layout = layouts.get(*which).expect(&rt, "a layout");
-        let text = put(rt.alloc(), layout, bytes)
-            .expect(&rt, "memory")
-            .expect(&rt, "a text");
-        let wanted = printed(rt.alloc(), layout, bytes)
-            .expect(&rt, "memory")
-            .expect(&rt, "a value");
-        assert!(rt; text.as_slice() == wanted.as_slice(), "{which}");
+fn whole(rt: HostRuntime) -> Result<(), LayoutError> {
+    for &(place, bytes) in PAYLOADS {
+        assert!(rt; is_put(rt.alloc(), place, bytes)?, "{place}");
     }
+    Ok(())
+}
+
+/// The first size at which what is put of a payload that is cut isn't printed of it.
+fn first_other_size(
+    alloc: Global,
+    place: usize,
+    bytes: &[u8],
+) -> Result<Option<usize>, LayoutError> {
+    let layout = layout_at(alloc, place)?;
+    for size in 0..bytes.len() {
+        if !agrees(alloc, &layout, &bytes[..size])? {
+            return Ok(Some(size));
+        }
+    }
+    Ok(None)
 }
 
 /// What is put of a payload that is cut is printed of it too.
 #[test]
-fn cut(rt: HostRuntime) {
-    let layouts = layouts(rt.alloc()).expect(&rt, "memory");
-    for (which, bytes) in &PAYLOADS {
-        let layout = layouts.get(*which).expect(&rt, "a layout");
-        for size in 0..bytes.len() {
-            assert!(rt;
-                agrees(rt.alloc(), layout, &bytes[..size]).expect(&rt, "memory"),
-                "{which}: {size}"
-            );
+fn cut(rt: HostRuntime) -> Result<(), LayoutError> {
+    for &(place, bytes) in PAYLOADS {
+        assert_eq!(rt;
+            first_other_size(rt.alloc(), place, bytes)?,
+            None,
+            "{place}"
+        );
+    }
+    Ok(())
+}
+
+/// Whether what is put of bytes is printed of them too, whatever stands at a place.
+fn agree_at(alloc: Global, layout: &Layout, bytes: &[u8], place: usize) -> Result<bool, NoMemory> {
+    for byte in [0, 1, 2, 4, 0x80, 0xFF] {
+        let broken = broken(alloc, bytes, place, byte)?;
+        if !agrees(alloc, layout, &broken)? {
+            return Ok(false);
         }
     }
+    Ok(true)
+}
+
+/// The first place at which what is put of a payload with another byte isn't printed of it.
+fn first_other_place(
+    alloc: Global,
+    place: usize,
+    bytes: &[u8],
+) -> Result<Option<usize>, LayoutError> {
+    let layout = layout_at(alloc, place)?;
+    for place in 0..bytes.len() {
+        if !agree_at(alloc, &layout, bytes, place)? {
+            return Ok(Some(place));
+        }
+    }
+    Ok(None)
 }
 
 /// What is put of a payload with another byte is printed of it too.
 #[test]
-fn another_byte(rt: HostRuntime) {
-    let layouts = layouts(rt.alloc()).expect(&rt, "memory");
-    for (which, bytes) in &PAYLOADS {
-        let layout = layouts.get(*which).expect(&rt, "a layout");
-        for place in 0..bytes.len() {
-            for byte in [0, 1, 2, 4, 0x80, 0xFF] {
-                let broken = broken(rt.alloc(), bytes, place, byte).expect(&rt, "memory");
-                assert!(rt;
-                    agrees(rt.alloc(), layout, &broken).expect(&rt, "memory"),
-                    "{which}: {place}"
-                );
-            }
-        }
+fn another_byte(rt: HostRuntime) -> Result<(), LayoutError> {
+    for &(place, bytes) in PAYLOADS {
+        assert_eq!(rt;
+            first_other_place(rt.alloc(), place, bytes)?,
+            None,
+            "{place}"
+        );
     }
+    Ok(())
 }

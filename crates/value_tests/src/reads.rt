@@ -1,9 +1,9 @@
 //! Bytes that are read.
-use crate::samples::{CHOICE, LIST, NEWER_OUTER, NUMBERS, OUTER, SHORT, SIMPLES, layouts};
+use crate::samples::{CHOICE, LIST, NEWER_OUTER, NUMBERS, OUTER, SHORT, SIMPLES, layout_at};
 use crate::writes::written;
 use cy_bits::NoMemory;
 use dsdl_types::Value;
-use layout::Layout;
+use layout::{Layout, LayoutError};
 use serdes::{ReadError, read};
 use std::alloc::Global;
 
@@ -42,27 +42,46 @@ fn push(text: &mut String, value: &Value) -> Result<(), NoMemory> {
     Ok(())
 }
 
+/// Appends a value and its bytes.
+fn push_value(
+    text: &mut String,
+    alloc: Global,
+    layout: &Layout,
+    value: &Value,
+) -> Result<(), NoMemory> {
+    push(text, value)?;
+    let bytes = written(alloc, layout, value)?;
+    text.push_str(" ")?;
+    text.push_str(&bytes)?;
+    Ok(())
+}
+
+/// Appends what bytes are read as, and the bytes of that value; or why they are refused.
+fn push_reading(
+    text: &mut String,
+    alloc: Global,
+    layout: &Layout,
+    bytes: &[u8],
+) -> Result<(), NoMemory> {
+    if bytes.len() > 1000 {
+        return Ok(());
+    }
+    match read(alloc, layout, bytes) {
+        Ok(value) => push_value(text, alloc, layout, &value),
+        Err(ReadError::Bad { path, why }) => Ok(write!(text, "{why:?} at {}", path.as_str())?),
+        Err(ReadError::NoMemory) => Err(NoMemory),
+    }
+}
+
 /// What bytes are read as, and the bytes of that value; or why they are refused.
 fn reading(alloc: Global, layout: &Layout, bytes: &[u8]) -> Result<String, NoMemory> {
     let mut text = String::new(alloc);
-    if bytes.len() > 1000 {
-        return Ok(text);
-    }
-    match read(alloc, layout, bytes) {
-        Ok(value) => {
-            push(&mut text, &value)?;
-            let bytes = written(alloc, layout, &value)?;
-            text.push_str(" ")?;
-            text.push_str(&bytes)?;
-        }
-        Err(ReadError::Bad { path, why }) => write!(text, "{why:?} at {}", path.as_str())?,
-        Err(ReadError::NoMemory) => return Err(NoMemory),
-    }
+    push_reading(&mut text, alloc, layout, bytes)?;
     Ok(text)
 }
 
 /// Bytes, with what they are read as and the bytes of that value, or with the refusal.
-const ROWS: [(usize, &[u8], &str); 21] = [
+const ROWS: &[(usize, &[u8], &str)] = &[
     // An older and a newer part, read by both versions.
     (
         NEWER_OUTER,
@@ -130,12 +149,16 @@ const ROWS: [(usize, &[u8], &str); 21] = [
     ),
 ];
 
+/// What bytes are read as by the type at a place.
+fn reading_at(alloc: Global, place: usize, bytes: &[u8]) -> Result<String, LayoutError> {
+    Ok(reading(alloc, &layout_at(alloc, place)?, bytes)?)
+}
+
 #[test]
-fn readings(rt: HostRuntime) {
-    let layouts = layouts(rt.alloc()).expect(&rt, "memory");
-    for (which, bytes, want) in &ROWS {
-        let layout = layouts.get(*which).expect(&rt, "a layout");
-        let text = reading(rt.alloc(), layout, bytes).expect(&rt, "memory");
-        assert!(rt; text.as_str() == *want, "{want}: {text}");
+fn readings(rt: HostRuntime) -> Result<(), LayoutError> {
+    for &(place, bytes, want) in ROWS {
+        let text = reading_at(rt.alloc(), place, bytes)?;
+        assert!(rt; text.as_str() == want, "{want}: {text}");
     }
+    Ok(())
 }

@@ -9,7 +9,7 @@ use dsdl_types::{Body, Cast, Field, Schema, Shared};
 use layout::{Layout, LayoutError, layout_of};
 use std::alloc::Global;
 
-/// The places of the types among `layouts`.
+/// The places of the types of `layout_at`.
 pub const OUTER: usize = 0;
 
 pub const NEWER_OUTER: usize = 1;
@@ -255,18 +255,17 @@ fn kinds_layout(alloc: Global) -> Result<Layout, LayoutError> {
     layout_of(alloc, &kinds(alloc)?)
 }
 
-/// The layouts of all types, in the order of their places.
-pub fn layouts(alloc: Global) -> Result<Vec<Layout>, LayoutError> {
-    let layouts = vec![in alloc;
-        outer_layout(alloc)?,
-        newer_outer_layout(alloc)?,
-        list_layout(alloc)?,
-        choice_layout(alloc)?,
-        short_layout(alloc)?,
-        numbers_layout(alloc)?,
-        simples_layout(alloc)?,
-        empty_layout(alloc)?,
-        kinds_layout(alloc)?,
-    ];
-    layouts.map_err(|_| LayoutError::NoMemory)
+/// The layout of the type at a place.
+pub fn layout_at(alloc: Global, place: usize) -> Result<Layout, LayoutError> {
+    match place {
+        OUTER => outer_layout(alloc),
+        NEWER_OUTER => newer_outer_layout(alloc),
+        LIST => list_layout(alloc),
+        CHOICE => choice_layout(alloc),
+        SHORT => short_layout(alloc),
+        NUMBERS => numbers_layout(alloc),
+        SIMPLES => simples_layout(alloc),
+        EMPTY => empty_layout(alloc),
+        _ => kinds_layout(alloc),
+    }
 }

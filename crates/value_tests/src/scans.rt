@@ -1,11 +1,11 @@
 //! One pass over the text of a value, beside reading the value and writing it.
 use crate::puts::broken;
 use crate::samples::{
-    CHOICE, EMPTY, KINDS, LIST, NEWER_OUTER, NUMBERS, OUTER, SHORT, SIMPLES, layouts,
+    CHOICE, EMPTY, KINDS, LIST, NEWER_OUTER, NUMBERS, OUTER, SHORT, SIMPLES, layout_at,
 };
-use crate::writes::written;
+use crate::writes::{push_hex, written};
 use cy_bits::NoMemory;
-use layout::Layout;
+use layout::{Layout, LayoutError};
 use std::alloc::Global;
 use value_scan::{BitBuffer, scan_own};
 use value_text::{TextError, read_value};
@@ -14,7 +14,7 @@ use value_text::{TextError, read_value};
 type Row = (usize, &'static str);
 
 /// Texts that one pass answers.
-const ANSWERED: [Row; 17] = [
+const ANSWERED: &[Row] = &[
     (NUMBERS, "{a: 255, b: 0}"),
     (SHORT, "{x: #0301}"),
     (SHORT, "{x: #}"),
@@ -56,7 +56,7 @@ const ANSWERED: [Row; 17] = [
 ];
 
 /// Texts of values with a number that its type doesn't hold, or near 2^64, and texts of no value.
-const OTHERS: [Row; 14] = [
+const OTHERS: &[Row] = &[
     (NUMBERS, "{a: 300, b: 300}"),
     (NUMBERS, "{a: -1, b: -1}"),
     (SHORT, "{x: [300, 1]}"),
@@ -91,9 +91,7 @@ fn scanned(
         return Ok(None);
     }
     let mut text = String::new(alloc);
-    for byte in bits.as_slice() {
-        write!(text, "{byte:02X}")?;
-    }
+    push_hex(&mut text, bits.as_slice())?;
     Ok(Some(text))
 }
 
@@ -106,6 +104,14 @@ fn through_value(alloc: Global, layout: &Layout, line: &[u8]) -> Result<Option<S
     }
 }
 
+/// Whether a line is the text of a value of these bytes.
+fn is_written(alloc: Global, layout: &Layout, line: &[u8], hex: &str) -> Result<bool, NoMemory> {
+    match through_value(alloc, layout, line)? {
+        None => Ok(false),
+        Some(written) => Ok(written.as_str() == hex),
+    }
+}
+
 /// Whether one pass says what is read and written, or nothing.
 fn agrees(
     alloc: Global,
@@ -115,67 +121,125 @@ fn agrees(
 ) -> Result<bool, NoMemory> {
     match scanned(alloc, layout, line, bits)? {
         None => Ok(true),
-        Some(once) => match through_value(alloc, layout, line)? {
-            None => Ok(false),
-            Some(twice) => Ok(once.as_str() == twice.as_str()),
-        },
+        Some(once) => is_written(alloc, layout, line, once.as_str()),
     }
 }
 
-#[test]
-fn one_pass_answers(rt: HostRuntime) {
-    let layouts = layouts(rt.alloc()).expect(&rt, "memory");
-    let mut bits = BitBuffer::new(rt.alloc());
-    for (which, text) in &ANSWERED {
-        let layout = layouts.get(*which).expect(&rt, "a layout");
-        let line = text.as_bytes();
-        let once = scanned(rt.alloc(), layout, line, &mut bits).expect(&rt, "memory");
-        let twice = through_value(rt.alloc(), layout, line).expect(&rt, "memory");
-        let once = once.expect(&rt, "an answer");
-        let twice = twice.expect(&rt, "a value");
-        assert!(rt; once.as_str() == twice.as_str(), "{text}: {once}, {twice}");
-    }
+/// Whether one pass over a text puts the bytes of its value.
+fn is_answered(
+    alloc: Global,
+    bits: &mut BitBuffer,
+    &(place, text): &Row,
+) -> Result<bool, LayoutError> {
+    let layout = layout_at(alloc, place)?;
+    let Some(once) = scanned(alloc, &layout, text.as_bytes(), bits)? else {
+        return Ok(false);
+    };
+    Ok(is_written(alloc, &layout, text.as_bytes(), once.as_str())?)
 }
 
 #[test]
-fn one_pass_says_nothing_of_others(rt: HostRuntime) {
-    let layouts = layouts(rt.alloc()).expect(&rt, "memory");
+fn one_pass_answers(rt: HostRuntime) -> Result<(), LayoutError> {
     let mut bits = BitBuffer::new(rt.alloc());
-    for (which, text) in &OTHERS {
-        let layout = layouts.get(*which).expect(&rt, "a layout");
-        let once = scanned(rt.alloc(), layout, text.as_bytes(), &mut bits).expect(&rt, "memory");
-        assert!(rt; once.is_none(), "{text}");
+    for row in ANSWERED {
+        assert!(rt; is_answered(rt.alloc(), &mut bits, row)?, "{}", row.1);
     }
+    Ok(())
+}
+
+/// Whether one pass over a text puts no bytes.
+fn says_nothing(
+    alloc: Global,
+    bits: &mut BitBuffer,
+    &(place, text): &Row,
+) -> Result<bool, LayoutError> {
+    let layout = layout_at(alloc, place)?;
+    Ok(scanned(alloc, &layout, text.as_bytes(), bits)?.is_none())
+}
+
+#[test]
+fn one_pass_says_nothing_of_others(rt: HostRuntime) -> Result<(), LayoutError> {
+    let mut bits = BitBuffer::new(rt.alloc());
+    for row in OTHERS {
+        assert!(rt; says_nothing(rt.alloc(), &mut bits, row)?, "{}", row.1);
+    }
+    Ok(())
+}
+
+/// The first length at which the front of a text isn't scanned as it is read.
+fn first_other_len(
+    alloc: Global,
+    bits: &mut BitBuffer,
+    &(place, text): &Row,
+) -> Result<Option<usize>, LayoutError> {
+    let layout = layout_at(alloc, place)?;
+    let line = text.as_bytes();
+    for len in 0..line.len() {
+        if !agrees(alloc, &layout, &line[..len], bits)? {
+            return Ok(Some(len));
+        }
+    }
+    Ok(None)
 }
 
 /// Each text is cut behind each of its bytes.
 #[test]
-fn cut_texts(rt: HostRuntime) {
-    let layouts = layouts(rt.alloc()).expect(&rt, "memory");
+fn cut_texts(rt: HostRuntime) -> Result<(), LayoutError> {
     let mut bits = BitBuffer::new(rt.alloc());
-    for (which, text) in &ANSWERED {
-        let layout = layouts.get(*which).expect(&rt, "a layout");
-        let line = text.as_bytes();
-        for len in 0..line.len() {
-            let agree = agrees(rt.alloc(), layout, &line[..len], &mut bits).expect(&rt, "memory");
-            assert!(rt; agree, "{text} {len}");
+    for row in ANSWERED {
+        assert_eq!(rt;
+            first_other_len(rt.alloc(), &mut bits, row)?,
+            None,
+            "{}",
+            row.1
+        );
+    }
+    Ok(())
+}
+
+/// The first byte with which, at a place of a text, that isn't scanned as it is read.
+fn other_byte(
+    alloc: Global,
+    bits: &mut BitBuffer,
+    layout: &Layout,
+    text: &str,
+    place: usize,
+) -> Result<Option<u8>, NoMemory> {
+    for &byte in b"09AFab-#x,: {}[]\xFF" {
+        let line = broken(alloc, text.as_bytes(), place, byte)?;
+        if !agrees(alloc, layout, &line, bits)? {
+            return Ok(Some(byte));
         }
     }
+    Ok(None)
+}
+
+/// The first place of a text, and the byte there, with which that isn't scanned as it is read.
+fn first_other_byte(
+    alloc: Global,
+    bits: &mut BitBuffer,
+    &(place, text): &Row,
+) -> Result<Option<(usize, u8)>, LayoutError> {
+    let layout = layout_at(alloc, place)?;
+    for place in 0..text.len() {
+        if let Some(byte) = other_byte(alloc, bits, &layout, text, place)? {
+            return Ok(Some((place, byte)));
+        }
+    }
+    Ok(None)
 }
 
 /// Each byte of each text is changed.
 #[test]
-fn changed_texts(rt: HostRuntime) {
-    let layouts = layouts(rt.alloc()).expect(&rt, "memory");
+fn changed_texts(rt: HostRuntime) -> Result<(), LayoutError> {
     let mut bits = BitBuffer::new(rt.alloc());
-    for (which, text) in &ANSWERED {
-        let layout = layouts.get(*which).expect(&rt, "a layout");
-        for place in 0..text.len() {
-            for other in b"09AFab-#x,: {}[]\xFF" {
-                let line = broken(rt.alloc(), text.as_bytes(), place, *other).expect(&rt, "memory");
-                let agree = agrees(rt.alloc(), layout, &line, &mut bits).expect(&rt, "memory");
-                assert!(rt; agree, "{text} {place} {other}");
-            }
-        }
+    for row in ANSWERED {
+        assert_eq!(rt;
+            first_other_byte(rt.alloc(), &mut bits, row)?,
+            None,
+            "{}",
+            row.1
+        );
     }
+    Ok(())
 }

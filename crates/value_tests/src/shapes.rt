@@ -2,10 +2,10 @@
 ghost use Rattle.dsdl_types.specs.Laws.{KeepsReadings};
 ghost use Rattle.dsdl_types.specs.Views.{sch};
 
-use crate::samples::{OUTER, layouts};
+use crate::samples::{OUTER, layout_at};
 use dsdl_types::Shape;
 use dsdl_types::laws::shape_laws;
-use layout::Layout;
+use layout::{Layout, LayoutError};
 use std_types::{StdName, StdType, std_type};
 
 /// The bytes that a compiled type keeps of a payload.
@@ -25,10 +25,10 @@ fn kept_of_standard(standard: &StdType) -> usize
 }
 
 #[test]
-fn kept(rt: HostRuntime) {
-    let layouts = layouts(rt.alloc()).expect(&rt, "memory");
-    let outer = layouts.get(OUTER).expect(&rt, "a layout");
-    assert!(rt; kept_of_layout(outer) == 16, "outer");
-    let standard = std_type(rt.alloc(), StdName::Heartbeat).expect(&rt, "memory");
+fn kept(rt: HostRuntime) -> Result<(), LayoutError> {
+    let outer = layout_at(rt.alloc(), OUTER)?;
+    assert!(rt; kept_of_layout(&outer) == 16, "outer");
+    let standard = std_type(rt.alloc(), StdName::Heartbeat)?;
     assert!(rt; kept_of_standard(&standard) == 12, "heartbeat");
+    Ok(())
 }

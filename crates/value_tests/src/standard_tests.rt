@@ -1,28 +1,39 @@
+//! The standard types.
+use cy_bits::NoMemory;
 use dsdl_types::Shape;
+use std::alloc::Global;
 use std_types::laws::through_value;
 use std_types::node::{Health, Heartbeat, Mode};
 use std_types::{StdName, std_type};
 
+/// The extents of the standard types, in bytes.
+const EXTENTS: &[(StdName, usize)] = &[
+    (StdName::Heartbeat, 12),
+    (StdName::NodeInfoRequest, 0),
+    (StdName::NodeInfo, 448),
+    (StdName::AccessRequest, 515),
+    (StdName::AccessReply, 267),
+    (StdName::ListRequest, 2),
+    (StdName::ListReply, 256),
+    (StdName::InfoRequest, 300),
+    (StdName::InfoReply, 48),
+    (StdName::FileListRequest, 300),
+    (StdName::FileListReply, 300),
+    (StdName::ReadRequest, 300),
+    (StdName::ReadReply, 300),
+];
+
+/// The extent of a standard type, in bytes.
+fn extent_of(alloc: Global, name: StdName) -> Result<usize, NoMemory> {
+    Ok(std_type(alloc, name)?.extent_bytes())
+}
+
 #[test]
-fn extents(rt: HostRuntime) {
-    for (name, bytes) in [
-        (StdName::Heartbeat, 12),
-        (StdName::NodeInfoRequest, 0),
-        (StdName::NodeInfo, 448),
-        (StdName::AccessRequest, 515),
-        (StdName::AccessReply, 267),
-        (StdName::ListRequest, 2),
-        (StdName::ListReply, 256),
-        (StdName::InfoRequest, 300),
-        (StdName::InfoReply, 48),
-        (StdName::FileListRequest, 300),
-        (StdName::FileListReply, 300),
-        (StdName::ReadRequest, 300),
-        (StdName::ReadReply, 300),
-    ] {
-        let standard = std_type(rt.alloc(), name).expect(&rt, "memory");
-        assert!(rt; standard.extent_bytes() == bytes, "at {bytes}");
+fn extents(rt: HostRuntime) -> Result<(), NoMemory> {
+    for &(name, bytes) in EXTENTS {
+        assert!(rt; extent_of(rt.alloc(), name)? == bytes, "at {bytes}");
     }
+    Ok(())
 }
 
 #[test]
