@@ -43,7 +43,8 @@ const LINES: &[(&str, &str)] = &[
     ),
     (
         "@assert _offset_ == {8, 16}",
-        "Sign 0 1;Name 1 7;Name 8 16;Sign 17 19;Sign 20 21;Number 21 22;Sign 22 23;Number 24 26;Sign 26 27;",
+        "Sign 0 1;Name 1 7;Name 8 16;Sign 17 19;Sign 20 21;\
+        Number 21 22;Sign 22 23;Number 24 26;Sign 26 27;",
     ),
     ("uint8 A='a'#\"", "Name 0 5;Name 6 7;Sign 7 8;Str 8 11;"),
     ("\"it's # here\"", "Str 0 13;"),
@@ -76,7 +77,8 @@ const LINES: &[(&str, &str)] = &[
     ("--- x", "Sign 0 1;Sign 1 2;Sign 2 3;Name 4 5;"),
     (
         "!a||b&&c**2%3",
-        "Sign 0 1;Name 1 2;Sign 2 4;Name 4 5;Sign 5 7;Name 7 8;Sign 8 10;Number 10 11;Sign 11 12;Number 12 13;",
+        "Sign 0 1;Name 1 2;Sign 2 4;Name 4 5;Sign 5 7;Name 7 8;\
+        Sign 8 10;Number 10 11;Sign 11 12;Number 12 13;",
     ),
     ("a $", "none at 2"),
 ];
