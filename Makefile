@@ -1,5 +1,6 @@
 # make try WORDS='COMMAND ARGUMENTS' [LOG=FILE]: runs any command by the kit's quick build, with LOG as its standard input.
-#   It takes some two minutes, proves nothing and leaves nothing; it shows at most 1 MiB of what is written.
+#   It takes some two minutes, proves nothing and leaves nothing. WORDS may have quotes. With BY=PROGRAM it is run by a
+#   program that is there, as build/quick/cyphal.
 # make run [PLAN=FILE] [LOG=FILE] [ROOT=FOLDER]: the same of `cyphal run ROOT PLAN`. Without PLAN and LOG it takes those of
 #   examples/first, without ROOT no types.
 # make build [JOBS=N]: proves the program and leaves it, optimised, as build/cyphal, and build/cyphal-draw beside it. From
@@ -7,6 +8,9 @@
 # make install [PREFIX=FOLDER] [DESTDIR=FOLDER]: copies build/cyphal, cyphal-draw, man page, completions, guide and examples.
 # make uninstall [PREFIX=FOLDER] [DESTDIR=FOLDER]: removes what make install copies.
 # make deb: makes a package of Debian of the same, build/cyphal_VERSION_ARCHITECTURE.deb.
+# make check: what a change does before anything of it is proved: the program by the kit's quick build, left as
+#   build/quick/cyphal, and on it all rows but the large ones, the pages' examples and the other scripts of the gate. It takes
+#   some five minutes on four processors, and proves nothing.
 # make test: the whole gate: proofs, must-fail edits, tests and programs, pages.
 # make bench: how fast build/cyphal is and what it holds, over short logs and lines of values.
 
@@ -17,36 +21,36 @@ ROOT = none
 PLAN = examples/first/plan
 LOG = /dev/null
 WORDS =
-JOBS = $(shell awk -v most=$$(nproc) '/^MemAvailable:/ { n = int($$2 / 5e6); print n < 1 ? 1 : n < most ? n : most }' \
-  /proc/meminfo)
+BY =
+JOBS = $(shell bench/jobs)
 PREFIX = /usr/local
 INSTALL = install
 
-BIN = $(DESTDIR)$(PREFIX)/bin
-DOC = $(DESTDIR)$(PREFIX)/share/doc/cyphal
-MAN = $(DESTDIR)$(PREFIX)/share/man/man1
-BASH_COMPLETIONS = $(DESTDIR)$(PREFIX)/share/bash-completion/completions
-ZSH_COMPLETIONS = $(DESTDIR)$(PREFIX)/share/zsh/site-functions
+# The shell puts the folders in, so that they may have blanks.
+export PREFIX DESTDIR
+BIN = "$$DESTDIR$$PREFIX"/bin
+DOC = "$$DESTDIR$$PREFIX"/share/doc/cyphal
+MAN = "$$DESTDIR$$PREFIX"/share/man/man1
+BASH_COMPLETIONS = "$$DESTDIR$$PREFIX"/share/bash-completion/completions
+ZSH_FOLDER = site-functions
+ZSH_COMPLETIONS = "$$DESTDIR$$PREFIX"/share/zsh/$(ZSH_FOLDER)
 
-.PHONY: try run build built install uninstall deb test bench
+.PHONY: try run build built install uninstall deb check test bench
 
-# The quick build's program runs in a folder of its own. So the words that lead to a file or a folder are made absolute, but
-# for those of fetch, whose path is another node's; and what a plan among them serves is copied to that folder.
-paths = $(if $(filter fetch,$(firstword $(WORDS))),,$(filter-out none,$(wildcard $(WORDS))))
-words = $(foreach it,$(WORDS),$(if $(filter $(it),$(paths)),$(abspath $(it)),$(it)))
-served = $(if $(paths),$(filter-out /% ../%,$(shell sed -n 's/^serve //p' $(paths) 2> /dev/null)))
-copies = $(foreach it,$(if $(served),$(shell find $(wildcard $(served)) -type f)),--data $(it)=$(abspath $(it)))
-
-# The quick build's own lines on how the program ended aren't shown: they sound like those of a proof.
-try:
-	@test -n "$(WORDS)" || { echo "make try: say what to run, as WORDS='compile examples/types'" >&2; exit 1; }
-	@echo 'A quick build, some two minutes. Nothing has proved it; make build proves the program and leaves it.' >&2
-	@{ cd crates/cyphal && rt try $(copies) -- $(words) < $(abspath $(LOG)) 2>&1 >&3 3>&- \
-	  | sed '/^checked: ended /d; /^run=ended /d' >&2; } 3>&1
-
+# What names a file comes to bench/try by the environment, as it was typed: no recipe has it, and make expands none of it.
+unexport WORDS ROOT PLAN LOG BY
+try run: export by = $(value BY)
+try run: export log = $(value LOG)
+try: export words = $(value WORDS)
+run: export root = $(value ROOT)
+run: export plan = $(value PLAN)
 run: LOG = examples/first/log
-run: WORDS = run $(ROOT) $(PLAN)
-run: try
+
+try:
+	@bench/try $${by:+--by "$$by"} "$$log" --words "$$words"
+
+run:
+	@bench/try $${by:+--by "$$by"} "$$log" run "$$root" "$$plan"
 
 build:
 	cd crates/cyphal && rt all check --jobs $(JOBS) && rt run -- --version
@@ -75,13 +79,18 @@ uninstall:
 # As Debian has it: /usr, the man page and the changes compressed, the licence as copyright, zsh's folder for packages.
 deb: built
 	rm -rf build/deb
-	$(MAKE) install DESTDIR=$(CURDIR)/build/deb PREFIX=/usr ZSH_COMPLETIONS=$(CURDIR)/build/deb/usr/share/zsh/vendor-completions
+	$(MAKE) install DESTDIR=build/deb PREFIX=/usr ZSH_FOLDER=vendor-completions
 	cd build/deb/usr/share && mv doc/cyphal/LICENSE doc/cyphal/copyright && mv doc/cyphal/CHANGELOG.md doc/cyphal/changelog
 	gzip -9n build/deb/usr/share/man/man1/cyphal.1 build/deb/usr/share/doc/cyphal/changelog
 	$(INSTALL) -d build/deb/DEBIAN
 	sed -e "s/@VERSION@/$$(build/cyphal --version | cut -d ' ' -f 2)/" -e "s/@ARCHITECTURE@/$$(dpkg --print-architecture)/" \
 	  -e "s/@SIZE@/$$(du -sk build/deb/usr | cut -f 1)/" packaging/control > build/deb/DEBIAN/control
 	dpkg-deb --root-owner-group --build build/deb build
+
+check:
+	bench/quick build/quick/cyphal
+	@bench/rest --quick build/quick/cyphal; ended=$$?; \
+	  echo 'make check: nothing of this was proved; that is what make test does.'; exit $$ended
 
 test:
 	.ci/run
@@ -90,8 +99,6 @@ bench: built
 	bench/run --short build/cyphal
 	bench/values --short build/cyphal 1
 	bench/compile build/cyphal 1
-	bench/registers build/cyphal 1000
-	bench/files build/cyphal 1000
 	bench/reader
 	bench/run --short build/count
 	bench/table

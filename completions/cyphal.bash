@@ -1,4 +1,5 @@
 # Completion of cyphal's words for bash. What isn't known here is completed as the name of a file, behind < too.
+# Nothing of the line and no name of a file is expanded, and of types plain names alone are offered.
 
 _cyphal()
 {
@@ -8,47 +9,89 @@ _cyphal()
         return
     fi
     if [ "$COMP_CWORD" -eq 1 ]; then
-        mapfile -t COMPREPLY < <(compgen -W 'compile compat versions encode decode run json bound migrate gen monitor allocate fetch explain order survey --help --version' -- "$word")
+        _cyphal_offer "$word" compile compat versions encode decode run json bound migrate gen monitor allocate fetch explain order survey --help --version
         return
     fi
     case $command:$COMP_CWORD in
         run:2 | json:2 | bound:2 | migrate:2 | explain:2 | compile:2 | compat:2 | versions:2 | encode:2 | decode:2)
-            compopt -o filenames
-            mapfile -t COMPREPLY < <(compgen -d -W 'none' -- "$word")
+            compopt -o plusdirs
+            _cyphal_offer "$word" none
             ;;
         compat:3 | compat:4)
-            mapfile -t COMPREPLY < <(compgen -W "$(_cyphal_messages "${COMP_WORDS[2]}"; _cyphal_services "${COMP_WORDS[2]}")" -- "$word")
+            _cyphal_types "$word" "${COMP_WORDS[2]}" whole
             ;;
         encode:3 | decode:3)
-            mapfile -t COMPREPLY < <(compgen -W "$(_cyphal_messages "${COMP_WORDS[2]}")" -- "$word")
+            _cyphal_types "$word" "${COMP_WORDS[2]}"
             ;;
     esac
 }
 
-# The names of what has values below a folder, with their versions: messages, and of services both halves.
-_cyphal_messages()
+# Offers those of the words behind the first one that begin with it.
+_cyphal_offer()
 {
-    _cyphal_files "$1" -L
-    _cyphal_files "$1" -l | sed -n -e 's,$,.Request,p' -e 's,Request$,Response,p'
+    local word=$1 offered
+    for offered in "${@:2}"; do
+        if [[ $offered == "$word"* ]]; then
+            COMPREPLY+=("$offered")
+        fi
+    done
 }
 
-_cyphal_services()
+# Offers what has values below a folder: messages, and of services both halves; with a third argument, services too.
+_cyphal_types()
 {
-    _cyphal_files "$1" -l
+    local folder messages services
+    _cyphal_folder "$2" || return
+    mapfile -t messages < <(_cyphal_files "$folder" -L)
+    mapfile -t services < <(_cyphal_files "$folder" -l)
+    _cyphal_offer "$1" "${messages[@]}" "${services[@]/%/.Request}" "${services[@]/%/.Response}"
+    if [ -n "$3" ]; then
+        _cyphal_offer "$1" "${services[@]}"
+    fi
 }
 
-# The names of the types whose files below a folder have a line --- (-l), or have none (-L). The folder may have quotes, and
-# a tilde in front.
+# Sets folder to the path that a word of the line says. It may have quotes, and a tilde in front; one with a $ or a
+# backquote would have to be expanded, and says none.
+_cyphal_folder()
+{
+    local word=$1 quote='' n char
+    folder=
+    if [[ $word == \~ || $word == \~/* ]]; then
+        folder=$HOME word=${word:1}
+    fi
+    for ((n = 0; n < ${#word}; n++)); do
+        char=${word:n:1}
+        case $quote:$char in
+            \':\' | \":\") quote= ;;
+            \':*) folder+=$char ;;
+            *:[\$\`]) return 1 ;;
+            :[\'\"]) quote=$char ;;
+            *:\\)
+                ((n++))
+                [[ -z $quote || ${word:n:1} == [\$\`\"\\] ]] || folder+=$char
+                folder+=${word:n:1}
+                ;;
+            *) folder+=$char ;;
+        esac
+    done
+    [[ -n $folder ]] || return
+    [[ $folder == /* ]] || folder=./$folder
+    [ -d "$folder" ]
+}
+
+# The names of the types whose files below a folder have a line --- (-l), or have none (-L). Read are regular files of at
+# most 2^20 bytes, and links to such, whose path has letters, digits, _ and . alone.
 _cyphal_files()
 {
-    local root=${1//[\"\'\\]/}
-    root=${root/#\~/$HOME}
-    [ -d "$root" ] || return
-    (cd -- "$root" && find . -name '*.dsdl' -exec grep "$2" -E '^[[:blank:]]*---+[[:blank:]]*(#.*)?$' {} + | sed -n \
-        -e 's,^\./,,' \
-        -e 's,\([^/]*/\)[0-9][0-9]*\.\([^/.]*\.[0-9]*\.[0-9]*\.dsdl\)$,\1\2,' \
-        -e 's,/,.,g' \
-        -e 's,\.dsdl$,,p')
+    (
+        export LC_ALL=C
+        builtin cd -- "$1" || exit
+        command find -L . -mindepth 1 \( -name '*[!A-Za-z0-9_.]*' -o -type d -xtype l \) -prune \
+            -o -name '*.dsdl' -type f -size -1048577c \
+            -exec grep "$2" -D skip -E '^[[:blank:]]*---+[[:blank:]]*(#.*)?$' {} + |
+            command sed -n -E -e 's,^\./(([A-Za-z_][A-Za-z0-9_]*/)+)([0-9]+\.)?([A-Za-z_][A-Za-z0-9_]*\.[0-9]+\.[0-9]+)\.dsdl$,\1\4,' \
+                -e T -e 's,/,.,gp'
+    ) < /dev/null 2> /dev/null
 }
 
 complete -o bashdefault -o default -F _cyphal cyphal
