@@ -17,4 +17,3 @@ pub mod FirstItem
 pub mod PlaceLemmas
 pub mod NameLemmas
 pub mod MemberLists
-pub mod MemberNames

@@ -4,7 +4,7 @@ use Rattle.std.specs.Prelude.{slice_get, Option, Some, None, Result, Ok, Err, if
 use Rattle.std.specs.Prelude.{All}
 use Rattle.std.specs.Str.{bytes_eq}
 use Rattle.dsdl_names.specs.declared.TypeId.{TypeId}
-use Rattle.dsdl_names.specs.Parts.{dotted, cut_last}
+use Rattle.dsdl_names.specs.Beside.{beside}
 use Rattle.dsdl_parse.specs.declared.expr.Reference.{Reference}
 use Rattle.dsdl_types.specs.Schemas.{Sch, is_delimited, extent_of}
 use Rattle.dsdl_types.specs.Greatest.{longest, as_part}
@@ -39,26 +39,14 @@ offset_of None name = Err (why.Unknown name)
 abbrev pub named : Scope → List ℕ → Result Const Why
 named scope name = if bytes_eq name (codes "_offset_") then offset_of scope.offset name else named_in scope.constants name
 
--- a short name in the namespace of a type
-abbrev pub beside : Option (List ℕ × List ℕ) → List ℕ → List ℕ
-beside (Some p) short = p.0 ++ 46 ∷ short
-beside None short = short
+-- the type of this name and of a reference's version; no name is unknown
+abbrev pub of_version : Reference → Option (List ℕ) → Result Const Why
+of_version r None = Err (why.Unknown [])
+of_version r (Some name) = Ok (c.Named (record { name = name; major = r.major; minor = r.minor }))
 
--- the full name of a reference from a type: a short name alone is one of the type's own namespace
-abbrev pub full_name : List ℕ → List (List ℕ) → List ℕ
-full_name own (short ∷ []) = beside (cut_last 46 own) short
-full_name own names = dotted names
-
-abbrev pub full_id : List ℕ → Reference → TypeId
-full_id own r = record { name = full_name own r.names; major = r.major; minor = r.minor }
-
--- a reference, which has a name
-abbrev pub type_of : List ℕ → List (List ℕ) → Reference → Result Const Why
-type_of own [] r = Err (why.Unknown [])
-type_of own (name ∷ names) r = Ok (c.Named (full_id own r))
-
+-- a reference
 abbrev pub referred : Scope → Reference → Result Const Why
-referred scope r = type_of scope.own r.names r
+referred scope r = of_version r (beside scope.own r.names)
 
 -- a number that is a member of a set
 abbrev pub if_number : Const → ℕ → Result Const Why

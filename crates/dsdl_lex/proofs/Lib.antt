@@ -16,4 +16,5 @@ pub mod Reading
 pub mod Either
 pub mod Going
 pub mod Printable
+pub mod OneName
 mod Rows

@@ -6,3 +6,4 @@ pub mod Words
 pub mod Numbers
 pub mod Steps
 pub mod Scans
+pub mod OneName

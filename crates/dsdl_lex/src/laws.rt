@@ -4,6 +4,7 @@ ghost use Rattle.std.specs.Str.{IsAscii};
 ghost use Rattle.dsdl_lex.specs.declared.token.TokenKind.{TokenKind};
 ghost use Rattle.dsdl_lex.specs.Bytes.{is_printable};
 ghost use Rattle.dsdl_lex.specs.Tokens.{IsKind, KindsDiffer, IsReadOneWay};
+ghost use Rattle.dsdl_lex.specs.OneName.{AreOfTypes};
 
 /// A text is a token of one kind at most.
 pub fn kinds()
@@ -20,4 +21,9 @@ pub fn ascii()
     ensures ascii { (kind : TokenKind) (text : List ℕ) → IsKind kind text → IsAscii text }
     ensures printable { (kind : TokenKind) (text : List ℕ) → IsKind kind text
         → list_all is_printable text ≡ true }
+{}
+
+/// The names and versions of the grammar are those of types.
+pub fn names_of_types()
+    ensures { AreOfTypes }
 {}

@@ -13,6 +13,6 @@ mod state;
 mod token;
 mod word;
 
-pub use laws::{ascii, kinds, one_reading};
+pub use laws::{ascii, kinds, names_of_types, one_reading};
 pub use line::{LexError, lex_line, tokens_of};
 pub use token::{Token, TokenKind};

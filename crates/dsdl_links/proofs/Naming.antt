@@ -1,42 +1,11 @@
--- The names that references mean, and the lists of them
-use Rattle.std.proofs.Common.{◌≡◌, ℕ, zero, suc, ◌<◌, ◌≤◌, ◌+◌, ◌==◌, Bool, true, false, List, [], ◌∷◌, ◌++◌, length, map, take, get_or, Option, Some, None, refl, sym, ap, ◌∙◌, arith, append_assoc, if◌then◌else◌, Bor}
+-- The lists of what references mean
+use Rattle.std.proofs.Common.{◌≡◌, ℕ, ◌<◌, ◌+◌, List, [], ◌∷◌, ◌++◌, length, map, take, get_or, Option, Some, None, refl, sym, ap, ◌∙◌, arith, append_assoc, Bor}
 use Rattle.std.specs.List.{filter_map, cons_option}
 use Rattle.std.proofs.lemmas.List.{append-nil, take_more, length-take-le, map-append}
-use Rattle.dsdl_names.specs.Parts.{cut_last, cut_before, parts_of, names_of, with_first, dotted}
-use Rattle.dsdl_names.proofs.PartLemmas.{two_names}
 use Rattle.dsdl_parse.specs.declared.statement.Statement.{Statement}
 use Rattle.dsdl_links.specs.Mentions.{noted, on_line, type_of, references_in, mentions_from}
 use Rattle.dsdl_names.specs.declared.TypeId.{TypeId}
 use Rattle.dsdl_parse.specs.declared.expr.Reference.{Reference}
-
--- a text without a point is one name
-none_one : (c : ℕ) (s : List ℕ) → cut_last c s ≡ None → parts_of c s ≡ s ∷ []
-none_one c [] h = refl
-none_one c (b ∷ s) h = at (cut_last c s) refl (b == c) refl (none_one c s)
-  where
-    at : (o : Option (List ℕ × List ℕ)) → cut_last c s ≡ o → (t : Bool) → (b == c) ≡ t → (cut_last c s ≡ None → parts_of c s ≡ s ∷ []) → parts_of c (b ∷ s) ≡ (b ∷ s) ∷ []
-    at (Some p) e t f behind = let g : cut_before c b s (Some p) ≡ None = ap (cut_before c b s) (sym e) ∙ h in absurd (cc)
-    at None e true f behind =
-        let n : cut_before c b s None ≡ Some ([], s) = ap (λ x. if x then Some ([], s) else None) f in
-        let g : cut_before c b s None ≡ None = ap (cut_before c b s) (sym e) ∙ h in absurd (cc)
-    at None e false f behind = ap (λ x. if x then [] ∷ parts_of c s else with_first b (parts_of c s)) f ∙ ap (with_first b) (behind e)
-
-pub some_point : (own : List ℕ) → 2 ≤ length (names_of own) → cut_last 46 own ≡ None → ⊥
-some_point own two h = omega (arith, ap length (none_one 46 own h))
-
-pub dotted_more : (name : List ℕ) (names : List (List ℕ)) (x : List ℕ) → dotted ((name ∷ names) ++ x ∷ []) ≡ dotted (name ∷ names) ++ 46 ∷ x
-dotted_more name [] x = refl
-dotted_more name (n ∷ names) x = ap (λ l. name ++ 46 ∷ l) (dotted_more n names x) ∙ sym (append_assoc name (46 ∷ dotted (n ∷ names)) (46 ∷ x))
-
-pub dotted_take : (names : List (List ℕ)) (i : ℕ) → 1 ≤ i → i < length names → dotted (take (i + 1) names) ≡ dotted (take i names) ++ 46 ∷ get_or names i []
-dotted_take [] i some lt = absurd (omega arith)
-dotted_take (name ∷ names) zero some lt = absurd (omega arith)
-dotted_take (name ∷ names) (suc i) some lt = ap dotted (take_more (name ∷ names) (suc i) [] lt) ∙ dotted_more name (take i names) (get_or names i [])
-
-pub dotted_two : (names : List (List ℕ)) → 1 < length names → 2 ≤ length (names_of (dotted names))
-dotted_two [] lt = absurd (omega arith)
-dotted_two (a ∷ []) lt = absurd (omega arith)
-dotted_two (a ∷ b ∷ names) lt = two_names a (dotted (b ∷ names))
 
 pub mentions_push : (n : ℕ) (own : List ℕ) (ss : List Statement) (s : Statement) → mentions_from n own (ss ++ s ∷ []) ≡ mentions_from n own ss ++ noted own (n + length ss) (references_in s)
 mentions_push n own [] s = append-nil (noted own n (references_in s)) ∙ ap (λ k. noted own k (references_in s)) (omega arith)

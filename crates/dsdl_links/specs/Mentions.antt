@@ -1,8 +1,8 @@
 -- The types that the statements of a definition refer to.
-use Rattle.std.specs.Prelude.{ℕ, ◌+◌, List, [], ◌∷◌, ◌++◌, map, Option, Some, None}
+use Rattle.std.specs.Prelude.{ℕ, ◌+◌, List, [], ◌∷◌, ◌++◌, map, Option, Some, None, option_map}
 use Rattle.std.specs.List.{filter_map}
 use Rattle.dsdl_names.specs.declared.TypeId.{TypeId}
-use Rattle.dsdl_names.specs.Parts.{dotted, cut_last}
+use Rattle.dsdl_names.specs.Beside.{beside}
 use Rattle.dsdl_parse.specs.declared.expr.Expr.{Expr}
 use Rattle.dsdl_parse.specs.declared.expr.Reference.{Reference}
 use Rattle.dsdl_parse.specs.declared.statement.Bound.{Bound}
@@ -13,24 +13,13 @@ use Rattle.dsdl_parse.specs.declared.statement.Statement.TheVariants as statemen
 use Rattle.dsdl_parse.specs.LeavesOf.{references_of}
 use Rattle.dsdl_links.specs.declared.source.Mention.{Mention}
 
--- a short name in the namespace of a type
-abbrev pub beside : Option (List ℕ × List ℕ) → List ℕ → List ℕ
-beside (Some p) short = p.0 ++ 46 ∷ short
-beside None short = short
-
--- the full name that names mean in the definition of a type: a short name alone is one of the
--- type's own namespace
-abbrev pub full_name : List ℕ → List (List ℕ) → List ℕ
-full_name own (short ∷ []) = beside (cut_last 46 own) short
-full_name own names = dotted names
+-- the type of this name and of a reference's version
+abbrev pub of_version : Reference → List ℕ → TypeId
+of_version r name = record { name = name; major = r.major; minor = r.minor }
 
 -- the type that a reference means in the definition of a type; one without a name means none
-abbrev pub type_named : List ℕ → List (List ℕ) → Reference → Option TypeId
-type_named own [] r = None
-type_named own (name ∷ names) r = Some (record { name = full_name own (name ∷ names); major = r.major; minor = r.minor })
-
 abbrev pub type_of : List ℕ → Reference → Option TypeId
-type_of own r = type_named own r.names r
+type_of own r = option_map (of_version r) (beside own r.names)
 
 abbrev pub in_scalar : Scalar → List Reference
 in_scalar (scalar.Primitive prefix name) = []

@@ -2,12 +2,11 @@
 ghost use Rattle.std.specs.Prelude.{◌≡◌, ◌++◌, ◌∷◌, ◌<◌, [], ℕ, List, None, Some, length, map, IfOk, OnOk, MatchOption};
 ghost use Rattle.std.specs.List.{cons_option};
 ghost use Rattle.std.specs.Option.{option_copied};
-ghost use Rattle.dsdl_names.specs.Parts.{cut_last, dotted};
 ghost use Rattle.dsdl_parse.specs.declared.expr.ExprNode.{out-ExprNode};
 ghost use Rattle.dsdl_parse.specs.LeavesOf.{reference_in, references_of};
-ghost use Rattle.dsdl_links.specs.Mentions.{beside, in_bound, in_scalar, references_in, type_of};
+ghost use Rattle.dsdl_links.specs.Mentions.{in_bound, in_scalar, references_in, type_of};
 
-use cy_bits::{Bytes, NoMemory, Text};
+use cy_bits::NoMemory;
 use dsdl_names::{FullName, TypeId};
 use dsdl_parse::{Expr, ExprNode, Form, Reference, Scalar, Statement, as_leaf, leaves};
 use std::alloc::Global;
@@ -106,45 +105,12 @@ pub fn type_of(
 ) -> Result<Option<TypeId>, NoMemory>
     ensures { IfOk result (λ id. id ≡ type_of own.now reference.now) }
 {
-    let name = match reference.names.as_slice() {
-        [] => return Ok(None),
-        [short] => beside(alloc, own, short.as_str().as_bytes())?,
-        names => joined(alloc, names)?,
+    let Some(name) = own.beside(alloc, reference.names.as_slice())? else {
+        return Ok(None);
     };
     Ok(Some(TypeId {
         name,
         major: reference.major,
         minor: reference.minor,
     }))
-}
-
-/// A short name in the namespace of a type.
-fn beside(alloc: Global, own: &FullName, short: &[u8]) -> Result<FullName, NoMemory>
-    ensures { IfOk result (λ name. name ≡ beside (cut_last 46 own.now) short.now) }
-{
-    let own = own.as_bytes();
-    let mut end = own.len();
-    while end > 0 {
-        end -= 1;
-        if own[end] == b'.' {
-            let mut name = Vec::from_slice(alloc, &own[..end])?;
-            name.push(b'.')?;
-            name.extend_from_slice(short)?;
-            return Ok(FullName::new(Bytes::new(name)));
-        }
-    }
-    unreachable!()
-}
-
-/// Several names with a point between each two.
-fn joined(alloc: Global, names: &[Text]) -> Result<FullName, NoMemory>
-    requires { 1 < length names.now }
-    ensures { IfOk result (λ name. name ≡ dotted names.now) }
-{
-    let mut name = Vec::from_slice(alloc, names[0].as_str().as_bytes())?;
-    for i in 1..names.len() {
-        name.push(b'.')?;
-        name.extend_from_slice(names[i].as_str().as_bytes())?;
-    }
-    Ok(FullName::new(Bytes::new(name)))
 }

@@ -1,3 +1,4 @@
+pub mod BesideLemmas
 pub mod NumberLemmas
 pub mod PartLemmas
 pub mod TypeLemmas

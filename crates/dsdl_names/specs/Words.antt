@@ -1,6 +1,6 @@
 -- Names and numbers in texts.
 use Rattle.std.specs.Prelude.{ℕ, Bool, true, false, List, [], ◌∷◌, ◌+◌, ◌*◌, ◌-◌, ◌==◌, ◌||◌, ◌&&◌}
-use Rattle.std.specs.Prelude.{Option, Some, None, if◌then◌else◌, nat_lt, nat_eq, codes}
+use Rattle.std.specs.Prelude.{Option, Some, None, if◌then◌else◌, length, nat_lt, nat_eq, codes}
 use Rattle.std.specs.List.{list_all, list_any, starts_with, ends_with}
 use Rattle.std.specs.Char.{is_ascii_alphabetic, is_ascii_alphanumeric, is_ascii_digit}
 use Rattle.std.specs.Char.{to_ascii_lowercase}
@@ -32,12 +32,16 @@ is_numbered [] (b ∷ s) = list_all is_ascii_digit (b ∷ s)
 is_numbered (w ∷ word) [] = false
 is_numbered (w ∷ word) (b ∷ s) = (to_ascii_lowercase b == w) && is_numbered word s
 
--- a name that is kept for the language: a word of it, a numbered one, or one that begins and ends
--- with `_`
+-- a name of two bytes or more that begins and ends with `_`
+abbrev pub is_between_underscores : List ℕ → Bool
+is_between_underscores name =
+    nat_lt 1 (length name) && (starts_with nat_eq name (95 ∷ []) && ends_with nat_eq name (95 ∷ []))
+
+-- a name that is kept for the language: a word of it, a numbered one, or one between `_` and `_`
 abbrev pub is_reserved : List ℕ → Bool
 is_reserved name =
     list_any (λ word. is_word word name) (codes "truncated" ∷ codes "saturated" ∷ codes "true" ∷ codes "false" ∷ codes "bool" ∷ codes "void" ∷ codes "byte" ∷ codes "utf8" ∷ [])
-    || (list_any (λ word. is_numbered word name) (codes "uint" ∷ codes "int" ∷ codes "float" ∷ codes "void" ∷ []) || (starts_with nat_eq name (95 ∷ []) && ends_with nat_eq name (95 ∷ [])))
+    || (list_any (λ word. is_numbered word name) (codes "uint" ∷ codes "int" ∷ codes "float" ∷ codes "void" ∷ []) || is_between_underscores name)
 
 -- the number whose decimal digits are those of n and then these
 abbrev pub decimal_from : ℕ → List ℕ → Option ℕ

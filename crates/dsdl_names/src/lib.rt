@@ -3,6 +3,7 @@
 
 ghost use Rattle.std.specs.Prelude.{◌≡◌};
 
+mod beside;
 mod full_name;
 mod laws;
 mod number;

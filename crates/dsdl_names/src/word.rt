@@ -3,7 +3,7 @@ ghost use Rattle.std.specs.Prelude.{◌≡◌};
 ghost use Rattle.std.specs.List.{list_all, list_any};
 ghost use Rattle.std.specs.Char.{is_ascii_digit};
 ghost use Rattle.dsdl_names.specs.Parts.{parts_of};
-ghost use Rattle.dsdl_names.specs.Words.{is_name_byte, is_first, is_name, is_word, is_numbered, is_reserved};
+ghost use Rattle.dsdl_names.specs.Words.{is_name_byte, is_first, is_name, is_word, is_numbered, is_between_underscores, is_reserved};
 
 use crate::parts::cut;
 
@@ -67,10 +67,17 @@ fn is_numbered(word: &[u8], text: &[u8]) -> bool
     }
 }
 
+/// Whether a name has two bytes or more, and begins and ends with `_`.
+fn is_between_underscores(name: &[u8]) -> bool
+    ensures { result ≡ is_between_underscores name.now }
+{
+    name.len() > 1 && name.starts_with(b"_") && name.ends_with(b"_")
+}
+
 /// Whether a name is kept for the language (Cyphal Specification, section 3.2): `truncated`,
 /// `saturated`, `true`, `false`, `bool`, `void`, `byte` or `utf8`; `uint`, `int`, `float` or `void`
-/// with digits behind it; all of these in either case of their letters; or a name that begins and
-/// ends with `_`.
+/// with digits behind it; all of these in either case of their letters; or a name of two bytes or
+/// more that begins and ends with `_`. `_` alone is a name as any other.
 pub fn is_reserved(name: &[u8]) -> bool
     ensures { result ≡ is_reserved name.now }
 {
@@ -86,7 +93,7 @@ pub fn is_reserved(name: &[u8]) -> bool
         || is_numbered(b"int", name)
         || is_numbered(b"float", name)
         || is_numbered(b"void", name)
-        || (name.starts_with(b"_") && name.ends_with(b"_"))
+        || is_between_underscores(name)
 }
 
 /// Whether all parts of a text, with the byte `b` between each two, are names.

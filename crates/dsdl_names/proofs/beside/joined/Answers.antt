@@ -1,7 +1,7 @@
 use Rattle.std.proofs.Common.{◌≡◌, ◌≤◌, ◌++◌, ◌∷◌, [], length, take, ap, subst, ◌∙◌, sym, rules}
 use Rattle.dsdl_names.specs.Parts.{names_of}
-use Rattle.const_expr.proofs.MemberNames.{dotted_more, dotted_two}
-use Rattle.const_expr.proofs.referred.joined.Goals as goal
+use Rattle.dsdl_names.proofs.BesideLemmas.{dotted_more, dotted_two}
+use Rattle.dsdl_names.proofs.beside.joined.Goals as goal
 
 pub loop-next-preserved : goal.loop-next-preserved
 loop-next-preserved c =

@@ -1,9 +1,8 @@
--- Dotted names
+-- Dotted names, of two names or more.
 use Rattle.std.proofs.Common.{◌≡◌, ℕ, ◌+◌, ◌<◌, ◌≤◌, ◌==◌, Bool, true, false, cond, List, [], ◌∷◌, ◌++◌, length, take, get_or, Option, Some, None, refl, sym, ap, ◌∙◌, append_assoc, arith}
 use Rattle.std.proofs.lemmas.List.{take_more}
 use Rattle.dsdl_names.specs.Parts.{dotted, cut_last, cut_before, with_first, names_of}
 use Rattle.dsdl_names.proofs.PartLemmas.{two_names}
-use Rattle.const_expr.specs.Member.{beside}
 
 pub dotted_push : (p : List ℕ) (ps : List (List ℕ)) (s : List ℕ) → dotted (p ∷ (ps ++ s ∷ [])) ≡ dotted (p ∷ ps) ++ 46 ∷ s
 dotted_push p [] s = refl
@@ -41,6 +40,3 @@ one_name (b ∷ s) h = go (cut_last 46 s) refl h (λ e. one_name s e)
 
 pub no_full_name : (s : List ℕ) → cut_last 46 s ≡ None → 2 ≤ length (names_of s) → ⊥
 no_full_name s h l = let e = one_name s h in omega arith
-
-pub beside_cut : (s front rest short : List ℕ) → cut_last 46 s ≡ Some (front, rest) → beside (cut_last 46 s) short ≡ front ++ 46 ∷ short
-beside_cut s front rest short e = ap (λ o. beside o short) e

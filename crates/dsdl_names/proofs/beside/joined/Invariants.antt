@@ -1,6 +1,6 @@
 use Rattle.std.proofs.Common.{◌≡◌, ◌∷◌, take}
 use Rattle.dsdl_names.specs.Parts.{dotted}
-use Rattle.const_expr.proofs.referred.joined.Given as goal
+use Rattle.dsdl_names.proofs.beside.joined.Given as goal
 
 -- the names so far
 abbrev pub invariant-loop-next : goal.invariant-loop-next
