@@ -9,6 +9,7 @@ pub mod SumLemmas
 pub mod RepeatLemmas
 pub mod WithinLemmas
 pub mod SearchLemmas
+pub mod ReachLemmas
 pub mod ResidueLemmas
 pub mod ListedLemmas
 pub mod SameLemmas

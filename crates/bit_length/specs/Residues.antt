@@ -1,6 +1,7 @@
--- Remainders of numbers, and tables of marks that are made of them.
-use Rattle.std.specs.Prelude.{◌≡◌, ℕ, ◌%◌, ◌<◌, ◌==◌, ◌⊎◌, ◌↔◌, Bool, true, false, List, length}
-use Rattle.std.specs.Prelude.{slice_index_or}
+-- Remainders of numbers, and tables that are made of them: of how many remainders follow one
+-- another by a step, and of marks.
+use Rattle.std.specs.Prelude.{◌≡◌, ℕ, ◌+◌, ◌*◌, ◌%◌, ◌<◌, ◌≤◌, ◌==◌, ◌⊎◌, ◌↔◌, Bool, true, false}
+use Rattle.std.specs.Prelude.{List, length, slice_index_or}
 use Rattle.std.specs.List.{list_any}
 use Rattle.bit_length.specs.Lengths.{Numbers, Has, Same, SomeLeaves}
 use Rattle.bit_length.specs.Runs.{numbers_below}
@@ -17,24 +18,43 @@ is_marked marks r = slice_index_or marks r false
 abbrev pub marked_of : List Bool → List ℕ
 marked_of marks = numbers_below (length marks) (is_marked marks)
 
--- what the members of a set leave modulo the number of marks is marked too
-abbrev pub Marks : List Bool → List Bool → Numbers → Type 0
-Marks old new S =
-    (r : ℕ) → r < length old → ((is_marked new r ≡ true) ↔ ((is_marked old r ≡ true) ⊎ SomeLeaves S (length old) r))
-
--- each number of a class modulo a divisor is marked
-abbrev pub AreMarkedOf : List Bool → ℕ → ℕ → Type 0
-AreMarkedOf marks common class =
-    (r : ℕ) → r < length marks → r % common ≡ class → is_marked marks r ≡ true
-
--- each class that is told to be full is
-abbrev pub AreFull : List Bool → List Bool → Type 0
-AreFull full marks =
-    (class : ℕ) → class < length full → is_marked full class ≡ true → AreMarkedOf marks (length full) class
-
 -- no number is marked
 abbrev pub AreNone : List Bool → Type 0
 AreNone marks = (r : ℕ) → is_marked marks r ≡ true → ⊥
+
+-- a number is marked too, where some are left
+abbrev pub MarksAt : List Bool → List Bool → ℕ → ℕ → Type 0
+MarksAt old new at left =
+    (r : ℕ) → (is_marked new r ≡ true) ↔ ((is_marked old r ≡ true) ⊎ ((0 < left) × (r ≡ at)))
+
+-- how many remainders follow one another from a number on, which are reached from there
+abbrev pub reach_at : List ℕ → ℕ → ℕ
+reach_at reaches r = slice_index_or reaches r 0
+
+-- no number reaches further than so far
+abbrev pub AreAtMost : List ℕ → ℕ → Type 0
+AreAtMost reaches most = (r : ℕ) → reach_at reaches r ≤ most
+
+-- r is reached from some number, step by step
+abbrev pub IsReached : List ℕ → ℕ → ℕ → Type 0
+IsReached reaches step r =
+    (b : ℕ) × (i : ℕ) × (b < length reaches) × (i < reach_at reaches b) × ((b + step * i) % length reaches ≡ r)
+
+-- what the members of a set leave is reached too
+abbrev pub Notes : ℕ → List ℕ → List ℕ → Numbers → Type 0
+Notes step old new S =
+    (r : ℕ) → IsReached new step r ↔ (IsReached old step r ⊎ SomeLeaves S (length old) r)
+
+-- what is reached from the numbers of a round is marked, and nothing that isn't reached
+pub record MarksReached (reaches : List ℕ) (step from round : ℕ) (old new : List Bool) : Type 0 where
+  pub only : (r : ℕ) → is_marked new r ≡ true → (is_marked old r ≡ true) ⊎ IsReached reaches step r
+  pub kept : (r : ℕ) → is_marked old r ≡ true → is_marked new r ≡ true
+  pub all : (j i : ℕ) → j < round → i < reach_at reaches ((from + step * j) % length old) → is_marked new ((from + step * (j + i)) % length old) ≡ true
+
+-- nothing is reached from the numbers of a round any more; the others stay
+pub record Forgets (step from round : ℕ) (old new : List ℕ) : Type 0 where
+  pub each : (r : ℕ) → (reach_at new r ≡ reach_at old r) ⊎ ((reach_at new r ≡ 0) × ((j : ℕ) × (j < round) × (r ≡ (from + step * j) % length old)))
+  pub first : reach_at new from ≡ 0
 
 -- a list of what the members of a set leave modulo k, ascending
 abbrev pub AreResidues : List ℕ → ℕ → Numbers → Type 0

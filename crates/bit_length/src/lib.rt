@@ -12,6 +12,7 @@ mod kept;
 mod listed;
 mod merge;
 mod parts;
+mod reaches;
 mod residues;
 mod run;
 mod run_set;

@@ -1,10 +1,12 @@
 //! Remainders of a set's members.
-ghost use Rattle.std.specs.Prelude.{◌≡◌, ℕ, ◌+◌, ◌%◌, ◌^◌, ◌<◌, ◌≤◌, IfOk, IsTrue, length, All, ◌∷◌};
+ghost use Rattle.std.specs.Prelude.{◌≡◌, ◌*◌, ◌%◌, ◌^◌, ◌<◌, ◌≤◌, IfOk, length, All, ◌∷◌};
 ghost use Rattle.bit_length.specs.Moved.{Moved, IsShortAt};
-ghost use Rattle.bit_length.specs.Residues.{AreFull, AreNone, AreResidues, AreMarkedOf, Marks, marked_of};
-ghost use Rattle.bit_length.specs.Runs.{IsRun, InRun, InSome};
+ghost use Rattle.bit_length.specs.Residues.{AreAtMost, AreNone, AreResidues, Notes, marked_of};
+ghost use Rattle.bit_length.specs.Runs.{IsRun, InSome};
 
+use crate::reaches::{mark_reached, note};
 use crate::run::Run;
+use crate::steps::common_divisor;
 use cy_bits::{List, NoMemory};
 use std::alloc::Global;
 
@@ -13,83 +15,30 @@ pub fn unmarked(alloc: Global, count: u64) -> Result<Vec<bool>, NoMemory>
     ensures count { IfOk result (λ marks. length marks.items ≡ count) }
     ensures none { IfOk result (λ marks. AreNone marks.items) }
 {
-    let mut marks = Vec::new(alloc);
-    for _ in 0..count {
-        marks.push(false)?;
-    }
-    Ok(marks)
+    Ok(vec![in alloc; false; count as usize]?)
 }
 
-/// Marks what the members of a run leave modulo the number of marks.
-fn mark_run(marks: &mut [bool], run: &Run, step: u64, common: u64)
-    requires run { IsRun step run.now }
-    requires some { 0 < length marks.old }
-    requires small { length marks.old ≤ 2 ^ 32 }
-    requires step { step % common ≡ 0 }
-    requires divisor { length marks.old % common ≡ 0 }
-    ensures { Marks marks.old marks.new (InRun step run.now) }
+/// As many places, none of which reaches any.
+pub fn unreached(alloc: Global, count: u64) -> Result<Vec<u64>, NoMemory>
+    ensures count { IfOk result (λ reaches. length reaches.items ≡ count) }
+    ensures none { IfOk result (λ reaches. AreAtMost reaches.items 0) }
 {
-    let divisor = marks.len() as u64;
-    for quotient in run.first..(run.last + 1).min(run.first + divisor / common) {
-        marks[(run.member(step, quotient) % divisor) as usize] = true;
-    }
+    Ok(vec![in alloc; 0; count as usize]?)
 }
 
-/// Whether each number that is `class` modulo `common` is marked.
-fn is_class_marked(marks: &[bool], class: u64, common: u64) -> bool
-    requires class { class < common }
-    requires short { common < 2 ^ 63 }
-    ensures { IsTrue result → AreMarkedOf marks.now common class }
-{
-    let divisor = marks.len() as u64;
-    let mut number = class;
-    while number < divisor {
-        if !marks[number as usize] {
-            return false;
-        }
-        number += common;
-    }
-    true
-}
-
-/// Marks what the members of a run leave modulo the number of marks, where those of its class
-/// aren't all marked. `full` tells of each class whether they are known to be.
-fn mark(marks: &mut [bool], full: &mut [bool], run: &Run, step: u64)
-    requires run { IsRun step run.now }
-    requires some { 0 < length marks.old }
-    requires small { length marks.old ≤ 2 ^ 32 }
-    requires classes { 0 < length full.old }
-    requires step { step % length full.old ≡ 0 }
-    requires divisor { length marks.old % length full.old ≡ 0 }
-    requires full { AreFull full.old marks.old }
-    ensures marks { Marks marks.old marks.new (InRun step run.now) }
-    ensures full { AreFull full.new marks.new }
-{
-    let common = full.len() as u64;
-    let class = run.residue % common;
-    if full[class as usize] {
-        return;
-    }
-    mark_run(marks, run, step, common);
-    if run.count() >= marks.len() as u64 / common {
-        full[class as usize] = is_class_marked(marks, class, common);
-    }
-}
-
-/// Marks what the members of some runs, moved up by a number, leave modulo the number of marks.
-fn mark_all(marks: &mut [bool], full: &mut [bool], runs: &[Run], step: u64, by: u64)
+/// Notes what the members of some runs, moved up by a number, leave.
+fn note_all(reaches: &mut [u64], runs: &[Run], step: u64, by: u64, round: u64)
     requires runs { All (IsRun step) runs.now }
     requires short { IsShortAt by (InSome step runs.now) }
-    requires some { 0 < length marks.old }
-    requires small { length marks.old ≤ 2 ^ 32 }
-    requires classes { 0 < length full.old }
-    requires step { step % length full.old ≡ 0 }
-    requires divisor { length marks.old % length full.old ≡ 0 }
-    requires full { AreFull full.old marks.old }
-    ensures marks { Marks marks.old marks.new (Moved by (InSome step runs.now)) }
+    requires some { 0 < length reaches.old }
+    requires round { 0 < round }
+    requires again { (step * round) % length reaches.old ≡ 0 }
+    requires most { AreAtMost reaches.old round }
+    ensures notes { Notes step reaches.old reaches.new (Moved by (InSome step runs.now)) }
+    ensures most { AreAtMost reaches.new round }
 {
     for run in runs {
-        mark(marks, full, &run.moved(step, by), step);
+        note(reaches, run, step, by, round);
     }
 }
 
@@ -107,11 +56,12 @@ fn marked(alloc: Global, marks: &[bool]) -> Result<List<u64>, NoMemory>
 }
 
 /// What the members of some runs, moved up by a number, leave modulo the number of marks,
-/// ascending. Nothing is marked before.
+/// ascending. Nothing is marked and nothing is reached before. Takes a few steps for each run and
+/// for each mark.
 pub fn residues(
     alloc: Global,
     marks: &mut [bool],
-    full: &mut [bool],
+    reaches: &mut [u64],
     others: &[Run],
     last: &Run,
     step: u64,
@@ -122,16 +72,17 @@ pub fn residues(
     requires short { IsShortAt by (InSome step (last.now ∷ others.now)) }
     requires some { 0 < length marks.old }
     requires small { length marks.old ≤ 2 ^ 32 }
-    requires classes { 0 < length full.old }
-    requires step { step % length full.old ≡ 0 }
-    requires divisor { length marks.old % length full.old ≡ 0 }
     requires marks { AreNone marks.old }
-    requires full { AreNone full.old }
+    requires same { length reaches.old ≡ length marks.old }
+    requires reaches { AreAtMost reaches.old 0 }
     ensures { IfOk result (λ residues.
         AreResidues residues (length marks.old)
         (Moved by (InSome step (last.now ∷ others.now)))) }
 {
-    mark(marks, full, &last.moved(step, by), step);
-    mark_all(marks, full, others, step, by);
+    let divisor = marks.len() as u64;
+    let round = divisor / common_divisor(step, divisor);
+    note(reaches, last, step, by, round);
+    note_all(reaches, others, step, by, round);
+    mark_reached(marks, reaches, step, round);
     marked(alloc, marks)
 }

@@ -10,7 +10,7 @@ use crate::coarse::coarse_runs;
 use crate::listed::listed;
 use crate::merge::{Merged, merge_runs};
 use crate::parts::{MOST_PARTS, classes, parts_of, push_parts};
-use crate::residues::{residues, unmarked};
+use crate::residues::{residues, unmarked, unreached};
 use crate::run::{Run, are_same};
 use crate::search::run_with;
 use crate::steps::{common_divisor, common_multiple, lesser};
@@ -621,12 +621,17 @@ impl RunSet {
         requires short { IsShortAt by (Has self.now) }
         ensures { IfOk result (λ residues. residues ≡ residues_of (moved by self.now) k) }
     {
-        let k = k as u64;
-        let mut marks = unmarked(alloc, k)?;
-        let mut full = unmarked(alloc, common_divisor(self.step, k))?;
+        let mut marks = unmarked(alloc, k as u64)?;
+        let mut reaches = unreached(alloc, k as u64)?;
         let others = self.others.as_slice();
         residues(
-            alloc, &mut marks, &mut full, others, &self.last, self.step, by,
+            alloc,
+            &mut marks,
+            &mut reaches,
+            others,
+            &self.last,
+            self.step,
+            by,
         )
     }
 

@@ -3,20 +3,20 @@ use Rattle.std.proofs.lemmas.List.{take_all}
 use Rattle.std.proofs.lemmas.List.Elements.{All-get_or}
 use Rattle.bit_length.specs.Moved.{Moved}
 use Rattle.bit_length.specs.Runs.{IsRun, InRun, InSome}
-use Rattle.bit_length.proofs.MovedLemmas.{moved_more, short_run}
-use Rattle.bit_length.proofs.ResidueLemmas.{marks_then, marks_nothing}
+use Rattle.bit_length.proofs.MovedLemmas.{moved_either, short_run}
+use Rattle.bit_length.proofs.ReachLemmas.{notes_then, notes_nothing}
 use Rattle.bit_length.proofs.SetLemmas.{no_run, InSome-at}
 use Rattle.bit_length.proofs.SumLemmas.{taken_more}
-use Rattle.bit_length.proofs.residues.mark_all.Goals as goal
+use Rattle.bit_length.proofs.residues.note_all.Goals as goal
 
 pub loop-run-init : goal.loop-run-init
 loop-run-init c = record {
-  marks = marks_nothing c.args.by c.args.step c.args.marks.now;
-  full = c.requires.full;
+  notes = notes_nothing c.args.by c.args.step c.args.reaches.now;
+  most = c.requires.most;
 }
 
-pub moved-requires-clause-short : goal.moved-requires-clause-short
-moved-requires-clause-short c =
+pub note-requires-clause-short : goal.note-requires-clause-short
+note-requires-clause-short c =
     let s = c.args.step in
     let runs = c.args.runs.now in
     let i = c.loop-run.run-index in
@@ -28,13 +28,16 @@ loop-run-preserved c =
     let by = c.args.by in
     let runs = c.args.runs.now in
     let i = c.loop-run.run-index in
-    let next = InRun s c.moved.result in
+    let before = InSome s (take i runs) in
+    let more = InSome s (take (i + 1) runs) in
+    let run = InRun s (get_or runs i no_run) in
     record {
-      marks = marks_then c.args.marks.now c.loop-run.marks c.mark.new.marks (Moved by (InSome s (take i runs))) next (Moved by (InSome s (take (i + 1) runs))) c.loop-run.auto.marks (moved_more by (InSome s (take i runs)) (InRun s (get_or runs i no_run)) next (InSome s (take (i + 1) runs)) (taken_more s runs i c.loop-run-test.true) c.moved.ensures.moved) c.loop-run.invariant.marks c.mark.ensures.marks;
-      full = c.mark.ensures.full;
+      notes = notes_then s c.args.reaches.now c.loop-run.reaches c.note.new.reaches (Moved by before) (Moved by run) (Moved by more) c.loop-run.auto.reaches (moved_either by before run more (taken_more s runs i c.loop-run-test.true)) c.loop-run.invariant.notes c.note.ensures.notes;
+      most = c.note.ensures.most;
     }
 
 pub returns : goal.returns
 returns c = record {
-  marks = rw (take_all c.loop-run.run-index c.args.runs.now c.loop-run-test.false) at c.loop-run.invariant.marks;
+  notes = rw (take_all c.loop-run.run-index c.args.runs.now c.loop-run-test.false) at c.loop-run.invariant.notes;
+  most = c.loop-run.invariant.most;
 }
