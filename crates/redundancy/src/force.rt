@@ -1,4 +1,4 @@
-ghost use Rattle.std.specs.Prelude.{◌≡◌, ℕ, ◌≤◌, List, [], ◌∷◌, None};
+ghost use Rattle.std.specs.Prelude.{◌≡◌, ℕ, ◌≤◌, ◌+◌, nat_lt, List, [], ◌∷◌, None, Some};
 ghost use Rattle.tail_frame.specs.Chains.{KeyRecord};
 ghost use Rattle.redundancy.specs.Hear.{hear, lateness_of, force_then, answer_at, ForceStands, IsFrameOf};
 
@@ -72,29 +72,55 @@ impl Force {
             ≡ hear timeout self.old.bus self.old.heard bus moment start }
         ensures state { self.new ≡ force_then self.old bus moment (lateness_of result) }
     {
+        let silent = moment - self.heard > timeout;
+        let heard = self.answer(bus, start, silent);
+        if let Heard::Here { .. } = heard {
+            self.keep(bus, moment);
+        }
+        heard
+    }
+
+    /// What `hear` answers a frame, without hearing it; `silent` says whether the silence before it
+    /// was longer than the timeout.
+    #[inline(always)]
+    pub fn answer(&self, bus: u8, start: bool, silent: bool) -> Heard
+        ensures { (timeout moment : ℕ) → silent ≡ nat_lt (self.now.heard + timeout) moment
+            → lateness_of result ≡ hear timeout self.now.bus self.now.heard bus moment start }
+    {
         match self.bus {
             None => {
                 if start {
-                    self.bus = Some(bus);
-                    self.heard = moment;
                     Heard::Here { late: false }
                 } else {
                     Heard::Elsewhere
                 }
             }
             Some(in_force) => {
-                let silent = moment - self.heard > timeout;
                 if in_force == bus {
-                    self.heard = moment;
                     Heard::Here { late: silent }
                 } else if start && silent {
-                    self.bus = Some(bus);
-                    self.heard = moment;
                     Heard::Here { late: true }
                 } else {
                     Heard::Elsewhere
                 }
             }
         }
+    }
+
+    /// Whether nothing was heard for longer than the timeout before a moment.
+    #[inline(always)]
+    pub fn is_silent(&self, moment: u64, timeout: u64) -> bool
+        ensures { result ≡ nat_lt (self.now.heard + timeout) moment }
+    {
+        moment.saturating_sub(self.heard) > timeout
+    }
+
+    /// Keeps that a frame was heard on a bus, which is in force with it.
+    #[inline(always)]
+    pub fn keep(&mut self, bus: u8, moment: u64)
+        ensures { self.new ≡ record { bus = Some bus; heard = moment } }
+    {
+        self.bus = Some(bus);
+        self.heard = moment;
     }
 }

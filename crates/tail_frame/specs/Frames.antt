@@ -1,12 +1,15 @@
 -- The frames that records are.
-use Rattle.std.specs.Prelude.{◌+◌, ◌-◌, ◌*◌, ◌^◌, ◌==◌, ◌&&◌, ◌||◌, not, nat_lt, ℕ, Bool, true}
-use Rattle.std.specs.Prelude.{false, if◌then◌else◌, Option, Some, None}
+use Rattle.std.specs.Prelude.{◌+◌, ◌-◌, ◌*◌, ◌^◌, ◌==◌, ◌&&◌, not, nat_lt, ℕ, Bool, true}
+use Rattle.std.specs.Prelude.{false, if◌then◌else◌, Option, Some, None, is_some}
 use Rattle.std.specs.Prelude.{List, length, take, slice_get}
 use Rattle.std.specs.Option.{option_and_then}
 use Rattle.can_id.specs.Identifiers.{field, flag, is_set, ident_of, priority_of}
 use Rattle.can_id.specs.declared.ident.Ident.{Ident}
-use Rattle.can_id.specs.declared.ident.Ident.TheVariants.{Message, Anonymous, Service}
+use Rattle.can_id.specs.declared.ident.Ident.TheVariants as ident
 use Rattle.tail_frame.specs.Chains.{KeyRecord}
+use Rattle.tail_frame.specs.declared.discard.Discard.{Discard}
+use Rattle.tail_frame.specs.declared.discard.Discard.TheVariants.{Identifier, Empty, Toggle}
+use Rattle.tail_frame.specs.declared.discard.Discard.TheVariants.{Anonymous, Short, Bare}
 use Rattle.tail_frame.specs.declared.frame.Frame.{Frame}
 use Rattle.tail_frame.specs.declared.logged.Record.{Record}
 use Rattle.tail_frame.specs.declared.tail.Tail.{Tail}
@@ -34,23 +37,28 @@ seen f = record { line = f.line; moment = f.moment; bus = f.bus; ident = f.ident
 
 -- whether the sender has no node-ID
 abbrev pub is_anonymous : Ident → Bool
-is_anonymous (Message priority subject source) = false
-is_anonymous (Anonymous priority subject pseudo) = true
-is_anonymous (Service priority is_request service destination source) = false
+is_anonymous (ident.Message priority subject source) = false
+is_anonymous (ident.Anonymous priority subject pseudo) = true
+is_anonymous (ident.Service priority is_request service destination source) = false
 
 -- whether the frame is a whole transfer
 abbrev pub is_whole : Tail → Bool
 is_whole tail = tail.start && tail.end
 
--- whether a frame with so many bytes before the tail is discarded: a start has toggle 1, an
--- anonymous frame is a whole transfer, each frame but the last has at least 7 bytes, and only a
--- whole transfer may have none
+-- the first rule that a frame with so many bytes before the tail breaks, if it breaks one: a start
+-- has toggle 1, an anonymous frame is a whole transfer, each frame but the last has at least 7
+-- bytes, and only a whole transfer may have none
+abbrev pub broken_by : Ident → Tail → ℕ → Option Discard
+broken_by ident tail size =
+    if tail.start && not tail.toggle then Some Toggle
+    else if is_anonymous ident && not (is_whole tail) then Some Anonymous
+    else if not tail.end && nat_lt size 7 then Some Short
+    else if not (is_whole tail) && (size == 0) then Some Bare
+    else None
+
+-- whether such a frame is discarded
 abbrev pub is_discarded : Ident → Tail → ℕ → Bool
-is_discarded ident tail size =
-    (tail.start && not tail.toggle)
-    || ((is_anonymous ident && not (is_whole tail))
-    || ((not tail.end && nat_lt size 7)
-    || (not (is_whole tail) && (size == 0))))
+is_discarded ident tail size = is_some (broken_by ident tail size)
 
 -- the frame that a record with this identifier and this last data byte is
 abbrev pub framed : Record → Ident → ℕ → Option FrameOf
@@ -72,6 +80,19 @@ last_byte bytes = slice_get bytes (length bytes - 1)
 -- discarded
 abbrev pub frame_of : Record → Option FrameOf
 frame_of rec = option_and_then (λ ident. option_and_then (framed rec ident) (last_byte rec.bytes)) (ident_of rec.ident)
+
+-- why a record with this identifier and this last data byte is no frame, if it is none
+abbrev pub discard_at : Record → Ident → Option ℕ → Option Discard
+discard_at rec ident None = Some Empty
+discard_at rec ident (Some byte) = broken_by ident (tail_of byte) (length rec.bytes - 1)
+
+abbrev pub discard_by : Record → Option Ident → Option Discard
+discard_by rec None = Some Identifier
+discard_by rec (Some ident) = discard_at rec ident (last_byte rec.bytes)
+
+-- why a record is no frame, if it is none
+abbrev pub discard_of : Record → Option Discard
+discard_of rec = discard_by rec (ident_of rec.ident)
 
 -- the record of its key that a frame is
 abbrev pub key_record : FrameOf → KeyRecord

@@ -1,7 +1,10 @@
-ghost use Rattle.std.specs.Prelude.{◌≡◌, ◌<◌, ◌≤◌, IfSome, length, option_map};
+ghost use Rattle.std.specs.Prelude.{◌≡◌, ◌<◌, ◌≤◌, IfOk, IfSome, Some, length, option_map};
+ghost use Rattle.std.specs.Option.{option_and_then};
+ghost use Rattle.std.specs.Result.{result_ok, result_err};
 ghost use Rattle.can_id.specs.Identifiers.{IsIdent, ident_of};
-ghost use Rattle.tail_frame.specs.Frames.{frame_of, is_anonymous, is_discarded, seen};
+ghost use Rattle.tail_frame.specs.Frames.{discard_at, discard_of, frame_of, framed, last_byte, seen};
 
+use crate::discard::{Discard, broken_by};
 use crate::logged::Record;
 use crate::tail::Tail;
 use can_id::{Ident, parse};
@@ -36,24 +39,71 @@ pub fn frame_of(rec: &Record) -> Option<Frame<'_>>
     ensures ranges { IfSome result
         (λ f. (f.tail.tid < 32) × (length f.body.now ≤ 63) × IsIdent f.ident) }
 {
-    let ident = ident_of(rec.ident)?;
+    match read_frame(rec) {
+        Ok(frame) => Some(frame),
+        Err(_) => None,
+    }
+}
+
+/// The frame that a record is, or why it is discarded (Cyphal Specification, section 4.2).
+#[inline(always)]
+pub fn read_frame(rec: &Record) -> Result<Frame<'_>, Discard>
+    ensures frame { option_map seen (result_ok result) ≡ frame_of rec.now }
+    ensures discard { result_err result ≡ discard_of rec.now }
+    ensures place { IfOk result
+        (λ f. (f.line ≡ rec.now.line) × (f.moment ≡ rec.now.moment) × (f.bus ≡ rec.now.bus)) }
+    ensures ranges { IfOk result
+        (λ f. (f.tail.tid < 32) × (length f.body.now ≤ 63) × IsIdent f.ident) }
+{
+    match ident_of(rec.ident) {
+        Some(ident) => read_data(rec, ident),
+        None => Err(Discard::Identifier),
+    }
+}
+
+/// The same of a record with this identifier.
+#[inline(always)]
+fn read_data(rec: &Record, ident: Ident) -> Result<Frame<'_>, Discard>
+    ensures frame { option_map seen (result_ok result)
+        ≡ option_and_then (framed rec.now ident) (last_byte rec.now.bytes) }
+    ensures discard { result_err result ≡ discard_at rec.now ident (last_byte rec.now.bytes) }
+    ensures place { IfOk result
+        (λ f. (f.line ≡ rec.now.line) × (f.moment ≡ rec.now.moment) × (f.bus ≡ rec.now.bus)) }
+    ensures ranges { IfOk result
+        (λ f. (f.tail.tid < 32) × (length f.body.now ≤ 63) × (f.ident ≡ ident)) }
+{
     let bytes = rec.bytes.as_slice();
     if bytes.is_empty() {
-        return None;
+        return Err(Discard::Empty);
     }
+    read_tail(rec, ident, bytes[bytes.len() - 1])
+}
+
+/// The same where this is the last data byte.
+#[inline(always)]
+fn read_tail(rec: &Record, ident: Ident, byte: u8) -> Result<Frame<'_>, Discard>
+    requires data { 0 < length rec.now.bytes }
+    ensures frame { option_map seen (result_ok result) ≡ framed rec.now ident byte }
+    ensures discard { result_err result ≡ discard_at rec.now ident (Some byte) }
+    ensures place { IfOk result
+        (λ f. (f.line ≡ rec.now.line) × (f.moment ≡ rec.now.moment) × (f.bus ≡ rec.now.bus)) }
+    ensures ranges { IfOk result
+        (λ f. (f.tail.tid < 32) × (length f.body.now ≤ 63) × (f.ident ≡ ident)) }
+{
+    let bytes = rec.bytes.as_slice();
     let size = bytes.len() - 1;
-    let tail = Tail::parse(bytes[size]);
-    if is_discarded(ident, tail, size) {
-        return None;
+    let tail = Tail::parse(byte);
+    match broken_by(ident, tail, size) {
+        Some(why) => Err(why),
+        None => Ok(Frame {
+            line: rec.line,
+            moment: rec.moment,
+            bus: rec.bus,
+            ident,
+            tail,
+            body: &bytes[..size],
+        }),
     }
-    Some(Frame {
-        line: rec.line,
-        moment: rec.moment,
-        bus: rec.bus,
-        ident,
-        tail,
-        body: &bytes[..size],
-    })
 }
 
 /// What an identifier says. A number of more than 29 bits is none.
@@ -67,24 +117,4 @@ fn ident_of(bits: u32) -> Option<Ident>
     } else {
         None
     }
-}
-
-/// Whether a frame with so many bytes before the tail is discarded.
-#[inline(always)]
-fn is_discarded(ident: Ident, tail: Tail, size: usize) -> bool
-    ensures { result ≡ is_discarded ident tail size }
-{
-    let is_whole = tail.start && tail.end;
-    tail.start && !tail.toggle
-        || is_anonymous(ident) && !is_whole
-        || !tail.end && size < 7
-        || !is_whole && size == 0
-}
-
-/// Whether the sender has no node-ID.
-#[inline(always)]
-fn is_anonymous(ident: Ident) -> bool
-    ensures { result ≡ is_anonymous ident }
-{
-    matches!(ident, Ident::Anonymous { .. })
 }
