@@ -5,6 +5,7 @@
 pub mod calls;
 pub mod failed;
 pub mod file;
+mod members;
 pub mod memory;
 pub mod memory_tree;
 pub mod never;

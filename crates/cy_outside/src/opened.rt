@@ -3,30 +3,66 @@ ghost use Rattle.std.specs.Prelude.{◌≡◌, ◌<◌, ◌≤◌, length, take,
 ghost use Rattle.std.specs.Io.KnownBytes.{Consumes, IsAtEnd};
 
 use crate::real::read_piece;
-use std::fs::{self, Metadata, OpenFile};
+use crate::retried::open_retried;
+use std::fs::{Metadata, OpenFile};
 use std::io::{self, ErrorKind, Read, Seek, SeekFrom};
 use std::os::unix::fs::MetadataExt;
 use std::rt::Files;
 
-/// What changes where a file is written.
+/// A time that the system tells, since 1970.
 #[derive(Clone, Copy, PartialEq, Eq)]
+struct Time {
+    /// The whole seconds.
+    seconds: i64,
+    /// The nanoseconds behind them.
+    nanos: i64,
+}
+
+/// Which file it is, and what changes where it is written.
+#[derive(Clone, Copy)]
 struct Version {
+    /// The device that the file is on.
+    device: u64,
+    /// The file's number there.
+    inode: u64,
     /// The file's size in bytes.
     len: u64,
-    /// The time of its last write, in seconds since 1970.
-    seconds: i64,
-    /// The nanoseconds of that time.
-    nanos: i64,
+    /// The time of its last write.
+    written: Time,
+    /// The time of the last change of what the system tells of it.
+    changed: Time,
+    /// How many names it has.
+    links: u64,
 }
 
 impl Version {
     /// The version that these data tell.
     fn of(metadata: &Metadata) -> Version {
         Version {
+            device: metadata.dev(),
+            inode: metadata.ino(),
             len: metadata.len(),
-            seconds: metadata.mtime(),
-            nanos: metadata.mtime_nsec(),
+            written: Time {
+                seconds: metadata.mtime(),
+                nanos: metadata.mtime_nsec(),
+            },
+            changed: Time {
+                seconds: metadata.ctime(),
+                nanos: metadata.ctime_nsec(),
+            },
+            links: metadata.nlink(),
         }
+    }
+
+    /// Whether the same bytes stand there, as far as the data tell. A file that gets or loses a
+    /// name is changed at that time too, and its bytes aren't.
+    fn has_bytes_of(&self, before: &Version) -> bool {
+        let is_renamed = self.links != before.links || self.links == 0;
+        self.device == before.device
+            && self.inode == before.inode
+            && self.len == before.len
+            && self.written == before.written
+            && (is_renamed || self.changed == before.changed)
     }
 }
 
@@ -37,7 +73,7 @@ pub struct Opened<F> {
     file: F,
     /// Where the next read goes on, in bytes.
     offset: u64,
-    /// The version that stood there right before it was opened.
+    /// The version that it had right after it was opened.
     version: Version,
 }
 
@@ -48,20 +84,20 @@ pub enum Found<F> {
     File(Opened<F>),
     /// A folder.
     Folder,
-    /// Nothing, or something else than these, which isn't opened.
+    /// Something else than these.
     Absent,
 }
 
 /// Opens a regular file at an offset.
 pub fn open_at<R: Files>(rt: &R, path: &str, offset: u64) -> io::Result<Found<R::File>> {
-    let metadata = fs::metadata(rt, path)?;
+    let mut file = open_retried(rt, path)?;
+    let metadata = file.metadata()?;
     if metadata.is_dir() {
         return Ok(Found::Folder);
     }
     if !metadata.is_file() {
         return Ok(Found::Absent);
     }
-    let mut file = fs::open(rt, path)?;
     if offset > 0 {
         file.seek(SeekFrom::Start(offset))?;
     }
@@ -76,6 +112,11 @@ impl<F> Opened<F> {
     /// Whether a read from this offset on goes on where the last one ended.
     pub fn goes_on(&self, offset: u64) -> bool {
         self.offset == offset
+    }
+
+    /// Whether the next read would find the file's end, as its size tells.
+    pub fn is_at_end(&self) -> bool {
+        self.version.len <= self.offset
     }
 
     /// How much of so much room the file fills from here on, as its size tells: it isn't asked once
@@ -97,7 +138,7 @@ impl<F> Opened<F> {
 
 impl<F: Read + OpenFile> Opened<F> {
     /// Reads on until the buffer is full or the file ends. The rest of the buffer stays. That the
-    /// file was written since it was found, or is another one, is an error.
+    /// file was written since it was opened is an error, as far as its size and its times tell.
     pub fn read_on(&mut self, buf: &mut [u8]) -> io::Result<usize>
         ensures bytes { IfOk result (λ n.
             Consumes (F.remaining self.old.file) (F.remaining self.new.file) (take n buf.new)) }
@@ -106,11 +147,21 @@ impl<F: Read + OpenFile> Opened<F> {
     {
         let told = self.told(buf.len());
         let n = fill(&mut self.file, &mut buf[..told])?;
-        if Version::of(&self.file.metadata()?) != self.version {
-            return Err(io::Error::from(ErrorKind::ResourceBusy));
-        }
+        self.check()?;
         self.offset = self.offset.saturating_add(n as u64);
         Ok(n)
+    }
+}
+
+impl<F: OpenFile> Opened<F> {
+    /// That the file was written since it was opened is an error.
+    fn check(&self) -> io::Result<()> {
+        let version = Version::of(&self.file.metadata()?);
+        if version.has_bytes_of(&self.version) {
+            Ok(())
+        } else {
+            Err(io::Error::from(ErrorKind::ResourceBusy))
+        }
     }
 }
 

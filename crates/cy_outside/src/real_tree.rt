@@ -1,17 +1,15 @@
-ghost use Rattle.std.specs.Prelude.{◌≡◌, ◌≤◌, None, length, IfOk, IfErr};
-ghost use Rattle.std.specs.IoError.{error_kind};
-ghost use Rattle.cy_outside.specs.Absence.{is_absence};
+ghost use Rattle.std.specs.Prelude.{◌≡◌, ◌≤◌, ◌⊎◌, None, length, IfOk, IfErr, IfSome};
 ghost use Rattle.cy_outside.specs.Calls.{one_more};
 ghost use Rattle.cy_outside.specs.Causes.{CountsFault, HasTreeCause, IsWithin, IsLeft};
 
+use crate::members::{is_absence, is_on_path, members, standing};
 use crate::opened::{Found, Opened, open_at};
-use crate::{Entry, Got, Listing, Size, Tree, TreeError};
+use crate::retried::metadata_retried;
+use crate::{Got, Listing, Size, Tree, TreeError};
 use arrayvec::ArrayString;
-use cy_bits::{List, Text};
 use std::alloc::Global;
-use std::fs;
+use std::fs::Metadata;
 use std::io::{self, ErrorKind};
-use std::path::AsPath;
 use std::rt::Files;
 
 /// The longest path that the system takes, in bytes.
@@ -22,13 +20,21 @@ const LONGEST_PATH: usize = 4096;
 ///
 /// Where the system finds no such file, or a file where a path has a folder, nothing stands at the
 /// path; and so it is where something else than a regular file or a folder stands, as a pipe or a
-/// device, which is never opened. None of these is listed. Every other error counts as a fault, but
-/// for want of memory where a folder is listed, and so does a listing with a name that isn't UTF-8.
-/// A link that leads back to itself is listed, and a fault where it is read.
+/// device, which isn't opened. None of these is listed. Every other error counts as a fault, but
+/// for want of memory where a folder is listed.
 ///
-/// The file that was read last is kept open, and a read that goes on where the last one ended reads
-/// that file, also where another has come to its path. That a file is written between its reads is
-/// a fault, and so is that another one comes to its path just as it is opened.
+/// A member of a folder that can't be looked at is listed as a file, and is a fault where it is
+/// read: for want of rights, at a link that leads back to itself, or whose path is too long. So is
+/// a folder that is one of those on the path to it, as far as the path names them: behind its last
+/// `..`, if it has one. A name that isn't UTF-8 is listed too, with U+FFFD for what is none; no
+/// path leads there.
+///
+/// A file is the one that its path leads to when it is opened. The one that was read last is kept
+/// open until it was read to its end, and a read that goes on where the last one ended reads that
+/// file, also where another has come to its path: pieces in a row are of one file. That it is
+/// written meanwhile is a fault, where its size, the time of its last write or that of its last
+/// change tells it: a write that leaves all three as they were isn't seen. Where the file got or
+/// lost a name meanwhile, the time of its last change tells nothing.
 #[derive(Drop)]
 pub struct RealTree<'a, R: Files> {
     /// The runtime, which reaches the files.
@@ -87,7 +93,7 @@ impl<'a, R: Files> RealTree<'a, R> {
     }
 }
 
-impl<'a, R: Files + Alloc + Clone + Drop> RealTree<'a, R> {
+impl<'a, R: Files> RealTree<'a, R> {
     /// Lists a folder. `Tree::list` is this call.
     pub fn counted_list(&mut self, alloc: Global, path: &str) -> Result<Listing, TreeError>
         ensures calls { self.new.calls ≡ one_more self.old.calls }
@@ -122,29 +128,57 @@ impl<'a, R: Files> RealTree<'a, R> {
         ensures count { self.old.faults ≤ self.new.faults }
     {
         self.count();
-        if !self.goes_on(path, offset) {
-            self.opened = None;
-            match open_at(self.rt, path, offset) {
-                Ok(Found::File(opened)) => {
-                    self.path.clear();
-                    if self.path.try_push_str(path).is_err() {
-                        return Err(self.fail());
-                    }
-                    self.opened = Some(opened);
-                }
-                Ok(Found::Folder) => return Ok(Got::Folder),
-                Ok(Found::Absent) => return Ok(Got::Absent),
-                Err(error) if is_absence(&error) => return Ok(Got::Absent),
-                Err(_) => return Err(self.fail()),
-            }
+        match self.find(path, offset) {
+            Ok(None) => {}
+            Ok(Some(got)) => return Ok(got),
+            Err(error) if is_absence(&error) => return Ok(Got::Absent),
+            Err(_) => return Err(self.fail()),
         }
+        let room = buf.len();
         if let Some(opened) = &mut self.opened {
             if let Ok(n) = opened.read_on(buf) {
+                if n < room || opened.is_at_end() {
+                    self.opened = None;
+                }
                 return Ok(Got::Bytes(n));
             }
         }
         self.opened = None;
         Err(self.fail())
+    }
+
+    /// Finds the file at a path, which is open then at the offset; else answers what is there.
+    ///
+    /// What is no regular file isn't opened, for a pipe would be waited for.
+    fn find(&mut self, path: &str, offset: u64) -> io::Result<Option<Got>>
+        ensures calls { self.new.calls ≡ self.old.calls }
+        ensures faults { self.new.faults ≡ self.old.faults }
+        ensures no_bytes { IfOk result (λ found. IfSome found
+            (λ got. (got ≡ Got.Absent) ⊎ (got ≡ Got.Folder))) }
+    {
+        if self.goes_on(path, offset) {
+            return Ok(None);
+        }
+        self.opened = None;
+        let metadata = metadata_retried(self.rt, path)?;
+        if metadata.is_dir() {
+            return folder_at(self.rt, path, &metadata);
+        }
+        if !metadata.is_file() {
+            return Ok(Some(Got::Absent));
+        }
+        match open_at(self.rt, path, offset)? {
+            Found::File(opened) => {
+                self.path.clear();
+                if self.path.try_push_str(path).is_err() {
+                    return Err(io::Error::from(ErrorKind::InvalidFilename));
+                }
+                self.opened = Some(opened);
+                Ok(None)
+            }
+            Found::Folder => Ok(Some(Got::Folder)),
+            Found::Absent => Ok(Some(Got::Absent)),
+        }
     }
 
     /// Finds a size. `Tree::size` is this call.
@@ -163,7 +197,7 @@ impl<'a, R: Files> RealTree<'a, R> {
     }
 }
 
-impl<'a, R: Files + Alloc + Clone + Drop> Tree for RealTree<'a, R> {
+impl<'a, R: Files> Tree for RealTree<'a, R> {
     ghost files = { λ _. None };
 
     ghost faults = { λ t. t.faults };
@@ -183,51 +217,15 @@ impl<'a, R: Files + Alloc + Clone + Drop> Tree for RealTree<'a, R> {
     }
 }
 
-/// Whether an error says that nothing stands at a path.
-fn is_absence(error: &io::Error) -> bool
-    ensures { result ≡ is_absence (error_kind error.now) }
+/// What a read answers where a folder stands. That it is one of those on the path to it is an
+/// error: it was listed as a file.
+fn folder_at<R: Files>(rt: &R, path: &str, metadata: &Metadata) -> io::Result<Option<Got>>
+    ensures { IfOk result (λ found. IfSome found (λ got. got ≡ Got.Folder)) }
 {
-    matches!(error.kind(), ErrorKind::NotFound | ErrorKind::NotADirectory)
-}
-
-/// What stands at a path: nothing, where it is neither a regular file nor a folder.
-fn standing<R: Files, P: AsPath>(rt: &R, path: P) -> io::Result<Size> {
-    match fs::metadata(rt, path) {
-        Ok(metadata) if metadata.is_dir() => Ok(Size::Folder),
-        Ok(metadata) if metadata.is_file() => Ok(Size::File(metadata.len())),
-        Ok(_) => Ok(Size::Absent),
-        Err(error) if is_absence(&error) => Ok(Size::Absent),
-        Err(error) => Err(error),
+    match path.rsplit_once('/') {
+        Some((folder, name)) if name != ".." && is_on_path(rt, folder, metadata) => {
+            Err(io::Error::from(ErrorKind::FilesystemLoop))
+        }
+        _ => Ok(Some(Got::Folder)),
     }
-}
-
-/// The direct members of a folder that are regular files or folders.
-fn members<R: Files + Alloc + Clone + Drop>(
-    rt: &R,
-    alloc: Global,
-    path: &str,
-) -> io::Result<Listing> {
-    match standing(rt, path)? {
-        Size::Folder => {}
-        Size::File(_) => return Ok(Listing::NotFolder),
-        Size::Absent => return Ok(Listing::Absent),
-    }
-    let mut entries = List::empty(alloc);
-    for member in fs::read_dir(rt, path)? {
-        let member = member?;
-        let folder = match standing(rt, member.path()) {
-            Ok(Size::Folder) => true,
-            Ok(Size::File(_)) => false,
-            Ok(Size::Absent) => continue,
-            Err(error) if error.kind() == ErrorKind::FilesystemLoop => false,
-            Err(error) => return Err(error),
-        };
-        let Ok(name) = Text::from_str(alloc, member.file_name()) else {
-            return Err(io::Error::from(ErrorKind::OutOfMemory));
-        };
-        let Ok(()) = entries.push(Entry { name, folder }) else {
-            return Err(io::Error::from(ErrorKind::OutOfMemory));
-        };
-    }
-    Ok(Listing::Entries(entries))
 }
