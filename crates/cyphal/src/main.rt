@@ -21,6 +21,8 @@ mod program;
 mod remote_file;
 mod run_words;
 mod top;
+#[cfg(test)]
+mod top_tests;
 mod words;
 mod work;
 
@@ -30,8 +32,12 @@ use node_run::Status;
 use program::program;
 use std::io;
 use std::process::ExitCode;
+use std::rt::Files;
 
 fn main(rt: HostRuntime) -> ExitCode {
+    // A folder takes the place of a standard stream that is closed, which else the first file would
+    // take: each read and each write of it fails.
+    let _folders = [rt.open_dir("/"), rt.open_dir("/"), rt.open_dir("/")];
     let mut err = RealSink::new(rt.stderr());
     let words = match words_of(&rt) {
         Ok(words) => words,

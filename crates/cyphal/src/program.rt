@@ -1,13 +1,15 @@
 //! The whole program, over any outside.
 ghost use Rattle.std.specs.Prelude.{◌≡◌, ◌⊎◌, None, IfSome, IsSome, false, true, map, string_bytes};
 ghost use Rattle.cy_outside.specs.Outside.{Rose};
-ghost use Rattle.cyphal.specs.Answered.{left_by, stream, HasEnded};
+ghost use Rattle.node_run.specs.declared.status.Status.TheVariants as status;
+ghost use Rattle.cyphal.specs.Answered.{left_by, stream, HasEnded, HasSaid};
 ghost use Rattle.cyphal.specs.Cause.{outside, is_refusal};
 ghost use Rattle.cyphal.specs.Expected.{job_for};
 ghost use Rattle.cyphal.specs.Help.{own_answer, HasAnswered, HasOwnCause};
 ghost use Rattle.cyphal.specs.Job.{told_by, CallsAtMost};
 
 use crate::code_of;
+use crate::error_line::put_error;
 use crate::help::own_answer;
 use crate::run_words::run_words;
 use cy_outside::{Sink, Source, Tree, put_all};
@@ -29,7 +31,11 @@ pub fn program<T: Tree, L: Source, O: Sink, E: Sink>(
         HasAnswered text result (O.written out.old) (O.written out.new)) }
     ensures own_cause { IsSome (own_answer (map string_bytes words.now))
         → HasOwnCause result input.old input.new (O.faults out.old) (O.faults out.new) }
-    ensures own_quiet { IsSome (own_answer (map string_bytes words.now)) → err.new ≡ err.old }
+    // Of a write fault one line is written to `err`, as of every command.
+    ensures own_said { let old = stream (E.faults err.old) (E.written err.old) in
+        let new = stream (E.faults err.new) (E.written err.new) in
+        IsSome (own_answer (map string_bytes words.now)) → result ≡ 9
+        → HasSaid status.WriteFault old new }
     ensures quiet { result ≡ 0 → err.new ≡ err.old }
     ensures untouched { (job_for (map string_bytes words.now)).calls_tree ≡ false
         → tree.new ≡ tree.old }
@@ -53,11 +59,28 @@ pub fn program<T: Tree, L: Source, O: Sink, E: Sink>(
         → CallsAtMost needs (T.files tree.old) (T.calls tree.old) (T.calls tree.new) }
 {
     if let Some(text) = own_answer(words) {
-        return match put_all(out, text.as_bytes()) {
-            Ok(()) => code_of(&Status::Ok),
-            Err(_) => code_of(&Status::WriteFault),
-        };
+        return tell(out, err, text);
     }
     let done = run_words(alloc, words, tree, input, out, err, &mut NoLines);
     code_of(&done.status)
+}
+
+/// Answers a text of the program's own, and says where that can't be written. It gives the number
+/// with which the program ends.
+fn tell<O: Sink, E: Sink>(out: &mut O, err: &mut E, text: &str) -> u8
+    ensures answered { HasAnswered text.now result (O.written out.old) (O.written out.new) }
+    ensures fault { result ≡ 9 → Rose (O.faults out.old) (O.faults out.new) }
+    ensures kept { result ≡ 0 → O.faults out.new ≡ O.faults out.old }
+    ensures said { result ≡ 9 → HasSaid status.WriteFault
+        (stream (E.faults err.old) (E.written err.old))
+        (stream (E.faults err.new) (E.written err.new)) }
+    ensures quiet { result ≡ 0 → err.new ≡ err.old }
+{
+    match put_all(out, text.as_bytes()) {
+        Ok(()) => code_of(&Status::Ok),
+        Err(_) => {
+            let _ = put_error(err, &Status::WriteFault);
+            code_of(&Status::WriteFault)
+        }
+    }
 }
