@@ -1,5 +1,5 @@
 -- What a frame of a transfer looks like to its receiver.
-use Rattle.std.proofs.Common.{rules, ◌≡◌, ℕ, zero, suc, ◌+◌, ◌-◌, ◌*◌, ◌/◌, ◌<◌, ◌≤◌, Bool, true, false, not, ◌&&◌, ◌||◌, eqb, ltb, Option, Some, None, List, [], ◌∷◌, ◌++◌, length, take, drop, min, inl, inr, refl, sym, ap, ◌∙◌, subst, length-append, arith}
+use Rattle.std.proofs.Common.{rules, ◌≡◌, ℕ, zero, suc, ◌+◌, ◌-◌, ◌*◌, ◌/◌, ◌<◌, ◌≤◌, Bool, true, false, cond, not, ◌&&◌, eqb, ltb, Option, Some, None, is_some, List, [], ◌∷◌, ◌++◌, length, take, drop, min, inl, inr, refl, sym, ap, ◌∙◌, subst, length-append, arith}
 use Rattle.std.proofs.lemmas.Bool.{eqb-true, eqb-false, ne_eqb, cases_Bool, cases_lt, cond-false, cond_both, and_left, and_right, le-ltb, true≢false}
 use Rattle.std.proofs.lemmas.List.{length-take, length-drop}
 use Rattle.std.proofs.Math.Seq.{take-append_seam}
@@ -10,6 +10,7 @@ use Rattle.can_id.specs.declared.ident.Ident.{Ident}
 use Rattle.can_id.specs.declared.ident.Ident.TheVariants.{Message, Anonymous, Service}
 use Rattle.can_id.specs.declared.key.Key.{Key}
 use Rattle.tail_frame.specs.Frames.{FrameOf, frame_of, key_record, tail_of, tail_byte, is_anonymous, is_discarded, last_byte, framed}
+use Rattle.tail_frame.specs.declared.discard.Discard.TheVariants as rule
 use Rattle.tail_frame.specs.declared.logged.Record.{Record}
 use Rattle.tail_frame.specs.declared.tail.Tail.{Tail}
 use Rattle.frag.specs.Wire.{IsFrameSize, stream, last_frame, is_even, tail_at, body_at}
@@ -68,8 +69,10 @@ some_body m n i size w l = elim size [ inl e ↦ some8 m n i e w l | inr e ↦ s
 length_body : (m : ℕ) (payload : List ℕ) (i : ℕ) → length (body_at m payload i) ≡ min (m - 1) (length (stream m payload) - i * (m - 1))
 length_body m payload i = length-take (m - 1) (drop (i * (m - 1)) (stream m payload)) ∙ ap (min (m - 1)) (length-drop (i * (m - 1)) (stream m payload))
 
-none_of : (a b c d : Bool) → a ≡ false → b ≡ false → c ≡ false → d ≡ false → (a || (b || (c || d))) ≡ false
-none_of a b c d p q r s = cc
+-- where no rule is broken
+none_of : (a b c d : Bool) → a ≡ false → b ≡ false → c ≡ false → d ≡ false
+    → is_some (cond a (Some rule.Toggle) (cond b (Some rule.Anonymous) (cond c (Some rule.Short) (cond d (Some rule.Bare) None)))) ≡ false
+none_of a b c d p q r s = λ i. is_some (cond (p i) (Some rule.Toggle) (cond (q i) (Some rule.Anonymous) (cond (r i) (Some rule.Short) (cond (s i) (Some rule.Bare) None))))
 
 -- a frame of a transfer isn't discarded
 kept : (ident : Ident) (m i size tid : ℕ) (payload : List ℕ) → is_anonymous ident ≡ false → IsFrameSize m → i ≤ last_frame m payload → size ≡ length (body_at m payload i) → is_discarded ident (tail_at m payload tid i) size ≡ false

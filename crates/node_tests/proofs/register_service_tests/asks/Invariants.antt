@@ -1,5 +1,0 @@
-use Rattle.register_service.specs.Kept.{AreGuarded}
-use Rattle.node_tests.proofs.register_service_tests.asks.Given as goal
-
-abbrev pub invariant-loop-asked : goal.invariant-loop-asked
-invariant-loop-asked g l = AreGuarded g.G.Fn l.registers

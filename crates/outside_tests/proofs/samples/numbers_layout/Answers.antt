@@ -1,0 +1,10 @@
+use Rattle.std.proofs.Common.{refl}
+use Rattle.outside_tests.specs.Samples.{numbers}
+use Rattle.outside_tests.proofs.SampleRules.{composite, keeps}
+use Rattle.outside_tests.proofs.samples.numbers_layout.Goals as goal
+
+pub layout_of-requires-clause-rules : goal.layout_of-requires-clause-rules
+layout_of-requires-clause-rules c = keeps _ numbers c.in_ok-numbers.ensures refl
+
+pub layout_of-requires-clause-composite : goal.layout_of-requires-clause-composite
+layout_of-requires-clause-composite c = composite _ numbers c.in_ok-numbers.ensures refl
