@@ -5,7 +5,8 @@
 #   examples/first, without ROOT no types.
 # make build [JOBS=N]: proves the program and leaves it, optimised, as build/cyphal, and build/cyphal-draw beside it. From
 #   nothing that proves every crate below it, N at a time: one a processor, as far as there are 5 GB of free memory for each.
-# make install [PREFIX=FOLDER] [DESTDIR=FOLDER]: copies build/cyphal, cyphal-draw, man page, completions, guide and examples.
+# make install [PREFIX=FOLDER] [DESTDIR=FOLDER]: copies build/cyphal, cyphal-draw, man page, completions, guide, reference
+#   and examples.
 # make uninstall [PREFIX=FOLDER] [DESTDIR=FOLDER]: removes what make install copies.
 # make deb: makes a package of Debian of the same, build/cyphal_VERSION_ARCHITECTURE.deb.
 # make check: what a change does before anything of it is proved: the program by the kit's quick build, left as
@@ -69,8 +70,8 @@ install: built
 	$(INSTALL) -m 644 completions/cyphal.bash $(BASH_COMPLETIONS)/cyphal
 	$(INSTALL) -m 644 completions/_cyphal $(ZSH_COMPLETIONS)/_cyphal
 	$(INSTALL) -m 644 LICENSE CHANGELOG.md docs/guide.md docs/theorems.md $(DOC)
-	cp -R examples docs/pictures $(DOC)
-	chmod -R u=rwX,go=rX $(DOC)/examples $(DOC)/pictures
+	cp -R examples docs/pictures docs/reference $(DOC)
+	chmod -R u=rwX,go=rX $(DOC)/examples $(DOC)/pictures $(DOC)/reference
 
 uninstall:
 	rm -f $(BIN)/cyphal $(BIN)/cyphal-draw $(MAN)/cyphal.1 $(BASH_COMPLETIONS)/cyphal $(ZSH_COMPLETIONS)/_cyphal
