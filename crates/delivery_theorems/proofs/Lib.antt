@@ -1,6 +1,7 @@
 pub mod Gates
 pub mod Selection
 pub mod Dues
+pub mod Known
 pub mod Reports
 pub mod Headlines
 pub mod Raws

@@ -18,7 +18,7 @@ module _ (keyed : Record → Option KeyedFrame) (are : (rec : Record) (f : Keyed
       both true = (are rec f e, a)
       both false = a
 
-  records_are : (past : List Record) → AreRecordsOf (records_of keyed key past) (history key (frames_of keyed past))
+  pub records_are : (past : List Record) → AreRecordsOf (records_of keyed key past) (history key (frames_of keyed past))
   records_are [] = tt
   records_are (rec ∷ past) = more rec (records_of keyed key past) (frames_of keyed past) (keyed rec) refl (records_are past)
 

@@ -14,6 +14,7 @@ use Rattle.rx_table.specs.Keys.{SessionKey, KeyedFrame, bears_on, history, EachF
 use Rattle.delivery_theorems.specs.Report.{Rx, rx_of, pair_on, EachNumber, Rise, IsSentRx, EachRx, OnceInReport}
 use Rattle.frag.specs.Sent.{pair_at}
 use Rattle.delivery_theorems.proofs.Gates.{at_each_map}
+use Rattle.delivery_theorems.proofs.Known.{are_known}
 use Rattle.delivery_theorems.proofs.Selection.{once_theorem}
 
 -- what holds of each frame of a log holds of each record of a key
@@ -87,17 +88,18 @@ module _ (extent : ℕ) (sent : Sent) (origin : List Pair) (h : List KeyRecord) 
   fall_each d [] n ns x = tt
   fall_each d (e ∷ ds) n ns x = (subst (λ (p : Pair). p.j < position_of (rx_of extent d)) (sym ns.0.0) (subst (λ (p : Pair). (pair_at origin e.place).j < p.j) (sym n.0) x.0), fall_each d ds n ns.1 x.1)
 
-  fall : (ds : List Delivery) → Each (Names origin h) ds → Selected sent (pair_at origin) ds → Fall ds
-  fall [] n s = tt
-  fall (d ∷ ds) n s =
+  fall : (ds : List Delivery) → Each (Names origin h) ds → Each (λ d. (pair_on origin h d.last.line).j < length sent.transfers) ds → Selected sent (pair_at origin) ds → Fall ds
+  fall [] n k s = tt
+  fall (d ∷ ds) n k s =
       let at : (pair_at origin d.place).j ≡ position_of (rx_of extent d) = ap (λ (p : Pair). p.j) (sym n.0.0) in (
         record {
+          known = k.0;
           priority = s.0.priority ∙ ap (λ k. (transfer_at sent k).priority) at;
           tid = s.0.tid ∙ ap (λ k. (transfer_at sent k).tid) at;
           payload = ap (take extent) (s.0.content ∙ ap (λ k. data_on sent k d.first.bus) at);
         },
         fall_each d ds n.0 n.1 s.1,
-        fall ds n.1 s.2,
+        fall ds n.1 k.1 s.2,
       )
 
   abbrev lines_of : List Delivery → List Rx
@@ -127,5 +129,6 @@ once_in_report timeout extent sent key origin log is_log x =
     let s = once_theorem timeout sent (pair_at origin) h x.sent_list (in_time h both) x.explained x.no_chance in
     let n = names origin crc_of timeout h both in
     let ds = (received crc_of timeout h).delivered in
-    let t = turned extent sent origin h ds [] (fall extent sent origin h ds n s) (all_before extent sent origin h ds) tt tt in
+    let known = are_known timeout sent origin h x.explained in
+    let t = turned extent sent origin h ds [] (fall extent sent origin h ds n known s) (all_before extent sent origin h ds) tt tt in
     record { sent_ones = t.0; in_order = t.1 }

@@ -64,10 +64,11 @@ abbrev pub AnyRx : (Rx → Type 0) → List Rx → Type 0
 AnyRx P [] = ⊥
 AnyRx P (rx ∷ rxs) = P rx ⊎ AnyRx P rxs
 
--- a line reports the transfer whose frame stands on its last line: priority, transfer-ID, and the
--- first bytes of its data, as many as the extent
+-- a line reports the transfer whose frame stands on its last line, which is one of the sent list:
+-- priority, transfer-ID, and the first bytes of its data, as many as the extent
 pub record IsSentRx (extent : ℕ) (sent : Sent) (origin : List Pair) (records : List KeyRecord)
     (rx : Rx) : Type 0 where
+  pub known : (pair_on origin records rx.last).j < length sent.transfers
   pub priority : rx.priority ≡ (transfer_at sent (pair_on origin records rx.last).j).priority
   pub tid : rx.tid ≡ (transfer_at sent (pair_on origin records rx.last).j).tid
   pub payload : rx.payload ≡ take extent (data_on sent (pair_on origin records rx.last).j rx.bus)

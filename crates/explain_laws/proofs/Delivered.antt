@@ -20,61 +20,6 @@ use Rattle.log_explain.specs.declared.line.FrameLine.{FrameLine}
 use Rattle.explain_laws.specs.Delivered.{DeliveredOnce, DueDelivered, IsAmong, IsOfSent, delivered_in, sent_on}
 use Rattle.explain_laws.proofs.Told.{AreTold, key_in, told_are}
 
--- ---- the transfer whose frame stands on the line of a delivery is one of the sent list
-
-module _ (sent : Sent) (origin : List Pair) where
-  abbrev Known : List KeyRecord → ℕ → Type 0
-  Known records line = (pair_on origin records line).j < length sent.transfers
-
-  module _ (timeout : ℕ) where
-    abbrev IsExplained : KeyRecord → List KeyRecord → Type 0
-    IsExplained = IsExplainedAt timeout sent (pair_at origin)
-
-    known_here : (r : KeyRecord) (past : List KeyRecord) → IsExplained r past → Known (r ∷ past) r.line
-    known_here r past x =
-        cond_both (eqb r.line r.line) (pair_at origin (length past)) (pair_on origin past r.line) (λ (o : Pair). o.j < length sent.transfers)
-        (λ _. x.is_sent.known) (λ n. absurd (unequal r.line n))
-      where
-        unequal : (n : ℕ) → eqb n n ≡ false → ⊥
-        unequal n e = true≢false (sym (eq-eqb n n refl) ∙ e)
-
-    known_more : (r : KeyRecord) (past : List KeyRecord) → IsExplained r past → (line : ℕ) → Known past line → Known (r ∷ past) line
-    known_more r past x line k =
-        cond_both (eqb r.line line) (pair_at origin (length past)) (pair_on origin past line) (λ (o : Pair). o.j < length sent.transfers)
-        (λ _. x.is_sent.known) (λ _. k)
-
-    abbrev KnownAll : List KeyRecord → List Delivery → Type 0
-    KnownAll h ds = Each (λ d. Known h d.last.line) ds
-
-    more_all : (r : KeyRecord) (past : List KeyRecord) → IsExplained r past → (ds : List Delivery) → KnownAll past ds → KnownAll (r ∷ past) ds
-    more_all r past x [] k = tt
-    more_all r past x (d ∷ ds) k = (known_more r past x d.last.line k.0, more_all r past x ds k.1)
-
-    run_all : (r : KeyRecord) (past : List KeyRecord) → IsExplained r past → (o : Option Run) (ds : List Delivery) → KnownAll (r ∷ past) ds → KnownAll (r ∷ past) (not_begun crc_of timeout r past o ds).delivered
-    run_all r past x None ds k = k
-    run_all r past x (Some run) ds k =
-        let d : Delivery = record { first = run.first; last = r; place = length past; content = without_crc (chain_bytes run.first (r ∷ run.since)) } in
-        cond_both (closes_at run.first run.since r && eqb (crc_of (chain_bytes run.first (r ∷ run.since))) 0) (d ∷ ds) ds (KnownAll (r ∷ past))
-        (λ _. (known_here r past x, k)) (λ _. k)
-
-    known_all : (h : List KeyRecord) → AtEach IsExplained h → KnownAll h (received crc_of timeout h).delivered
-    known_all [] x = tt
-    known_all (r ∷ past) x =
-        let g = received crc_of timeout past in
-        let d : Delivery = record { first = r; last = r; place = length past; content = r.body } in
-        let k = more_all r past x.0 g.delivered (known_all past x.1) in
-        cond_both (begins timeout r past g.delivered) (record { begun = Some (record { first = r; since = [] }); delivered = alone crc_of timeout r past g.delivered }) (not_begun crc_of timeout r past g.begun g.delivered) (λ (w : Got). KnownAll (r ∷ past) w.delivered)
-        (λ _. cond_both r.end (d ∷ g.delivered) g.delivered (KnownAll (r ∷ past)) (λ _. (known_here r past x.0, k)) (λ _. k))
-        (λ _. run_all r past x.0 g.begun g.delivered k)
-
-    -- in the order of the report
-    turned : (extent : ℕ) (h : List KeyRecord) (ds acc : List Delivery) → KnownAll h ds → EachRx (λ rx. Known h rx.last) (map (rx_of extent) acc) → EachRx (λ rx. Known h rx.last) (map (rx_of extent) (reverse_aux ds acc))
-    turned extent h [] acc k a = a
-    turned extent h (d ∷ ds) acc k a = turned extent h ds (d ∷ acc) k.1 (k.0, a)
-
-    pub known : (extent : ℕ) (h : List KeyRecord) → AtEach IsExplained h → EachRx (λ rx. Known h rx.last) (reported timeout extent h)
-    known extent h x = turned extent h (received crc_of timeout h).delivered [] (known_all h x) tt
-
 -- ---- the pair on the line of a record
 
 abbrev Below : ℕ → List KeyRecord → Type 0
@@ -105,17 +50,17 @@ pair_there origin (r ∷ newer) q past h =
 -- ---- from the lines of a run to those of explain
 
 module _ (key : SessionKey) (sent : Sent) (of_key : sent.key ≡ key_in key) (origin : List Pair) (records : List KeyRecord) where
-  each_is : (extent : ℕ) (ls : List FrameLine) (rs : List Rx) → AreTold key ls rs → EachRx (IsSentRx extent sent origin records) rs → EachRx (λ rx. Known sent origin records rx.last) rs → All (IsOfSent sent origin records) ls
-  each_is extent [] [] t s k = All-nil (IsOfSent sent origin records)
-  each_is extent [] (rx ∷ rs) t s k = absurd t
-  each_is extent (line ∷ ls) [] t s k = absurd t
-  each_is extent (line ∷ ls) (rx ∷ rs) t s k =
+  each_is : (extent : ℕ) (ls : List FrameLine) (rs : List Rx) → AreTold key ls rs → EachRx (IsSentRx extent sent origin records) rs → All (IsOfSent sent origin records) ls
+  each_is extent [] [] t s = All-nil (IsOfSent sent origin records)
+  each_is extent [] (rx ∷ rs) t s = absurd t
+  each_is extent (line ∷ ls) [] t s = absurd t
+  each_is extent (line ∷ ls) (rx ∷ rs) t s =
       let at : pair_on origin records rx.last ≡ pair_on origin records line.line = ap (pair_on origin records) (sym t.0.last) in
       let tid : rx.tid ≡ (transfer_at sent (sent_on origin records line)).tid = s.0.tid ∙ ap (λ (o : Pair). (transfer_at sent o.j).tid) at in
       All-cons (IsOfSent sent origin records) line ls (record {
-        known = subst (λ (o : Pair). o.j < length sent.transfers) at k.0;
+        known = subst (λ (o : Pair). o.j < length sent.transfers) at s.0.known;
         transfer = t.0.transfer ∙ (λ i. Some (record { key = sym of_key i; tid = tid i }));
-      }) (each_is extent ls rs t.1 s.1 k.1)
+      }) (each_is extent ls rs t.1 s.1)
 
   same_places : (ls : List FrameLine) (rs : List Rx) → AreTold key ls rs → map (sent_on origin records) ls ≡ map (λ rx. (pair_on origin records rx.last).j) rs
   same_places [] [] t = refl
@@ -146,7 +91,7 @@ delivered_once as_run law once plan key past p sent origin h =
     let selected = once plan.timeout p.extent sent key origin (frames plan.node past) h.log h.explains in
     let places = same_places key sent h.explains.of_key origin records (delivered_in plan key past) (reported plan.timeout p.extent records) told in
     record {
-      sent_ones = each_is key sent h.explains.of_key origin records p.extent (delivered_in plan key past) (reported plan.timeout p.extent records) told selected.sent_ones (known sent origin plan.timeout p.extent records h.explains.explained);
+      sent_ones = each_is key sent h.explains.of_key origin records p.extent (delivered_in plan key past) (reported plan.timeout p.extent records) told selected.sent_ones;
       in_order = subst Rise (sym places) selected.in_order;
     }
 
