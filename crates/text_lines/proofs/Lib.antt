@@ -1,1 +1,2 @@
 pub mod TypedText
+pub mod TxLine

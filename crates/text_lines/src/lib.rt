@@ -4,8 +4,10 @@
 mod bus_words;
 pub mod line_writer;
 mod second;
+mod tx_line;
 mod typed_text;
 pub mod word;
 mod words;
 
 pub use line_writer::LineWriter;
+pub use tx_line::tx_text;
