@@ -1,4 +1,5 @@
 pub mod Reported
+pub mod SameRecords
 pub mod Readings
 pub mod Values
 pub mod Example

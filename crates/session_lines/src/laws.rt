@@ -5,6 +5,7 @@ ghost use Rattle.session_lines.specs.OneJson.{JsonTellsLines};
 ghost use Rattle.session_lines.specs.OneReport.{TextTellsLines};
 ghost use Rattle.session_lines.specs.Readings.{LinesHaveReadings};
 ghost use Rattle.session_lines.specs.Reported.{EmptyingIsQuiet, Reported, StepsReportAll};
+ghost use Rattle.session_lines.specs.SameRecords.{SameRecords};
 ghost use Rattle.session_lines.specs.Values.{DueValuesInReport, ValuesInReport};
 
 /// The lines of each session are what its records deliver, in order.
@@ -14,6 +15,11 @@ pub fn reported()
     rx_table::laws::delivered_steps();
     rx_table::laws::quiet();
 }
+
+/// The records of a session that a sent list explains are those whose deliveries its lines are.
+pub fn same_records()
+    ensures { SameRecords }
+{}
 
 /// What leaves behind the last step is in no report of a session: all lines of a log report what
 /// those of its steps do.
