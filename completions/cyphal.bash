@@ -8,8 +8,15 @@ _cyphal()
     if [[ $word == [\<\>]* || $before == [\<\>]* ]]; then
         return
     fi
+    local commands=(run json explain survey order gen monitor allocate fetch bound migrate compile compat versions encode decode)
     if [ "$COMP_CWORD" -eq 1 ]; then
-        _cyphal_offer "$word" compile compat versions encode decode run json bound migrate gen monitor allocate fetch explain order survey --help --version
+        _cyphal_offer "$word" "${commands[@]}" --help --version
+        return
+    fi
+    if [[ $COMP_CWORD -eq 2 && $word == -* ]]; then
+        if [[ " ${commands[*]} " == *" $command "* ]]; then
+            _cyphal_offer "$word" --help
+        fi
         return
     fi
     case $command:$COMP_CWORD in

@@ -33,6 +33,7 @@ told by COMMAND --help. More: cyphal --version, man cyphal, the guide.
 /// The overview. It has a line of each command, in the order of the table, and fits a screen of 24
 /// lines of 80 columns.
 pub fn overview() -> &'static str
+    ensures is { result.now ≡ OVERVIEW.now }
     ensures lines { HasLines (overview_lines COMMANDS.now) result.now }
     ensures fits { fits_screen 24 result.now ≡ true }
 {

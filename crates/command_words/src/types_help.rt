@@ -8,7 +8,7 @@ Compiles the files below a folder whose names end in .dsdl, and writes of each
 type its extent, its lengths, and where its fields can stand, in bits.
 
   ROOT  the folder above the first name of the types: of uavcan.node.Heartbeat
-        that with the folder uavcan; none for no files, ./none for that folder
+        the one that holds uavcan; none stands for no files
 
 Lines: print FILE LINE TEXT, what @print says; type NAME, its kind, port and
 extent, whether it is sealed, and its lengths; field NAME TYPE at its places,

@@ -1,17 +1,30 @@
--- What the program answers of itself.
-use Rattle.std.specs.Prelude.{◌≡◌, ◌⊎◌, ℕ, List, [], ◌∷◌, codes, Option, Some, None, if◌then◌else◌}
+-- What the program answers of itself and its commands.
+use Rattle.std.specs.Prelude.{◌≡◌, ◌⊎◌, ℕ, Bool, ◌||◌, List, [], ◌∷◌, codes, Option, Some, None}
+use Rattle.std.specs.Prelude.{if◌then◌else◌}
 use Rattle.std.specs.Str.{bytes_eq}
 use Rattle.cy_outside.specs.Outside.{Rose}
 use Rattle.cy_outside.specs.Written.{behind, Begins}
+use Rattle.command_words.specs.Table.{help_of}
+use Rattle.command_words.specs.declared.overview_text.TheConstants.{OVERVIEW}
 use Rattle.cyphal.specs.declared.help.TheConstants.{VERSION}
-use Rattle.cyphal.specs.declared.words.TheConstants.{HELP}
 
--- the answer to `--help` or `--version`, where this is the only word
-abbrev pub own_answer : List (List ℕ) → Option (List ℕ)
-own_answer (word ∷ []) =
-    if bytes_eq word (codes "--help") then Some HELP.now
+-- a word asks for help
+abbrev pub asks_help : List ℕ → Bool
+asks_help word = bytes_eq word (codes "--help") || bytes_eq word (codes "-h")
+
+-- the answer to a word that is the only one
+abbrev pub answer_of : List ℕ → Option (List ℕ)
+answer_of word =
+    if asks_help word then Some OVERVIEW.now
     else (if bytes_eq word (codes "--version") then Some VERSION.now else None)
-own_answer other = None
+
+-- what the program itself answers: the overview to `--help` alone, the version to `--version`
+-- alone, and the help of a command to its word and `--help`
+abbrev pub own_answer : List (List ℕ) → Option (List ℕ)
+own_answer [] = None
+own_answer (word ∷ []) = answer_of word
+own_answer (word ∷ asked ∷ []) = if asks_help asked then help_of word else None
+own_answer (word ∷ asked ∷ more ∷ rest) = None
 
 -- the program ended with this number, and all of an answer was written, or a beginning where a
 -- write failed

@@ -1,4 +1,4 @@
-//! Which words are a command, what its arguments are, and what `--help` says of it.
+//! Which words are a command, and what its arguments are.
 ghost use Rattle.std.specs.Prelude.{◌≡◌, IfOk, OnErr, is_some, map, option_map, string_bytes, true};
 ghost use Rattle.cyphal.specs.Words.{Gen, Order, Survey, Monitor, Allocate, asked_by, names_of};
 ghost use Rattle.cyphal.specs.Words.{named_of_one, named_of_node, named_of_two, named_of_plan};
@@ -88,79 +88,6 @@ pub enum Accepted<'a> {
         buses: BusNames<'a>,
     },
 }
-
-/// What `--help` answers: of each command its word, its arguments and what it does.
-pub const HELP: &str = "\
-cyphal compile ROOT
-    compiles the DSDL files below the folder ROOT, and writes for each type its
-    lengths and where its fields stand; ROOT none stands for no files
-
-cyphal compat ROOT NEW OLD
-    writes whether the type NEW is newer than OLD, so that either reads what the
-    other writes; names are as a.b.Name.1.0, with .Request or .Response behind
-    them for a half of a service
-
-cyphal versions ROOT
-    writes for each version of a type of ROOT whether it is newer than the one
-    before it, of the same major version above 0
-
-cyphal encode ROOT TYPE
-    writes for each line of standard input, the text of a value of TYPE, the
-    hex of its bytes
-
-cyphal decode ROOT TYPE
-    writes for each line of standard input, the hex of bytes, the text of the
-    value of TYPE that they read as
-
-cyphal run ROOT PLAN
-    runs a node by the plan in the file PLAN over the log on standard input,
-    and writes its report; the types that the plan names are those of ROOT
-
-cyphal json ROOT PLAN
-    does the same, and writes each line of the report as a JSON object
-
-cyphal explain ROOT PLAN
-    writes what became of each frame of the log on standard input by the plan in
-    the file PLAN, and how each session fared
-
-cyphal bound ROOT PLAN
-    writes how many bytes the plan's sessions hold at most
-
-cyphal migrate ROOT PLAN
-    writes the plan as one of version 2; a plan of version 2 stays as it is
-
-cyphal gen NUMBER
-    makes a log of 20,000 transfers on three buses from the number, below 2^32,
-    runs it, and writes how much was received
-
-cyphal monitor NODE
-    hears the log on standard input as the node NODE, 0 to 127, and writes which
-    nodes are online at its end, and the network's time
-
-cyphal allocate NODE
-    hears such a log, gives node-IDs to nodes that have none, and writes which,
-    with the frames that say so
-
-cyphal fetch NODE SERVER PATH
-    fetches the file PATH of the node SERVER over such a log, and writes the
-    requests that it makes, and the file
-
-cyphal order MICROS
-    writes the lines of the log on standard input in the order of their moments,
-    where none comes more than MICROS microseconds late, 0 to 60000000
-
-cyphal survey BUSES
-    reads the log on standard input without a plan, and writes what each bus and
-    each flow carries; BUSES is the names of its buses, as can0,can1
-
-cyphal --help, cyphal --version
-    write this, or the version
-
-statuses: 0 done, 1 usage, 2 DSDL file refused, 3 plan refused, 4 log refused,
-    5 line of no value, 6 bytes that can't be read, 7 not newer, 8 read fault,
-    9 write fault, 10 out of memory, 11 input too long,
-    12 no such file, folder or type
-";
 
 /// The command that the words are, so `compile ROOT`, `compat ROOT NEW OLD`, `versions ROOT`,
 /// `encode ROOT TYPE`, `decode ROOT TYPE`, `run ROOT PLAN`, `json ROOT PLAN`, `bound ROOT PLAN`,
