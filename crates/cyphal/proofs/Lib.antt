@@ -18,3 +18,4 @@ pub mod Answered
 pub mod CarriedOut
 pub mod TreeCalls
 pub mod Premises
+pub mod TableRule

@@ -3,6 +3,7 @@ pub mod Words
 pub mod ClapShape
 pub mod ErrorLine
 pub mod Help
+pub mod TableRule
 pub mod Cause
 pub mod MayEnd
 pub mod Job

@@ -1,6 +1,7 @@
 //! What holds of definitions alone: the functions do nothing.
 ghost use Rattle.cyphal.specs.Laws.{HeadlineLaws};
 ghost use Rattle.cyphal.specs.Premises.{PremisesCanBeMet};
+ghost use Rattle.cyphal.specs.TableRule.{TableDecides};
 
 use delivery_theorems::{due_in_report, once_in_part, wire_explains_fields};
 use dsdl_resolve::namespaces_keep_rules;
@@ -33,4 +34,10 @@ pub fn premises_can_be_met()
     ensures { PremisesCanBeMet }
 {
     plain_plans();
+}
+
+/// The table of the commands is the rule on words.
+pub fn table_decides()
+    ensures { TableDecides }
+{
 }
