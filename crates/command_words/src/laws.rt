@@ -11,5 +11,4 @@ pub fn table_laws()
     ensures distinct { are_distinct (map (λ c. c.word.now) COMMANDS.now) ≡ true }
     ensures groups { are_groups_whole COMMANDS.now ≡ true }
     ensures told { are_told COMMANDS.now ≡ true }
-{
-}
+{}

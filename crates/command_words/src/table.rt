@@ -1,11 +1,7 @@
 //! The commands.
 use crate::command::Command;
 use crate::groups::{LOG, NODE, PLAN, TYPES, VALUES};
-use crate::log_help;
-use crate::node_help;
-use crate::plan_help;
-use crate::types_help;
-use crate::values_help;
+use crate::{log_help, node_help, plan_help, types_help, values_help};
 
 /// The commands, group by group.
 pub const COMMANDS: &[Command] = &[

@@ -244,24 +244,71 @@ module _ (word : List ℕ)
 
 agrees : (word : List ℕ) (words : List (List ℕ)) → Agrees word words
 agrees word words =
-    elim (test word (codes "run")) [ same e ↦ subst (λ (w : List ℕ). Agrees w words) (sym e) (run_agrees words) | other no_run not_run ↦
-    elim (test word (codes "json")) [ same e ↦ subst (λ (w : List ℕ). Agrees w words) (sym e) (json_agrees words) | other no_json not_json ↦
-    elim (test word (codes "explain")) [ same e ↦ subst (λ (w : List ℕ). Agrees w words) (sym e) (explain_agrees words) | other no_explain not_explain ↦
-    elim (test word (codes "survey")) [ same e ↦ subst (λ (w : List ℕ). Agrees w words) (sym e) (survey_agrees words) | other no_survey not_survey ↦
-    elim (test word (codes "order")) [ same e ↦ subst (λ (w : List ℕ). Agrees w words) (sym e) (order_agrees words) | other no_order not_order ↦
-    elim (test word (codes "gen")) [ same e ↦ subst (λ (w : List ℕ). Agrees w words) (sym e) (gen_agrees words) | other no_gen not_gen ↦
-    elim (test word (codes "monitor")) [ same e ↦ subst (λ (w : List ℕ). Agrees w words) (sym e) (monitor_agrees words) | other no_monitor not_monitor ↦
-    elim (test word (codes "allocate")) [ same e ↦ subst (λ (w : List ℕ). Agrees w words) (sym e) (allocate_agrees words) | other no_allocate not_allocate ↦
-    elim (test word (codes "fetch")) [ same e ↦ subst (λ (w : List ℕ). Agrees w words) (sym e) (fetch_agrees words) | other no_fetch not_fetch ↦
-    elim (test word (codes "bound")) [ same e ↦ subst (λ (w : List ℕ). Agrees w words) (sym e) (bound_agrees words) | other no_bound not_bound ↦
-    elim (test word (codes "migrate")) [ same e ↦ subst (λ (w : List ℕ). Agrees w words) (sym e) (migrate_agrees words) | other no_migrate not_migrate ↦
-    elim (test word (codes "compile")) [ same e ↦ subst (λ (w : List ℕ). Agrees w words) (sym e) (compile_agrees words) | other no_compile not_compile ↦
-    elim (test word (codes "compat")) [ same e ↦ subst (λ (w : List ℕ). Agrees w words) (sym e) (compat_agrees words) | other no_compat not_compat ↦
-    elim (test word (codes "versions")) [ same e ↦ subst (λ (w : List ℕ). Agrees w words) (sym e) (versions_agrees words) | other no_versions not_versions ↦
-    elim (test word (codes "encode")) [ same e ↦ subst (λ (w : List ℕ). Agrees w words) (sym e) (encode_agrees words) | other no_encode not_encode ↦
-    elim (test word (codes "decode")) [ same e ↦ subst (λ (w : List ℕ). Agrees w words) (sym e) (decode_agrees words) | other no_decode not_decode ↦
-    no_command word no_run no_json no_explain no_survey no_order no_gen no_monitor no_allocate no_fetch no_bound no_migrate no_compile no_compat no_versions no_encode no_decode words ∙ sym (unaccepted word words (not_run, (not_json, (not_explain, (not_survey, (not_order, (not_gen, (not_monitor, (not_allocate, (not_fetch, (not_bound, (not_migrate, (not_compile, (not_compat, (not_versions, (not_encode, (not_decode, tt)))))))))))))))))
-     ] ] ] ] ] ] ] ] ] ] ] ] ] ] ] ]
+    elim (test word (codes "run")) [
+      | same e ↦ subst (λ (w : List ℕ). Agrees w words) (sym e) (run_agrees words)
+      | other no_run not_run ↦
+          elim (test word (codes "json")) [
+            | same e ↦ subst (λ (w : List ℕ). Agrees w words) (sym e) (json_agrees words)
+            | other no_json not_json ↦
+                elim (test word (codes "explain")) [
+                  | same e ↦ subst (λ (w : List ℕ). Agrees w words) (sym e) (explain_agrees words)
+                  | other no_explain not_explain ↦
+                      elim (test word (codes "survey")) [
+                        | same e ↦ subst (λ (w : List ℕ). Agrees w words) (sym e) (survey_agrees words)
+                        | other no_survey not_survey ↦
+                            elim (test word (codes "order")) [
+                              | same e ↦ subst (λ (w : List ℕ). Agrees w words) (sym e) (order_agrees words)
+                              | other no_order not_order ↦
+                                  elim (test word (codes "gen")) [
+                                    | same e ↦ subst (λ (w : List ℕ). Agrees w words) (sym e) (gen_agrees words)
+                                    | other no_gen not_gen ↦
+                                        elim (test word (codes "monitor")) [
+                                          | same e ↦ subst (λ (w : List ℕ). Agrees w words) (sym e) (monitor_agrees words)
+                                          | other no_monitor not_monitor ↦
+                                              elim (test word (codes "allocate")) [
+                                                | same e ↦ subst (λ (w : List ℕ). Agrees w words) (sym e) (allocate_agrees words)
+                                                | other no_allocate not_allocate ↦
+                                                    elim (test word (codes "fetch")) [
+                                                      | same e ↦ subst (λ (w : List ℕ). Agrees w words) (sym e) (fetch_agrees words)
+                                                      | other no_fetch not_fetch ↦
+                                                          elim (test word (codes "bound")) [
+                                                            | same e ↦ subst (λ (w : List ℕ). Agrees w words) (sym e) (bound_agrees words)
+                                                            | other no_bound not_bound ↦
+                                                                elim (test word (codes "migrate")) [
+                                                                  | same e ↦ subst (λ (w : List ℕ). Agrees w words) (sym e) (migrate_agrees words)
+                                                                  | other no_migrate not_migrate ↦
+                                                                      elim (test word (codes "compile")) [
+                                                                        | same e ↦ subst (λ (w : List ℕ). Agrees w words) (sym e) (compile_agrees words)
+                                                                        | other no_compile not_compile ↦
+                                                                            elim (test word (codes "compat")) [
+                                                                              | same e ↦ subst (λ (w : List ℕ). Agrees w words) (sym e) (compat_agrees words)
+                                                                              | other no_compat not_compat ↦
+                                                                                  elim (test word (codes "versions")) [
+                                                                                    | same e ↦ subst (λ (w : List ℕ). Agrees w words) (sym e) (versions_agrees words)
+                                                                                    | other no_versions not_versions ↦
+                                                                                        elim (test word (codes "encode")) [
+                                                                                          | same e ↦ subst (λ (w : List ℕ). Agrees w words) (sym e) (encode_agrees words)
+                                                                                          | other no_encode not_encode ↦
+                                                                                              elim (test word (codes "decode")) [
+                                                                                                | same e ↦ subst (λ (w : List ℕ). Agrees w words) (sym e) (decode_agrees words)
+                                                                                                | other no_decode not_decode ↦
+                                                                                                    no_command word no_run no_json no_explain no_survey no_order no_gen no_monitor no_allocate no_fetch no_bound no_migrate no_compile no_compat no_versions no_encode no_decode words ∙ sym (unaccepted word words (not_run, (not_json, (not_explain, (not_survey, (not_order, (not_gen, (not_monitor, (not_allocate, (not_fetch, (not_bound, (not_migrate, (not_compile, (not_compat, (not_versions, (not_encode, (not_decode, tt)))))))))))))))))
+                                                                                              ]
+                                                                                        ]
+                                                                                  ]
+                                                                            ]
+                                                                      ]
+                                                                ]
+                                                          ]
+                                                    ]
+                                              ]
+                                        ]
+                                  ]
+                            ]
+                      ]
+                ]
+          ]
+    ]
 
 pub table_decides : (words : List (List ℕ)) → is_some (command_of words) ≡ accepts words
 table_decides [] = refl

@@ -39,5 +39,4 @@ pub fn premises_can_be_met()
 /// The table of the commands is the rule on words.
 pub fn table_decides()
     ensures { TableDecides }
-{
-}
+{}
