@@ -1,19 +1,15 @@
 -- Once and due, of the lines of a session that say `delivered`.
-use Rattle.std.proofs.Common.{◌≡◌, ◌∙◌, ℕ, ◌<◌, ◌≤◌, false, ◌&&◌, eqb, List, [], ◌∷◌, ◌++◌, length, map, Option, Some, None, refl, sym, ap, subst, inl, inr, arith}
+use Rattle.std.proofs.Common.{◌≡◌, ◌∙◌, ℕ, ◌<◌, ◌≤◌, eqb, List, [], ◌∷◌, ◌++◌, length, map, Some, refl, sym, ap, subst, inl, inr, arith}
 use Rattle.std.specs.Prelude.{All}
-use Rattle.std.proofs.lemmas.Bool.{cond-false, cond-true, cond_both, eq-eqb, ne_eqb, true≢false}
+use Rattle.std.proofs.lemmas.Bool.{cond-false, cond-true, cond_both, eq-eqb, ne_eqb}
 use Rattle.std.proofs.lemmas.List.Elements.{All-nil, All-cons, Contains-append_left, Contains-append_right, Contains-push}
-use mathlib.Core.List.{reverse_aux}
-use Rattle.tail_frame.specs.Chains.{KeyRecord, AtEach, chain_bytes, closes_at, without_crc}
-use Rattle.transfer_crc.specs.Crc.{crc_of}
+use Rattle.tail_frame.specs.Chains.{KeyRecord, AtEach}
 use Rattle.rx_table.specs.Heard.{frames}
 use Rattle.rx_table.specs.Keys.{EachFrame, IsLog, KeyedFrame, SessionKey, bears_on, history}
-use Rattle.rx_table.specs.Received.{Delivery, Got, Run, alone, begins, not_begun, received}
-use Rattle.frag.specs.Sent.{IsExplainedAt, pair_at, transfer_at}
+use Rattle.frag.specs.Sent.{pair_at, transfer_at}
 use Rattle.frag.specs.declared.sent.Pair.{Pair}
 use Rattle.frag.specs.declared.sent.Sent.{Sent}
-use Rattle.delivery_theorems.specs.Report.{AnyRx, DueInReport, EachRx, IsSentRx, OnceInReport, Rise, Rx, pair_on, reported, rx_of}
-use Rattle.delivery_theorems.specs.Selected.{Each}
+use Rattle.delivery_theorems.specs.Report.{AnyRx, DueInReport, EachRx, IsSentRx, OnceInReport, Rise, Rx, pair_on, reported}
 use Rattle.session_lines.specs.Reported.{Reported, of_key}
 use Rattle.log_explain.specs.Laws.{AsRun}
 use Rattle.log_explain.specs.declared.line.FrameLine.{FrameLine}

@@ -7,7 +7,7 @@ use Rattle.std.proofs.lemmas.List.Kept.{AllPairs-cons}
 use Rattle.can_id.specs.declared.key.Kind.TheVariants.{Message}
 use Rattle.node_core.specs.Steps.{records}
 use Rattle.node_plan.specs.Names.{is_bus_name}
-use Rattle.rx_reason.specs.declared.discard.Discard.TheVariants.{Empty}
+use Rattle.tail_frame.specs.declared.discard.Discard.TheVariants.{Empty}
 use Rattle.rx_reason.specs.declared.reason.Reason.TheVariants.{Begun, Delivered, Discarded}
 use Rattle.session_lines.specs.Example.{ValuesExample}
 use Rattle.session_lines.proofs.Cuts.{unlike}

@@ -1,7 +1,8 @@
 -- The numbers of a line on a record are those of the log.
-use Rattle.std.proofs.Common.{ℕ, ◌-◌, Bool, true, false, cond, ◌&&◌, eqb, List, [], ◌∷◌, length, take, Option, Some, None, arith}
+use Rattle.std.proofs.Common.{ℕ, ◌-◌, Bool, true, false, cond, ◌&&◌, eqb, List, [], ◌∷◌, length, take, Option, Some, None, Result, Ok, Err, subst, arith}
 use Rattle.std.specs.Prelude.{⊤, All, IfSome}
 use Rattle.std.specs.Option.{option_and_then}
+use Rattle.std.specs.Result.{result_ok}
 use Rattle.std.proofs.lemmas.Bool.{cond_both}
 use Rattle.std.proofs.lemmas.List.Elements.{All-head, All-tail}
 use Rattle.can_id.specs.Identifiers.{destination_of, field, ident_of, is_discarded as is_no_ident, is_set, key_of as key_of_ident, message_of, service_of}
@@ -10,6 +11,7 @@ use Rattle.can_id.specs.declared.ident.Ident.TheVariants as ident
 use Rattle.can_id.specs.declared.key.Kind.{Kind}
 use Rattle.tail_frame.specs.Chains.{AtEach, KeyRecord, chain_bytes, closes_at, follows, tip, without_crc}
 use Rattle.tail_frame.specs.Frames.{FrameOf, frame_of, framed, is_discarded, key_record, last_byte, tail_of}
+use Rattle.tail_frame.specs.declared.discard.Discard.{Discard}
 use Rattle.tail_frame.specs.declared.logged.Record.{Record}
 use Rattle.transfer_crc.specs.Crc.{crc_of}
 use Rattle.redundancy.specs.Force.{force, force_after, hands_over, heard, last_on}
@@ -19,10 +21,12 @@ use Rattle.rx_table.specs.Ports.{Port, is_admitted}
 use Rattle.rx_table.specs.Received.{Delivery, Got, Run, alone, begins, not_begun, received}
 use Rattle.rx_table.specs.Table.{log_with, port_on, with_source}
 use Rattle.delivery_theorems.specs.Selected.{Each}
-use Rattle.rx_reason.specs.Reasons.{Listens, aside, begun_reason, ended, from, last_line, no_change, of_heard, of_key, of_port, of_run, on_port, or_frame, or_on_port, running, silent, stray, time_since, unheard}
+use Rattle.rx_reason.specs.Reads.{read_of}
+use Rattle.rx_reason.specs.Reasons.{Listens, aside, begun_reason, ended, from, last_line, no_change, of_heard, of_key, of_port, of_read, of_run, on_port, or_on_port, running, silent, stray, time_since, unheard}
 use Rattle.rx_reason.specs.declared.reason.Change.{Change}
 use Rattle.rx_reason.specs.declared.reason.Reason.{Reason}
 use Rattle.rx_reason.specs.declared.reason.Reason.TheVariants.{BadCrc, Begun, Copy, Delivered, Elsewhere, NoSession, Own, StrayNone, StrayTid, StrayToggle, Taken, Unknown}
+use Rattle.rx_reason.proofs.Discards.{reads_each}
 use Rattle.log_explain.specs.Lines.{line_on, transfer_in}
 use Rattle.explain_laws.specs.Text.{IsBus, IsChange, IsNumber, IsOnRecord, IsReason, IsSilence, IsTransfer}
 
@@ -245,9 +249,9 @@ module _ (names : List (List ℕ)) where
   or_says w f log None s x each = port_says w.timeout f log (port_on w.ports f) x each
   or_says w f log (Some reason) s x each = s
 
-  frame_says : (w : Listens) (rec : Record) (log : List KeyedFrame) (o : Option FrameOf) → IfSome o FrameFits → FramesFit log → Says (or_frame w rec log o)
-  frame_says w rec log None x each = tt
-  frame_says w rec log (Some f) x each = or_says w f log (aside w.own f.ident) (aside_says w.own f.ident x.ident) x each
+  frame_says : (w : Listens) (log : List KeyedFrame) (r : Result FrameOf Discard) → IfSome (result_ok r) FrameFits → FramesFit log → Says (of_read w log r)
+  frame_says w log (Err why) x each = tt
+  frame_says w log (Ok f) x each = or_says w f log (aside w.own f.ident) (aside_says w.own f.ident x.ident) x each
 
   pub line_fits : (w : Listens) (rec : Record) (past : List Record) → IsLogged rec → All IsLogged past → IsOnRecord names (line_on w rec past)
   line_fits w rec past h all =
@@ -256,5 +260,5 @@ module _ (names : List (List ℕ)) where
         moment = h.moment;
         bus = h.bus;
         transfer = transfer_fits (frame_of rec) x;
-        reason = frame_says w rec (frames w.own past) (frame_of rec) x (frames_fit w.own past all);
+        reason = frame_says w (frames w.own past) (read_of rec) (subst (λ (o : Option FrameOf). IfSome o FrameFits) (reads_each.frames rec) x) (frames_fit w.own past all);
       }

@@ -11,8 +11,8 @@ use Rattle.can_id.specs.declared.key.Kind.TheVariants.{Message, Request, Respons
 use Rattle.line_text.specs.Text.{digit, moment_text, six_digits}
 use Rattle.node_plan.specs.Names.{is_name_byte}
 use Rattle.rx_reason.specs.Reasons.{no_change}
-use Rattle.rx_reason.specs.declared.discard.Discard.{Discard}
-use Rattle.rx_reason.specs.declared.discard.Discard.TheVariants as discard
+use Rattle.tail_frame.specs.declared.discard.Discard.{Discard}
+use Rattle.tail_frame.specs.declared.discard.Discard.TheVariants as discard
 use Rattle.rx_reason.specs.declared.reason.Change.{Change}
 use Rattle.rx_reason.specs.declared.reason.Reason.{Reason}
 use Rattle.rx_reason.specs.declared.reason.Reason.TheVariants.{

@@ -1,5 +1,6 @@
 -- What is told of a record is what a run tells of it.
-use Rattle.std.proofs.Common.{◌≡◌, ◌∙◌, ℕ, Bool, true, false, cond, not, ◌&&◌, eqb, List, [], ◌∷◌, Option, Some, None, refl, sym, ap, subst, inl, inr}
+use Rattle.std.proofs.Common.{◌≡◌, ◌∙◌, ℕ, Bool, true, false, cond, not, ◌&&◌, eqb, List, [], ◌∷◌, Option, Some, None, Result, Ok, Err, refl, sym, ap, subst, inl, inr}
+use Rattle.std.specs.Result.{result_ok}
 use Rattle.std.proofs.lemmas.Bool.{cases_Bool, and_left, cond-false, cond-true}
 use Rattle.can_id.specs.Identifiers.{key_of as key_of_ident}
 use Rattle.can_id.specs.declared.ident.Ident.{Ident}
@@ -8,6 +9,7 @@ use Rattle.can_id.specs.declared.key.Key.{Key}
 use Rattle.can_id.specs.declared.key.Kind.{Kind}
 use Rattle.tail_frame.specs.Chains.{KeyRecord, chain_bytes, follows, tip}
 use Rattle.tail_frame.specs.Frames.{FrameOf, frame_of}
+use Rattle.tail_frame.specs.declared.discard.Discard.{Discard}
 use Rattle.tail_frame.specs.declared.logged.Record.{Record}
 use Rattle.transfer_crc.specs.Crc.{crc_of}
 use Rattle.redundancy.specs.Force.{force, heard}
@@ -22,11 +24,13 @@ use Rattle.node_core.specs.Heard.{ports_of}
 use Rattle.node_core.specs.Received.{bad_of_frame, bad_of_source, bad_on_port, of_delivery, of_frame as run_frame, of_session, of_source as run_source, on_port as run_port, refused_line}
 use Rattle.report_lines.specs.declared.line.Line.{Line}
 use Rattle.rx_reason.specs.Laws.{delivered_at, is_badcrc, lines_of}
-use Rattle.rx_reason.specs.Reasons.{aside, begun_reason, ended, of_heard, of_key, of_port, of_run, of_source, on_port, or_frame, or_on_port, running, from, stray, unheard, last_line}
+use Rattle.rx_reason.specs.Reads.{read_of}
+use Rattle.rx_reason.specs.Reasons.{aside, begun_reason, ended, of_heard, of_key, of_port, of_read, of_run, of_source, on_port, or_on_port, running, from, stray, unheard, last_line}
 use Rattle.rx_reason.specs.declared.reason.Change.{Change}
 use Rattle.rx_reason.specs.declared.reason.Reason.{Reason}
 use Rattle.rx_reason.specs.declared.reason.Reason.TheVariants.{BadCrc, Begun, Copy, Delivered, Elsewhere, NoSession, Own, StrayNone, StrayTid, StrayToggle, Taken, Unknown}
 use Rattle.rx_reason.proofs.Deliveries.{tells_are}
+use Rattle.rx_reason.proofs.Discards.{frame_read, reads_each}
 use Rattle.log_explain.specs.Explained.{listens_by}
 use Rattle.log_explain.specs.Laws.{AsRun, listed, nosession_lines, refused_at, rx_lines}
 use Rattle.log_explain.proofs.Lasts.{aside_none, frame_line_is}
@@ -141,9 +145,9 @@ module _ (plan : Plan) (rec : Record) (log : List KeyedFrame) where
   of_port_is None f at = record { delivered = refl; refused = refl; fails = refl }
   of_port_is (Some p) f at = (let q = key_of_ident f.ident in on_port_is p f q.source q.kind q.port at)
 
-  frame_is : (o : Option FrameOf) → frame_of rec ≡ o → Same rec.line (or_frame (listens_by plan) rec log o) (run_frame plan log (if_for plan.node o)) (bad_of_frame plan log (if_for plan.node o))
-  frame_is None e = record { delivered = refl; refused = refl; fails = refl }
-  frame_is (Some f) e =
+  frame_is : (r : Result FrameOf Discard) → read_of rec ≡ r → Same rec.line (of_read (listens_by plan) log r) (run_frame plan log (if_for plan.node (result_ok r))) (bad_of_frame plan log (if_for plan.node (result_ok r)))
+  frame_is (Err why) e = record { delivered = refl; refused = refl; fails = refl }
+  frame_is (Ok f) e =
       let mine = is_for plan.node f.ident in
       let w = listens_by plan in
       let why = or_on_port w f log in
@@ -155,12 +159,17 @@ module _ (plan : Plan) (rec : Record) (log : List KeyedFrame) where
         | inl y ↦
             subst (λ (o : Option FrameOf). Same rec.line (why (aside plan.node f.ident)) (run_frame plan log o) (bad_of_frame plan log o)) (sym (cond-true mine (Some f) None y))
             (subst (λ (o : Option Reason). Same rec.line (why o) (run_port plan f log (port_on (ports_of plan) f)) (bad_on_port plan.timeout f log (port_on (ports_of plan) f))) (sym (aside_none plan.node f.ident y))
-            (of_port_is (port_on (ports_of plan) f) f (frame_line_is rec f e)))
+            (of_port_is (port_on (ports_of plan) f) f (frame_line_is rec f (frame_read rec f e))))
       ]
+
+  record_is : Same rec.line (of_read (listens_by plan) log (read_of rec)) (run_frame plan log (if_for plan.node (frame_of rec))) (bad_of_frame plan log (if_for plan.node (frame_of rec)))
+  record_is =
+      subst (λ (o : Option FrameOf). Same rec.line (of_read (listens_by plan) log (read_of rec)) (run_frame plan log (if_for plan.node o)) (bad_of_frame plan log (if_for plan.node o))) (sym (reads_each.frames rec))
+      (frame_is (read_of rec) refl)
 
 pub as_run : AsRun
 as_run = record {
-  delivered = λ plan rec past. (frame_is plan rec (frames plan.node past) (frame_of rec) refl).delivered;
-  refused = λ plan rec past. (frame_is plan rec (frames plan.node past) (frame_of rec) refl).refused;
-  bad_crcs = λ plan rec past. (frame_is plan rec (frames plan.node past) (frame_of rec) refl).fails;
+  delivered = λ plan rec past. (record_is plan rec (frames plan.node past)).delivered;
+  refused = λ plan rec past. (record_is plan rec (frames plan.node past)).refused;
+  bad_crcs = λ plan rec past. (record_is plan rec (frames plan.node past)).fails;
 }

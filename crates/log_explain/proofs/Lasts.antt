@@ -1,7 +1,8 @@
 -- The last delivery that a session's lines tell is the last one that its records give.
-use Rattle.std.proofs.Common.{◌≡◌, ◌∙◌, ℕ, Bool, true, false, cond, not, ◌&&◌, ◌||◌, eqb, List, [], ◌∷◌, ◌++◌, take, zero, suc, Option, Some, None, refl, sym, ap, subst, inl, inr}
+use Rattle.std.proofs.Common.{◌≡◌, ◌∙◌, ℕ, Bool, true, false, cond, not, ◌&&◌, ◌||◌, eqb, List, [], ◌∷◌, ◌++◌, take, zero, suc, Option, Some, None, Result, Ok, Err, refl, sym, ap, subst, inl, inr}
 use Rattle.std.proofs.Math.Seq.{take-nil}
 use Rattle.std.specs.Option.{option_and_then}
+use Rattle.std.specs.Result.{result_ok}
 use Rattle.std.proofs.lemmas.Bool.{cases_Bool, and_right, and_parts, and_from, cond-true, cond-false, cond_both, both_ways, eqb-true, eq-eqb}
 use Rattle.can_id.specs.Identifiers.{ident_of, key_of as key_of_ident}
 use Rattle.can_id.specs.declared.ident.Ident.{Ident}
@@ -9,6 +10,7 @@ use Rattle.can_id.specs.declared.ident.Ident.TheVariants as ident
 use Rattle.can_id.specs.declared.key.Key.{Key}
 use Rattle.tail_frame.specs.Chains.{KeyRecord}
 use Rattle.tail_frame.specs.Frames.{FrameOf, frame_of, framed, is_discarded, key_record, last_byte, tail_of}
+use Rattle.tail_frame.specs.declared.discard.Discard.{Discard}
 use Rattle.tail_frame.specs.declared.logged.Record.{Record}
 use Rattle.transfer_crc.specs.Crc.{crc_of}
 use Rattle.rx_table.specs.Admitted.{admitted, has, is_on, key_of, sources}
@@ -22,10 +24,12 @@ use Rattle.rx_table.proofs.Admissions.{admitted_lasts}
 use Rattle.rx_table.proofs.Endings.{delivered_step}
 use Rattle.rx_table.proofs.Sources.{bears, quiet, same_kind_refl, same_kind_true}
 use Rattle.rx_reason.specs.Laws.{delivered_at, lines_of}
-use Rattle.rx_reason.specs.Reasons.{Listens, aside, last_line, of_frame, of_key, of_port, of_source, on_port, or_frame, or_on_port}
+use Rattle.rx_reason.specs.Reads.{read_of}
+use Rattle.rx_reason.specs.Reasons.{Listens, aside, last_line, of_frame, of_key, of_port, of_read, of_source, on_port, or_on_port}
 use Rattle.rx_reason.specs.declared.reason.Reason.{Reason}
-use Rattle.rx_reason.specs.declared.reason.Reason.TheVariants.{Delivered, Elsewhere, NoSession, Own, Unknown}
+use Rattle.rx_reason.specs.declared.reason.Reason.TheVariants.{Delivered, Discarded, Elsewhere, NoSession, Own, Unknown}
 use Rattle.rx_reason.proofs.Deliveries.{tells_are}
+use Rattle.rx_reason.proofs.Discards.{frame_read, reads_each}
 use Rattle.log_explain.specs.Counts.{delivery_by, delivery_in, delivery_of, last, line_of, or_else}
 use Rattle.log_explain.specs.Lines.{is_in, is_source, lines, of_session, transfer_in, transfer_of}
 use Rattle.log_explain.specs.declared.line.FrameLine.{FrameLine}
@@ -270,9 +274,9 @@ module _ (w : Listens) (p : Port) (on : port_at p.kind p.port w.ports ≡ Some p
           go None e = with_none e
           go (Some s) e = with_some s e
 
-    frame_step : (o : Option FrameOf) → frame_of rec ≡ o → told (line_by (or_frame w rec log o) (transfer_in o) ∷ ls) ≡ given (with_frame (if_for w.own o) log)
-    frame_step None e = quietly (or_frame w rec log None) None (λ t. refl) ∙ ih
-    frame_step (Some f) e =
+    frame_step : (r : Result FrameOf Discard) → read_of rec ≡ r → told (line_by (of_read w log r) (transfer_in (result_ok r)) ∷ ls) ≡ given (with_frame (if_for w.own (result_ok r)) log)
+    frame_step (Err why) e = quietly (Discarded why) None (λ t. refl) ∙ ih
+    frame_step (Ok f) e =
         let mine = is_for w.own f.ident in
         let tr = Some (transfer_of f) in
         elim (cases_Bool mine) as (λ _. told (line_by (of_frame w f log) tr ∷ ls) ≡ given (with_frame (cond mine (Some f) None) log)) [
@@ -282,10 +286,15 @@ module _ (w : Listens) (p : Port) (on : port_at p.kind p.port w.ports ≡ Some p
               ∙ (ih ∙ ap (λ (o : Option FrameOf). given (with_frame o log)) (sym (cond-false mine (Some f) None n))))
           | inl y ↦
               ap (λ (o : Option Reason). told (line_by (or_on_port w f log o) tr ∷ ls)) (aside_none w.own f.ident y)
-              ∙ (for_node f (frame_line_is rec f e) ∙ ap (λ (o : Option FrameOf). given (with_frame o log)) (sym (cond-true mine (Some f) None y)))
+              ∙ (for_node f (frame_line_is rec f (frame_read rec f e)) ∙ ap (λ (o : Option FrameOf). given (with_frame o log)) (sym (cond-true mine (Some f) None y)))
         ]
+
+    record_step : told (line_by (of_read w log (read_of rec)) (transfer_in (frame_of rec)) ∷ ls) ≡ given (with_frame (if_for w.own (frame_of rec)) log)
+    record_step =
+        subst (λ (o : Option FrameOf). told (line_by (of_read w log (read_of rec)) (transfer_in o) ∷ ls) ≡ given (with_frame (if_for w.own o) log)) (sym (reads_each.frames rec))
+        (frame_step (read_of rec) refl)
 
   -- so it is of all records
   pub last_is : (past : List Record) → told (lines w past) ≡ given (frames w.own past)
   last_is [] = sym (same_both (known []) 0)
-  last_is (rec ∷ past) = frame_step rec (frames w.own past) (lines w past) (last_is past) (frame_of rec) refl
+  last_is (rec ∷ past) = record_step rec (frames w.own past) (lines w past) (last_is past)

@@ -6,7 +6,8 @@ use Rattle.can_id.specs.declared.ident.Ident.{Ident}
 use Rattle.can_id.specs.declared.ident.Ident.TheVariants as ident
 use Rattle.can_id.specs.declared.key.Key.{Key}
 use Rattle.can_id.specs.declared.key.Kind.{Kind}
-use Rattle.tail_frame.specs.Frames.{FrameOf, frame_of, key_record}
+use Rattle.tail_frame.specs.Frames.{FrameOf, discard_of, frame_of, key_record}
+use Rattle.tail_frame.specs.declared.discard.Discard.{Discard}
 use Rattle.tail_frame.specs.declared.logged.Record.{Record}
 use Rattle.transfer_crc.specs.Crc.{crc_of}
 use Rattle.rx_table.specs.Admitted.{admitted, has, key_of}
@@ -19,11 +20,10 @@ use Rattle.rx_table.specs.declared.port.Port as code
 use Rattle.rx_table.proofs.FoundPorts.{IsAt}
 use Rattle.rx_table.proofs.Positions.{position-further, position-here, position-none_below}
 use Rattle.rx_reason.specs.Asked.{IsLast, IsLastAt as IsLastIn, IsLastOn, TellsFrame, frame_on, listens}
-use Rattle.rx_reason.specs.Discards.{discard_of}
-use Rattle.rx_reason.specs.Reasons.{Listens, last_line, of_frame, or_frame}
-use Rattle.rx_reason.specs.declared.discard.Discard.{Discard}
+use Rattle.rx_reason.specs.Reasons.{Listens, last_line, of_frame, of_read}
 use Rattle.rx_reason.specs.declared.reason.Reason.{Reason}
 use Rattle.rx_reason.specs.declared.reason.Reason.TheVariants.{Discarded}
+use Rattle.rx_reason.proofs.Discards.{no_frame_read, read_frame, read_rule}
 use Rattle.log_explain.specs.Counts.{counts, last, line_of}
 use Rattle.log_explain.specs.Lines.{is_in, line_on, lines, of_session, transfer_in, transfer_of}
 use Rattle.log_explain.specs.Slots.{AreCounted, IsCounted, IsLastAt, IsLine, Stands, frame_line, slot_for, slot_from}
@@ -41,23 +41,25 @@ length_ports extent [] = refl
 length_ports extent (p ∷ items) = ap suc (length_ports extent items)
 
 -- a record that is no frame
-pub none_line : (w : Listens) (ps : List PortState) (old : List Tally) (rec : Record) (past : List Record) (why : Discard) → frame_of rec ≡ None → why ≡ discard_of rec → Stands w ps old past
+pub none_line : (w : Listens) (ps : List PortState) (old : List Tally) (rec : Record) (past : List Record) (why : Discard) → discard_of rec ≡ Some why → Stands w ps old past
     → IsLine w old past (record { line = rec.line; moment = rec.moment; bus = rec.bus; transfer = None; reason = Discarded why }) (line_on w rec past)
-none_line w ps old rec past why e d st = record {
-  line_is = (λ i. record { line = rec.line; moment = rec.moment; bus = rec.bus; transfer = None; reason = Discarded (d i) })
-      ∙ (λ i. record { line = rec.line; moment = rec.moment; bus = rec.bus; transfer = transfer_in (sym e i); reason = or_frame w rec (frames w.own past) (sym e i) });
-  counted = λ place source p h few.
-      let key = key_of p.kind p.port source in
-      let rest = of_session key (lines w past) in
-      let out = ap (λ (o : Option FrameOf). is_in key (transfer_in o)) e in
-      st.counted place source p h few
-      ∙ ap (λ (x : List FrameLine). Some (counts x)) (sym (cond-false (is_in key (transfer_in (frame_of rec))) (line_on w rec past ∷ rest) rest out));
-}
+none_line w ps old rec past why rule st =
+    let read = read_rule rec why rule in
+    let e = no_frame_read rec why read in record {
+      line_is = λ i. record { line = rec.line; moment = rec.moment; bus = rec.bus; transfer = transfer_in (sym e i); reason = of_read w (frames w.own past) (sym read i) };
+      counted = λ place source p h few.
+          let key = key_of p.kind p.port source in
+          let rest = of_session key (lines w past) in
+          let out = ap (λ (o : Option FrameOf). is_in key (transfer_in o)) e in
+          st.counted place source p h few
+          ∙ ap (λ (x : List FrameLine). Some (counts x)) (sym (cond-false (is_in key (transfer_in (frame_of rec))) (line_on w rec past ∷ rest) rest out));
+    }
 
 -- a record that is a frame
 pub some_line : (w : Listens) (new : List Tally) (rec : Record) (f : FrameOf) (past : List Record) (line : FrameLine) → frame_of rec ≡ Some f → f.line ≡ rec.line → f.moment ≡ rec.moment → f.bus ≡ rec.bus → IsLine w new past line (frame_line w f past) → IsLine w new past line (line_on w rec past)
 some_line w new rec f past line e a b d x =
-    let same : frame_line w f past ≡ line_on w rec past = λ i. record { line = a i; moment = b i; bus = d i; transfer = transfer_in (sym e i); reason = or_frame w rec (frames w.own past) (sym e i) } in
+    let read = read_frame rec f e in
+    let same : frame_line w f past ≡ line_on w rec past = λ i. record { line = a i; moment = b i; bus = d i; transfer = transfer_in (sym e i); reason = of_read w (frames w.own past) (sym read i) } in
     subst (λ (l : FrameLine). IsLine w new past line l) same x
 
 -- a port that stands at no place isn't there

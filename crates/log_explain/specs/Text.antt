@@ -4,8 +4,8 @@ use Rattle.std.specs.Prelude.{slice_get}
 use Rattle.can_id.specs.declared.key.Kind.{Kind}
 use Rattle.can_id.specs.declared.key.Kind.TheVariants.{Message, Request, Response}
 use Rattle.line_text.specs.Text.{line_of, moment_text, spaced}
-use Rattle.rx_reason.specs.declared.discard.Discard.{Discard}
-use Rattle.rx_reason.specs.declared.discard.Discard.TheVariants as discard
+use Rattle.tail_frame.specs.declared.discard.Discard.{Discard}
+use Rattle.tail_frame.specs.declared.discard.Discard.TheVariants as discard
 use Rattle.rx_reason.specs.declared.reason.Change.{Change}
 use Rattle.rx_reason.specs.declared.reason.Reason.{Reason}
 use Rattle.rx_reason.specs.declared.reason.Reason.TheVariants.{

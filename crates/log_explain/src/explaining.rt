@@ -2,7 +2,7 @@
 ghost use Rattle.std.specs.Prelude.{◌≡◌, ◌≤◌, ◌<◌, ◌+◌, ◌*◌, ◌^◌, [], refl, IfOk, OnOk, Some, None, length, replicate};
 ghost use Rattle.can_id.specs.Identifiers.{IsIdent, key_of};
 ghost use Rattle.can_id.specs.declared.key.Kind.{Kind as KindOf};
-ghost use Rattle.tail_frame.specs.Frames.{frame_of, seen};
+ghost use Rattle.tail_frame.specs.Frames.{discard_of, frame_of, seen};
 ghost use Rattle.tail_frame.specs.declared.logged.Record.{Record};
 ghost use Rattle.rx_table.specs.Views.{place_in, subscriptions};
 ghost use Rattle.line_text.specs.Buffer.{room_of};
@@ -25,9 +25,9 @@ use cy_bits::{BusName, NoMemory, ShortList};
 use line_text::TextBuffer;
 use log_loop::Listener;
 use node_core::{Lead, Node};
-use rx_reason::{Reason, discard_of, reason_at, reason_of_frame};
+use rx_reason::{Reason, reason_at, reason_of_frame};
 use std::alloc::Global;
-use tail_frame::{Frame, Record, frame_of};
+use tail_frame::{Discard, Frame, Record, frame_of, read_frame};
 
 /// A node, and what is counted of the lines of its sessions.
 #[derive(Drop)]
@@ -96,19 +96,19 @@ impl Explaining {
         ensures latest { self.new.node.latest ≤ rec.now.moment }
         ensures count { self.new.records ≤ self.old.records + 1 }
     {
-        match frame_of(rec) {
-            Some(frame) => self.pass_by(rec, &frame, gathered),
-            None => self.hear_none(rec, gathered),
+        match read_frame(rec) {
+            Ok(frame) => self.pass_by(rec, &frame, gathered),
+            Err(why) => self.hear_none(rec, why, gathered),
         }
     }
 
-    /// Hears a record that is no frame.
+    /// Hears a record that is no frame, by the first rule that it breaks.
     #[inline(always)]
-    fn hear_none(&mut self, rec: &Record, gathered: &mut TextBuffer)
+    fn hear_none(&mut self, rec: &Record, why: Discard, gathered: &mut TextBuffer)
         requires latest { self.old.node.latest ≤ rec.now.moment }
         requires few { self.old.records < 2 ^ 28 }
         requires room { 384 ≤ room_of gathered.old }
-        requires none { frame_of rec.now ≡ None }
+        requires why { discard_of rec.now ≡ Some why }
         ensures heard { Hears rec.now self.old self.new gathered.old gathered.new }
         ensures latest { self.new.node.latest ≤ rec.now.moment }
         ensures count { self.new.records ≤ self.old.records + 1 }
@@ -118,7 +118,7 @@ impl Explaining {
             moment: rec.moment,
             bus: rec.bus,
             transfer: None,
-            reason: Reason::Discarded(discard_of(rec)),
+            reason: Reason::Discarded(why),
         };
         self.writer.put(gathered, &line);
         self.records += 1;

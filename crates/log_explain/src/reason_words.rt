@@ -6,7 +6,8 @@ ghost use Rattle.log_explain.specs.Text.{before, change_words, reason_words, sil
 
 use crate::bus_words::BusWords;
 use line_text::TextBuffer;
-use rx_reason::{Change, Discard, Reason, Silence};
+use rx_reason::{Change, Reason, Silence};
+use tail_frame::Discard;
 
 /// Puts the words of a reason, and the end of the line.
 #[inline(always)]

@@ -1,4 +1,4 @@
-pub mod Discards
+pub mod Reads
 pub mod Reasons
 pub mod Told
 pub mod Asked

@@ -1,11 +1,13 @@
 -- Why a record came to what it did. Records are a list with the newest first; `past` is what came
 -- before.
 use Rattle.std.specs.Prelude.{ℕ, ◌-◌, ◌==◌, if◌then◌else◌, List, [], ◌∷◌, Option, Some, None}
+use Rattle.std.specs.Prelude.{Result, Ok, Err}
 use Rattle.can_id.specs.declared.ident.Ident.{Ident}
 use Rattle.can_id.specs.declared.ident.Ident.TheVariants as ident
 use Rattle.redundancy.specs.Force.{force, heard, last_on}
 use Rattle.tail_frame.specs.Chains.{KeyRecord, follows, tip, chain_bytes}
-use Rattle.tail_frame.specs.Frames.{FrameOf, frame_of}
+use Rattle.tail_frame.specs.Frames.{FrameOf}
+use Rattle.tail_frame.specs.declared.discard.Discard.{Discard}
 use Rattle.tail_frame.specs.declared.logged.Record.{Record}
 use Rattle.transfer_crc.specs.Crc.{crc_of}
 use Rattle.rx_table.specs.Heard.{frames}
@@ -13,7 +15,7 @@ use Rattle.rx_table.specs.Keys.{KeyedFrame, history}
 use Rattle.rx_table.specs.Ports.{Port, is_admitted}
 use Rattle.rx_table.specs.Received.{Delivery, Run, Got, begins, received}
 use Rattle.rx_table.specs.Table.{keyed, port_on}
-use Rattle.rx_reason.specs.Discards.{discard_of}
+use Rattle.rx_reason.specs.Reads.{read_of}
 use Rattle.rx_reason.specs.declared.reason.Change.{Change}
 use Rattle.rx_reason.specs.declared.reason.Reason.{Reason}
 use Rattle.rx_reason.specs.declared.reason.Reason.TheVariants.{
@@ -150,10 +152,11 @@ or_on_port w f log (Some reason) = reason
 abbrev pub of_frame : Listens → FrameOf → List KeyedFrame → Reason
 of_frame w f log = or_on_port w f log (aside w.own f.ident)
 
-abbrev pub or_frame : Listens → Record → List KeyedFrame → Option FrameOf → Reason
-or_frame w rec log None = Discarded (discard_of rec)
-or_frame w rec log (Some f) = of_frame w f log
+-- why a record came to what it did that is read so
+abbrev pub of_read : Listens → List KeyedFrame → Result FrameOf Discard → Reason
+of_read w log (Err why) = Discarded why
+of_read w log (Ok f) = of_frame w f log
 
 -- why a record came to what it did, after these records
 abbrev pub reason_of : Listens → Record → List Record → Reason
-reason_of w rec past = or_frame w rec (frames w.own past) (frame_of rec)
+reason_of w rec past = of_read w (frames w.own past) (read_of rec)

@@ -2,13 +2,11 @@
 //! 4.1.4): the question that is asked before the record is heard.
 #![tactic(auto)]
 
-mod discard;
 pub mod laws;
 mod port;
 mod reason;
 mod session;
 mod table;
 
-pub use discard::{Discard, discard_of};
 pub use reason::{Change, Reason, Silence};
 pub use table::{place_of, reason_at, reason_of_frame};

@@ -1,4 +1,4 @@
-use crate::discard::Discard;
+use tail_frame::Discard;
 
 /// Why a record came to what it did.
 #[derive(Clone, Copy, Debug, PartialEq, Eq)]
