@@ -17,7 +17,7 @@ use Rattle.log_gen.specs.Rules.{log_text, plan_text}
 use Rattle.log_gen.specs.Laws.{records_by, IsRead}
 use Rattle.dsdl_types.specs.declared.namespace.Namespace.{Namespace}
 use Rattle.node_plan.specs.Limit.{begins_two}
-use Rattle.node_plan.specs.Laws.{OnePlan, PlainPlans}
+use Rattle.node_plan.specs.Laws.{OnePlan}
 use Rattle.node_plan.specs.PlainPlan.{plan_of}
 use Rattle.node_plan.specs.Plan.{Bad, Good, IsPlanOf, PlanIs}
 use Rattle.node_plan.specs.declared.plan.Plan.{Plan}
@@ -26,7 +26,7 @@ use Rattle.node_core.specs.Laws.{NothingServed}
 use Rattle.node_core.specs.Steps.{Met, end_numbers, numbers, steps, without_files}
 use Rattle.node_core.proofs.Silence.{mute_keep_nothing}
 use Rattle.node_core.proofs.Waits.{nothing_emptied}
-use Rattle.node_run.specs.Generated.{generated_plan, generated_numbers}
+use Rattle.node_run.specs.Generated.{GeneratedPlanIsRead, generated_plan, generated_numbers}
 use Rattle.node_run.specs.Failures.{Failures}
 use Rattle.node_run.specs.Forms.{Text}
 use Rattle.node_run.specs.HasRun.{HasRun}
@@ -44,8 +44,8 @@ pub good_is : (p q : Plan) → Good p ≡ Good q → p ≡ q
 good_is p q e = cc
 
 -- so its text has no other meaning
-pub only_plan : OnePlan → PlainPlans → (names : Namespace) (is : PlanIs) → IsPlanOf names plan_text is → is ≡ Good generated_plan
-only_plan one plain names is h = one names plan_text is (Good generated_plan) h (plain names plan_text generated_plan (is_plan names))
+pub only_plan : OnePlan → GeneratedPlanIsRead → (names : Namespace) (is : PlanIs) → IsPlanOf names plan_text is → is ≡ Good generated_plan
+only_plan one read names is h = one names plan_text is (Good generated_plan) h (read names)
 
 pub not_refused : (n : ℕ) (why : PlanWhy) → Bad n why ≡ Good generated_plan → ⊥
 not_refused n why e = cc

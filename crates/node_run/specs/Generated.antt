@@ -2,9 +2,11 @@
 use Rattle.std.specs.Prelude.{◌≡◌, ℕ, true, List, [], ◌∷◌, Option, None, codes, decimal}
 use Rattle.cy_outside.specs.Written.{behind, Begins}
 use Rattle.line_text.specs.Text.{line_of}
-use Rattle.log_gen.specs.Rules.{transfers}
+use Rattle.dsdl_types.specs.declared.namespace.Namespace.{Namespace}
+use Rattle.log_gen.specs.Rules.{plan_text, transfers}
 use Rattle.log_gen.specs.Laws.{records_by}
 use Rattle.node_plan.specs.Info.{blank_info}
+use Rattle.node_plan.specs.Plan.{Good, IsPlanOf}
 use Rattle.node_plan.specs.declared.plan.BusPlan.{BusPlan}
 use Rattle.node_plan.specs.declared.plan.Plan.{Plan}
 use Rattle.node_plan.specs.declared.plan.SubShape.TheVariants.{Raw}
@@ -33,6 +35,10 @@ generated_plan = record {
   info = blank_info;
   queue = 64;
 }
+
+-- it is the plan of the text that `log_gen` writes, whatever types there are
+abbrev pub GeneratedPlanIsRead : Type 0
+GeneratedPlanIsRead = (names : Namespace) → IsPlanOf names plan_text (Good generated_plan)
 
 -- the numbers of a report on the log of a number
 abbrev pub generated_numbers : ℕ → Numbers

@@ -6,6 +6,7 @@ ghost use Rattle.node_run.specs.Generated.{HasGenerated, generated_numbers};
 ghost use Rattle.node_run.specs.Generated.{generated_plan, summary_line};
 
 use crate::log::labelled::push_labelled;
+use crate::log::laws::generated_plan_is_read;
 use crate::log::run::run_over;
 use crate::log::tally::Tally;
 use crate::status::Status;
@@ -17,7 +18,7 @@ use log_gen::transfers::transfers;
 use log_gen::{PLAN, log_bytes};
 use node_core::laws::nothing_served;
 use node_core::{NoLines, Numbers};
-use node_plan::laws::{one_plan, plain_plans};
+use node_plan::laws::one_plan;
 use node_plan::{Plan, PlanError, read_plan};
 use std::alloc::Global;
 
@@ -75,7 +76,7 @@ fn plan_of_all(alloc: Global) -> Result<Plan, NoMemory>
         definitions: List::empty(alloc),
         prints: List::empty(alloc),
     };
-    plain_plans();
+    generated_plan_is_read();
     one_plan();
     match read_plan(alloc, PLAN, &names) {
         Ok(plan) => Ok(plan),
