@@ -9,7 +9,6 @@ use Rattle.dsdl_types.proofs.Comparing.{compares}
 use Rattle.compat_check.specs.declared.difference.Difference as C
 use Rattle.compat_check.specs.declared.path.Turn.{Turn}
 use Rattle.compat_check.specs.declared.verdict.CompatWhy.{CompatWhy}
-use Rattle.compat_check.specs.declared.verdict.CompatWhy.TheVariants as whys
 use Rattle.compat_check.specs.declared.verdict.Verdict.TheVariants.{Yes, No}
 use Rattle.compat_check.specs.Paths.{path_text}
 use Rattle.compat_check.specs.Verdicts.{cause_of, why_of, turn_of, found_of, verdict_of}
@@ -32,13 +31,6 @@ not_newer a b ne n = ne ((compares a b).1 n)
 pub found_not_newer : (a b : Sch) (d : C.Difference) → found_of (Some d) ≡ difference a b → Newer a b → ⊥
 found_not_newer a b d e n = let h : difference a b ≡ None = (compares a b).1 n in absurd cc
 
-same_why : (why : CompatWhy) → why_of (cause_of why) ≡ why
-same_why whys.Kind = refl
-same_why whys.Sealing = refl
-same_why whys.Extent = refl
-same_why whys.Sealed = refl
-same_why whys.Count = refl
-
 map_reversed : (turns : List Turn) → map turn_of (reverse turns) ≡ reverse (map turn_of turns)
 map_reversed [] = refl
 map_reversed (t ∷ turns) =
@@ -47,8 +39,8 @@ map_reversed (t ∷ turns) =
     ∙ ap (λ ts. ts ++ turn_of t ∷ []) (map_reversed turns)
     ∙ sym (reverse-append (turn_of t ∷ []) (map turn_of turns))
 
-pub no_with_path : (d : C.Difference) (turns : List Turn) (path : List ℕ) (first : Option Difference) → turns ≡ reverse d.turns → path ≡ path_text (map turn_of turns) →
-    found_of (Some d) ≡ first → No path d.why ≡ verdict_of first
-no_with_path d turns path first t p e =
+pub no_with_path : (d : C.Difference) (turns : List Turn) (path : List ℕ) (why : CompatWhy) (first : Option Difference) → turns ≡ reverse d.turns → path ≡ path_text (map turn_of turns) →
+    why ≡ why_of (cause_of d.cause) → found_of (Some d) ≡ first → No path why ≡ verdict_of first
+no_with_path d turns path why first t p w e =
     let whole : map turn_of turns ≡ reverse (map turn_of d.turns) = ap (map turn_of) t ∙ map_reversed d.turns in
-    (λ i. No ((p ∙ ap path_text whole) i) (sym (same_why d.why) i)) ∙ ap verdict_of e
+    (λ i. No ((p ∙ ap path_text whole) i) (w i)) ∙ ap verdict_of e

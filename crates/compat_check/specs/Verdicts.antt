@@ -3,6 +3,8 @@ use Rattle.std.specs.Prelude.{Option, Some, None, map, reverse}
 use Rattle.dsdl_types.specs.Difference.{Cause, Turn, Difference}
 use Rattle.dsdl_types.specs.Difference as D
 use Rattle.compat_check.specs.Paths.{path_text}
+use Rattle.compat_check.specs.declared.difference.Cause as K
+use Rattle.compat_check.specs.declared.difference.Cause.TheVariants as causes
 use Rattle.compat_check.specs.declared.difference.Difference as C
 use Rattle.compat_check.specs.declared.path.Turn as T
 use Rattle.compat_check.specs.declared.path.Turn.TheVariants as turns
@@ -12,14 +14,14 @@ use Rattle.compat_check.specs.declared.verdict.Verdict.{Verdict}
 use Rattle.compat_check.specs.declared.verdict.Verdict.TheVariants.{Yes, No}
 
 -- a cause of the code as one of the definitions
-abbrev pub cause_of : CompatWhy → Cause
-cause_of whys.Kind = D.Kind
-cause_of whys.Sealing = D.Sealing
-cause_of whys.Extent = D.Extent
-cause_of whys.Sealed = D.Sealed
-cause_of whys.Count = D.Count
+abbrev pub cause_of : K.Cause → Cause
+cause_of causes.Kind = D.Kind
+cause_of causes.Sealing = D.Sealing
+cause_of causes.Extent = D.Extent
+cause_of causes.Sealed = D.Sealed
+cause_of causes.Count = D.Count
 
--- a cause of the definitions as one of the code
+-- a cause of the definitions as that of a verdict
 abbrev pub why_of : Cause → CompatWhy
 why_of D.Kind = whys.Kind
 why_of D.Sealing = whys.Sealing
@@ -39,7 +41,7 @@ turn_of turns.Item = D.Item
 
 -- A difference of the code as one of the definitions. The code has the last turn first.
 abbrev pub difference_of : C.Difference → Difference
-difference_of d = record { path = reverse (map turn_of d.turns); cause = cause_of d.why }
+difference_of d = record { path = reverse (map turn_of d.turns); cause = cause_of d.cause }
 
 -- a difference that may be absent
 abbrev pub found_of : Option C.Difference → Option Difference

@@ -5,8 +5,7 @@ ghost use Rattle.dsdl_types.specs.Views.{body_of, kind_of, named, sch};
 ghost use Rattle.compat_check.specs.Parts.{body_difference, field_difference, kind_difference, name_of};
 ghost use Rattle.compat_check.specs.Verdicts.{found_of};
 
-use crate::CompatWhy;
-use crate::difference::{Difference, below, unless};
+use crate::difference::{Cause, Difference, below, unless};
 use crate::equal::same_fields;
 use crate::path::Turn;
 use crate::primitive::same_primitives;
@@ -26,28 +25,28 @@ pub fn difference(alloc: Global, new: &Schema, old: &Schema) -> Result<Option<Di
                 item: older,
                 len: size,
             } => item_difference(alloc, item.get(), older.get(), len == size),
-            _ => Ok(Difference::here(alloc, CompatWhy::Kind)),
+            _ => Ok(Difference::here(alloc, Cause::Kind)),
         },
         Schema::Var { item, cap } => match old {
             Schema::Var {
                 item: older,
                 cap: size,
             } => item_difference(alloc, item.get(), older.get(), cap == size),
-            _ => Ok(Difference::here(alloc, CompatWhy::Kind)),
+            _ => Ok(Difference::here(alloc, Cause::Kind)),
         },
         Schema::Struct(body) => match old {
             Schema::Struct(older) => {
                 body_difference(alloc, body, older, body.fields.len() >= older.fields.len())
             }
-            _ => Ok(Difference::here(alloc, CompatWhy::Kind)),
+            _ => Ok(Difference::here(alloc, Cause::Kind)),
         },
         Schema::Union(body) => match old {
             Schema::Union(older) => {
                 body_difference(alloc, body, older, body.fields.len() == older.fields.len())
             }
-            _ => Ok(Difference::here(alloc, CompatWhy::Kind)),
+            _ => Ok(Difference::here(alloc, Cause::Kind)),
         },
-        _ => Ok(unless(alloc, same_primitives(new, old), CompatWhy::Kind)),
+        _ => Ok(unless(alloc, same_primitives(new, old), Cause::Kind)),
     }
 }
 
@@ -65,7 +64,7 @@ fn item_difference(
         (unless as_long Kind (below Item (difference (sch new.now) (sch old.now))) ≢ None) }
 {
     if !as_long {
-        return Ok(Difference::here(alloc, CompatWhy::Kind));
+        return Ok(Difference::here(alloc, Cause::Kind));
     }
     below(difference(alloc, new, old)?, Turn::Item)
 }
@@ -84,16 +83,16 @@ fn body_difference(
         ≢ None) }
 {
     if new.sealed != old.sealed {
-        return Ok(Difference::here(alloc, CompatWhy::Sealing));
+        return Ok(Difference::here(alloc, Cause::Sealing));
     }
     if new.extent != old.extent {
-        return Ok(Difference::here(alloc, CompatWhy::Extent));
+        return Ok(Difference::here(alloc, Cause::Extent));
     }
     if new.sealed {
-        return Ok(unless(alloc, same_fields(new, old), CompatWhy::Sealed));
+        return Ok(unless(alloc, same_fields(new, old), Cause::Sealed));
     }
     if !enough {
-        return Ok(Difference::here(alloc, CompatWhy::Count));
+        return Ok(Difference::here(alloc, Cause::Count));
     }
     fields_difference(alloc, new, old)
 }
@@ -153,11 +152,11 @@ fn kind_difference(
     match new {
         Schema::Void { bits } => {
             let same = matches!(old, Schema::Void { bits: older } if bits == older);
-            Ok(unless(alloc, same, CompatWhy::Kind))
+            Ok(unless(alloc, same, Cause::Kind))
         }
         _ => {
             if old.is_padding() {
-                return Ok(Difference::here(alloc, CompatWhy::Kind));
+                return Ok(Difference::here(alloc, Cause::Kind));
             }
             difference(alloc, new, old)
         }

@@ -1,11 +1,41 @@
 ghost use Rattle.std.specs.Prelude.{◌≡◌, ◌≢◌, IfOk, OnErr, None};
 ghost use Rattle.dsdl_types.specs.Difference.{below, here, unless};
-ghost use Rattle.compat_check.specs.Verdicts.{cause_of, found_of, turn_of};
+ghost use Rattle.compat_check.specs.Verdicts.{cause_of, found_of, turn_of, why_of};
 
 use crate::CompatWhy;
 use crate::path::Turn;
 use cy_bits::{List, NoMemory};
 use std::alloc::Global;
+
+/// Why a part of a type fails to be newer than that of another: the causes that two schemas can have.
+#[derive(Clone, Copy)]
+pub enum Cause {
+    /// The kinds, widths, casts or array lengths differ.
+    Kind,
+    /// One alone is sealed.
+    Sealing,
+    /// The extents differ.
+    Extent,
+    /// Both are sealed and differ, names aside.
+    Sealed,
+    /// A structure has fewer fields than the old one, or a union another number of variants.
+    Count,
+}
+
+impl Cause {
+    /// The cause as that of a verdict.
+    pub fn why(self) -> CompatWhy
+        ensures { result ≡ why_of (cause_of self) }
+    {
+        match self {
+            Cause::Kind => CompatWhy::Kind,
+            Cause::Sealing => CompatWhy::Sealing,
+            Cause::Extent => CompatWhy::Extent,
+            Cause::Sealed => CompatWhy::Sealed,
+            Cause::Count => CompatWhy::Count,
+        }
+    }
+}
 
 /// Where and why a type first fails to be newer than another.
 #[derive(Drop)]
@@ -13,29 +43,29 @@ pub struct Difference {
     /// The way to the place, the last turn first.
     pub turns: List<Turn>,
     /// Why it fails.
-    pub why: CompatWhy,
+    pub cause: Cause,
 }
 
 impl Difference {
     /// At the place itself.
-    pub fn here(alloc: Global, why: CompatWhy) -> Option<Difference>
-        ensures { found_of result ≡ here (cause_of why) }
+    pub fn here(alloc: Global, cause: Cause) -> Option<Difference>
+        ensures { found_of result ≡ here (cause_of cause) }
     {
         Some(Difference {
             turns: List::empty(alloc),
-            why,
+            cause,
         })
     }
 }
 
 /// None where a test holds.
-pub fn unless(alloc: Global, test: bool, why: CompatWhy) -> Option<Difference>
-    ensures { found_of result ≡ unless test (cause_of why) None }
+pub fn unless(alloc: Global, test: bool, cause: Cause) -> Option<Difference>
+    ensures { found_of result ≡ unless test (cause_of cause) None }
 {
     if test {
         None
     } else {
-        Difference::here(alloc, why)
+        Difference::here(alloc, cause)
     }
 }
 

@@ -7,9 +7,10 @@ ghost use Rattle.compat_check.specs.Parts.{same_kind};
 use crate::primitive::same_primitives;
 use dsdl_types::{Body, Schema};
 
-/// Whether two types are equal, names aside.
+/// Whether two types are equal, the names of their fields aside. Takes no memory, and time that is linear in
+/// their sizes.
 #[cycle(same)]
-fn same(a: &Schema, b: &Schema) -> bool
+pub fn same_but_names(a: &Schema, b: &Schema) -> bool
     ensures { result ≡ same (sch a.now) (sch b.now) }
 {
     match a {
@@ -17,14 +18,14 @@ fn same(a: &Schema, b: &Schema) -> bool
             Schema::Fixed {
                 item: other,
                 len: size,
-            } => len == size && same(item.get(), other.get()),
+            } => len == size && same_but_names(item.get(), other.get()),
             _ => false,
         },
         Schema::Var { item, cap } => match b {
             Schema::Var {
                 item: other,
                 cap: size,
-            } => cap == size && same(item.get(), other.get()),
+            } => cap == size && same_but_names(item.get(), other.get()),
             _ => false,
         },
         Schema::Struct(body) => match b {
@@ -71,6 +72,6 @@ fn same_kind(a: &Schema, b: &Schema) -> bool
 {
     match a {
         Schema::Void { bits } => matches!(b, Schema::Void { bits: others } if bits == others),
-        _ => !b.is_padding() && same(a, b),
+        _ => !b.is_padding() && same_but_names(a, b),
     }
 }

@@ -10,5 +10,6 @@ mod primitive;
 mod services;
 mod verdict;
 
+pub use equal::same_but_names;
 pub use services::{other_kind, services_newer};
 pub use verdict::{CompatWhy, Verdict, newer};

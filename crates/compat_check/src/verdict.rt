@@ -11,8 +11,9 @@ use cy_bits::{NoMemory, Text};
 use dsdl_types::Schema;
 use std::alloc::Global;
 
-/// Why a type isn't newer than another (Cyphal Specification, section 3.8). At each place these are
-/// looked for in this order.
+/// Why a type isn't newer than another (Cyphal Specification, section 3.8). At each place the first five
+/// are looked for in this order. The last two are of a type in two namespaces, where the path is its
+/// name: no comparison of two schemas answers them.
 #[derive(Clone, Copy, PartialEq, Eq, Debug)]
 pub enum CompatWhy {
     /// The kinds, widths, casts or array lengths differ.
@@ -25,6 +26,10 @@ pub enum CompatWhy {
     Sealed,
     /// A structure has fewer fields than the old one, or a union another number of variants.
     Count,
+    /// The new namespace doesn't have the type.
+    Gone,
+    /// The type has a fixed port in the old namespace, and another or none in the new one.
+    Port,
 }
 
 /// Whether a type is newer than another (Cyphal Specification, section 3.8).
@@ -44,7 +49,7 @@ pub enum Verdict {
 }
 
 /// Whether values of the new type can be read as the old one and the other way round (Cyphal
-/// Specification, section 3.8). It takes time that is linear in the schemas' sizes, and memory only
+/// Specification, section 3.8). It never answers `Gone` or `Port`. It takes time that is linear in the schemas' sizes, and memory only
 /// where the new type isn't newer, for the path.
 pub fn newer(alloc: Global, new: &Schema, old: &Schema) -> Result<Verdict, NoMemory>
     ensures yes { IfOk result (λ v. (v ≡ Verdict.Yes) ↔ Newer (sch new.now) (sch old.now)) }
@@ -54,10 +59,11 @@ pub fn newer(alloc: Global, new: &Schema, old: &Schema) -> Result<Verdict, NoMem
     match difference(alloc, new, old)? {
         None => Ok(Verdict::Yes),
         Some(found) => {
-            let Difference { turns, why } = found;
+            let Difference { turns, cause } = found;
             let mut turns = turns.into_vec();
             turns.reverse();
             let path = path_text(alloc, &turns)?;
+            let why = cause.why();
             Ok(Verdict::No { path, why })
         }
     }

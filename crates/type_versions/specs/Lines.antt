@@ -20,6 +20,8 @@ compat_why_text why.Sealing = codes "Sealing"
 compat_why_text why.Extent = codes "Extent"
 compat_why_text why.Sealed = codes "Sealed"
 compat_why_text why.Count = codes "Count"
+compat_why_text why.Gone = codes "gone"
+compat_why_text why.Port = codes "port"
 
 -- where a type isn't newer, and why
 abbrev pub refusal_text : List ℕ → List ℕ → List ℕ

@@ -46,5 +46,7 @@ pub fn compat_why_text(why: CompatWhy) -> &'static [u8]
         CompatWhy::Extent => b"Extent",
         CompatWhy::Sealed => b"Sealed",
         CompatWhy::Count => b"Count",
+        CompatWhy::Gone => b"gone",
+        CompatWhy::Port => b"port",
     }
 }

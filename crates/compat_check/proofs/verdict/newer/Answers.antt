@@ -11,7 +11,7 @@ returns-in_ok-path-in-Some-clause-yes c = no_where_older _ _ c.in-Some.found _ _
 
 pub returns-in_ok-path-in-Some-clause-no : goal.returns-in_ok-path-in-Some-clause-no
 returns-in_ok-path-in-Some-clause-no c =
-    no_with_path c.in-Some.found _ _ _ (c.deref.ensures.value ∙ c.reverse.ensures.items ∙ ap reverse c.into_vec-turns.ensures) c.in_ok-path-in-Some.ensures (sym (ap found_of c.in-Some.is) ∙ c.in_ok-difference.ensures.found)
+    no_with_path c.in-Some.found _ _ _ _ (c.deref.ensures.value ∙ c.reverse.ensures.items ∙ ap reverse c.into_vec-turns.ensures) c.in_ok-path-in-Some.ensures c.why-why.ensures (sym (ap found_of c.in-Some.is) ∙ c.in_ok-difference.ensures.found)
 
 pub returns-in_err-difference-clause-memory : goal.returns-in_err-difference-clause-memory
 returns-in_err-difference-clause-memory c = at_error _ (not_newer _ _ c.in_err-difference.ensures.memory)
