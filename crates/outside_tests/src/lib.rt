@@ -27,4 +27,6 @@ mod standard_tests;
 #[cfg(test)]
 mod table_tests;
 #[cfg(test)]
+mod tx_line_tests;
+#[cfg(test)]
 mod writes;
