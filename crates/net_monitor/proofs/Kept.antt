@@ -25,11 +25,11 @@ restarts_kept s [] e = refl
 restarts_kept s (b ∷ older) e = one_more (restarts (b ∷ older)) 0xFFFFFFFFFFFFFFFF (ltb e.beat.uptime b.beat.uptime)
 
 -- whether one of one node's heartbeats is recent, by the newest
-abbrev newest_recent : ℕ → List Beat → Bool
+abbrev pub newest_recent : ℕ → List Beat → Bool
 newest_recent m [] = false
 newest_recent m (b ∷ older) = leb m (b.moment + 3000000)
 
-abbrev has_beat : List Beat → Bool
+abbrev pub has_beat : List Beat → Bool
 has_beat [] = false
 has_beat (b ∷ older) = true
 
@@ -49,7 +49,7 @@ or_off : (a b : Bool) → a ≡ false → b ≡ false → (a || b) ≡ false
 or_off true b e f = e
 or_off false b e f = f
 
-or_true : (a b : Bool) → a ≡ true → (a || b) ≡ true
+pub or_true : (a b : Bool) → a ≡ true → (a || b) ≡ true
 or_true true b e = refl
 or_true false b e = cc
 
@@ -63,7 +63,7 @@ none_online m t s (e ∷ past) h late =
     (none_online m t s past h.1 late)
 
 -- in order, some heartbeat is recent exactly where the newest is
-online_recent : (m s : ℕ) (past : List Beat) → AreInOrder past → is_online m past s ≡ newest_recent m (of_node s past)
+pub online_recent : (m s : ℕ) (past : List Beat) → AreInOrder past → is_online m past s ≡ newest_recent m (of_node s past)
 online_recent m s [] h = refl
 online_recent m s (e ∷ past) h = elim (cases_Bool (eqb e.node s)) [
   | inl same ↦
@@ -79,7 +79,7 @@ online_recent m s (e ∷ past) h = elim (cases_Bool (eqb e.node s)) [
       ∙ sym (ap (newest_recent m) (cond-false (eqb e.node s) (e ∷ of_node s past) (of_node s past) other))
 ]
 
-heard_has : (s : ℕ) (past : List Beat) → is_heard past s ≡ has_beat (of_node s past)
+pub heard_has : (s : ℕ) (past : List Beat) → is_heard past s ≡ has_beat (of_node s past)
 heard_has s [] = refl
 heard_has s (e ∷ past) = elim (cases_Bool (eqb e.node s)) [
   | inl same ↦ or_true (eqb e.node s) (is_heard past s) same ∙ sym (ap has_beat (cond-true (eqb e.node s) (e ∷ of_node s past) (of_node s past) same))

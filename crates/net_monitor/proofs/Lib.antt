@@ -1,3 +1,6 @@
 pub mod Gathered
 pub mod Kept
 pub mod Told
+pub mod Leaving
+pub mod Renewed
+pub mod Tells

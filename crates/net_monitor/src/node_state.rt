@@ -1,4 +1,4 @@
-ghost use Rattle.std.specs.Prelude.{◌≡◌, ◌+◌, nat_le};
+ghost use Rattle.std.specs.Prelude.{◌≡◌, ◌+◌, ◌-◌, ◌^◌, min, nat_le};
 
 use std_types::node::{Health, Heartbeat, Mode};
 
@@ -52,6 +52,13 @@ impl NodeState {
     pub fn is_online(&self, moment: u64) -> bool
         ensures { result ≡ nat_le moment (self.now.last + 3000000) }
     {
-        moment <= self.last.saturating_add(3_000_000)
+        moment <= self.online_until()
+    }
+
+    /// The last moment in microseconds at which the node is online by its last heartbeat.
+    pub fn online_until(&self) -> u64
+        ensures { result ≡ min (self.now.last + 3000000) (2 ^ 64 - 1) }
+    {
+        self.last.saturating_add(3_000_000)
     }
 }
