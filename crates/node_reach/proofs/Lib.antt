@@ -8,3 +8,5 @@ pub mod Stamps
 pub mod Lates
 pub mod Replies
 pub mod Heard
+pub mod Changes
+pub mod WatchedLaws

@@ -9,6 +9,10 @@ pub mod PortTypes
 pub mod Told
 pub mod Ears
 pub mod Monitors
+pub mod ChangeLines
+pub mod Watched
+pub mod Watches
+pub mod WatchLaws
 pub mod Ticks
 pub mod Clients
 pub mod Fetched

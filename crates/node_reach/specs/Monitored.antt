@@ -1,7 +1,7 @@
 -- What `monitor` says of a log: who is online, and the network's time. Heartbeats, messages of time
 -- and records are lists with the newest first; `past` is what came before.
 use Rattle.std.specs.Prelude.{ℕ, max, ◌==◌, if◌then◌else◌, List, [], ◌∷◌, ◌++◌, length, codes}
-use Rattle.std.specs.Prelude.{Option, Some, None}
+use Rattle.std.specs.Prelude.{Option, Some, None, option_map}
 use Rattle.dsdl_types.specs.Values.{Val}
 use Rattle.log_loop.specs.Voice.{Voice, plain_voice}
 use Rattle.net_monitor.specs.Beats.{Beat}
@@ -42,19 +42,24 @@ latest_message (message ∷ past) = max message.moment (latest_message past)
 abbrev pub beat_in : Transfer → List Beat → Val → Beat
 beat_in t past v = record { moment = max (latest_beat past) t.moment; node = t.key.source; beat = heartbeat_of v }
 
--- heartbeats with one more, where a payload reads as one
-abbrev pub add_beat : Transfer → List Beat → Option Val → List Beat
-add_beat t past None = past
-add_beat t past (Some v) = beat_in t past v ∷ past
+-- the heartbeat that a transfer is, behind earlier ones: where its payload reads as one
+abbrev pub beat_of : Option Transfer → List Beat → Option Beat
+beat_of None past = None
+beat_of (Some t) past = if t.key.port == heartbeat_subject then option_map (beat_in t past) (payload_value (schema_of Heartbeat) t.payload) else None
 
-abbrev pub with_beat : Option Transfer → List Beat → List Beat
+-- heartbeats with one more, if there is one
+abbrev pub with_beat : Option Beat → List Beat → List Beat
 with_beat None past = past
-with_beat (Some t) past = if t.key.port == heartbeat_subject then add_beat t past (payload_value (schema_of Heartbeat) t.payload) else past
+with_beat (Some beat) past = beat ∷ past
 
 -- the heartbeats in records
 abbrev pub beats : ℕ → List Record → List Beat
 beats own [] = []
-beats own (rec ∷ past) = with_beat (transfer_at (monitor_ears own) rec past) (beats own past)
+beats own (rec ∷ past) = with_beat (beat_of (transfer_at (monitor_ears own) rec past) (beats own past)) (beats own past)
+
+-- the heartbeat that ends at a record, if one does
+abbrev pub beat_at : ℕ → Record → List Record → Option Beat
+beat_at own rec past = beat_of (transfer_at (monitor_ears own) rec past) (beats own past)
 
 -- so with messages of time
 abbrev pub message_in : Transfer → List Message → Val → Message

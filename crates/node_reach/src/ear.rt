@@ -14,7 +14,7 @@ use tail_frame::{Frame, Record};
 /// A node that listens on some ports. It stands for the records of a log that it has heard.
 #[derive(Drop)]
 pub struct Ear {
-    /// Its node-ID, at most 127.
+    /// Its node-ID, at most 127, or a greater number where it has none.
     pub own: u8,
     /// The sessions of the sources that it hears.
     pub table: Table<StdType>,

@@ -1,10 +1,10 @@
 //! A monitor that hears a log.
-ghost use Rattle.std.specs.Prelude.{◌≡◌, ◌++◌, [], IfOk, OnOk, refl};
+ghost use Rattle.std.specs.Prelude.{◌≡◌, ◌≤◌, ◌<◌, ◌+◌, ◌^◌, ◌++◌, [], IfOk, OnOk, refl};
 ghost use Rattle.line_text.specs.Buffer.{text_of};
 ghost use Rattle.tail_frame.specs.declared.logged.Record.{Record};
 ghost use Rattle.node_reach.specs.Ears.{Hears};
 ghost use Rattle.node_reach.specs.Monitored.{monitor_ears, monitor_voice, node_lines, state_in, state_line};
-ghost use Rattle.node_reach.specs.Monitors.{Monitors};
+ghost use Rattle.node_reach.specs.Monitors.{Monitors, TakesRecord};
 
 use crate::ear::{Ear, TIMEOUT};
 use crate::lines::{put_end, put_estimate, put_node, put_offline};
@@ -13,7 +13,7 @@ use can_id::Kind;
 use cy_bits::NoMemory;
 use line_text::TextBuffer;
 use log_loop::Listener;
-use net_monitor::NodeState;
+use net_monitor::{NodeState, Renewal};
 use std::alloc::Global;
 use std_types::{StdName, ports};
 use tail_frame::Record;
@@ -30,7 +30,8 @@ pub struct Monitoring {
 }
 
 impl Monitoring {
-    /// A monitor with this node-ID of its own, at most 127, that heard nothing yet.
+    /// A monitor with this node-ID of its own that heard nothing yet. A number above 127 is no
+    /// node's, so with it none is left out.
     pub(crate) fn new(alloc: Global, own: u8) -> Result<Monitoring, NoMemory>
         ensures own { IfOk result (λ it. it.ear.own ≡ own) }
         ensures monitors { IfOk result (λ it. Monitors own it []) }
@@ -42,6 +43,24 @@ impl Monitoring {
             network: Network::new(alloc)?,
             records: 0,
         })
+    }
+
+    /// Hears the next record of a log, at a moment not before the last one, and tells what the
+    /// heartbeat made of its node that ended there, if one did.
+    pub(crate) fn take(&mut self, rec: &Record) -> Result<Option<Renewal>, NoMemory>
+        requires moment { self.old.ear.latest ≤ rec.now.moment }
+        requires moment_low { rec.now.moment < 10 ^ 18 }
+        requires count { self.old.records < 2 ^ 28 }
+        ensures takes { IfOk result (TakesRecord rec.now self.old self.new) }
+        ensures own { self.new.ear.own ≡ self.old.ear.own }
+        ensures latest { self.new.ear.latest ≡ rec.now.moment }
+        ensures count { self.new.records ≤ self.old.records + 1 }
+    {
+        let heard = self.ear.hear(rec)?;
+        let transfer = self.ear.transfer(heard);
+        let renewal = self.network.hear(rec.moment, transfer)?;
+        self.records += 1;
+        Ok(renewal)
     }
 }
 
@@ -79,10 +98,7 @@ impl Listener for Monitoring {
     ghost count = { λ now. now.records };
 
     fn hear(&mut self, rec: &Record, _gathered: &mut TextBuffer) -> Result<(), NoMemory> {
-        let heard = self.ear.hear(rec)?;
-        let transfer = self.ear.transfer(heard);
-        self.network.hear(rec.moment, transfer)?;
-        self.records += 1;
+        self.take(rec)?;
         Ok(())
     }
 

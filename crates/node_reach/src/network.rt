@@ -4,7 +4,7 @@ ghost use Rattle.std.specs.Prelude.{◌≡◌, ◌<◌, ◌≤◌, ◌^◌};
 use crate::transfer::Transfer;
 use cy_bits::NoMemory;
 use dsdl_types::Value;
-use net_monitor::Monitor;
+use net_monitor::{Monitor, Renewal};
 use std::alloc::Global;
 use std_types::node::Heartbeat;
 use std_types::time::Synchronization;
@@ -58,51 +58,56 @@ impl Network {
         })
     }
 
-    /// Hears a record of this moment, at which a transfer may have ended.
+    /// Hears a record of this moment, at which a transfer may have ended, and tells what it made of
+    /// its node where it is a heartbeat.
     pub(crate) fn hear(
         &mut self,
         moment: u64,
         transfer: Option<Transfer<'_>>,
-    ) -> Result<(), NoMemory>
+    ) -> Result<Option<Renewal>, NoMemory>
         requires moment { moment < 10 ^ 18 }
         requires source { IfSome transfer (λ t. t.source < 128) }
         ensures learns { let t = option_map owned transfer.entry in
-            OnOk result (Learns moment t self.old self.new) }
+            IfOk result (Learns moment t self.old self.new) }
     {
         match transfer {
             Some(transfer) => self.take(moment, transfer),
-            None => Ok(()),
+            None => Ok(None),
         }
     }
 
     /// Takes a transfer that ended at a moment, if it is a heartbeat or a message of time.
-    fn take(&mut self, moment: u64, transfer: Transfer<'_>) -> Result<(), NoMemory>
+    fn take(&mut self, moment: u64, transfer: Transfer<'_>) -> Result<Option<Renewal>, NoMemory>
         requires moment { moment < 10 ^ 18 }
         requires source { transfer.source < 128 }
         ensures learns { let t = Some (owned transfer.entry) in
-            OnOk result (Learns moment t self.old self.new) }
+            IfOk result (Learns moment t self.old self.new) }
     {
         match transfer.port {
             ports::HEARTBEAT => self.take_beat(transfer),
-            ports::SYNCHRONIZATION => self.take_message(moment, transfer),
-            _ => Ok(()),
+            ports::SYNCHRONIZATION => {
+                self.take_message(moment, transfer)?;
+                Ok(None)
+            }
+            _ => Ok(None),
         }
     }
 
-    /// Takes the payload of a transfer as a heartbeat, if it can be read.
-    fn take_beat(&mut self, transfer: Transfer<'_>) -> Result<(), NoMemory>
+    /// Takes the payload of a transfer as a heartbeat, if it can be read, and tells what that made
+    /// of its node.
+    fn take_beat(&mut self, transfer: Transfer<'_>) -> Result<Option<Renewal>, NoMemory>
         requires source { transfer.source < 128 }
-        ensures learns { OnOk result (LearnsBeat (owned transfer.entry) self.old self.new) }
+        ensures learns { IfOk result (LearnsBeat (owned transfer.entry) self.old self.new) }
     {
         let Some(value) = payload_value(self.alloc, &self.beat_type.schema, transfer.payload)?
         else {
-            return Ok(());
+            return Ok(None);
         };
         let beat = Heartbeat::of_value(self.alloc, &value)?;
         let latest = self.latest_beat.max(transfer.moment);
-        self.monitor.event(latest, transfer.source, &beat);
+        let renewal = self.monitor.event(latest, transfer.source, &beat);
         self.latest_beat = latest;
-        Ok(())
+        Ok(Some(renewal))
     }
 
     /// Takes the payload of a transfer that ended at a moment as a message of time, if it can be

@@ -1,0 +1,5 @@
+use Rattle.std.proofs.Common.{append_assoc}
+use Rattle.node_reach.proofs.change_lines.put_nodes_end.Goals as goal
+
+pub returns : goal.returns
+returns c = simp (c.put_slice-4.ensures.text, c.put_number-3.ensures.text, c.put_slice-3.ensures.text, c.put_number-2.ensures.text, c.put_slice-2.ensures.text, c.put_number.ensures.text, c.put_slice.ensures.text, c.in_ok-reserve.ensures.text, append_assoc)
