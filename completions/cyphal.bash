@@ -8,7 +8,7 @@ _cyphal()
     if [[ $word == [\<\>]* || $before == [\<\>]* ]]; then
         return
     fi
-    local commands=(run json explain survey order gen monitor allocate fetch bound migrate compile compat versions encode decode)
+    local commands=(run json explain survey nodes order gen monitor allocate fetch bound migrate compile compat versions encode decode)
     if [ "$COMP_CWORD" -eq 1 ]; then
         _cyphal_offer "$word" "${commands[@]}" --help --version
         return

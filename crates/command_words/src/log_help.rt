@@ -93,6 +93,27 @@ Status: 0 done, 1 usage, 4 log refused, 8 read fault, 9 write fault,
 Example: cyphal survey can0,can1 < examples/survey/log
 ";
 
+/// Of `nodes`.
+pub const NODES: &str = "\
+cyphal nodes BUSES < LOG
+
+Reads a log without a plan, and writes which nodes come, go and restart, and how
+each is, with the record that shows it. It can follow a live bus in a pipe.
+
+  BUSES  the names of all interfaces of the log, as for cyphal survey
+  LOG    lines as candump -L writes them, in order of time, on standard input
+
+Lines: MOMENT NODE, and down (more than 3 s behind its last heartbeat); restart
+OLD NEW (its uptime fell); up uptime N health N mode N code N (its first
+heartbeat, or the first behind down); health, mode or code OLD NEW (another one
+than with the heartbeat before); and end, with the counts.
+
+Status: 0 done, 1 usage, 4 log refused, 8 read fault, 9 write fault,
+10 out of memory, 11 input too long
+
+Example: cyphal nodes can0,can1 < examples/survey/log
+";
+
 /// Of `order`.
 pub const ORDER: &str = "\
 cyphal order MICROS < LOG

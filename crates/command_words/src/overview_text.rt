@@ -12,6 +12,7 @@ a log   run ROOT PLAN           runs the node of a plan over a log: a report
         json ROOT PLAN          writes that report as lines of JSON
         explain ROOT PLAN       says what became of each frame of a log, and why
         survey BUSES            says what each bus and flow of a log carries
+        nodes BUSES             says who comes and goes in a log, as it happens
         order MICROS            puts the lines of a log into the order of time
         gen NUMBER              makes a large log of a number, and runs it
 a node  monitor NODE            says who is online in a log, and the time there

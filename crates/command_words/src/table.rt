@@ -38,6 +38,14 @@ pub const COMMANDS: &[Command] = &[
         help: log_help::SURVEY,
     },
     Command {
+        word: "nodes",
+        arguments: &["BUSES"],
+        options: &[],
+        group: LOG,
+        summary: "says who comes and goes in a log, as it happens",
+        help: log_help::NODES,
+    },
+    Command {
         word: "order",
         arguments: &["MICROS"],
         options: &[],

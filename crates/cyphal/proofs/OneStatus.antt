@@ -17,7 +17,7 @@ use Rattle.node_run.specs.declared.status.Status.TheVariants as status
 use Rattle.type_versions.proofs.One.{one_answer}
 use Rattle.value_lines.specs.Decoded.{Decodes}
 use Rattle.value_lines.specs.Encoded.{Encodes}
-use Rattle.cyphal.specs.Words.{Command, Compile, Compat, Versions, Encode, Decode, Run, Gen, Order, Survey}
+use Rattle.cyphal.specs.Words.{Command, Compile, Compat, Versions, Encode, Decode, Run, Gen, Order, Survey, Nodes}
 use Rattle.cyphal.specs.Job.{Told, Job}
 use Rattle.cyphal.specs.LogEnds.{EndsAsLog}
 use Rattle.cyphal.specs.Plans.{EndsAt}
@@ -142,6 +142,7 @@ module _ (laws : HaveOneAnswer × OnePlan) (encodes : HasOneStatus Encodes) (dec
   single (Gen number) told s t h a b = a ∙ sym b
   single (Order window) told s t h a b = by_order window told.input s t h a b
   single (Survey names) told s t h a b = by_log names told.input s t h a b
+  single (Nodes names) told s t h a b = by_log names told.input s t h a b
   single other told s t h a b = search (by_log bus_names, by_plan, by_running, by_compiling)
 
   pub one_status : (command : Option Command) → IsSingle (job_asked command)

@@ -7,7 +7,7 @@ use Rattle.std.proofs.lemmas.Slice.Eq.{bytes_eq-Decides}
 use Rattle.command_words.specs.Table.{Row, named}
 use Rattle.command_words.specs.declared.table.TheConstants.{COMMANDS}
 use Rattle.cyphal.specs.TableRule.{accepts, are_given, are_two}
-use Rattle.cyphal.specs.Words.{Command, Gen, Order, Survey, Monitor, Allocate, command_of, fetch_given, is_argument, is_path}
+use Rattle.cyphal.specs.Words.{Command, Gen, Order, Survey, Nodes, Monitor, Allocate, command_of, fetch_given, is_argument, is_path}
 use Rattle.cyphal.specs.Words.{named_of_one, named_of_two, named_of_three, Fetch, number_given, node_given, window_given}
 use Rattle.cyphal.specs.BusNames.{buses_given}
 
@@ -104,6 +104,13 @@ survey_agrees (a ∷ []) = form_alone (is_argument a) Survey (buses_given a)
 survey_agrees (a ∷ b ∷ []) = none_either_way (is_argument a && is_argument b) ∙ sym (simp no_more refl)
 survey_agrees (a ∷ b ∷ c ∷ []) = none_either_way (is_argument a && (is_argument b && is_argument c)) ∙ sym (simp no_more refl)
 survey_agrees (a ∷ b ∷ c ∷ d ∷ rest) = sym (simp no_more refl)
+
+nodes_agrees : (words : List (List ℕ)) → Agrees (codes "nodes") words
+nodes_agrees [] = refl
+nodes_agrees (a ∷ []) = form_alone (is_argument a) Nodes (buses_given a)
+nodes_agrees (a ∷ b ∷ []) = none_either_way (is_argument a && is_argument b) ∙ sym (simp no_more refl)
+nodes_agrees (a ∷ b ∷ c ∷ []) = none_either_way (is_argument a && (is_argument b && is_argument c)) ∙ sym (simp no_more refl)
+nodes_agrees (a ∷ b ∷ c ∷ d ∷ rest) = sym (simp no_more refl)
 
 order_agrees : (words : List (List ℕ)) → Agrees (codes "order") words
 order_agrees [] = refl
@@ -212,6 +219,7 @@ module _ (word : List ℕ)
     (no_json : bytes_eq word (codes "json") ≡ false)
     (no_explain : bytes_eq word (codes "explain") ≡ false)
     (no_survey : bytes_eq word (codes "survey") ≡ false)
+    (no_nodes : bytes_eq word (codes "nodes") ≡ false)
     (no_order : bytes_eq word (codes "order") ≡ false)
     (no_gen : bytes_eq word (codes "gen") ≡ false)
     (no_monitor : bytes_eq word (codes "monitor") ≡ false)
@@ -225,7 +233,7 @@ module _ (word : List ℕ)
     (no_encode : bytes_eq word (codes "encode") ≡ false)
     (no_decode : bytes_eq word (codes "decode") ≡ false) where
   of_one : (a : List ℕ) → named_of_one word a ≡ None
-  of_one a = simp (no_compile, no_versions, no_gen, no_order, no_survey, no_monitor, no_allocate) refl
+  of_one a = simp (no_compile, no_versions, no_gen, no_order, no_survey, no_nodes, no_monitor, no_allocate) refl
 
   of_two : (a b : List ℕ) → named_of_two word a b ≡ None
   of_two a b = simp (no_encode, no_decode, no_run, no_json, no_bound, no_migrate, no_explain) refl
@@ -256,43 +264,47 @@ agrees word words =
                       elim (test word (codes "survey")) [
                         | same e ↦ subst (λ (w : List ℕ). Agrees w words) (sym e) (survey_agrees words)
                         | other no_survey not_survey ↦
-                            elim (test word (codes "order")) [
-                              | same e ↦ subst (λ (w : List ℕ). Agrees w words) (sym e) (order_agrees words)
-                              | other no_order not_order ↦
-                                  elim (test word (codes "gen")) [
-                                    | same e ↦ subst (λ (w : List ℕ). Agrees w words) (sym e) (gen_agrees words)
-                                    | other no_gen not_gen ↦
-                                        elim (test word (codes "monitor")) [
-                                          | same e ↦ subst (λ (w : List ℕ). Agrees w words) (sym e) (monitor_agrees words)
-                                          | other no_monitor not_monitor ↦
-                                              elim (test word (codes "allocate")) [
-                                                | same e ↦ subst (λ (w : List ℕ). Agrees w words) (sym e) (allocate_agrees words)
-                                                | other no_allocate not_allocate ↦
-                                                    elim (test word (codes "fetch")) [
-                                                      | same e ↦ subst (λ (w : List ℕ). Agrees w words) (sym e) (fetch_agrees words)
-                                                      | other no_fetch not_fetch ↦
-                                                          elim (test word (codes "bound")) [
-                                                            | same e ↦ subst (λ (w : List ℕ). Agrees w words) (sym e) (bound_agrees words)
-                                                            | other no_bound not_bound ↦
-                                                                elim (test word (codes "migrate")) [
-                                                                  | same e ↦ subst (λ (w : List ℕ). Agrees w words) (sym e) (migrate_agrees words)
-                                                                  | other no_migrate not_migrate ↦
-                                                                      elim (test word (codes "compile")) [
-                                                                        | same e ↦ subst (λ (w : List ℕ). Agrees w words) (sym e) (compile_agrees words)
-                                                                        | other no_compile not_compile ↦
-                                                                            elim (test word (codes "compat")) [
-                                                                              | same e ↦ subst (λ (w : List ℕ). Agrees w words) (sym e) (compat_agrees words)
-                                                                              | other no_compat not_compat ↦
-                                                                                  elim (test word (codes "versions")) [
-                                                                                    | same e ↦ subst (λ (w : List ℕ). Agrees w words) (sym e) (versions_agrees words)
-                                                                                    | other no_versions not_versions ↦
-                                                                                        elim (test word (codes "encode")) [
-                                                                                          | same e ↦ subst (λ (w : List ℕ). Agrees w words) (sym e) (encode_agrees words)
-                                                                                          | other no_encode not_encode ↦
-                                                                                              elim (test word (codes "decode")) [
-                                                                                                | same e ↦ subst (λ (w : List ℕ). Agrees w words) (sym e) (decode_agrees words)
-                                                                                                | other no_decode not_decode ↦
-                                                                                                    no_command word no_run no_json no_explain no_survey no_order no_gen no_monitor no_allocate no_fetch no_bound no_migrate no_compile no_compat no_versions no_encode no_decode words ∙ sym (unaccepted word words (not_run, (not_json, (not_explain, (not_survey, (not_order, (not_gen, (not_monitor, (not_allocate, (not_fetch, (not_bound, (not_migrate, (not_compile, (not_compat, (not_versions, (not_encode, (not_decode, tt)))))))))))))))))
+                            elim (test word (codes "nodes")) [
+                              | same e ↦ subst (λ (w : List ℕ). Agrees w words) (sym e) (nodes_agrees words)
+                              | other no_nodes not_nodes ↦
+                                  elim (test word (codes "order")) [
+                                    | same e ↦ subst (λ (w : List ℕ). Agrees w words) (sym e) (order_agrees words)
+                                    | other no_order not_order ↦
+                                        elim (test word (codes "gen")) [
+                                          | same e ↦ subst (λ (w : List ℕ). Agrees w words) (sym e) (gen_agrees words)
+                                          | other no_gen not_gen ↦
+                                              elim (test word (codes "monitor")) [
+                                                | same e ↦ subst (λ (w : List ℕ). Agrees w words) (sym e) (monitor_agrees words)
+                                                | other no_monitor not_monitor ↦
+                                                    elim (test word (codes "allocate")) [
+                                                      | same e ↦ subst (λ (w : List ℕ). Agrees w words) (sym e) (allocate_agrees words)
+                                                      | other no_allocate not_allocate ↦
+                                                          elim (test word (codes "fetch")) [
+                                                            | same e ↦ subst (λ (w : List ℕ). Agrees w words) (sym e) (fetch_agrees words)
+                                                            | other no_fetch not_fetch ↦
+                                                                elim (test word (codes "bound")) [
+                                                                  | same e ↦ subst (λ (w : List ℕ). Agrees w words) (sym e) (bound_agrees words)
+                                                                  | other no_bound not_bound ↦
+                                                                      elim (test word (codes "migrate")) [
+                                                                        | same e ↦ subst (λ (w : List ℕ). Agrees w words) (sym e) (migrate_agrees words)
+                                                                        | other no_migrate not_migrate ↦
+                                                                            elim (test word (codes "compile")) [
+                                                                              | same e ↦ subst (λ (w : List ℕ). Agrees w words) (sym e) (compile_agrees words)
+                                                                              | other no_compile not_compile ↦
+                                                                                  elim (test word (codes "compat")) [
+                                                                                    | same e ↦ subst (λ (w : List ℕ). Agrees w words) (sym e) (compat_agrees words)
+                                                                                    | other no_compat not_compat ↦
+                                                                                        elim (test word (codes "versions")) [
+                                                                                          | same e ↦ subst (λ (w : List ℕ). Agrees w words) (sym e) (versions_agrees words)
+                                                                                          | other no_versions not_versions ↦
+                                                                                              elim (test word (codes "encode")) [
+                                                                                                | same e ↦ subst (λ (w : List ℕ). Agrees w words) (sym e) (encode_agrees words)
+                                                                                                | other no_encode not_encode ↦
+                                                                                                    elim (test word (codes "decode")) [
+                                                                                                      | same e ↦ subst (λ (w : List ℕ). Agrees w words) (sym e) (decode_agrees words)
+                                                                                                      | other no_decode not_decode ↦
+                                                                                                          no_command word no_run no_json no_explain no_survey no_nodes no_order no_gen no_monitor no_allocate no_fetch no_bound no_migrate no_compile no_compat no_versions no_encode no_decode words ∙ sym (unaccepted word words (not_run, (not_json, (not_explain, (not_survey, (not_nodes, (not_order, (not_gen, (not_monitor, (not_allocate, (not_fetch, (not_bound, (not_migrate, (not_compile, (not_compat, (not_versions, (not_encode, (not_decode, tt))))))))))))))))))
+                                                                                                    ]
                                                                                               ]
                                                                                         ]
                                                                                   ]

@@ -19,8 +19,8 @@ use Rattle.cyphal.specs.declared.words.Accepted.TheVariants as accepted
 -- that is made of this number, who is online in the log of the input, which a node with this
 -- node-ID hears, node-IDs for the nodes of that log that have none, the file that a node with this
 -- node-ID fetches of another one over that log, the lines of a log in the order of their moments,
--- with a window of so many microseconds, what the buses with these names carry, or what became of
--- each frame of a log by such a plan
+-- with a window of so many microseconds, what the buses with these names carry, who comes and goes
+-- on them, or what became of each frame of a log by such a plan
 pub data Command : Type 0 where
   Compile : List ℕ → Command
   Compat : List ℕ → List ℕ → List ℕ → Command
@@ -36,6 +36,7 @@ pub data Command : Type 0 where
   Fetch : ℕ → ℕ → List ℕ → Command
   Order : ℕ → Command
   Survey : List (List ℕ) → Command
+  Nodes : List (List ℕ) → Command
   Explain : List ℕ → List ℕ → Command
 
 -- the names of buses, the first one first
@@ -60,6 +61,7 @@ asked_by (accepted.Allocate own) = Allocate own.number
 asked_by (accepted.Fetch file) = Fetch file.own.number file.server.number file.path.now
 asked_by (accepted.Order window) = Order window
 asked_by (accepted.Survey buses) = Survey (names_of buses)
+asked_by (accepted.Nodes buses) = Nodes (names_of buses)
 asked_by (accepted.Explain root plan) = Explain root.now plan.now
 
 -- an argument isn't empty and begins with no hyphen
@@ -132,7 +134,8 @@ named_of_one word argument =
     else (if bytes_eq word (codes "gen") then option_map Gen (number_given argument)
     else (if bytes_eq word (codes "order") then option_map Order (window_given argument)
     else (if bytes_eq word (codes "survey") then option_map Survey (buses_given argument)
-    else named_of_node word (node_given argument)))))
+    else (if bytes_eq word (codes "nodes") then option_map Nodes (buses_given argument)
+    else named_of_node word (node_given argument))))))
 
 -- the command that a word names, of a root and a plan
 abbrev pub named_of_plan : List ℕ → List ℕ → List ℕ → Option Command
@@ -160,7 +163,7 @@ named_of_three word first second third =
 -- what the words ask for, where they are accepted: `compile ROOT`, `compat ROOT NEW OLD`, `versions
 -- ROOT`, `encode ROOT TYPE`, `decode ROOT TYPE`, `run ROOT PLAN`, `json ROOT PLAN`, `bound ROOT
 -- PLAN`, `migrate ROOT PLAN`, `explain ROOT PLAN`, `gen NUMBER`, `order MICROS`, `survey BUSES`,
--- `monitor NODE`, `allocate NODE` or `fetch NODE SERVER PATH`
+-- `nodes BUSES`, `monitor NODE`, `allocate NODE` or `fetch NODE SERVER PATH`
 abbrev pub command_of : List (List ℕ) → Option Command
 command_of [] = None
 command_of (word ∷ []) = None

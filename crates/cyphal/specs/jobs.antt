@@ -11,6 +11,7 @@ pub mod Reach
 pub mod Fetch
 pub mod Order
 pub mod Survey
+pub mod Nodes
 pub mod Explain
 use Rattle.node_reach.specs.Allocated.{allocate_voice}
 use Rattle.node_reach.specs.Fetched.{client_of}
@@ -32,6 +33,7 @@ use Rattle.cyphal.specs.jobs.Reach.{reach_job}
 use Rattle.cyphal.specs.jobs.Fetch.{fetch_job}
 use Rattle.cyphal.specs.jobs.Order.{order_job}
 use Rattle.cyphal.specs.jobs.Survey.{survey_job}
+use Rattle.cyphal.specs.jobs.Nodes.{nodes_job}
 use Rattle.cyphal.specs.jobs.Explain.{explain_job}
 
 -- what a command asks for
@@ -50,4 +52,5 @@ job_of (command.Allocate own) = reach_job (allocate_voice own)
 job_of (command.Fetch own server path) = fetch_job (client_of own server path)
 job_of (command.Order window) = order_job window
 job_of (command.Survey names) = survey_job names
+job_of (command.Nodes names) = nodes_job names
 job_of (command.Explain root path) = explain_job root path

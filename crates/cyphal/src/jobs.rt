@@ -17,6 +17,7 @@ pub mod explain;
 pub mod fetch;
 pub mod generated;
 pub mod migrate;
+pub mod nodes;
 pub mod ordered;
 pub mod reach;
 pub mod run;
@@ -36,6 +37,7 @@ use generated::generated;
 use migrate::migrate_plan;
 use node_core::LineSink;
 use node_run::Status;
+use nodes::watch_nodes;
 use ordered::order_lines;
 use reach::{Hearing, hear_log};
 use run::run_plan;
@@ -107,5 +109,6 @@ pub fn carry_out<T: Tree, L: Source, O: Sink, K: LineSink>(
         Accepted::Fetch { file } => Counted::nothing(fetch_file(alloc, file, input, out)),
         Accepted::Order { window } => Counted::nothing(order_lines(alloc, window, input, out)),
         Accepted::Survey { buses } => Counted::nothing(survey_buses(alloc, buses, input, out)),
+        Accepted::Nodes { buses } => Counted::nothing(watch_nodes(alloc, buses, input, out)),
     }
 }

@@ -1,6 +1,7 @@
 //! Which words are a command, and what its arguments are.
 ghost use Rattle.std.specs.Prelude.{◌≡◌, IfOk, OnErr, is_some, map, option_map, string_bytes, true};
-ghost use Rattle.cyphal.specs.Words.{Gen, Order, Survey, Monitor, Allocate, asked_by, names_of};
+ghost use Rattle.cyphal.specs.Words.{Gen, Order, Survey, Nodes, Monitor, Allocate, asked_by};
+ghost use Rattle.cyphal.specs.Words.{names_of};
 ghost use Rattle.cyphal.specs.Words.{named_of_one, named_of_node, named_of_two, named_of_plan};
 ghost use Rattle.cyphal.specs.Words.{named_of_three, command_of};
 
@@ -87,13 +88,17 @@ pub enum Accepted<'a> {
     Survey {
         buses: BusNames<'a>,
     },
+    /// Writes who comes and goes on the buses with these names.
+    Nodes {
+        buses: BusNames<'a>,
+    },
 }
 
 /// The command that the words are, so `compile ROOT`, `compat ROOT NEW OLD`, `versions ROOT`,
 /// `encode ROOT TYPE`, `decode ROOT TYPE`, `run ROOT PLAN`, `json ROOT PLAN`, `bound ROOT PLAN`,
-/// `migrate ROOT PLAN`, `explain ROOT PLAN`, `gen NUMBER`, `order MICROS`, `survey BUSES`, `monitor
-/// NODE`, `allocate NODE` or `fetch NODE SERVER PATH`; none where they aren't accepted. It wants
-/// memory where they are.
+/// `migrate ROOT PLAN`, `explain ROOT PLAN`, `gen NUMBER`, `order MICROS`, `survey BUSES`, `nodes
+/// BUSES`, `monitor NODE`, `allocate NODE` or `fetch NODE SERVER PATH`; none where they aren't
+/// accepted. It wants memory where they are.
 pub fn command_of<'a>(alloc: Global, words: &'a [String]) -> Result<Option<Accepted<'a>>, NoMemory>
     ensures is { let asked = command_of (map string_bytes words.entry.now) in
         IfOk result (λ given. option_map asked_by given ≡ asked) }
@@ -163,6 +168,8 @@ fn of_one<'a>(word: &str, argument: &'a str) -> Option<Accepted<'a>>
         of_window(window_of(argument.as_bytes()))
     } else if word == "survey" {
         of_buses(BusNames::new(argument))
+    } else if word == "nodes" {
+        of_watched(BusNames::new(argument))
     } else {
         of_node(word, node_of(argument.as_bytes()))
     }
@@ -194,6 +201,16 @@ fn of_buses<'a>(buses: Option<BusNames<'a>>) -> Option<Accepted<'a>>
 {
     match buses {
         Some(buses) => Some(Accepted::Survey { buses }),
+        None => None,
+    }
+}
+
+/// The watch over the nodes on buses, if there are any.
+fn of_watched<'a>(buses: Option<BusNames<'a>>) -> Option<Accepted<'a>>
+    ensures { option_map asked_by result ≡ option_map Nodes (option_map names_of buses.entry) }
+{
+    match buses {
+        Some(buses) => Some(Accepted::Nodes { buses }),
         None => None,
     }
 }

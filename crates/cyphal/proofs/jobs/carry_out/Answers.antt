@@ -89,6 +89,12 @@ returns-in-Survey-clause-done g c =
     for_given _ _ _ _ _ _ c.in-Survey.is
     (read_out _ _ c.survey_buses.result _ _ refl c.nothing-in-Survey.result c.nothing-in-Survey.ensures g.L.Source.left _ _ _ _ refl done.answer (log_among done.ran.ended c.survey_buses.result done.ran.is) (done.cause (g.T.Tree.faults c.args.tree.now)) (inr done.ran) (λ d n. (d, n)))
 
+pub returns-in-Nodes-clause-done : goal.returns-in-Nodes-clause-done
+returns-in-Nodes-clause-done g c =
+    let done = c.watch_nodes.ensures in
+    for_given _ _ _ _ _ _ c.in-Nodes.is
+    (read_out _ _ c.watch_nodes.result _ _ refl c.nothing-in-Nodes.result c.nothing-in-Nodes.ensures g.L.Source.left _ _ _ _ refl done.answer (log_among done.ran.ended c.watch_nodes.result done.ran.is) (done.cause (g.T.Tree.faults c.args.tree.now)) (inr done.ran) (λ d n. (d, n)))
+
 pub returns-in-Explain-clause-done : goal.returns-in-Explain-clause-done
 returns-in-Explain-clause-done g c =
     let done = c.explain_plan.ensures in
@@ -140,6 +146,9 @@ returns-in-Order-clause-called g c = λ _. given_calls _ _ _ _ _ c.in-Order.is (
 pub returns-in-Survey-clause-called : goal.returns-in-Survey-clause-called
 returns-in-Survey-clause-called g c = λ _. given_calls _ _ _ _ _ c.in-Survey.is (no_calls (λ files. 0) _ _)
 
+pub returns-in-Nodes-clause-called : goal.returns-in-Nodes-clause-called
+returns-in-Nodes-clause-called g c = λ _. given_calls _ _ _ _ _ c.in-Nodes.is (no_calls (λ files. 0) _ _)
+
 pub returns-in-Versions-clause-called : goal.returns-in-Versions-clause-called
 returns-in-Versions-clause-called g c = λ _. given_calls _ _ _ _ _ c.in-Versions.is c.compare_versions.ensures.calls
 
@@ -184,6 +193,9 @@ returns-in-Order-clause-needed g c = λ _ _. given_calls _ _ _ _ _ c.in-Order.is
 
 pub returns-in-Survey-clause-needed : goal.returns-in-Survey-clause-needed
 returns-in-Survey-clause-needed g c = λ _ _. given_calls _ _ _ _ _ c.in-Survey.is (no_calls (λ files. 0) _ _)
+
+pub returns-in-Nodes-clause-needed : goal.returns-in-Nodes-clause-needed
+returns-in-Nodes-clause-needed g c = λ _ _. given_calls _ _ _ _ _ c.in-Nodes.is (no_calls (λ files. 0) _ _)
 
 pub returns-in-Versions-clause-needed : goal.returns-in-Versions-clause-needed
 returns-in-Versions-clause-needed g c = λ _ _. given_calls _ _ _ _ _ c.in-Versions.is c.compare_versions.ensures.calls
