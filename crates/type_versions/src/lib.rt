@@ -8,5 +8,5 @@ mod versions;
 mod words;
 
 pub use parts::parts_newer;
-pub use versions::{Versions, versions_of};
-pub use words::compat_why_text;
+pub use versions::{Versions, push_verdict, versions_of};
+pub use words::{compat_why_text, push_bytes, push_id, push_number};

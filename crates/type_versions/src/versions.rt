@@ -80,7 +80,7 @@ fn push_line(text: &mut Vec<u8>, pair: &VersionPair<'_>, verdict: &Verdict) -> R
 }
 
 /// Appends a verdict in words.
-fn push_verdict(text: &mut Vec<u8>, verdict: &Verdict) -> Result<(), NoMemory>
+pub fn push_verdict(text: &mut Vec<u8>, verdict: &Verdict) -> Result<(), NoMemory>
     ensures { OnOk result (text.new.items ≡ text.old.items ++ verdict_text verdict.now) }
 {
     match verdict {

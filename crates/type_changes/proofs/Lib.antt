@@ -1,0 +1,10 @@
+pub mod Fields
+pub mod Pairing
+pub mod Equal
+pub mod Compared
+pub mod Swapped
+pub mod Once
+pub mod Harmless
+pub mod Turned
+pub mod Whole
+pub mod Loops

@@ -1,0 +1,8 @@
+use Rattle.std.proofs.Common.{◌≡◌, drop, map}
+use Rattle.type_versions.specs.Lines.{first_refusal}
+use Rattle.type_changes.specs.Lines.{loss}
+use Rattle.type_changes.proofs.told.first_loss.Given as goal
+
+-- the first of the lines that are left is the first of all
+abbrev pub invariant-loop-line : goal.invariant-loop-line
+invariant-loop-line l = first_refusal (map loss (drop l.line-index l.lines)) ≡ first_refusal (map loss l.lines)
