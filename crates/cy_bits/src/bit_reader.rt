@@ -1,28 +1,48 @@
 ghost use Rattle.std.specs.Prelude.{◌≡◌, ◌≤◌, ◌<◌, ◌+◌, ◌^◌, ◌%◌, drop, take};
 ghost use Rattle.cy_bits.specs.Bits.{bits, gap, number};
 
+use std::marker::Model;
+
 /// Bytes, and a place in them or behind them where bits are read, least significant first (Cyphal
-/// Specification, section 3.7.1). Bits past the end are zeros. No call takes memory.
-#[derive(Clone, Copy, Drop)]
+/// Specification, section 3.7.1). Bits past the end are zeros. The place is at most 2^40. No call
+/// takes memory.
+#[derive(Drop)]
 pub struct BitReader<'a> {
-    /// The bytes.
-    pub bytes: &'a [u8],
-    /// The place in bits from the beginning.
-    pub place: u64,
+    bytes: &'a [u8],
+    place: u64,
+}
+
+impl<'a> Model for BitReader<'a> {
+    ghost use Rattle.std.specs.Prelude.{◌≤◌, ◌^◌};
+    ghost use Rattle.cy_bits.specs.Bits.{Cursor};
+
+    ghost Value = { Cursor };
+
+    ghost view = { λ r. record { bytes = r.bytes.now; place = r.place } };
+
+    ghost invariant = { λ r. r.place ≤ 2 ^ 40 };
 }
 
 impl<'a> BitReader<'a> {
     /// At the beginning of bytes.
     pub fn new(bytes: &'a [u8]) -> BitReader<'a>
-        ensures bytes { result.bytes.now ≡ bytes.now }
+        ensures bytes { result.bytes ≡ bytes.now }
         ensures place { result.place ≡ 0 }
     {
         BitReader { bytes, place: 0 }
     }
 
+    /// The bytes.
+    pub fn bytes(&self) -> &'a [u8]
+        ensures { result.now ≡ self.now.bytes }
+    {
+        self.bytes
+    }
+
     /// The place.
     pub fn place(&self) -> u64
-        ensures { result ≡ self.now.place }
+        ensures is { result ≡ self.now.place }
+        ensures near { result ≤ 2 ^ 40 }
     {
         self.place
     }
@@ -30,7 +50,7 @@ impl<'a> BitReader<'a> {
     /// Goes to a place.
     pub fn go(&mut self, place: u64)
         requires { place ≤ 2 ^ 40 }
-        ensures bytes { self.new.bytes.now ≡ self.old.bytes.now }
+        ensures bytes { self.new.bytes ≡ self.old.bytes }
         ensures place { self.new.place ≡ place }
     {
         self.place = place;
@@ -41,30 +61,41 @@ impl<'a> BitReader<'a> {
         requires few { width ≤ 64 }
         requires near { self.old.place + width ≤ 2 ^ 40 }
         ensures value { result ≡ number
-            (take width (drop self.old.place (bits self.old.bytes.now))) }
+            (take width (drop self.old.place (bits self.old.bytes))) }
         ensures small { result < 2 ^ width }
         ensures place { self.new.place ≡ self.old.place + width }
-        ensures bytes { self.new.bytes.now ≡ self.old.bytes.now }
+        ensures bytes { self.new.bytes ≡ self.old.bytes }
     {
-        let mut value = 0;
-        let mut done = 0;
-        while done < width {
-            let count = (width - done).min(8 - (self.place % 8) as u32);
-            value += bits_in_byte(self.bytes, self.place, count) << done;
-            self.place += u64::from(count);
-            done += count;
-        }
+        let value = bits_from(self.bytes, self.place, width);
+        self.place += u64::from(width);
         value
     }
 
     /// Goes to the next multiple of 8 bits.
     pub fn align(&mut self)
-        requires { self.old.place ≤ 2 ^ 40 }
         ensures place { self.new.place ≡ self.old.place + gap self.old.place }
-        ensures bytes { self.new.bytes.now ≡ self.old.bytes.now }
+        ensures bytes { self.new.bytes ≡ self.old.bytes }
     {
         self.place += self.place * 7 % 8;
     }
+}
+
+/// The number of so many bits from a place on, of at most 64.
+fn bits_from(bytes: &[u8], place: u64, width: u32) -> u64
+    requires few { width ≤ 64 }
+    requires near { place + width ≤ 2 ^ 40 }
+    ensures value { result ≡ number (take width (drop place (bits bytes.now))) }
+    ensures small { result < 2 ^ width }
+{
+    let mut value = 0;
+    let mut done = 0;
+    while done < width {
+        let at = place + u64::from(done);
+        let count = (width - done).min(8 - (at % 8) as u32);
+        value += bits_in_byte(bytes, at, count) << done;
+        done += count;
+    }
+    value
 }
 
 /// The number of so many bits within one byte, 0 past the end.

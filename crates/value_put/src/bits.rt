@@ -86,10 +86,8 @@ impl<'a> Bits<'a> {
         if width > 64 || self.place > FAR {
             return Err(Stop::GivesUp);
         }
-        let mut reader = BitReader {
-            bytes: &self.bytes[..self.size as usize],
-            place: self.place,
-        };
+        let mut reader = BitReader::new(&self.bytes[..self.size as usize]);
+        reader.go(self.place);
         Ok(reader.take(width))
     }
 

@@ -2,8 +2,7 @@
 use Rattle.std.specs.Prelude.{◌≡◌, ℕ, suc, ◌+◌, ◌-◌, ◌*◌, ◌%◌, ◌^◌, ◌≤◌, OnOk, nat_lt}
 use Rattle.std.specs.Prelude.{if◌then◌else◌, Bool, true, false, List, [], map, reverse, take, drop}
 use Rattle.std.specs.Prelude.{length, Result, Ok, Err, ℤ, pos, negsuc}
-use Rattle.cy_bits.specs.Bits.{bits, gap}
-use Rattle.cy_bits.specs.declared.bit_reader.BitReader.{BitReader}
+use Rattle.cy_bits.specs.Bits.{bits, gap, Cursor}
 use Rattle.dsdl_types.specs.Paths.{step_of}
 use Rattle.dsdl_types.specs.Reach.{header_or, reach}
 use Rattle.dsdl_types.specs.Reading.{Read, Got, Bad, BadDelimiter, Name, and_then, fields, own}
@@ -69,22 +68,22 @@ skipped false p = 0
 
 -- What is read by a definition from where the reader was is what was answered, and the reader is
 -- behind it.
-abbrev pub Answers : {X A : Type 0} → (ℕ → List Bool → Read A) → (X → A) → Result X Stop → BitReader
-    → BitReader → Type 0
-Answers f view res old new = Gives view res new.bytes.now new.place (f old.place (behind old.bytes.now old.place))
+abbrev pub Answers : {X A : Type 0} → (ℕ → List Bool → Read A) → (X → A) → Result X Stop → Cursor
+    → Cursor → Type 0
+Answers f view res old new = Gives view res new.bytes new.place (f old.place (behind old.bytes old.place))
 
-abbrev pub IsNear : BitReader → ℕ → Type 0
-IsNear at more = Near at.bytes.now at.place more
+abbrev pub IsNear : Cursor → ℕ → Type 0
+IsNear at more = Near at.bytes at.place more
 
 -- with so many bits past the end for what is read, others may follow
-abbrev pub StaysNear : {X : Type 0} → ℕ → Result X Stop → BitReader → BitReader → Type 0
+abbrev pub StaysNear : {X : Type 0} → ℕ → Result X Stop → Cursor → Cursor → Type 0
 StaysNear most res old new = (more : ℕ) → IsNear old (most + more) → OnOk res (IsNear new more)
 
 -- at a multiple of 8, for a type that begins at one
-abbrev pub IsWhole : Bool → BitReader → Type 0
+abbrev pub IsWhole : Bool → Cursor → Type 0
 IsWhole d at = d ≡ true → at.place % 8 ≡ 0
 
-abbrev pub StaysWhole : {X : Type 0} → Bool → Result X Stop → BitReader → Type 0
+abbrev pub StaysWhole : {X : Type 0} → Bool → Result X Stop → Cursor → Type 0
 StaysWhole d res at = d ≡ true → OnOk res (at.place % 8 ≡ 0)
 
 -- so many bits past the end for a part
@@ -92,12 +91,12 @@ abbrev pub part_reach : Sch → ℕ
 part_reach s = header_or (is_delimited s) (reach s)
 
 -- One item more was read: the others are left.
-abbrev pub ReadsItem : {X : Type 0} → Sch → ℕ → Result X Stop → List Value → BitReader → List Value
-    → BitReader → Type 0
+abbrev pub ReadsItem : {X : Type 0} → Sch → ℕ → Result X Stop → List Value → Cursor → List Value
+    → Cursor → Type 0
 ReadsItem s i res values old more new =
     (n : ℕ) → Goes res
-    (with_front (vals values) (row (part s) (suc n) i old.place (behind old.bytes.now old.place)))
-    (with_front (vals more) (row (part s) n (suc i) new.place (behind new.bytes.now new.place)))
+    (with_front (vals values) (row (part s) (suc n) i old.place (behind old.bytes old.place)))
+    (with_front (vals more) (row (part s) n (suc i) new.place (behind new.bytes new.place)))
 
 -- the field in front of others, and alone
 abbrev pub in_front : Field → Flds → Flds
@@ -107,17 +106,17 @@ abbrev pub alone : Field → Flds
 alone field = in_front field End
 
 -- One field more was read: the others are left.
-abbrev pub ReadsField : {X : Type 0} → Field → Result X Stop → List Value → BitReader → List Value
-    → BitReader → Type 0
+abbrev pub ReadsField : {X : Type 0} → Field → Result X Stop → List Value → Cursor → List Value
+    → Cursor → Type 0
 ReadsField field res values old more new =
     (fs : Flds) → Goes res
-    (with_front (vals values) (fields (in_front field fs) old.place (behind old.bytes.now old.place)))
-    (with_front (vals more) (fields fs new.place (behind new.bytes.now new.place)))
+    (with_front (vals values) (fields (in_front field fs) old.place (behind old.bytes old.place)))
+    (with_front (vals more) (fields fs new.place (behind new.bytes new.place)))
 
 -- the reader of a field or a variant by its name
 abbrev pub named_read : Field → ℕ → List Bool → Read Val
 named_read field p x = under (Name (named field).0) (part (type_in field) p x)
 
 -- the value is what a schema reads from where the reader was, and the reader is behind it
-abbrev pub IsReadAs : Sch → Value → BitReader → BitReader → Type 0
-IsReadAs s v old new = own s old.place (behind old.bytes.now old.place) ≡ Got (val v) new.place (behind new.bytes.now new.place)
+abbrev pub IsReadAs : Sch → Value → Cursor → Cursor → Type 0
+IsReadAs s v old new = own s old.place (behind old.bytes old.place) ≡ Got (val v) new.place (behind new.bytes new.place)

@@ -24,7 +24,7 @@ pub fn read_own(alloc: Global, schema: &Schema, at: &mut BitReader<'_>) -> Resul
     requires whole { IsWhole (is_aligned (sch schema.now)) at.old }
     requires near { IsNear at.old (reach (sch schema.now)) }
     ensures reads { Answers (own (sch schema.now)) val result at.old at.new }
-    ensures same { at.new.bytes.now ≡ at.old.bytes.now }
+    ensures same { at.new.bytes ≡ at.old.bytes }
     ensures whole { StaysWhole (is_aligned (sch schema.now)) result at.new }
 {
     match schema {
@@ -55,7 +55,7 @@ fn read_var(alloc: Global, item: &Schema, cap: u32, at: &mut BitReader<'_>) -> R
     requires whole { IsWhole (is_aligned (sch item.now)) at.old }
     requires near { IsNear at.old (reach (Var (sch item.now) cap)) }
     ensures reads { Answers (own (Var (sch item.now) cap)) val result at.old at.new }
-    ensures same { at.new.bytes.now ≡ at.old.bytes.now }
+    ensures same { at.new.bytes ≡ at.old.bytes }
     ensures whole { StaysWhole (is_aligned (sch item.now)) result at.new }
 {
     let number = at.take(length_field_bits(u64::from(cap)));
@@ -73,7 +73,7 @@ fn read_part(alloc: Global, schema: &Schema, at: &mut BitReader<'_>) -> Result<V
     requires whole { IsWhole (is_aligned (sch schema.now)) at.old }
     requires near { IsNear at.old (part_reach (sch schema.now)) }
     ensures reads { Answers (part (sch schema.now)) val result at.old at.new }
-    ensures same { at.new.bytes.now ≡ at.old.bytes.now }
+    ensures same { at.new.bytes ≡ at.old.bytes }
     ensures whole { StaysWhole (is_aligned (sch schema.now)) result at.new }
 {
     if is_delimited(schema) {
@@ -98,10 +98,10 @@ fn read_window(
     requires whole { at.old.place % 8 ≡ 0 }
     requires near { IsNear at.old 0 }
     ensures reads { Answers (window_read (own (sch schema.now)) count) val result at.old at.new }
-    ensures same { at.new.bytes.now ≡ at.old.bytes.now }
+    ensures same { at.new.bytes ≡ at.old.bytes }
     ensures whole { OnOk result (at.new.place % 8 ≡ 0) }
 {
-    match window(at.bytes, at.place(), count) {
+    match window(at.bytes(), at.place(), count) {
         None => Err(Stop::here(alloc, ReadWhy::BadDelimiter(count))),
         Some(bytes) => {
             let mut inner = BitReader::new(bytes);
@@ -124,7 +124,7 @@ fn read_row(
     requires whole { IsWhole (is_aligned (sch item.now)) at.old }
     requires near { IsNear at.old (count * part_reach (sch item.now)) }
     ensures reads { Answers (row (part (sch item.now)) count 0) vals result at.old at.new }
-    ensures same { at.new.bytes.now ≡ at.old.bytes.now }
+    ensures same { at.new.bytes ≡ at.old.bytes }
     ensures whole { StaysWhole (is_aligned (sch item.now)) result at.new }
 {
     let mut values = Vec::new(alloc);
@@ -148,7 +148,7 @@ fn read_item(
     requires near { IsNear at.old (part_reach (sch item.now)) }
     ensures goes { ReadsItem (sch item.now) index result values.old.items at.old values.new.items
         at.new }
-    ensures same { at.new.bytes.now ≡ at.old.bytes.now }
+    ensures same { at.new.bytes ≡ at.old.bytes }
     ensures whole { StaysWhole (is_aligned (sch item.now)) result at.new }
     ensures near { StaysNear (part_reach (sch item.now)) result at.old at.new }
 {
@@ -176,7 +176,7 @@ fn read_fields(alloc: Global, body: &Body, at: &mut BitReader<'_>) -> Result<Lis
     requires rules { HaveRules (body_of body.now).0 }
     requires near { IsNear at.old (reach_fields (body_of body.now).0) }
     ensures reads { Answers (fields (body_of body.now).0) vals result at.old at.new }
-    ensures same { at.new.bytes.now ≡ at.old.bytes.now }
+    ensures same { at.new.bytes ≡ at.old.bytes }
     ensures near { StaysNear (reach_fields (body_of body.now).0) result at.old at.new }
 {
     let mut values = Vec::new(alloc);
@@ -197,7 +197,7 @@ fn read_field(
     requires rules { HaveRules (alone field.now) }
     requires near { IsNear at.old (reach_fields (alone field.now)) }
     ensures goes { ReadsField field.now result values.old.items at.old values.new.items at.new }
-    ensures same { at.new.bytes.now ≡ at.old.bytes.now }
+    ensures same { at.new.bytes ≡ at.old.bytes }
     ensures near { StaysNear (reach_fields (alone field.now)) result at.old at.new }
 {
     match padding(&field.schema) {
@@ -215,10 +215,9 @@ fn read_field(
 
 /// Goes to the next multiple of 8 bits, where a type begins at one.
 fn go_to_begin(schema: &Schema, at: &mut BitReader<'_>)
-    requires { at.old.place ≤ 2 ^ 40 }
     ensures place { at.new.place ≡ at.old.place + skipped
         (is_aligned (sch schema.now)) at.old.place }
-    ensures same { at.new.bytes.now ≡ at.old.bytes.now }
+    ensures same { at.new.bytes ≡ at.old.bytes }
     ensures whole { is_aligned (sch schema.now) ≡ true → at.new.place % 8 ≡ 0 }
 {
     if is_aligned(schema) {
@@ -233,7 +232,7 @@ fn read_named(alloc: Global, field: &Field, at: &mut BitReader<'_>) -> Result<Va
     requires whole { IsWhole (is_aligned (type_in field.now)) at.old }
     requires near { IsNear at.old (part_reach (type_in field.now)) }
     ensures reads { Answers (named_read field.now) val result at.old at.new }
-    ensures same { at.new.bytes.now ≡ at.old.bytes.now }
+    ensures same { at.new.bytes ≡ at.old.bytes }
     ensures whole { StaysWhole (is_aligned (type_in field.now)) result at.new }
 {
     match read_part(alloc, &field.schema, at) {
@@ -252,7 +251,7 @@ fn read_union(alloc: Global, body: &Body, at: &mut BitReader<'_>) -> Result<Valu
     requires whole { at.old.place % 8 ≡ 0 }
     requires near { IsNear at.old (reach (union_of body.now)) }
     ensures reads { Answers (own (union_of body.now)) val result at.old at.new }
-    ensures same { at.new.bytes.now ≡ at.old.bytes.now }
+    ensures same { at.new.bytes ≡ at.old.bytes }
     ensures whole { OnOk result (at.new.place % 8 ≡ 0) }
 {
     let tag = at.take(tag_bits(variants(body)));
@@ -271,7 +270,7 @@ fn read_variant(alloc: Global, body: &Body, tag: u64, at: &mut BitReader<'_>) ->
     requires whole { at.old.place % 8 ≡ 0 }
     requires near { IsNear at.old (reach_variant (body_of body.now).0) }
     ensures reads { Answers (variant (body_of body.now).0 tag tag) val result at.old at.new }
-    ensures same { at.new.bytes.now ≡ at.old.bytes.now }
+    ensures same { at.new.bytes ≡ at.old.bytes }
     ensures near { StaysNear (reach_variant (body_of body.now).0) result at.old at.new }
     ensures tag { OnOk result (tag < variants (body_of body.now).0) }
 {

@@ -12,7 +12,7 @@ use dsdl_types::Value;
 pub fn read_truth(at: &mut BitReader<'_>) -> Value
     requires { IsNear at.old 1 }
     ensures reads { IsReadAs (Simple PBool) result at.old at.new }
-    ensures same { at.new.bytes.now ≡ at.old.bytes.now }
+    ensures same { at.new.bytes ≡ at.old.bytes }
 {
     Value::Bool(at.take(1) == 1)
 }
@@ -22,7 +22,7 @@ pub fn read_unsigned(bits: u8, at: &mut BitReader<'_>) -> Value
     requires few { bits ≤ 64 }
     requires near { IsNear at.old bits }
     ensures reads { (cast : Bool) → IsReadAs (Simple (PUint bits cast)) result at.old at.new }
-    ensures same { at.new.bytes.now ≡ at.old.bytes.now }
+    ensures same { at.new.bytes ≡ at.old.bytes }
 {
     unsigned(at.take(u32::from(bits)))
 }
@@ -32,7 +32,7 @@ pub fn read_signed(bits: u8, at: &mut BitReader<'_>) -> Value
     requires few { (1 ≤ bits) × (bits ≤ 64) }
     requires near { IsNear at.old bits }
     ensures reads { IsReadAs (Simple (PInt bits)) result at.old at.new }
-    ensures same { at.new.bytes.now ≡ at.old.bytes.now }
+    ensures same { at.new.bytes ≡ at.old.bytes }
 {
     signed(at.take(u32::from(bits)), bits)
 }
@@ -42,7 +42,7 @@ pub fn read_float(bits: u8, at: &mut BitReader<'_>) -> Value
     requires few { bits ≤ 64 }
     requires near { IsNear at.old bits }
     ensures reads { (cast : Bool) → IsReadAs (Simple (PFloat bits cast)) result at.old at.new }
-    ensures same { at.new.bytes.now ≡ at.old.bytes.now }
+    ensures same { at.new.bytes ≡ at.old.bytes }
 {
     Value::Bits(at.take(u32::from(bits)))
 }

@@ -20,4 +20,4 @@ read_own-requires-clause-near c =
 pub returns-in-Ok-clause-ok : goal.returns-in-Ok-clause-ok
 returns-in-Ok-clause-ok c =
     let s = sch c.args.schema.now in
-    (c.read_own.new.at.place, behind c.read_own.new.at.bytes.now c.read_own.new.at.place, (λ i. own s (sym c.new-at.ensures.place i) (behind (sym c.new-at.ensures.bytes i) (sym c.new-at.ensures.place i))) ∙ c.in-Ok.ensures.reads)
+    (c.read_own.new.at.place, behind c.read_own.new.at.bytes c.read_own.new.at.place, (λ i. own s (sym c.new-at.ensures.place i) (behind (sym c.new-at.ensures.bytes i) (sym c.new-at.ensures.place i))) ∙ c.in-Ok.ensures.reads)

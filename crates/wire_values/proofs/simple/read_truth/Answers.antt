@@ -6,5 +6,5 @@ use Rattle.wire_values.proofs.simple.read_truth.Goals as goal
 
 pub returns-clause-reads : goal.returns-clause-reads
 returns-clause-reads c =
-    simple_read PBool c.args.at.now.bytes.now c.take.new.self.bytes.now c.args.at.now.place c.take.new.self.place 1 c.take.result _ (search rules) c.take.ensures.bytes c.take.ensures.place c.take.ensures.value
+    simple_read PBool c.args.at.now.bytes c.take.new.self.bytes c.args.at.now.place c.take.new.self.place 1 c.take.result _ (search rules) c.take.ensures.bytes c.take.ensures.place c.take.ensures.value
     (val_bool (c.take.result == 1))
