@@ -38,7 +38,8 @@ fn push_singles(parts: &mut Vec<Run>, run: &Run, step: u64, wide: u64) -> Result
     Ok(())
 }
 
-/// How many classes a run of one step has at another, where the other is a multiple.
+/// How many classes a run of one step has at another, where the other is a multiple. That it tells
+/// each multiple isn't proved: else the members come one by one.
 pub fn classes(step: u64, wide: u64) -> Option<u64>
     requires { 0 < step }
     ensures { IfSome result (λ many. step * many ≡ wide) }
@@ -50,7 +51,8 @@ pub fn classes(step: u64, wide: u64) -> Option<u64>
     }
 }
 
-/// How many runs of another step a run of one step becomes, with so many classes.
+/// How many runs of another step a run of one step becomes, with so many classes: an estimate of the
+/// work, of which nothing is proved.
 pub fn parts_of(run: &Run, classes: Option<u64>) -> u64
     requires order { run.now.first ≤ run.now.last }
     requires short { run.now.last ≤ 2 ^ 32 }

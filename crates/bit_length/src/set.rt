@@ -117,11 +117,6 @@ impl LengthSet {
         }
     }
 
-    /// How many runs the set is kept as: it takes some 24 bytes of memory for each.
-    pub fn run_count(&self) -> u64 {
-        self.runs.get().run_count()
-    }
-
     /// The set of the members of some runs, which it has alone.
     #[inline(always)]
     fn alone(runs: RunSet) -> LengthSet

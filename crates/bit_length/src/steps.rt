@@ -3,7 +3,8 @@ ghost use Rattle.bit_length.specs.Members.{lesser_of};
 
 use crate::LONGEST;
 
-/// The greatest common divisor of two numbers; the other number where one is 0.
+/// A common divisor of two numbers, by Euclid's way the greatest; the other number where one is 0.
+/// That it divides both is proved, and that it is the greatest isn't: another would cost steps alone.
 pub fn common_divisor(a: u64, b: u64) -> u64
     ensures left { a % result ≡ 0 }
     ensures right { b % result ≡ 0 }
@@ -19,7 +20,8 @@ pub fn common_divisor(a: u64, b: u64) -> u64
     x
 }
 
-/// The least common multiple of two steps, where it is no greater than the greatest length.
+/// A common multiple of two steps, where it is no greater than the greatest length. It is the least
+/// one if their divisor is the greatest, which isn't proved; nor is that `None` comes there alone.
 pub fn common_multiple(a: u64, b: u64) -> Option<u64>
     requires left { 0 < a }
     requires right { 0 < b }

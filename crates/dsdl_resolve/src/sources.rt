@@ -1,6 +1,20 @@
 //! The pass on syntax: each line is one of the grammar. What the statements refer to is kept, and
 //! the statements themselves as long as they are few.
-ghost use Rattle.std.specs.Prelude.{◌≡◌, ◌<◌, ◌^◌, ℕ, [], Ok, Err, length, IfOk, OnOk, IfErr, IfSome};
+ghost use Rattle.std.specs.Prelude.{
+  ◌≡◌,
+  ◌<◌,
+  ◌^◌,
+  ℕ,
+  [],
+  None,
+  Ok,
+  Err,
+  length,
+  IfOk,
+  OnOk,
+  IfErr,
+  IfSome,
+};
 ghost use Rattle.std.specs.List.{All};
 ghost use Rattle.dsdl_names.specs.Names.{file_name_of};
 ghost use Rattle.dsdl_parse.specs.Ast.{FirstBad, IsAst};
@@ -62,7 +76,8 @@ pub fn sources_of(
 
 /// The statements of a text of so many bytes, where these are no more than those that are left.
 fn keep(ast: Ast, bytes: usize, left: &mut usize) -> Option<Ast>
-    ensures { IfSome result (λ kept. kept ≡ ast) }
+    ensures kept { IfSome result (λ kept. kept ≡ ast) }
+    ensures dropped { result ≡ None → left.old < bytes }
 {
     if bytes > *left {
         return None;

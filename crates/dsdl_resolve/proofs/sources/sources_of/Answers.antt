@@ -20,7 +20,7 @@ loop-i-preserved c = record {
   sources = sources_more c.args.files.now c.args.names.now c.loop-i.sources c.push.new.self c.loop-i.i c.index-files-i.result c.index-names-i.result c.in-Ok.parsed.source c.loop-i.invariant.sources
       c.loop-i-test.true c.index-files-i.is (omega (arith, zip_long _ c.args.files.now c.args.names.now c.requires.named)) c.index-names-i.is c.in-Ok.ensures.source c.in_ok-push-in-Ok.ensures.ok;
   kept = kept_more c.args.files.now c.loop-i.kept c.push-in-Ok.new.self c.loop-i.i c.index-files-i.result c.keep.result c.in-Ok.parsed.ast c.loop-i.invariant.kept c.loop-i-test.true c.index-files-i.is
-      c.keep.ensures c.in-Ok.ensures.ast c.in_ok-push-in-Ok-2.ensures.ok;
+      c.keep.ensures.kept c.in-Ok.ensures.ast c.in_ok-push-in-Ok-2.ensures.ok;
 }
 
 pub returns-in-Err-clause-refused : goal.returns-in-Err-clause-refused
