@@ -2,7 +2,7 @@
 ghost use Rattle.std.specs.Prelude.{◌≡◌, ◌<◌, ◌≤◌, length, take, drop, IfOk};
 ghost use Rattle.std.specs.Io.KnownBytes.{Consumes, IsAtEnd};
 
-use crate::real::read_piece;
+use crate::real::{PIECE, read_piece};
 use crate::retried::open_retried;
 use std::fs::{Metadata, OpenFile};
 use std::io::{self, ErrorKind, Read, Seek, SeekFrom};
@@ -75,6 +75,8 @@ pub struct Opened<F> {
     offset: u64,
     /// The version that it had right after it was opened.
     version: Version,
+    /// Whether the last read filled a whole piece, as those of a file that is read in pieces do.
+    in_pieces: bool,
 }
 
 /// What is found where a file is opened.
@@ -105,6 +107,7 @@ pub fn open_at<R: Files>(rt: &R, path: &str, offset: u64) -> io::Result<Found<R:
         file,
         offset,
         version: Version::of(&metadata),
+        in_pieces: false,
     }))
 }
 
@@ -112,6 +115,17 @@ impl<F> Opened<F> {
     /// Whether a read from this offset on goes on where the last one ended.
     pub fn goes_on(&self, offset: u64) -> bool {
         self.offset == offset
+    }
+
+    /// Whether the last read filled a whole piece, as those of a file that is read in pieces do.
+    pub fn is_in_pieces(&self) -> bool {
+        self.in_pieces
+    }
+
+    /// Whether these data are of this file, whose bytes stand as they did when it was opened, as far
+    /// as the data tell.
+    pub fn is_told_by(&self, metadata: &Metadata) -> bool {
+        Version::of(metadata).has_bytes_of(&self.version)
     }
 
     /// Whether the next read would find the file's end, as its size tells.
@@ -149,6 +163,7 @@ impl<F: Read + OpenFile> Opened<F> {
         let n = fill(&mut self.file, &mut buf[..told])?;
         self.check()?;
         self.offset = self.offset.saturating_add(n as u64);
+        self.in_pieces = n == PIECE;
         Ok(n)
     }
 }

@@ -30,11 +30,12 @@ const LONGEST_PATH: usize = 4096;
 /// path leads there.
 ///
 /// A file is the one that its path leads to when it is opened. The one that was read last is kept
-/// open until it was read to its end, and a read that goes on where the last one ended reads that
-/// file, also where another has come to its path: pieces in a row are of one file. That it is
-/// written meanwhile is a fault, where its size, the time of its last write or that of its last
-/// change tells it: a write that leaves all three as they were isn't seen. Where the file got or
-/// lost a name meanwhile, the time of its last change tells nothing.
+/// open until it was read to its end, and a read that goes on where one of a whole piece of 8,192
+/// bytes ended reads that file, also where another has come to its path: pieces in a row are of one
+/// file. Behind any other read it is taken only where its path still leads to it and its bytes stand
+/// as they did. That it is written while it is read in pieces is a fault. Its size, the time of its
+/// last write and that of its last change tell both: a write that leaves all three as they were isn't
+/// seen. Where the file got or lost a name meanwhile, the time of its last change tells nothing.
 #[derive(Drop)]
 pub struct RealTree<'a, R: Files> {
     /// The runtime, which reaches the files.
@@ -84,10 +85,26 @@ impl<'a, R: Files> RealTree<'a, R> {
         self.calls = self.calls.saturating_add(1);
     }
 
-    /// Whether a read goes on where the last one ended.
-    fn goes_on(&self, path: &str, offset: u64) -> bool {
+    /// The open file, where a read goes on in it where the last one ended.
+    fn kept(&self, path: &str, offset: u64) -> Option<&Opened<R::File>> {
         match &self.opened {
-            Some(opened) => opened.goes_on(offset) && self.path.as_str() == path,
+            Some(opened) if opened.goes_on(offset) && self.path.as_str() == path => Some(opened),
+            _ => None,
+        }
+    }
+
+    /// Whether a read goes on where one of a whole piece ended.
+    fn is_in_pieces(&self, path: &str, offset: u64) -> bool {
+        match self.kept(path, offset) {
+            Some(opened) => opened.is_in_pieces(),
+            None => false,
+        }
+    }
+
+    /// Whether a read goes on where the last one ended, in the file that these data are of.
+    fn is_kept(&self, path: &str, offset: u64, metadata: &Metadata) -> bool {
+        match self.kept(path, offset) {
+            Some(opened) => opened.is_told_by(metadata),
             None => false,
         }
     }
@@ -156,11 +173,17 @@ impl<'a, R: Files> RealTree<'a, R> {
         ensures no_bytes { IfOk result (λ found. IfSome found
             (λ got. (got ≡ Got.Absent) ⊎ (got ≡ Got.Folder))) }
     {
-        if self.goes_on(path, offset) {
+        if self.is_in_pieces(path, offset) {
             return Ok(None);
         }
+        let looked = metadata_retried(self.rt, path);
+        if let Ok(metadata) = &looked {
+            if self.is_kept(path, offset, metadata) {
+                return Ok(None);
+            }
+        }
         self.opened = None;
-        let metadata = metadata_retried(self.rt, path)?;
+        let metadata = looked?;
         if metadata.is_dir() {
             return folder_at(self.rt, path, &metadata);
         }
