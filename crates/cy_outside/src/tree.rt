@@ -1,7 +1,7 @@
 ghost use Rattle.std.specs.Prelude.{◌≡◌, ◌≤◌, ℕ, Option, length, drop, IfOk, IfErr};
 ghost use Rattle.cy_outside.specs.Files.{Files, Lists, Reads, Sizes};
 ghost use Rattle.cy_outside.specs.Calls.{one_more};
-ghost use Rattle.cy_outside.specs.Causes.{HasTreeCause, IsWithin, IsLeft};
+ghost use Rattle.cy_outside.specs.Causes.{CountsFault, HasTreeCause, IsWithin, IsLeft};
 
 use cy_bits::{List, Text};
 use std::alloc::Global;
@@ -60,9 +60,8 @@ pub enum Size {
 /// Files under paths, with `/` between names. A path is a folder exactly where some file's path
 /// begins with it and `/`. That nothing stands at a path is an answer, and no fault.
 ///
-/// No call changes the files. `TreeError::Failed` comes only where the call raised the count of
-/// faults; every other answer leaves the count as it was. Each call raises the count of calls by
-/// one.
+/// No call changes the files. A call that answers `TreeError::Failed` raises the count of faults by
+/// one; every other answer leaves the count as it was. Each call raises the count of calls by one.
 pub trait Tree {
     /// The files, where it tells them.
     ghost files: { Self → Option Files };
@@ -78,6 +77,7 @@ pub trait Tree {
     fn list(&mut self, alloc: Global, path: &str) -> Result<Listing, TreeError>
         ensures files { files self.new ≡ files self.old }
         ensures lists { IfOk result (λ listing. Lists (files self.old) path.now listing) }
+        ensures faults { CountsFault (faults self.old) (faults self.new) result }
         ensures cause { HasTreeCause (faults self.old) (faults self.new) result }
         ensures count { faults self.old ≤ faults self.new }
         ensures calls { calls self.new ≡ one_more (calls self.old) };
@@ -90,6 +90,7 @@ pub trait Tree {
         ensures reads { IfOk result (λ got. Reads (files self.old) path.now offset buf.new got) }
         ensures behind { IfOk result (λ got. IsLeft got buf.old buf.new) }
         ensures memory { IfErr result (λ error. error ≡ TreeError.Failed) }
+        ensures faults { CountsFault (faults self.old) (faults self.new) result }
         ensures cause { HasTreeCause (faults self.old) (faults self.new) result }
         ensures count { faults self.old ≤ faults self.new }
         ensures calls { calls self.new ≡ one_more (calls self.old) };
@@ -99,6 +100,7 @@ pub trait Tree {
         ensures files { files self.new ≡ files self.old }
         ensures sizes { IfOk result (λ size. Sizes (files self.old) path.now size) }
         ensures memory { IfErr result (λ error. error ≡ TreeError.Failed) }
+        ensures faults { CountsFault (faults self.old) (faults self.new) result }
         ensures cause { HasTreeCause (faults self.old) (faults self.new) result }
         ensures count { faults self.old ≤ faults self.new }
         ensures calls { calls self.new ≡ one_more (calls self.old) };
