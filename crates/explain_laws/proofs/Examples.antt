@@ -8,7 +8,7 @@ use Rattle.can_id.specs.declared.key.Kind.TheVariants.{Message}
 use Rattle.node_core.specs.Steps.{records}
 use Rattle.node_plan.specs.Names.{is_bus_name}
 use Rattle.tail_frame.specs.declared.discard.Discard.TheVariants.{Empty}
-use Rattle.rx_reason.specs.declared.reason.Reason.TheVariants.{Begun, Delivered, Discarded}
+use Rattle.log_explain.specs.declared.reasons.reason.Reason.TheVariants.{Begun, Delivered, Discarded}
 use Rattle.session_lines.specs.Example.{ValuesExample}
 use Rattle.session_lines.proofs.Cuts.{unlike}
 use Rattle.log_explain.specs.declared.line.FrameLine.{FrameLine}

@@ -21,12 +21,12 @@ use Rattle.rx_table.specs.Ports.{Port, is_admitted}
 use Rattle.rx_table.specs.Received.{Delivery, Got, Run, alone, begins, not_begun, received}
 use Rattle.rx_table.specs.Table.{log_with, port_on, with_source}
 use Rattle.delivery_theorems.specs.Selected.{Each}
-use Rattle.rx_reason.specs.Reads.{read_of}
-use Rattle.rx_reason.specs.Reasons.{Listens, aside, begun_reason, ended, from, last_line, no_change, of_heard, of_key, of_port, of_read, of_run, on_port, or_on_port, running, silent, stray, time_since, unheard}
-use Rattle.rx_reason.specs.declared.reason.Change.{Change}
-use Rattle.rx_reason.specs.declared.reason.Reason.{Reason}
-use Rattle.rx_reason.specs.declared.reason.Reason.TheVariants.{BadCrc, Begun, Copy, Delivered, Elsewhere, NoSession, Own, StrayNone, StrayTid, StrayToggle, Taken, Unknown}
-use Rattle.rx_reason.proofs.Discards.{reads_each}
+use Rattle.log_explain.specs.Reads.{read_of}
+use Rattle.log_explain.specs.Reasons.{Listens, aside, begun_reason, ended, from, last_line, no_change, of_heard, of_key, of_port, of_read, of_run, on_port, or_on_port, running, silent, stray, time_since, unheard}
+use Rattle.log_explain.specs.declared.reasons.reason.Change.{Change}
+use Rattle.log_explain.specs.declared.reasons.reason.Reason.{Reason}
+use Rattle.log_explain.specs.declared.reasons.reason.Reason.TheVariants.{BadCrc, Begun, Copy, Delivered, Elsewhere, NoSession, Own, StrayNone, StrayTid, StrayToggle, Taken, Unknown}
+use Rattle.log_explain.proofs.Discards.{reads_each}
 use Rattle.log_explain.specs.Lines.{line_on, transfer_in}
 use Rattle.explain_laws.specs.Text.{IsBus, IsChange, IsNumber, IsOnRecord, IsReason, IsSilence, IsTransfer}
 

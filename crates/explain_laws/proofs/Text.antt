@@ -5,8 +5,8 @@ use Rattle.std.specs.List.{list_all}
 use Rattle.rx_table.specs.Keys.{SessionKey}
 use Rattle.line_text.specs.Text.{line_of, moment_text, spaced}
 use Rattle.session_lines.proofs.Cuts.{AreWords, SameLine, decimal_word, one_line, unlike}
-use Rattle.rx_reason.specs.declared.reason.Reason.{Reason}
-use Rattle.rx_reason.specs.declared.reason.Reason.TheVariants.{
+use Rattle.log_explain.specs.declared.reasons.reason.Reason.{Reason}
+use Rattle.log_explain.specs.declared.reasons.reason.Reason.TheVariants.{
   BadCrc,
   Begun,
   Copy,

@@ -27,9 +27,9 @@ use Rattle.report_lines.specs.declared.line.Line.TheVariants.{Rx, NoSession as R
 use Rattle.session_lines.specs.Reported.{IsSession, Reported, is_key, is_source, of_key, rxs, without_key}
 use Rattle.session_lines.proofs.Projection.{same_kind-true}
 use Rattle.session_lines.proofs.Sending.{rxs_append, rxs_at}
-use Rattle.rx_reason.specs.Laws.{delivered_at}
-use Rattle.rx_reason.specs.declared.reason.Reason.{Reason}
-use Rattle.rx_reason.specs.declared.reason.Reason.TheVariants.{
+use Rattle.log_explain.specs.ReasonLaws.{delivered_at}
+use Rattle.log_explain.specs.declared.reasons.reason.Reason.{Reason}
+use Rattle.log_explain.specs.declared.reasons.reason.Reason.TheVariants.{
   BadCrc,
   Begun,
   Copy,

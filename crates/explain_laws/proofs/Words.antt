@@ -10,12 +10,12 @@ use Rattle.can_id.specs.declared.key.Kind.{Kind}
 use Rattle.can_id.specs.declared.key.Kind.TheVariants.{Message, Request, Response}
 use Rattle.line_text.specs.Text.{digit, moment_text, six_digits}
 use Rattle.node_plan.specs.Names.{is_name_byte}
-use Rattle.rx_reason.specs.Reasons.{no_change}
+use Rattle.log_explain.specs.Reasons.{no_change}
 use Rattle.tail_frame.specs.declared.discard.Discard.{Discard}
 use Rattle.tail_frame.specs.declared.discard.Discard.TheVariants as discard
-use Rattle.rx_reason.specs.declared.reason.Change.{Change}
-use Rattle.rx_reason.specs.declared.reason.Reason.{Reason}
-use Rattle.rx_reason.specs.declared.reason.Reason.TheVariants.{
+use Rattle.log_explain.specs.declared.reasons.reason.Change.{Change}
+use Rattle.log_explain.specs.declared.reasons.reason.Reason.{Reason}
+use Rattle.log_explain.specs.declared.reasons.reason.Reason.TheVariants.{
   BadCrc,
   Begun,
   Copy,
@@ -32,7 +32,7 @@ use Rattle.rx_reason.specs.declared.reason.Reason.TheVariants.{
   Unknown,
   Unsubscribed,
 }
-use Rattle.rx_reason.specs.declared.reason.Silence.{Silence}
+use Rattle.log_explain.specs.declared.reasons.reason.Silence.{Silence}
 use Rattle.session_lines.proofs.Cuts.{AreWords, Free, IsEnd, cut, decimal_no_hyphen, decimal_pointless, decimal_word, free_append}
 use Rattle.log_explain.specs.Text.{change_words, discard_word, from_words, kind_word, name_of, name_or, over_words, reason_words, silence_words, source_word, transfer_words}
 use Rattle.log_explain.specs.declared.line.Transfer.{Transfer}

@@ -27,9 +27,9 @@ use Rattle.frame_log.specs.Log.{log_of}
 use Rattle.frame_log.specs.Order.{IsFit}
 use Rattle.frame_log.specs.declared.error.LogError.{LogError}
 use Rattle.log_loop.specs.Voice.{said, whole_text}
-use Rattle.rx_reason.specs.Laws.{is_badcrc}
-use Rattle.rx_reason.specs.Reasons.{Listens}
-use Rattle.rx_reason.specs.declared.reason.Reason.{Reason}
+use Rattle.log_explain.specs.ReasonLaws.{is_badcrc}
+use Rattle.log_explain.specs.Reasons.{Listens}
+use Rattle.log_explain.specs.declared.reasons.reason.Reason.{Reason}
 use Rattle.log_explain.specs.Counts.{count, counts, delivery_in, gaps, is_abandoned, is_copy, is_delivered, is_gap, is_handover, is_standby, is_stray, last}
 use Rattle.log_explain.specs.Explained.{explain_voice, last_text, listens_by, names_of}
 use Rattle.log_explain.specs.Lines.{is_in, line_on, lines, of_session, session_of, sessions, sessions_of, sessions_on}

@@ -3,9 +3,9 @@ use Rattle.std.specs.Prelude.{◌≡◌, ◌≢◌, ◌<◌, ◌^◌, ℕ, List,
 use Rattle.std.specs.List.{All, AllPairs}
 use Rattle.std.specs.Prelude.{codes}
 use Rattle.node_plan.specs.Names.{is_bus_name}
-use Rattle.rx_reason.specs.declared.reason.Change.{Change}
-use Rattle.rx_reason.specs.declared.reason.Reason.{Reason}
-use Rattle.rx_reason.specs.declared.reason.Reason.TheVariants.{
+use Rattle.log_explain.specs.declared.reasons.reason.Change.{Change}
+use Rattle.log_explain.specs.declared.reasons.reason.Reason.{Reason}
+use Rattle.log_explain.specs.declared.reasons.reason.Reason.TheVariants.{
   BadCrc,
   Begun,
   Copy,
@@ -22,7 +22,7 @@ use Rattle.rx_reason.specs.declared.reason.Reason.TheVariants.{
   Unknown,
   Unsubscribed,
 }
-use Rattle.rx_reason.specs.declared.reason.Silence.{Silence}
+use Rattle.log_explain.specs.declared.reasons.reason.Silence.{Silence}
 use Rattle.log_explain.specs.Counts.{last}
 use Rattle.log_explain.specs.Lines.{of_session}
 use Rattle.log_explain.specs.Sessions.{Session}

@@ -23,14 +23,14 @@ use Rattle.node_plan.specs.declared.plan.Plan.{Plan}
 use Rattle.node_core.specs.Heard.{ports_of}
 use Rattle.node_core.specs.Received.{bad_of_frame, bad_of_source, bad_on_port, of_delivery, of_frame as run_frame, of_session, of_source as run_source, on_port as run_port, refused_line}
 use Rattle.report_lines.specs.declared.line.Line.{Line}
-use Rattle.rx_reason.specs.Laws.{delivered_at, is_badcrc, lines_of}
-use Rattle.rx_reason.specs.Reads.{read_of}
-use Rattle.rx_reason.specs.Reasons.{aside, begun_reason, ended, of_heard, of_key, of_port, of_read, of_run, of_source, on_port, or_on_port, running, from, stray, unheard, last_line}
-use Rattle.rx_reason.specs.declared.reason.Change.{Change}
-use Rattle.rx_reason.specs.declared.reason.Reason.{Reason}
-use Rattle.rx_reason.specs.declared.reason.Reason.TheVariants.{BadCrc, Begun, Copy, Delivered, Elsewhere, NoSession, Own, StrayNone, StrayTid, StrayToggle, Taken, Unknown}
-use Rattle.rx_reason.proofs.Deliveries.{tells_are}
-use Rattle.rx_reason.proofs.Discards.{frame_read, reads_each}
+use Rattle.log_explain.specs.ReasonLaws.{delivered_at, is_badcrc, lines_of}
+use Rattle.log_explain.specs.Reads.{read_of}
+use Rattle.log_explain.specs.Reasons.{aside, begun_reason, ended, of_heard, of_key, of_port, of_read, of_run, of_source, on_port, or_on_port, running, from, stray, unheard, last_line}
+use Rattle.log_explain.specs.declared.reasons.reason.Change.{Change}
+use Rattle.log_explain.specs.declared.reasons.reason.Reason.{Reason}
+use Rattle.log_explain.specs.declared.reasons.reason.Reason.TheVariants.{BadCrc, Begun, Copy, Delivered, Elsewhere, NoSession, Own, StrayNone, StrayTid, StrayToggle, Taken, Unknown}
+use Rattle.log_explain.proofs.Deliveries.{tells_are}
+use Rattle.log_explain.proofs.Discards.{frame_read, reads_each}
 use Rattle.log_explain.specs.Explained.{listens_by}
 use Rattle.log_explain.specs.Laws.{AsRun, listed, nosession_lines, refused_at, rx_lines}
 use Rattle.log_explain.proofs.Lasts.{aside_none, frame_line_is}

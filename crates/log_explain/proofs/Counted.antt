@@ -1,6 +1,6 @@
 -- How much is counted of the lines of a session.
 use Rattle.std.proofs.Common.{◌≤◌, Bool, List, [], ◌∷◌, length, arith}
-use Rattle.rx_reason.specs.declared.reason.Reason.{Reason}
+use Rattle.log_explain.specs.declared.reasons.reason.Reason.{Reason}
 use Rattle.log_explain.specs.Counts.{count, delivery_in, gaps, is_gap, last, one_if}
 use Rattle.log_explain.specs.declared.line.FrameLine.{FrameLine}
 

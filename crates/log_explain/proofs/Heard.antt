@@ -9,10 +9,10 @@ use Rattle.rx_table.specs.Ports.{Port, ports_of}
 use Rattle.rx_table.specs.Table.{port_on}
 use Rattle.rx_table.specs.Views.{place_in}
 use Rattle.rx_table.proofs.FoundPorts.{found, found_within, not_found, position-ports}
-use Rattle.rx_reason.specs.Asked.{TellsFrame}
-use Rattle.rx_reason.specs.Reasons.{Listens, aside, of_port, or_on_port}
-use Rattle.rx_reason.specs.declared.reason.Reason.{Reason}
-use Rattle.rx_reason.specs.declared.reason.Reason.TheVariants.{Unsubscribed}
+use Rattle.log_explain.specs.Asked.{TellsFrame}
+use Rattle.log_explain.specs.Reasons.{Listens, aside, of_port, or_on_port}
+use Rattle.log_explain.specs.declared.reasons.reason.Reason.{Reason}
+use Rattle.log_explain.specs.declared.reasons.reason.Reason.TheVariants.{Unsubscribed}
 use Rattle.node_plan.specs.declared.plan.Plan.{Plan}
 use Rattle.node_core.specs.Shapes.{shape_extent}
 use Rattle.node_core.specs.Stands.{Stands as NodeStands}

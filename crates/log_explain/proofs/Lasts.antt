@@ -23,13 +23,13 @@ use Rattle.rx_table.specs.Table.{keyed, log_with, port_on, with_source}
 use Rattle.rx_table.proofs.Admissions.{admitted_lasts}
 use Rattle.rx_table.proofs.Endings.{delivered_step}
 use Rattle.rx_table.proofs.Sources.{bears, quiet, same_kind_refl, same_kind_true}
-use Rattle.rx_reason.specs.Laws.{delivered_at, lines_of}
-use Rattle.rx_reason.specs.Reads.{read_of}
-use Rattle.rx_reason.specs.Reasons.{Listens, aside, last_line, of_frame, of_key, of_port, of_read, of_source, on_port, or_on_port}
-use Rattle.rx_reason.specs.declared.reason.Reason.{Reason}
-use Rattle.rx_reason.specs.declared.reason.Reason.TheVariants.{Delivered, Discarded, Elsewhere, NoSession, Own, Unknown}
-use Rattle.rx_reason.proofs.Deliveries.{tells_are}
-use Rattle.rx_reason.proofs.Discards.{frame_read, reads_each}
+use Rattle.log_explain.specs.ReasonLaws.{delivered_at, lines_of}
+use Rattle.log_explain.specs.Reads.{read_of}
+use Rattle.log_explain.specs.Reasons.{Listens, aside, last_line, of_frame, of_key, of_port, of_read, of_source, on_port, or_on_port}
+use Rattle.log_explain.specs.declared.reasons.reason.Reason.{Reason}
+use Rattle.log_explain.specs.declared.reasons.reason.Reason.TheVariants.{Delivered, Discarded, Elsewhere, NoSession, Own, Unknown}
+use Rattle.log_explain.proofs.Deliveries.{tells_are}
+use Rattle.log_explain.proofs.Discards.{frame_read, reads_each}
 use Rattle.log_explain.specs.Counts.{delivery_by, delivery_in, delivery_of, last, line_of, or_else}
 use Rattle.log_explain.specs.Lines.{is_in, is_source, lines, of_session, transfer_in, transfer_of}
 use Rattle.log_explain.specs.declared.line.FrameLine.{FrameLine}

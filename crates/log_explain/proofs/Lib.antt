@@ -1,3 +1,9 @@
+pub mod Sessions
+pub mod Ports
+pub mod Tables
+pub mod Deliveries
+pub mod Discards
+pub mod Unheard
 pub mod Texts
 mod Blocks
 mod Counted

@@ -6,8 +6,8 @@ use Rattle.tail_frame.specs.declared.logged.Record.{Record}
 use Rattle.rx_table.specs.Heard.{frames}
 use Rattle.rx_table.specs.Ports.{Port, PortState, ports_of as ports_in}
 use Rattle.rx_table.specs.Table.{StandsFor, states}
-use Rattle.rx_reason.specs.Asked.{listens}
-use Rattle.rx_reason.specs.Reasons.{Listens}
+use Rattle.log_explain.specs.Asked.{listens}
+use Rattle.log_explain.specs.Reasons.{Listens}
 use Rattle.node_plan.specs.declared.plan.Plan.{Plan}
 use Rattle.node_core.specs.Heard.{ports_of}
 use Rattle.line_text.specs.Buffer.{Puts, text_of}

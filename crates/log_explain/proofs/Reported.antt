@@ -21,7 +21,7 @@ use Rattle.rx_table.specs.declared.port.Port as code
 use Rattle.rx_table.proofs.Admissions.{admitted_few}
 use Rattle.rx_table.proofs.Entries.{length_sources}
 use Rattle.rx_table.proofs.NewSources.{length-entries}
-use Rattle.rx_reason.specs.Reasons.{Listens}
+use Rattle.log_explain.specs.Reasons.{Listens}
 use Rattle.log_explain.specs.Counts.{counts}
 use Rattle.log_explain.specs.Lines.{lines, sessions_of, sessions_on, tally}
 use Rattle.log_explain.specs.Places.{slot_at}

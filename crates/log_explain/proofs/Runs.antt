@@ -10,7 +10,7 @@ use Rattle.report_lines.specs.declared.line.Line.{Line}
 use Rattle.report_lines.specs.declared.line.Line.TheVariants.{Rx, NoSession as Refusal, Tx, Full}
 use Rattle.node_core.proofs.Waits.{records_behind, records_of_steps}
 use Rattle.log_explain.specs.Explained.{listens_by}
-use Rattle.rx_reason.specs.Laws.{is_badcrc}
+use Rattle.log_explain.specs.ReasonLaws.{is_badcrc}
 use Rattle.log_explain.specs.Counts.{count}
 use Rattle.log_explain.specs.Laws.{AsRuns, nosession_lines, rx_lines, told_lines, told_refusals}
 use Rattle.log_explain.specs.Lines.{lines}

@@ -19,11 +19,11 @@ use Rattle.rx_table.specs.Table.{port_on, states, with_source}
 use Rattle.rx_table.specs.declared.port.Port as code
 use Rattle.rx_table.proofs.FoundPorts.{IsAt}
 use Rattle.rx_table.proofs.Positions.{position-further, position-here, position-none_below}
-use Rattle.rx_reason.specs.Asked.{IsLast, IsLastAt as IsLastIn, IsLastOn, TellsFrame, frame_on, listens}
-use Rattle.rx_reason.specs.Reasons.{Listens, last_line, of_frame, of_read}
-use Rattle.rx_reason.specs.declared.reason.Reason.{Reason}
-use Rattle.rx_reason.specs.declared.reason.Reason.TheVariants.{Discarded}
-use Rattle.rx_reason.proofs.Discards.{no_frame_read, read_frame, read_rule}
+use Rattle.log_explain.specs.Asked.{IsLast, IsLastAt as IsLastIn, IsLastOn, TellsFrame, frame_on, listens}
+use Rattle.log_explain.specs.Reasons.{Listens, last_line, of_frame, of_read}
+use Rattle.log_explain.specs.declared.reasons.reason.Reason.{Reason}
+use Rattle.log_explain.specs.declared.reasons.reason.Reason.TheVariants.{Discarded}
+use Rattle.log_explain.proofs.Discards.{no_frame_read, read_frame, read_rule}
 use Rattle.log_explain.specs.Counts.{counts, last, line_of}
 use Rattle.log_explain.specs.Lines.{is_in, line_on, lines, of_session, transfer_in, transfer_of}
 use Rattle.log_explain.specs.Slots.{AreCounted, IsCounted, IsLastAt, IsLine, Stands, frame_line, slot_for, slot_from}

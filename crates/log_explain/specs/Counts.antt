@@ -2,12 +2,12 @@
 -- came before.
 use Rattle.std.specs.Prelude.{ℕ, Bool, true, false, not, ◌+◌, ◌%◌, ◌==◌, if◌then◌else◌, List, []}
 use Rattle.std.specs.Prelude.{◌∷◌, Option, Some, None, is_some}
-use Rattle.rx_reason.specs.Laws.{is_badcrc}
-use Rattle.rx_reason.specs.Reasons.{no_change}
-use Rattle.rx_reason.specs.declared.reason.Change.{Change}
-use Rattle.rx_reason.specs.declared.reason.Reason.{Reason}
-use Rattle.rx_reason.specs.declared.reason.Reason.TheVariants.{Standby, Copy, Begun, Delivered}
-use Rattle.rx_reason.specs.declared.reason.Reason.TheVariants.{StrayNone, StrayTid, StrayToggle}
+use Rattle.log_explain.specs.ReasonLaws.{is_badcrc}
+use Rattle.log_explain.specs.Reasons.{no_change}
+use Rattle.log_explain.specs.declared.reasons.reason.Change.{Change}
+use Rattle.log_explain.specs.declared.reasons.reason.Reason.{Reason}
+use Rattle.log_explain.specs.declared.reasons.reason.Reason.TheVariants.{Standby, Copy, Begun, Delivered}
+use Rattle.log_explain.specs.declared.reasons.reason.Reason.TheVariants.{StrayNone, StrayTid, StrayToggle}
 use Rattle.log_explain.specs.declared.line.FrameLine.{FrameLine}
 use Rattle.log_explain.specs.declared.line.Transfer.{Transfer}
 use Rattle.log_explain.specs.declared.tally.Last.{Last}

@@ -5,7 +5,7 @@ use Rattle.log_loop.specs.Voice.{Voice, plain_voice}
 use Rattle.node_core.specs.Heard.{ports_of}
 use Rattle.node_plan.specs.declared.plan.BusPlan.{BusPlan}
 use Rattle.node_plan.specs.declared.plan.Plan.{Plan}
-use Rattle.rx_reason.specs.Reasons.{Listens}
+use Rattle.log_explain.specs.Reasons.{Listens}
 use Rattle.tail_frame.specs.declared.logged.Record.{Record}
 use Rattle.log_explain.specs.Lines.{line_on, sessions}
 use Rattle.log_explain.specs.Text.{end_text, frame_text, sessions_text}

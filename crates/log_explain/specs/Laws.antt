@@ -5,9 +5,9 @@ use Rattle.node_plan.specs.declared.plan.Plan.{Plan}
 use Rattle.node_core.specs.Steps.{Met, all_lines, badcrcs, got, is_bad_at, met_records, steps}
 use Rattle.report_lines.specs.declared.line.Line.{Line}
 use Rattle.report_lines.specs.declared.line.Line.TheVariants.{Rx, NoSession as Refusal, Tx, Full}
-use Rattle.rx_reason.specs.Laws.{delivered_at, is_badcrc}
-use Rattle.rx_reason.specs.declared.reason.Reason.{Reason}
-use Rattle.rx_reason.specs.declared.reason.Reason.TheVariants.{NoSession}
+use Rattle.log_explain.specs.ReasonLaws.{delivered_at, is_badcrc}
+use Rattle.log_explain.specs.declared.reasons.reason.Reason.{Reason}
+use Rattle.log_explain.specs.declared.reasons.reason.Reason.TheVariants.{NoSession}
 use Rattle.log_explain.specs.Counts.{count}
 use Rattle.log_explain.specs.Explained.{listens_by}
 use Rattle.log_explain.specs.Lines.{line_on, lines}

@@ -1,3 +1,8 @@
+pub mod Reads
+pub mod Reasons
+pub mod Told
+pub mod Asked
+pub mod ReasonLaws
 pub mod Counts
 pub mod Places
 pub mod Sessions

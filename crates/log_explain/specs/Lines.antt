@@ -6,7 +6,7 @@ use Rattle.can_id.specs.Identifiers.{key_of}
 use Rattle.redundancy.specs.Force.{force}
 use Rattle.tail_frame.specs.Frames.{FrameOf, frame_of}
 use Rattle.tail_frame.specs.declared.logged.Record.{Record}
-use Rattle.rx_reason.specs.Reasons.{Listens, reason_of}
+use Rattle.log_explain.specs.Reasons.{Listens, reason_of}
 use Rattle.rx_table.specs.Admitted.{admitted, key_of as session_key}
 use Rattle.rx_table.specs.Heard.{frames}
 use Rattle.rx_table.specs.Keys.{SessionKey, history, same_kind}

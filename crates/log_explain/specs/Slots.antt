@@ -3,9 +3,9 @@ use Rattle.std.specs.Prelude.{◌≡◌, ℕ, ◌<◌, ◌^◌, ◌&&◌, ◌==�
 use Rattle.std.specs.Prelude.{slice_get, Option, Some, None, option_map, unwrap_or}
 use Rattle.can_id.specs.declared.ident.Ident.{Ident}
 use Rattle.can_id.specs.declared.key.Key.{Key}
-use Rattle.rx_reason.specs.Reasons.{Listens, aside, of_frame}
-use Rattle.rx_reason.specs.declared.reason.Reason.{Reason}
-use Rattle.rx_reason.specs.declared.reason.Reason.TheVariants.{Unsubscribed}
+use Rattle.log_explain.specs.Reasons.{Listens, aside, of_frame}
+use Rattle.log_explain.specs.declared.reasons.reason.Reason.{Reason}
+use Rattle.log_explain.specs.declared.reasons.reason.Reason.TheVariants.{Unsubscribed}
 use Rattle.rx_table.specs.Admitted.{key_of as session_key}
 use Rattle.rx_table.specs.Heard.{frames}
 use Rattle.rx_table.specs.Keys.{same_kind}

@@ -6,9 +6,9 @@ use Rattle.can_id.specs.declared.key.Kind.TheVariants.{Message, Request, Respons
 use Rattle.line_text.specs.Text.{line_of, moment_text, spaced}
 use Rattle.tail_frame.specs.declared.discard.Discard.{Discard}
 use Rattle.tail_frame.specs.declared.discard.Discard.TheVariants as discard
-use Rattle.rx_reason.specs.declared.reason.Change.{Change}
-use Rattle.rx_reason.specs.declared.reason.Reason.{Reason}
-use Rattle.rx_reason.specs.declared.reason.Reason.TheVariants.{
+use Rattle.log_explain.specs.declared.reasons.reason.Change.{Change}
+use Rattle.log_explain.specs.declared.reasons.reason.Reason.{Reason}
+use Rattle.log_explain.specs.declared.reasons.reason.Reason.TheVariants.{
   Discarded,
   Own,
   Elsewhere,
@@ -25,7 +25,7 @@ use Rattle.rx_reason.specs.declared.reason.Reason.TheVariants.{
   StrayTid,
   StrayToggle,
 }
-use Rattle.rx_reason.specs.declared.reason.Silence.{Silence}
+use Rattle.log_explain.specs.declared.reasons.reason.Silence.{Silence}
 use Rattle.log_explain.specs.Sessions.{Session}
 use Rattle.log_explain.specs.declared.line.FrameLine.{FrameLine}
 use Rattle.log_explain.specs.declared.line.Transfer.{Transfer}

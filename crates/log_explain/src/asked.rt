@@ -4,15 +4,15 @@ ghost use Rattle.can_id.specs.Identifiers.{IsIdent, key_of};
 ghost use Rattle.node_core.specs.Quick.{IsLead};
 ghost use Rattle.tail_frame.specs.Frames.{frame_of, seen};
 ghost use Rattle.rx_table.specs.Views.{place_in};
-ghost use Rattle.rx_reason.specs.Reasons.{aside};
+ghost use Rattle.log_explain.specs.Reasons.{aside};
 ghost use Rattle.log_explain.specs.Places.{slot_at};
 ghost use Rattle.log_explain.specs.Slots.{IsCounted, IsLastAt, line_with, passing};
 
 use crate::line::{FrameLine, Transfer};
+use crate::reasons::{Reason, place_of};
 use crate::tallies::{Tallies, slot_of};
 use can_id::Ident;
 use node_core::{Lead, Node};
-use rx_reason::{Reason, place_of};
 use tail_frame::{Frame, Record};
 
 /// The place of the port of a frame, whose record leads there.

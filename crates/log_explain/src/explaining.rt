@@ -17,6 +17,7 @@ ghost use Rattle.log_explain.specs.Explains.{Explains, Hears};
 use crate::asked::{count, keep_hint, last_line, line_with, passing, place_by, sender_of, slot_on};
 use crate::line::FrameLine;
 use crate::line_writer::{LINE, LineWriter};
+use crate::reasons::{Reason, reason_at, reason_of_frame};
 use crate::session_line::put_end;
 use crate::session_lines::{count_sessions, put_sessions};
 use crate::tallies::{Tallies, slot_of};
@@ -25,7 +26,6 @@ use cy_bits::{BusName, NoMemory, ShortList};
 use line_text::TextBuffer;
 use log_loop::Listener;
 use node_core::{Lead, Node};
-use rx_reason::{Reason, reason_at, reason_of_frame};
 use std::alloc::Global;
 use tail_frame::{Discard, Frame, Record, frame_of, read_frame};
 

@@ -9,6 +9,7 @@ pub mod line;
 mod line_writer;
 mod port_words;
 mod reason_words;
+pub mod reasons;
 mod second;
 mod session_line;
 mod session_lines;

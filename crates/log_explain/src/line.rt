@@ -1,5 +1,5 @@
+use crate::reasons::Reason;
 use can_id::Key;
-use rx_reason::Reason;
 
 /// What is said of a record.
 #[derive(Clone, Copy, Debug, PartialEq, Eq)]

@@ -5,8 +5,8 @@ ghost use Rattle.line_text.specs.Text.{line_of};
 ghost use Rattle.log_explain.specs.Text.{before, change_words, reason_words, silence_words};
 
 use crate::bus_words::BusWords;
+use crate::reasons::{Change, Reason, Silence};
 use line_text::TextBuffer;
-use rx_reason::{Change, Reason, Silence};
 use tail_frame::Discard;
 
 /// Puts the words of a reason, and the end of the line.

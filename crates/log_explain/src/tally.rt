@@ -1,10 +1,10 @@
 ghost use Rattle.std.specs.Prelude.{◌≡◌, ◌<◌, ◌+◌, ◌^◌, ◌∷◌, [], List, length};
 ghost use Rattle.log_explain.specs.declared.line.FrameLine.{FrameLine as FrameLineOf};
-ghost use Rattle.rx_reason.specs.Laws.{is_badcrc};
+ghost use Rattle.log_explain.specs.ReasonLaws.{is_badcrc};
 ghost use Rattle.log_explain.specs.Counts.{change_of, counts, delivery_in, is_copy, is_delivered, is_gap, is_standby, is_stray, line_of, one_if};
 
 use crate::line::FrameLine;
-use rx_reason::{Change, Reason};
+use crate::reasons::{Change, Reason};
 
 /// What is counted of the lines of a session.
 ///

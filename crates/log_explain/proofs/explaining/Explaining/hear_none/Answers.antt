@@ -1,7 +1,7 @@
 use Rattle.std.proofs.Common.{◌<◌, ◌^◌, length, None, refl, arith}
 use Rattle.rx_table.specs.Ports.{ports_of}
-use Rattle.rx_reason.specs.declared.reason.Reason.TheVariants.{Discarded}
-use Rattle.rx_reason.proofs.Discards.{no_frame_read, read_rule}
+use Rattle.log_explain.specs.declared.reasons.reason.Reason.TheVariants.{Discarded}
+use Rattle.log_explain.proofs.Discards.{no_frame_read, read_rule}
 use Rattle.node_core.proofs.Elsewhere.{takes_by}
 use Rattle.log_explain.specs.declared.line.FrameLine.{FrameLine}
 use Rattle.log_explain.proofs.Frames.{none_elsewhere}

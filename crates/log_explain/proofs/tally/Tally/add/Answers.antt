@@ -1,8 +1,8 @@
 use Rattle.std.proofs.Common.{◌≡◌, ◌∙◌, ℕ, ◌+◌, Bool, false, List, ◌∷◌, Option, Some, None, refl, sym, ap, arith}
-use Rattle.rx_reason.specs.Laws.{is_badcrc}
-use Rattle.rx_reason.specs.declared.reason.Reason.{Reason}
-use Rattle.rx_reason.specs.declared.reason.Reason.TheVariants.{Standby, Taken}
-use Rattle.rx_reason.specs.declared.reason.Silence.{Silence}
+use Rattle.log_explain.specs.ReasonLaws.{is_badcrc}
+use Rattle.log_explain.specs.declared.reasons.reason.Reason.{Reason}
+use Rattle.log_explain.specs.declared.reasons.reason.Reason.TheVariants.{Standby, Taken}
+use Rattle.log_explain.specs.declared.reasons.reason.Silence.{Silence}
 use Rattle.log_explain.specs.Counts.{count, delivery_in, delivery_of, gaps, is_abandoned, is_copy, is_delivered, is_gap, is_handover, is_standby, is_stray, last, one_if, or_else}
 use Rattle.log_explain.specs.declared.line.FrameLine.{FrameLine}
 use Rattle.log_explain.specs.declared.line.Transfer.{Transfer}

@@ -1,6 +1,6 @@
 use Rattle.std.proofs.Common.{◌≡◌, ◌∙◌, ℕ, ◌+◌, ◌<◌, ◌≤◌, ◌^◌, Bool, length, Option, Some, None, refl, ap, arith}
 use Rattle.std.specs.Option.{is_some, option_or}
-use Rattle.rx_reason.specs.Laws.{is_badcrc}
+use Rattle.log_explain.specs.ReasonLaws.{is_badcrc}
 use Rattle.log_explain.specs.Counts.{count, delivery_in, gaps, is_abandoned, is_copy, is_delivered, is_gap, is_handover, is_standby, is_stray, last, one_if, or_else}
 use Rattle.log_explain.specs.declared.tally.Last.{Last}
 use Rattle.log_explain.specs.declared.tally.Tally.{Tally}
