@@ -21,7 +21,7 @@ a node  monitor NODE            says who is online in a log, and the time there
 a plan  bound ROOT PLAN         says how many bytes its sessions hold at most
         migrate ROOT PLAN       writes it in version 2 of its form
 types   compile ROOT            compiles DSDL files, and writes their layouts
-        compat ROOT NEW OLD     says whether NEW can live beside OLD
+        compat ROOT NEW OLD     says whether NEW is newer than OLD
         versions ROOT           says so of each version and the one before it
 values  encode ROOT TYPE        writes the hex of texts of values
         decode ROOT TYPE        writes the texts of the values that hex reads as

@@ -114,7 +114,7 @@ pub const COMMANDS: &[Command] = &[
         arguments: &["ROOT", "NEW", "OLD"],
         options: &[],
         group: TYPES,
-        summary: "says whether NEW can live beside OLD",
+        summary: "says whether NEW is newer than OLD",
         help: types_help::COMPAT,
     },
     Command {

@@ -30,8 +30,8 @@ nodes with OLD: each reads what the other sends. Some types that would be read
 are refused all the same, as where a cast alone changes.
 
   ROOT      the folder with the DSDL files of both types
-  NEW, OLD  names with versions, as demo.Num.1.1; of a service each half by
-            itself, with .Request or .Response behind
+  NEW, OLD  names with versions, as demo.Num.1.1; services as a whole, or halves
+            of them, with .Request or .Response behind
 
 Where NEW isn't newer, standard error has the first place that differs, and why:
 Kind, Sealing, Extent, Sealed or Count.
