@@ -1,13 +1,13 @@
 -- When the tree is called, and when it failed.
 use Rattle.std.specs.Prelude.{◌≡◌, ℕ, Bool, MatchBool, ⊤}
-use Rattle.cy_outside.specs.Outside.{Rose}
+use Rattle.cy_outside.specs.Calls.{one_more}
 use Rattle.file_service.specs.declared.place.Place.{Place}
 use Rattle.file_service.specs.declared.place.Place.TheVariants.{Invalid, Root, At}
 
--- an answer tells that the tree failed only where its count of faults rose; every other answer
--- leaves the count as it was
+-- where an answer tells that the tree failed, it counted one fault; every other answer leaves the
+-- count as it was
 abbrev pub TellsFault : Bool → ℕ → ℕ → Type 0
-TellsFault failed old new = MatchBool failed (Rose old new) (new ≡ old)
+TellsFault failed old new = MatchBool failed (new ≡ one_more old) (new ≡ old)
 
 -- a place where the tree isn't asked what stands there
 abbrev pub IsKnown : Place → Type 0
