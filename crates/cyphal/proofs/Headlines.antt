@@ -247,7 +247,7 @@ module _ (law : HeadlineLaws) (plan : Plan) (bytes : List ℕ) (key : SessionKey
   past = logged_in plan bytes
 
   -- a sent list that explains its records by identifier and data explains them by their fields
-  by_fields : (sent : Sent) (origin : List Pair) → ExplainsIn plan bytes sent key origin → Explains plan.timeout sent key origin (of_key plan key past)
+  pub by_fields : (sent : Sent) (origin : List Pair) → ExplainsIn plan bytes sent key origin → Explains plan.timeout sent key origin (of_key plan key past)
   by_fields sent origin x =
       subst (λ (log : List KeyedFrame). Explains plan.timeout sent key origin (history key log)) (frames_are plan.node past)
       (law.fields (heard_as plan.node) (are_records plan.node) plan.timeout sent key origin past x)

@@ -13,6 +13,9 @@ pub mod OneStatus
 pub mod Fronts
 pub mod Mets
 pub mod Headlines
+pub mod ToldLines
+pub mod ToldSessions
+pub mod Delivered
 pub mod Streaming
 pub mod Answered
 pub mod CarriedOut

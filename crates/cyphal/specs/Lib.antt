@@ -14,6 +14,7 @@ pub mod CarriedOut
 pub mod Expected
 pub mod Laws
 pub mod Headline
+pub mod Delivered
 pub mod Streaming
 pub mod Answered
 pub mod Premises

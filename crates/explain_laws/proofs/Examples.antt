@@ -1,35 +1,19 @@
--- Lines with their text, and a log whose transfers are told.
+-- Lines with their text.
 use Rattle.std.proofs.Common.{ℕ, List, [], ◌∷◌, Some, None, inl, refl, ap, arith}
 use Rattle.std.specs.Prelude.{codes, slice_index, IsTrue, ◌≢◌}
 use Rattle.std.specs.Fmt.{digits}
 use Rattle.std.proofs.lemmas.List.Elements.{All-cons, All-nil}
 use Rattle.std.proofs.lemmas.List.Kept.{AllPairs-cons}
 use Rattle.can_id.specs.declared.key.Kind.TheVariants.{Message}
-use Rattle.node_core.specs.Steps.{records}
 use Rattle.node_plan.specs.Names.{is_bus_name}
 use Rattle.tail_frame.specs.declared.discard.Discard.TheVariants.{Empty}
 use Rattle.log_explain.specs.declared.reasons.reason.Reason.TheVariants.{Begun, Delivered, Discarded}
-use Rattle.session_lines.specs.Example.{ValuesExample}
 use Rattle.session_lines.proofs.Cuts.{unlike}
 use Rattle.log_explain.specs.declared.line.FrameLine.{FrameLine}
 use Rattle.log_explain.specs.declared.line.Transfer.{Transfer}
 use Rattle.log_explain.specs.Sessions.{Session}
-use Rattle.explain_laws.specs.Delivered.{Example}
 use Rattle.explain_laws.specs.Text.{AreLines, AreNames, AtEnd, Line, OnRecord, OnSession}
 use Rattle.explain_laws.specs.Text as text
-
-pub told : ValuesExample → Example
-told e = record {
-  plan = e.plan;
-  key = e.key;
-  past = records e.steps;
-  p = e.p;
-  sent = e.sent;
-  origin = e.origin;
-  q = e.q;
-  sent_to = record { session = e.sent_to.session; log = e.sent_to.log; explains = e.sent_to.explains };
-  due = e.due;
-}
 
 abbrev buses : List (List ℕ)
 buses = codes "can0" ∷ codes "can1" ∷ []

@@ -1,10 +1,6 @@
-pub mod Told
-pub mod Delivered
-pub mod Sessions
 pub mod Words
 pub mod Text
 pub mod Ranges
 pub mod Logs
 pub mod Written
-pub mod Explained
 pub mod Examples

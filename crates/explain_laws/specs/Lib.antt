@@ -1,4 +1,2 @@
-pub mod Delivered
 pub mod Text
 pub mod Written
-pub mod Explained

@@ -8,9 +8,11 @@ ghost use Rattle.cyphal.specs.Plans.{EndsAt, plan_calls};
 ghost use Rattle.cyphal.specs.jobs.Explain.{explain_job, HasExplainedAt};
 ghost use Rattle.cyphal.specs.jobs.Run.{over};
 
+use crate::law::headline_laws;
 use crate::plan_file::plan_at;
 use cy_outside::{Sink, Source, Tree};
 use log_explain::explain_log;
+use log_explain::laws::as_run;
 use node_run::{Status, status_of};
 use std::alloc::Global;
 
@@ -45,5 +47,7 @@ pub fn explain_plan<T: Tree, L: Source, O: Sink>(
         Ok(plan) => plan,
         Err(status) => return status,
     };
+    headline_laws();
+    as_run();
     status_of(explain_log(alloc, plan, input, out))
 }

@@ -2,10 +2,13 @@ use Rattle.std.proofs.Common.{inl, inr, true, false}
 use Rattle.node_plan.specs.declared.plan.Plan.{Plan}
 use Rattle.log_explain.specs.Explained.{explain_voice}
 use Rattle.node_run.specs.Ran.{names_of}
+use Rattle.cyphal.specs.Delivered.{DeliveredOnce, DueDelivered, SessionsAreTold}
 use Rattle.cyphal.specs.MayEnd.{of_log, of_plan}
 use Rattle.cyphal.specs.jobs.Run.{over}
 use Rattle.cyphal.proofs.Causes.{ends_so_over, took_nothing}
+use Rattle.cyphal.proofs.Delivered.{delivered_once, due_delivered, where_told}
 use Rattle.cyphal.proofs.Plans.{refused_at, good_at}
+use Rattle.cyphal.proofs.ToldSessions.{sessions_are_told}
 use Rattle.cyphal.proofs.statuses.Among.{log_among, of_first, of_second}
 use Rattle.cyphal.proofs.statuses.Reach.{ends_as_log, no_usage, cause_of}
 use Rattle.cyphal.proofs.jobs.explain.explain_plan.Goals as goal
@@ -46,12 +49,19 @@ returns-clause-cause g c =
     cause_of c.explain_log.result c.status_of.result c.status_of.ensures _ _ c.in-Ok.ensures.cause c.explain_log.ensures.read c.explain_log.ensures.write c.explain_log.ensures.unread c.explain_log.ensures.unwritten
 
 pub returns-clause-ran : goal.returns-clause-ran
-returns-clause-ran g c = inr (record {
-  plan = c.in-Ok.plan;
-  is = c.in-Ok.ensures.plan;
-  listened = record {
-    ended = c.explain_log.result;
-    is = c.status_of.ensures;
-    listened = c.explain_log.ensures.listened;
-  };
-})
+returns-clause-ran g c =
+    let plan = c.in-Ok.plan in
+    let input = g.L.Source.left c.args.input.now in
+    let law = c.headline_laws.ensures in
+    inr (record {
+      plan = plan;
+      is = c.in-Ok.ensures.plan;
+      listened = record {
+        ended = c.explain_log.result;
+        is = c.status_of.ensures;
+        listened = c.explain_log.ensures.listened;
+      };
+      sessions = where_told (SessionsAreTold plan) (sessions_are_told plan c.in-Ok.ensures.sound) input;
+      explained_once = where_told (DeliveredOnce plan) (delivered_once law c.as_run.ensures plan) input;
+      explained_due = where_told (DueDelivered plan) (due_delivered law c.as_run.ensures plan) input;
+    })

@@ -1,20 +1,28 @@
 -- Once and due, of the lines of a session that say `delivered`.
-use Rattle.std.proofs.Common.{◌≡◌, ◌∙◌, ℕ, ◌<◌, ◌≤◌, eqb, List, [], ◌∷◌, ◌++◌, length, map, Some, refl, sym, ap, subst, inl, inr, arith}
+use Rattle.std.proofs.Common.{◌≡◌, ◌∙◌, ℕ, ◌<◌, ◌≤◌, eqb, List, [], ◌∷◌, ◌++◌, length, map, Option, Some, None, IfSome, refl, sym, ap, subst, inl, inr, append-nil, arith}
 use Rattle.std.specs.Prelude.{All}
 use Rattle.std.proofs.lemmas.Bool.{cond-false, cond-true, cond_both, eq-eqb, ne_eqb}
 use Rattle.std.proofs.lemmas.List.Elements.{All-nil, All-cons, Contains-append_left, Contains-append_right, Contains-push}
 use Rattle.tail_frame.specs.Chains.{KeyRecord, AtEach}
+use Rattle.tail_frame.specs.declared.logged.Record.{Record}
 use Rattle.rx_table.specs.Heard.{frames}
 use Rattle.rx_table.specs.Keys.{EachFrame, IsLog, KeyedFrame, SessionKey, bears_on, history}
+use Rattle.rx_table.specs.Ports.{Port}
 use Rattle.frag.specs.Sent.{pair_at, transfer_at}
 use Rattle.frag.specs.declared.sent.Pair.{Pair}
 use Rattle.frag.specs.declared.sent.Sent.{Sent}
-use Rattle.delivery_theorems.specs.Report.{AnyRx, DueInReport, EachRx, IsSentRx, OnceInReport, Rise, Rx, pair_on, reported}
-use Rattle.session_lines.specs.Reported.{Reported, of_key}
+use Rattle.delivery_theorems.specs.Report.{AnyRx, EachRx, Explains, IsDue, IsSentRx, Rise, Rx, pair_on, reported}
+use Rattle.node_plan.specs.declared.plan.Plan.{Plan}
+use Rattle.session_lines.specs.Reported.{IsSession}
+use Rattle.session_lines.proofs.Frames.{in_order}
+use Rattle.node_run.specs.Ran.{names_of}
 use Rattle.log_explain.specs.Laws.{AsRun}
 use Rattle.log_explain.specs.declared.line.FrameLine.{FrameLine}
-use Rattle.explain_laws.specs.Delivered.{DeliveredOnce, DueDelivered, IsAmong, IsOfSent, delivered_in, sent_on}
-use Rattle.explain_laws.proofs.Told.{AreTold, key_in, told_are}
+use Rattle.cyphal.specs.Delivered.{AreSentOnce, DeliveredOnce, DueDelivered, IsAmong, IsOfSent, delivered_in, sent_on}
+use Rattle.cyphal.specs.Headline.{ExplainsIn, log_in, logged_in, of_session_in}
+use Rattle.cyphal.specs.Laws.{HeadlineLaws}
+use Rattle.cyphal.proofs.Headlines.{by_fields}
+use Rattle.cyphal.proofs.ToldLines.{AreTold, key_in, told_are}
 
 -- ---- the pair on the line of a record
 
@@ -80,23 +88,50 @@ module _ (key : SessionKey) (sent : Sent) (of_key : sent.key ≡ key_in key) (or
         transfer_is = ap (λ (m : ℕ). (pair_on origin records m).j) number ∙ at;
       }
 
-pub delivered_once : AsRun → Reported → OnceInReport → DeliveredOnce
-delivered_once as_run law once plan key past p sent origin h =
-    let records = of_key plan key past in
-    let told = told_are key as_run plan law past p h.session in
-    let selected = once plan.timeout p.extent sent key origin (frames plan.node past) h.log h.explains in
-    let places = same_places key sent h.explains.of_key origin records (delivered_in plan key past) (reported plan.timeout p.extent records) told in
-    record {
-      sent_ones = each_is key sent h.explains.of_key origin records p.extent (delivered_in plan key past) (reported plan.timeout p.extent records) told selected.sent_ones;
-      in_order = subst Rise (sym places) selected.in_order;
-    }
+module _ (law : HeadlineLaws) (as_run : AsRun) (plan : Plan) (bytes : List ℕ) where
+  abbrev past : List Record
+  past = logged_in plan bytes
 
-pub due_delivered : AsRun → Reported → DueInReport → DueDelivered
-due_delivered as_run law due_law plan key past p sent origin q h due =
-    let records = of_key plan key past in
-    let told = told_are key as_run plan law past p h.session in
-    let order = rising key (frames plan.node past) h.log in
-    let pair : pair_on origin records q.line ≡ pair_at origin (length due.past) =
-    ap (λ (t : List KeyRecord). pair_on origin t q.line) due.split ∙ pair_there origin due.newer q due.past (subst (AtEach (λ r past. Below r.line past)) due.split order) in
-    some_is key sent h.explains.of_key origin records q.line due.j (ap (λ (o : Pair). o.j) pair ∙ due.due.end_j) (delivered_in plan key past) (reported plan.timeout p.extent records) told
-    (due_law plan.timeout p.extent sent key origin records q h.explains due)
+  log_is : IsLog (frames plan.node past)
+  log_is = in_order plan.node (log_in plan bytes).records (law.order (names_of plan) bytes)
+
+  module _ (key : SessionKey) (p : Port) (sent : Sent) (origin : List Pair) (s : IsSession plan key past p) (x : ExplainsIn plan bytes sent key origin) where
+    abbrev records : List KeyRecord
+    records = of_session_in plan bytes key
+
+    abbrev report : List Rx
+    report = reported plan.timeout p.extent records
+
+    explains : Explains plan.timeout sent key origin records
+    explains = by_fields law plan bytes key sent origin x
+
+    told : AreTold key (delivered_in plan bytes key) report
+    told = told_are key as_run plan law.sessions past p s
+
+    once : AreSentOnce sent origin records (delivered_in plan bytes key)
+    once =
+        let selected = law.once plan.timeout p.extent sent key origin (frames plan.node past) report [] log_is explains (sym (append-nil report)) in
+        let places = same_places key sent explains.of_key origin records (delivered_in plan bytes key) report told in
+        record {
+          sent_ones = each_is key sent explains.of_key origin records p.extent (delivered_in plan bytes key) report told selected.sent_ones;
+          in_order = subst Rise (sym places) selected.in_order;
+        }
+
+    among : (q : KeyRecord) → (due : IsDue plan.timeout sent origin records q) → IsAmong origin records (delivered_in plan bytes key) q.line due.j
+    among q due =
+        let order = rising key (frames plan.node past) log_is in
+        let pair : pair_on origin records q.line ≡ pair_at origin (length due.past) =
+        ap (λ (t : List KeyRecord). pair_on origin t q.line) due.split ∙ pair_there origin due.newer q due.past (subst (AtEach (λ r past. Below r.line past)) due.split order) in
+        some_is key sent explains.of_key origin records q.line due.j (ap (λ (o : Pair). o.j) pair ∙ due.due.end_j) (delivered_in plan bytes key) report told
+        (law.due plan.timeout p.extent sent key origin records q explains due)
+
+  pub delivered_once : DeliveredOnce plan bytes
+  delivered_once key p sent origin s x = once key p sent origin s x
+
+  pub due_delivered : DueDelivered plan bytes
+  due_delivered key p sent origin q s x due = among key p sent origin s x q due
+
+-- what holds of any bytes holds of those that are told
+pub where_told : (F : List ℕ → Type 0) → ((bytes : List ℕ) → F bytes) → (told : Option (List ℕ)) → IfSome told F
+where_told F f None = tt
+where_told F f (Some bytes) = f bytes

@@ -12,6 +12,7 @@ use Rattle.rx_table.specs.Keys.{KeyedFrame, same_kind}
 use Rattle.rx_table.specs.Laws.{EachPort}
 use Rattle.rx_table.specs.Ports.{Port, port_at}
 use Rattle.delivery_theorems.specs.Report.{EachNumber}
+use Rattle.node_plan.specs.IsPlan.{IsPlan}
 use Rattle.node_plan.specs.Ports.{Differ, PlanPort, ports}
 use Rattle.node_plan.specs.declared.plan.Plan.{Plan}
 use Rattle.node_plan.proofs.PortLemmas.{ports_differ}
@@ -22,7 +23,8 @@ use Rattle.log_explain.specs.Explained.{listens_by}
 use Rattle.log_explain.specs.Lines.{sessions_of, sessions_on}
 use Rattle.log_explain.specs.Sessions.{Session}
 use Rattle.log_explain.specs.declared.line.FrameLine.{FrameLine}
-use Rattle.explain_laws.specs.Delivered.{IsToldSession, SessionsAreTold, delivered}
+use Rattle.cyphal.specs.Delivered.{IsToldSession, SessionsAreTold, delivered}
+use Rattle.cyphal.specs.Headline.{logged_in}
 
 -- ---- the number of lines that say `delivered`
 
@@ -91,12 +93,15 @@ has_each ss = among ss ss (λ s h. h)
     among all (s ∷ some) h =
         (h s (or_left (eqb s s) (has s some) (eq-eqb s s refl)), among all some (λ t m. h t (or_right (eqb s t) (has t some) m)))
 
-module _ (plan : Plan) (past : List Record) where
+module _ (plan : Plan) (bytes : List ℕ) where
+  abbrev past : List Record
+  past = logged_in plan bytes
+
   abbrev log : List KeyedFrame
   log = frames plan.node past
 
   abbrev P : Session → Type 0
-  P s = IsToldSession plan past s
+  P s = IsToldSession plan bytes s
 
   of_port : (p : Port) → IsFound (ports_of plan) p → (ss : List ℕ) → EachNumber (λ s. has s (admitted p.kind p.port p.sources log) ≡ true) ss → All P (sessions_of (listens_by plan) past p ss)
   of_port p found [] x = All-nil P
@@ -110,5 +115,5 @@ module _ (plan : Plan) (past : List Record) where
       let ss = admitted p.kind p.port p.sources log in
       All-append P (sessions_of (listens_by plan) past p ss) (sessions_on (listens_by plan) past ps) (of_port p x.0 ss (has_each ss)) (of_ports ps x.1)
 
-pub sessions_are_told : SessionsAreTold
-sessions_are_told plan past h = of_ports plan past (ports_of plan) (all_found (ports plan) (ports_differ plan h))
+pub sessions_are_told : (plan : Plan) → IsPlan plan → (bytes : List ℕ) → SessionsAreTold plan bytes
+sessions_are_told plan h bytes = of_ports plan bytes (ports_of plan) (all_found (ports plan) (ports_differ plan h))

@@ -51,7 +51,7 @@ use Rattle.log_explain.specs.Explained.{listens_by}
 use Rattle.log_explain.specs.Laws.{AsRun, listed, rx_lines}
 use Rattle.log_explain.specs.Lines.{is_in, line_on, lines, of_session, transfer_in}
 use Rattle.log_explain.specs.declared.line.FrameLine.{FrameLine}
-use Rattle.explain_laws.specs.Delivered.{delivered, delivered_in}
+use Rattle.cyphal.specs.Delivered.{delivered}
 
 -- ---- a line of explain, and one of a run
 
@@ -244,6 +244,10 @@ module _ (key : SessionKey) where
     by_reason k tid ls of t (StrayToggle first) is e = other ls (ap is_delivered is) e
 
   module _ (as_run : AsRun) (plan : Plan) where
+    -- the lines of the session that say `delivered`
+    abbrev says_in : List Record → List FrameLine
+    says_in past = delivered (of_session key (lines (listens_by plan) past))
+
     abbrev told_on : Record → List Record → FrameLine
     told_on rec past = line_on (listens_by plan) rec past
 
@@ -276,7 +280,7 @@ module _ (key : SessionKey) where
     records_heard [] = refl
     records_heard (rec ∷ past) = ap (λ (t : List Record). rec ∷ t) (records_heard past)
 
-    all_told : (past : List Record) → AreTold key (delivered_in plan key past) (rxs key (run_lines plan (heard past)))
+    all_told : (past : List Record) → AreTold key (says_in past) (rxs key (run_lines plan (heard past)))
     unfolding heard
     all_told [] = tt
     all_told (rec ∷ past) =
@@ -286,15 +290,15 @@ module _ (key : SessionKey) where
         let more : rxs key (run_lines plan (heard (rec ∷ past))) ≡ rxs key (run_lines plan (heard past)) ++ rxs key (got plan rec past) =
         rxs_append key (run_lines plan (heard past)) (lines_at plan step (heard past))
         ∙ ap (λ (t : List RxOf). rxs key (run_lines plan (heard past)) ++ t) (rxs_at key plan step (heard past) ∙ same) in
-        let both = told_append key (delivered_in plan key past) (rxs key (run_lines plan (heard past))) (here key (line_on w rec past)) (rxs key (got plan rec past)) (all_told past) (record_told rec past) in
+        let both = told_append key (says_in past) (rxs key (run_lines plan (heard past))) (here key (line_on w rec past)) (rxs key (got plan rec past)) (all_told past) (record_told rec past) in
         subst (λ (a : List FrameLine). AreTold key a (rxs key (run_lines plan (heard (rec ∷ past))))) (sym (one_more key (line_on w rec past) (lines w past)))
-        (subst (AreTold key (delivered_in plan key past ++ here key (line_on w rec past))) (sym more) both)
+        (subst (AreTold key (says_in past ++ here key (line_on w rec past))) (sym more) both)
 
     -- so the lines of a session tell what its records deliver
-    pub told_are : Reported → (past : List Record) (p : Port) → IsSession plan key past p → AreTold key (delivered_in plan key past) (reported plan.timeout p.extent (of_key plan key past))
+    pub told_are : Reported → (past : List Record) (p : Port) → IsSession plan key past p → AreTold key (says_in past) (reported plan.timeout p.extent (of_key plan key past))
     told_are law past p s =
         let same = records_heard past in
         let there : IsSession plan key (records (heard past)) p = subst (λ (t : List Record). IsSession plan key t p) (sym same) s in
-        subst (AreTold key (delivered_in plan key past))
+        subst (AreTold key (says_in past))
         (law plan key (heard past) p there ∙ ap (λ (t : List Record). reported plan.timeout p.extent (of_key plan key t)) same)
         (all_told past)
