@@ -1,4 +1,4 @@
--- The premises of the headline can be met: the text of a plan, a log and a sent list that meet all
+-- The premises of once and due can be met: the text of a plan, a log and a sent list that meet all
 -- of them.
 use Rattle.std.specs.Prelude.{◌≡◌, ℕ, ◌<◌, List, [], ◌∷◌, ◌++◌, length, codes, Some, None}
 use Rattle.std.specs.FinMap as map

@@ -29,7 +29,7 @@ pub fn headline_laws()
     plans_keep_type_rules();
 }
 
-/// The premises of the headline can be met.
+/// The premises of once and due can be met.
 pub fn premises_can_be_met()
     ensures { PremisesCanBeMet }
 {
