@@ -1,6 +1,8 @@
 -- In which requests the tree failed, and how often it was called, from step to step.
-use Rattle.std.proofs.Common.{◌≡◌, ◌∙◌, ◌≤◌, ◌+◌, ℕ, Bool, true, false, zero, suc, List, [], ◌∷◌, ◌++◌, Option, inl, inr, refl, sym, ap, subst, arith, append-nil, length-append}
+use Rattle.std.proofs.Common.{◌≡◌, ◌∙◌, ◌≤◌, ◌<◌, ◌+◌, ◌-◌, ◌^◌, ◌⊎◌, ℕ, Bool, true, false, zero, suc, List, [], ◌∷◌, ◌++◌, Option, inl, inr, refl, sym, ap, subst, arith, append-nil, length-append}
+use Rattle.std.proofs.lemmas.Bool.{cases_lt}
 use Rattle.std.specs.Prelude.{if◌then◌else◌}
+use Rattle.cy_outside.specs.Calls.{one_more}
 use Rattle.cy_outside.specs.Files.{Files}
 use Rattle.file_service.specs.Causes.{TellsFault}
 use Rattle.node_core.specs.Files.{AsksNothing, Tells, is_failed}
@@ -26,13 +28,23 @@ risen_later : (lines : List ℕ) (a b c : ℕ) → HasRisen lines a b → b ≤ 
 risen_later lines a b c (inl h) more = inl (omega arith)
 risen_later lines a b c (inr h) more = inr (omega arith)
 
+-- a count that rises by one rises, or stands at its end
+rises : (b c : ℕ) → c ≡ one_more b → (b < c) ⊎ (c ≡ 2 ^ 64 - 1)
+rises b c e = elim (cases_lt b (2 ^ 64 - 1)) as (λ _. (b < c) ⊎ (c ≡ 2 ^ 64 - 1)) [
+  | inl l ↦ inl (omega (arith, e, l))
+  | inr g ↦ inr (omega (arith, e, g))
+]
+
+risen_by : (lines : List ℕ) (line a b c : ℕ) → HasRisen lines a b → (b < c) ⊎ (c ≡ 2 ^ 64 - 1) → HasRisen (lines ++ line ∷ []) a c
+risen_by lines line a b c (inl h) (inl k) = let size = length-append lines (line ∷ []) in inl (omega (arith, size, h, k))
+risen_by lines line a b c (inl h) (inr k) = inr (omega (arith, k))
+risen_by lines line a b c (inr h) (inl k) = inr (omega (arith, h, k))
+risen_by lines line a b c (inr h) (inr k) = inr (omega (arith, k))
+
 -- one more request, in which the tree failed or not
 risen_next : (lines : List ℕ) (line : ℕ) (failed : Bool) (a b c : ℕ) → HasRisen lines a b → TellsFault failed b c
     → HasRisen (lines ++ (if failed then line ∷ [] else [])) a c
-risen_next lines line true a b c (inl h) (inl k) = let size = length-append lines (line ∷ []) in inl (omega arith)
-risen_next lines line true a b c (inl h) (inr k) = inr (omega arith)
-risen_next lines line true a b c (inr h) (inl k) = inr (omega arith)
-risen_next lines line true a b c (inr h) (inr k) = inr (omega arith)
+risen_next lines line true a b c h k = risen_by lines line a b c h (rises b c k)
 risen_next lines line false a b c h k =
     subst (λ (ls : List ℕ). HasRisen ls a c) (sym (append-nil lines)) (subst (HasRisen lines a) (sym k) h)
 
