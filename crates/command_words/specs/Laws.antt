@@ -2,6 +2,7 @@
 use Rattle.std.specs.Prelude.{ℕ, nat_eq, nat_le, Bool, true, false, ◌&&◌, not, List, [], ◌∷◌, ◌++◌, if◌then◌else◌}
 use Rattle.std.specs.List.{list_all, list_any, starts_with}
 use Rattle.std.specs.Str.{bytes_eq}
+use Rattle.command_words.specs.Help.{text_of_help}
 use Rattle.command_words.specs.Overview.{fits_screen}
 use Rattle.command_words.specs.Table.{Row, usage_of}
 
@@ -32,7 +33,11 @@ headings_behind group (row ∷ rest) =
 abbrev pub are_groups_whole : List Row → Bool
 are_groups_whole rows = are_distinct (headings_behind [] rows)
 
--- each help begins with the call, and has at most 24 lines of at most 80 columns
+-- a help begins with the call, and has at most 24 lines of at most 80 columns
+abbrev pub is_told : List ℕ → Row → Bool
+is_told text row = starts_with nat_eq text (usage_of row) && fits_screen 24 text
+
+-- each help does
 abbrev pub are_told : List Row → Bool
 are_told rows =
-    list_all (λ row. starts_with nat_eq row.help.now (usage_of row) && fits_screen 24 row.help.now) rows
+    list_all (λ row. is_told (text_of_help row.help) row) rows

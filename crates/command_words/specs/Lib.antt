@@ -1,3 +1,4 @@
+pub mod Help
 pub mod Table
 pub mod Overview
 pub mod Laws

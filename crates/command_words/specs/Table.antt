@@ -5,6 +5,7 @@ use Rattle.std.specs.List.{find}
 use Rattle.std.specs.Str.{bytes_eq}
 use Rattle.command_words.specs.declared.command.Command.{Command}
 use Rattle.command_words.specs.declared.table.TheConstants.{COMMANDS}
+use Rattle.command_words.specs.Help.{text_of_help}
 
 -- a text, and a list of texts, as a constant has them
 abbrev pub Text : Type 0
@@ -32,7 +33,7 @@ row_of c = record {
   options = record { now = texts_of c.options.now };
   group = text_of c.group;
   summary = text_of c.summary;
-  help = text_of c.help;
+  help = c.help;
 }
 
 -- the row that a word names, if there is one
@@ -41,7 +42,7 @@ named word rows = find (λ row. bytes_eq row.word.now word) rows
 
 -- what `cyphal COMMAND --help` writes, for the word of a command
 unfoldable pub help_of : List ℕ → Option (List ℕ)
-help_of word = option_map (λ row. row.help.now) (named word COMMANDS.now)
+help_of word = option_map (λ row. text_of_help row.help) (named word COMMANDS.now)
 
 -- words, each with a space in front
 abbrev pub spaced : List Text → List ℕ

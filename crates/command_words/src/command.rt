@@ -1,4 +1,5 @@
 //! What the table has of a command.
+use crate::help::Help;
 
 /// A command as its user sees it. Its texts are ASCII. They are of a type `Text`, since contracts
 /// know a constant of such values by its name only where the struct itself holds no reference.
@@ -14,6 +15,6 @@ pub struct Command<Text = &'static str, Texts = &'static [&'static str]> {
     pub group: Text,
     /// What it does, in a few words.
     pub summary: Text,
-    /// What `cyphal COMMAND --help` writes.
-    pub help: Text,
+    /// Which help it has.
+    pub help: Help,
 }

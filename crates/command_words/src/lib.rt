@@ -4,6 +4,7 @@
 
 pub mod command;
 pub mod groups;
+pub mod help;
 pub mod laws;
 pub mod log_help;
 pub mod lookup;
@@ -15,6 +16,7 @@ pub mod types_help;
 pub mod values_help;
 
 pub use command::Command;
+pub use help::Help;
 pub use laws::table_laws;
 pub use lookup::{find, help_of};
 pub use overview_text::overview;

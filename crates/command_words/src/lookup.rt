@@ -18,7 +18,7 @@ pub fn help_of(word: &str) -> Option<&'static str>
     ensures { option_copied result ≡ help_of word.now }
 {
     match find(word) {
-        Some(command) => Some(command.help),
+        Some(command) => Some(command.help.text()),
         None => None,
     }
 }

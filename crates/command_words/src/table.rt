@@ -1,7 +1,7 @@
 //! The commands.
 use crate::command::Command;
 use crate::groups::{LOG, NODE, PLAN, TYPES, VALUES};
-use crate::{log_help, node_help, plan_help, types_help, values_help};
+use crate::help::Help;
 
 /// The commands, group by group.
 pub const COMMANDS: &[Command] = &[
@@ -11,7 +11,7 @@ pub const COMMANDS: &[Command] = &[
         options: &[],
         group: LOG,
         summary: "runs the node of a plan over a log: a report",
-        help: log_help::RUN,
+        help: Help::Run,
     },
     Command {
         word: "json",
@@ -19,7 +19,7 @@ pub const COMMANDS: &[Command] = &[
         options: &[],
         group: LOG,
         summary: "writes that report as lines of JSON",
-        help: log_help::JSON,
+        help: Help::Json,
     },
     Command {
         word: "explain",
@@ -27,7 +27,7 @@ pub const COMMANDS: &[Command] = &[
         options: &[],
         group: LOG,
         summary: "says what became of each frame of a log, and why",
-        help: log_help::EXPLAIN,
+        help: Help::Explain,
     },
     Command {
         word: "survey",
@@ -35,7 +35,7 @@ pub const COMMANDS: &[Command] = &[
         options: &[],
         group: LOG,
         summary: "says what each bus and flow of a log carries",
-        help: log_help::SURVEY,
+        help: Help::Survey,
     },
     Command {
         word: "nodes",
@@ -43,7 +43,7 @@ pub const COMMANDS: &[Command] = &[
         options: &[],
         group: LOG,
         summary: "says who comes and goes in a log, as it happens",
-        help: log_help::NODES,
+        help: Help::Nodes,
     },
     Command {
         word: "order",
@@ -51,7 +51,7 @@ pub const COMMANDS: &[Command] = &[
         options: &[],
         group: LOG,
         summary: "puts the lines of a log into the order of time",
-        help: log_help::ORDER,
+        help: Help::Order,
     },
     Command {
         word: "gen",
@@ -59,7 +59,7 @@ pub const COMMANDS: &[Command] = &[
         options: &[],
         group: LOG,
         summary: "makes a large log of a number, and runs it",
-        help: log_help::GEN,
+        help: Help::Gen,
     },
     Command {
         word: "monitor",
@@ -67,7 +67,7 @@ pub const COMMANDS: &[Command] = &[
         options: &[],
         group: NODE,
         summary: "says who is online in a log, and the time there",
-        help: node_help::MONITOR,
+        help: Help::Monitor,
     },
     Command {
         word: "allocate",
@@ -75,7 +75,7 @@ pub const COMMANDS: &[Command] = &[
         options: &[],
         group: NODE,
         summary: "gives node-IDs to nodes that have none",
-        help: node_help::ALLOCATE,
+        help: Help::Allocate,
     },
     Command {
         word: "fetch",
@@ -83,7 +83,7 @@ pub const COMMANDS: &[Command] = &[
         options: &[],
         group: NODE,
         summary: "fetches a file of another node",
-        help: node_help::FETCH,
+        help: Help::Fetch,
     },
     Command {
         word: "bound",
@@ -91,7 +91,7 @@ pub const COMMANDS: &[Command] = &[
         options: &[],
         group: PLAN,
         summary: "says how many bytes its sessions hold at most",
-        help: plan_help::BOUND,
+        help: Help::Bound,
     },
     Command {
         word: "migrate",
@@ -99,7 +99,7 @@ pub const COMMANDS: &[Command] = &[
         options: &[],
         group: PLAN,
         summary: "writes it in version 2 of its form",
-        help: plan_help::MIGRATE,
+        help: Help::Migrate,
     },
     Command {
         word: "compile",
@@ -107,7 +107,7 @@ pub const COMMANDS: &[Command] = &[
         options: &[],
         group: TYPES,
         summary: "compiles DSDL files, and writes their layouts",
-        help: types_help::COMPILE,
+        help: Help::Compile,
     },
     Command {
         word: "compat",
@@ -115,7 +115,7 @@ pub const COMMANDS: &[Command] = &[
         options: &[],
         group: TYPES,
         summary: "says whether NEW is newer than OLD",
-        help: types_help::COMPAT,
+        help: Help::Compat,
     },
     Command {
         word: "versions",
@@ -123,7 +123,7 @@ pub const COMMANDS: &[Command] = &[
         options: &[],
         group: TYPES,
         summary: "says so of each version and the one before it",
-        help: types_help::VERSIONS,
+        help: Help::Versions,
     },
     Command {
         word: "encode",
@@ -131,7 +131,7 @@ pub const COMMANDS: &[Command] = &[
         options: &[],
         group: VALUES,
         summary: "writes the hex of texts of values",
-        help: values_help::ENCODE,
+        help: Help::Encode,
     },
     Command {
         word: "decode",
@@ -139,6 +139,6 @@ pub const COMMANDS: &[Command] = &[
         options: &[],
         group: VALUES,
         summary: "writes the texts of the values that hex reads as",
-        help: values_help::DECODE,
+        help: Help::Decode,
     },
 ];
