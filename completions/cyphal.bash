@@ -8,7 +8,7 @@ _cyphal()
     if [[ $word == [\<\>]* || $before == [\<\>]* ]]; then
         return
     fi
-    local commands=(run json explain survey nodes order gen monitor allocate fetch bound migrate compile compat versions encode decode)
+    local commands=(run json explain survey nodes order gen monitor allocate fetch bound migrate compile compat versions changes encode decode)
     if [ "$COMP_CWORD" -eq 1 ]; then
         _cyphal_offer "$word" "${commands[@]}" --help --version
         return
@@ -20,7 +20,7 @@ _cyphal()
         return
     fi
     case $command:$COMP_CWORD in
-        run:2 | json:2 | bound:2 | migrate:2 | explain:2 | compile:2 | compat:2 | versions:2 | encode:2 | decode:2)
+        run:2 | json:2 | bound:2 | migrate:2 | explain:2 | compile:2 | compat:2 | versions:2 | changes:[23] | encode:2 | decode:2)
             compopt -o plusdirs
             _cyphal_offer "$word" none
             ;;

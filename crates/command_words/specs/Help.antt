@@ -5,7 +5,7 @@ use Rattle.command_words.specs.declared.help.Help.TheVariants as help
 use Rattle.command_words.specs.declared.log_help.TheConstants.{RUN, JSON, EXPLAIN, SURVEY, NODES, ORDER, GEN}
 use Rattle.command_words.specs.declared.node_help.TheConstants.{MONITOR, ALLOCATE, FETCH}
 use Rattle.command_words.specs.declared.plan_help.TheConstants.{BOUND, MIGRATE}
-use Rattle.command_words.specs.declared.types_help.TheConstants.{COMPILE, COMPAT, VERSIONS}
+use Rattle.command_words.specs.declared.types_help.TheConstants.{COMPILE, COMPAT, VERSIONS, CHANGES}
 use Rattle.command_words.specs.declared.values_help.TheConstants.{ENCODE, DECODE}
 
 -- what `cyphal COMMAND --help` writes
@@ -25,5 +25,6 @@ text_of_help help.Migrate = MIGRATE.now
 text_of_help help.Compile = COMPILE.now
 text_of_help help.Compat = COMPAT.now
 text_of_help help.Versions = VERSIONS.now
+text_of_help help.Changes = CHANGES.now
 text_of_help help.Encode = ENCODE.now
 text_of_help help.Decode = DECODE.now

@@ -38,6 +38,8 @@ pub enum Help {
     Compat,
     /// Of `versions`.
     Versions,
+    /// Of `changes`.
+    Changes,
     /// Of `encode`.
     Encode,
     /// Of `decode`.
@@ -65,6 +67,7 @@ impl Help {
             Help::Compile => types_help::COMPILE,
             Help::Compat => types_help::COMPAT,
             Help::Versions => types_help::VERSIONS,
+            Help::Changes => types_help::CHANGES,
             Help::Encode => values_help::ENCODE,
             Help::Decode => values_help::DECODE,
         }

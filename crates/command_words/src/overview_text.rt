@@ -23,12 +23,12 @@ a plan  bound ROOT PLAN         says how many bytes its sessions hold at most
 types   compile ROOT            compiles DSDL files, and writes their layouts
         compat ROOT NEW OLD     says whether NEW is newer than OLD
         versions ROOT           says so of each version and the one before it
+        changes OLD NEW         says what an edit of a folder does to its types
 values  encode ROOT TYPE        writes the hex of texts of values
         decode ROOT TYPE        writes the texts of the values that hex reads as
 
 A log, values or hex come on standard input. ROOT is a folder of DSDL files, or
-none. Status 0: done; 1: usage; others say what was refused, or failed, and are
-told by COMMAND --help. More: cyphal --version, man cyphal, the guide.
+none. Status 0: done; others: COMMAND --help. More: man cyphal, the guide.
 ";
 
 /// The overview. It has a line of each command, in the order of the table, and fits a screen of 24

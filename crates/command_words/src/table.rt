@@ -126,6 +126,14 @@ pub const COMMANDS: &[Command] = &[
         help: Help::Versions,
     },
     Command {
+        word: "changes",
+        arguments: &["OLD", "NEW"],
+        options: &[],
+        group: TYPES,
+        summary: "says what an edit of a folder does to its types",
+        help: Help::Changes,
+    },
+    Command {
         word: "encode",
         arguments: &["ROOT", "TYPE"],
         options: &[],

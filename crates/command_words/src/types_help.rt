@@ -60,3 +60,26 @@ Status: 0 done, 1 usage, 2 DSDL file refused, 7 not newer, 8 read fault,
 
 Example: cyphal versions examples/values
 ";
+
+/// Of `changes`.
+pub const CHANGES: &str = "\
+cyphal changes OLD NEW
+
+Compares two states of a folder, as git worktree gives of two commits: what the
+edit of a type, of major 0 too, does to those who have it as it was.
+
+  OLD, NEW  the folders with the DSDL files, or none; OLD is compiled first
+
+Lines, by name and version, of a service by its halves: NAME, and same; renamed
+(but for names of fields, which aren't sent); newer or not newer at PATH: WHY,
+as cyphal compat says it of NEW's beside OLD's; added or gone, where one alone
+has it. Where the fixed port differs, port OLDPORT NEWPORT stands behind.
+
+Where a type isn't newer, is gone, or isn't at the port that it had, all lines
+are written, standard error has the first of these, and the status is 7.
+
+Status: 0 done, 1 usage, 2 DSDL file refused, 7 not newer, 8 read fault,
+9 write fault, 10 out of memory, 12 not found
+
+Example: cyphal changes none examples/types
+";

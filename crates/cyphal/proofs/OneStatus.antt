@@ -14,15 +14,17 @@ use Rattle.node_run.specs.Ran.{names_of}
 use Rattle.node_run.specs.ValueLines.{Answering, Ends, HasOneStatus}
 use Rattle.node_run.specs.declared.status.Status.{Status}
 use Rattle.node_run.specs.declared.status.Status.TheVariants as status
+use Rattle.type_changes.proofs.Whole as changes
 use Rattle.type_versions.proofs.One.{one_answer}
 use Rattle.value_lines.specs.Decoded.{Decodes}
 use Rattle.value_lines.specs.Encoded.{Encodes}
-use Rattle.cyphal.specs.Words.{Command, Compile, Compat, Versions, Encode, Decode, Run, Gen, Order, Survey, Nodes}
+use Rattle.cyphal.specs.Words.{Command, Compile, Compat, Versions, Changes, Encode, Decode, Run, Gen, Order, Survey, Nodes}
 use Rattle.cyphal.specs.Job.{Told, Job}
 use Rattle.cyphal.specs.LogEnds.{EndsAsLog}
 use Rattle.cyphal.specs.Plans.{EndsAt}
 use Rattle.cyphal.specs.jobs.{job_of}
 use Rattle.cyphal.specs.jobs.Bound.{bounded}
+use Rattle.cyphal.specs.jobs.Changes.{ChangesEnd, TellsChanges}
 use Rattle.cyphal.specs.jobs.Compat.{Compares}
 use Rattle.cyphal.specs.jobs.Compile.{Compiles}
 use Rattle.cyphal.specs.jobs.Order.{EndsAsLines}
@@ -55,6 +57,10 @@ answers_in answers name told names stat = IsNamespace names × Ends answers (mes
 one_end_of_versions : (names : Namespace) (s t : Status) → VersionsEnd names s → VersionsEnd names t → s ≡ t
 one_end_of_versions names s t a b = a.ends ∙ ap ended (one_answer names a.lines b.lines a.first b.first a.are b.are).1 ∙ sym b.ends
 
+-- so has the comparison of two namespaces
+one_end_of_changes : (olds news : Namespace) (s t : Status) → ChangesEnd olds news s → ChangesEnd olds news t → s ≡ t
+one_end_of_changes olds news s t a b = a.ends ∙ ap ended (changes.one_answer olds news a.lines b.lines a.first b.first a.are b.are).1 ∙ sym b.ends
+
 module _ (root : List ℕ) (told : Option Files) (f : Found root told) where
   comes_compiled : (stat : Status) → Compiles root told stat → Comes root laid_out f.found stat
   comes_compiled status.Ok c = loaded c.1.files c.0 (f.are c.1.files c.1.are) c.1.compiled refl
@@ -69,6 +75,18 @@ module _ (root : List ℕ) (told : Option Files) (f : Found root told) where
   comes_to_versions : (stat : Status) → ComparesVersions root told stat → Comes root VersionsEnd f.found stat
   comes_to_versions stat (h, inl n) = not_loaded root VersionsEnd told f stat h n
   comes_to_versions stat (h, inr c) = loaded c.is.files c.names (f.are c.is.files c.is.are) c.is.compiled c.compared
+
+module _ (old new : List ℕ) (told : Option Files) (f : Found old told) (g : Found new told) where
+  -- what it comes to behind the old folder's namespace
+  abbrev comes_behind : Namespace → Status → Type 0
+  comes_behind olds stat = Comes new (ChangesEnd olds) g.found stat
+
+  comes_to_changes : (stat : Status) → TellsChanges old new told stat → Comes old comes_behind f.found stat
+  comes_to_changes stat (h, inl n) = not_loaded old comes_behind told f stat h n
+  comes_to_changes stat (h, inr (inl n)) =
+      loaded n.is_old.files n.olds (f.are n.is_old.files n.is_old.are) n.is_old.compiled (not_loaded new (ChangesEnd n.olds) told g stat h n.refused)
+  comes_to_changes stat (h, inr (inr c)) = loaded c.is_old.files c.olds (f.are c.is_old.files c.is_old.are) c.is_old.compiled
+      (loaded c.is_new.files c.news (g.are c.is_new.files c.is_new.are) c.is_new.compiled c.compared)
 
 module _ (answers : Answering) (root name : List ℕ) (told : Told) where
   comes_answered : (f : Found root told.files) (stat : Status) → AnswersLines answers root name told stat → Comes root (answers_in answers name told) f.found stat
@@ -101,6 +119,16 @@ module _ (laws : HaveOneAnswer × OnePlan) (encodes : HasOneStatus Encodes) (dec
   by_versions root files s t h a b =
       let f = found_told (is_none root) root files refl h in
       one laws.0 root VersionsEnd one_end_of_versions f.found s t (comes_to_versions root files f s a) (comes_to_versions root files f t b)
+
+  -- by the namespaces of two folders
+  by_changes : (old new : List ℕ) (files : Option Files) (s t : Status) → ((is_none old || is_some files) && (is_none new || is_some files)) ≡ true
+      → TellsChanges old new files s → TellsChanges old new files t → s ≡ t
+  by_changes old new files s t h a b =
+      let all = both (is_none old || is_some files) (is_none new || is_some files) h in
+      let f = found_told (is_none old) old files refl all.0 in
+      let g = found_told (is_none new) new files refl all.1 in
+      one laws.0 old (comes_behind old new files f g) (λ olds. one laws.0 new (ChangesEnd olds) (one_end_of_changes olds) g.found) f.found s t
+      (comes_to_changes old new files f g s a) (comes_to_changes old new files f g t b)
 
   -- by the lines of the input in it
   by_lines : (answers : Answering) → HasOneStatus answers → (root name : List ℕ) (told : Told) (s t : Status)
@@ -136,6 +164,7 @@ module _ (laws : HaveOneAnswer × OnePlan) (encodes : HasOneStatus Encodes) (dec
   single (Compile root) told s t h a b = by_compiling root told.files s t h a b
   single (Compat root new old) told s t h a b = by_comparing root new old told.files s t h a b
   single (Versions root) told s t h a b = by_versions root told.files s t h a b
+  single (Changes old new) told s t h a b = by_changes old new told.files s t h a b
   single (Encode root name) told s t h a b = by_lines Encodes encodes root name told s t h a b
   single (Decode root name) told s t h a b = by_lines Decodes decodes root name told s t h a b
   single (Run form root path) told s t h a b = by_running root path told s t h a b

@@ -182,6 +182,13 @@ versions_agrees (a ∷ b ∷ []) = none_either_way (is_argument a && is_argument
 versions_agrees (a ∷ b ∷ c ∷ []) = none_either_way (is_argument a && (is_argument b && is_argument c)) ∙ sym (simp no_more refl)
 versions_agrees (a ∷ b ∷ c ∷ d ∷ rest) = sym (simp no_more refl)
 
+changes_agrees : (words : List (List ℕ)) → Agrees (codes "changes") words
+changes_agrees [] = refl
+changes_agrees (a ∷ []) = none_either_way (is_argument a) ∙ sym (simp no_more refl)
+changes_agrees (a ∷ b ∷ []) = two_texts (is_argument a) (is_argument b) _
+changes_agrees (a ∷ b ∷ c ∷ []) = none_either_way (is_argument a && (is_argument b && is_argument c)) ∙ sym (simp no_more refl)
+changes_agrees (a ∷ b ∷ c ∷ d ∷ rest) = sym (simp no_more refl)
+
 encode_agrees : (words : List (List ℕ)) → Agrees (codes "encode") words
 encode_agrees [] = refl
 encode_agrees (a ∷ []) = none_either_way (is_argument a) ∙ sym (simp no_more refl)
@@ -230,13 +237,14 @@ module _ (word : List ℕ)
     (no_compile : bytes_eq word (codes "compile") ≡ false)
     (no_compat : bytes_eq word (codes "compat") ≡ false)
     (no_versions : bytes_eq word (codes "versions") ≡ false)
+    (no_changes : bytes_eq word (codes "changes") ≡ false)
     (no_encode : bytes_eq word (codes "encode") ≡ false)
     (no_decode : bytes_eq word (codes "decode") ≡ false) where
   of_one : (a : List ℕ) → named_of_one word a ≡ None
   of_one a = simp (no_compile, no_versions, no_gen, no_order, no_survey, no_nodes, no_monitor, no_allocate) refl
 
   of_two : (a b : List ℕ) → named_of_two word a b ≡ None
-  of_two a b = simp (no_encode, no_decode, no_run, no_json, no_bound, no_migrate, no_explain) refl
+  of_two a b = simp (no_encode, no_decode, no_changes, no_run, no_json, no_bound, no_migrate, no_explain) refl
 
   of_three : (a b c : List ℕ) → named_of_three word a b c ≡ None
   of_three a b c = simp (no_compat, no_fetch) refl
@@ -297,13 +305,17 @@ agrees word words =
                                                                                         elim (test word (codes "versions")) [
                                                                                           | same e ↦ subst (λ (w : List ℕ). Agrees w words) (sym e) (versions_agrees words)
                                                                                           | other no_versions not_versions ↦
-                                                                                              elim (test word (codes "encode")) [
-                                                                                                | same e ↦ subst (λ (w : List ℕ). Agrees w words) (sym e) (encode_agrees words)
-                                                                                                | other no_encode not_encode ↦
-                                                                                                    elim (test word (codes "decode")) [
-                                                                                                      | same e ↦ subst (λ (w : List ℕ). Agrees w words) (sym e) (decode_agrees words)
-                                                                                                      | other no_decode not_decode ↦
-                                                                                                          no_command word no_run no_json no_explain no_survey no_nodes no_order no_gen no_monitor no_allocate no_fetch no_bound no_migrate no_compile no_compat no_versions no_encode no_decode words ∙ sym (unaccepted word words (not_run, (not_json, (not_explain, (not_survey, (not_nodes, (not_order, (not_gen, (not_monitor, (not_allocate, (not_fetch, (not_bound, (not_migrate, (not_compile, (not_compat, (not_versions, (not_encode, (not_decode, tt))))))))))))))))))
+                                                                                              elim (test word (codes "changes")) [
+                                                                                                | same e ↦ subst (λ (w : List ℕ). Agrees w words) (sym e) (changes_agrees words)
+                                                                                                | other no_changes not_changes ↦
+                                                                                                    elim (test word (codes "encode")) [
+                                                                                                      | same e ↦ subst (λ (w : List ℕ). Agrees w words) (sym e) (encode_agrees words)
+                                                                                                      | other no_encode not_encode ↦
+                                                                                                          elim (test word (codes "decode")) [
+                                                                                                            | same e ↦ subst (λ (w : List ℕ). Agrees w words) (sym e) (decode_agrees words)
+                                                                                                            | other no_decode not_decode ↦
+                                                                                                                no_command word no_run no_json no_explain no_survey no_nodes no_order no_gen no_monitor no_allocate no_fetch no_bound no_migrate no_compile no_compat no_versions no_changes no_encode no_decode words ∙ sym (unaccepted word words (not_run, (not_json, (not_explain, (not_survey, (not_nodes, (not_order, (not_gen, (not_monitor, (not_allocate, (not_fetch, (not_bound, (not_migrate, (not_compile, (not_compat, (not_versions, (not_changes, (not_encode, (not_decode, tt)))))))))))))))))))
+                                                                                                          ]
                                                                                                     ]
                                                                                               ]
                                                                                         ]

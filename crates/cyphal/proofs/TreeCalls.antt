@@ -7,6 +7,7 @@ use Rattle.cyphal.specs.Job.{CallsAtMost}
 use Rattle.cyphal.specs.Plans.{plan_calls}
 use Rattle.cyphal.specs.Words.{asked_by}
 use Rattle.cyphal.specs.jobs.{job_of}
+use Rattle.cyphal.specs.jobs.Changes.{calls_of_both}
 use Rattle.cyphal.specs.declared.words.Accepted.{Accepted}
 
 -- no call was made
@@ -18,6 +19,22 @@ no_calls most (Some files) calls = omega arith
 pub root_calls : (root path : List ℕ) (told : Option Files) (old new : ℕ) → CallsAtMost (calls_of root) told old new → CallsAtMost (plan_calls root path) told old new
 root_calls root path None old new c = tt
 root_calls root path (Some files) old new c = omega (arith, c)
+
+-- the namespace of one folder is all that was asked for
+pub first_calls : (old new : List ℕ) (told : Option Files) (before after : ℕ) → CallsAtMost (calls_of old) told before after
+    → CallsAtMost (calls_of_both old new) told before after
+first_calls old new None before after c = tt
+first_calls old new (Some files) before after c = omega (arith, c)
+
+-- and then that of another one
+pub both_calls : (old new : List ℕ) (told there : Option Files) (before loaded after : ℕ) → there ≡ told → CallsAtMost (calls_of old) told before loaded
+    → CallsAtMost (calls_of new) there loaded after → CallsAtMost (calls_of_both old new) told before after
+both_calls old new told there before loaded after e c d = by_told told c (subst (λ t. CallsAtMost (calls_of new) t loaded after) e d)
+  where
+    by_told : (t : Option Files) → CallsAtMost (calls_of old) t before loaded → CallsAtMost (calls_of new) t loaded after
+        → CallsAtMost (calls_of_both old new) t before after
+    by_told None c d = tt
+    by_told (Some files) c d = omega (arith, c, d)
 
 -- the namespace of the root, and then the text at the path
 pub text_calls : (root path : List ℕ) (told there : Option Files) (old loaded new : ℕ) → there ≡ told → CallsAtMost (calls_of root) told old loaded

@@ -1,5 +1,7 @@
 pub mod Compat
+pub mod Verdicts
 pub mod Versions
+pub mod Changes
 pub mod Values
 pub mod Run
 pub mod Gen

@@ -6,6 +6,7 @@ pub mod Help
 pub mod TableRule
 pub mod Cause
 pub mod MayEnd
+pub mod Verdicts
 pub mod Job
 pub mod LogEnds
 pub mod Plans

@@ -36,10 +36,10 @@ of_types (status.NotNewer path why) = true
 of_types (status.NoFile path) = true
 of_types other = of_text other
 
--- of versions that are compared
-abbrev pub of_versions : Status → Bool
-of_versions (status.NotNewer path why) = true
-of_versions other = of_text other
+-- of comparisons of which each has a line
+abbrev pub of_verdicts : Status → Bool
+of_verdicts (status.NotNewer path why) = true
+of_verdicts other = of_text other
 
 -- of a log that is heard
 abbrev pub of_log : Status → Bool

@@ -13,18 +13,20 @@ use Rattle.cyphal.specs.declared.words.Accepted.{Accepted}
 use Rattle.cyphal.specs.declared.words.Accepted.TheVariants as accepted
 
 -- what the words ask for: the layouts of the types below this root, whether one of them is newer
--- than another, whether each of their versions is newer than the one before it, values of one of
--- them as bytes, bytes as values of it, a run, written in a form, of the plan at this path, which
--- is read in the namespace of the root, its memory bound, its text in version 2, the run of the log
--- that is made of this number, who is online in the log of the input, which a node with this
--- node-ID hears, node-IDs for the nodes of that log that have none, the file that a node with this
--- node-ID fetches of another one over that log, the lines of a log in the order of their moments,
--- with a window of so many microseconds, what the buses with these names carry, who comes and goes
--- on them, or what became of each frame of a log by such a plan
+-- than another, whether each of their versions is newer than the one before it, what became of the
+-- types of an old folder in a new one, values of one of the types of a root as bytes, bytes as
+-- values of it, a run, written in a form, of the plan at this path, which is read in the namespace
+-- of the root, its memory bound, its text in version 2, the run of the log that is made of this
+-- number, who is online in the log of the input, which a node with this node-ID hears, node-IDs for
+-- the nodes of that log that have none, the file that a node with this node-ID fetches of another
+-- one over that log, the lines of a log in the order of their moments, with a window of so many
+-- microseconds, what the buses with these names carry, who comes and goes on them, or what became
+-- of each frame of a log by such a plan
 pub data Command : Type 0 where
   Compile : List ℕ → Command
   Compat : List ℕ → List ℕ → List ℕ → Command
   Versions : List ℕ → Command
+  Changes : List ℕ → List ℕ → Command
   Encode : List ℕ → List ℕ → Command
   Decode : List ℕ → List ℕ → Command
   Run : Form → List ℕ → List ℕ → Command
@@ -50,6 +52,7 @@ abbrev pub asked_by : Accepted → Command
 asked_by (accepted.Compile root) = Compile root.now
 asked_by (accepted.Compat root new old) = Compat root.now new.now old.now
 asked_by (accepted.Versions root) = Versions root.now
+asked_by (accepted.Changes old new) = Changes old.now new.now
 asked_by (accepted.Encode root name) = Encode root.now name.now
 asked_by (accepted.Decode root name) = Decode root.now name.now
 asked_by (accepted.Run form root plan) = Run form root.now plan.now
@@ -146,12 +149,13 @@ named_of_plan word root plan =
     else (if bytes_eq word (codes "migrate") then Some (Migrate root plan)
     else (if bytes_eq word (codes "explain") then Some (Explain root plan) else None))))
 
--- the command that a word names, of a root and another argument
+-- the command that a word names, of two arguments
 abbrev pub named_of_two : List ℕ → List ℕ → List ℕ → Option Command
-named_of_two word root argument =
-    if bytes_eq word (codes "encode") then Some (Encode root argument)
-    else (if bytes_eq word (codes "decode") then Some (Decode root argument)
-    else named_of_plan word root argument)
+named_of_two word first second =
+    if bytes_eq word (codes "encode") then Some (Encode first second)
+    else (if bytes_eq word (codes "decode") then Some (Decode first second)
+    else (if bytes_eq word (codes "changes") then Some (Changes first second)
+    else named_of_plan word first second))
 
 -- the command that a word names, of three arguments
 abbrev pub named_of_three : List ℕ → List ℕ → List ℕ → List ℕ → Option Command
@@ -161,9 +165,9 @@ named_of_three word first second third =
     then fetch_given (node_given first) (node_given second) third else None)
 
 -- what the words ask for, where they are accepted: `compile ROOT`, `compat ROOT NEW OLD`, `versions
--- ROOT`, `encode ROOT TYPE`, `decode ROOT TYPE`, `run ROOT PLAN`, `json ROOT PLAN`, `bound ROOT
--- PLAN`, `migrate ROOT PLAN`, `explain ROOT PLAN`, `gen NUMBER`, `order MICROS`, `survey BUSES`,
--- `nodes BUSES`, `monitor NODE`, `allocate NODE` or `fetch NODE SERVER PATH`
+-- ROOT`, `changes OLD NEW`, `encode ROOT TYPE`, `decode ROOT TYPE`, `run ROOT PLAN`, `json ROOT
+-- PLAN`, `bound ROOT PLAN`, `migrate ROOT PLAN`, `explain ROOT PLAN`, `gen NUMBER`, `order MICROS`,
+-- `survey BUSES`, `nodes BUSES`, `monitor NODE`, `allocate NODE` or `fetch NODE SERVER PATH`
 abbrev pub command_of : List (List ℕ) → Option Command
 command_of [] = None
 command_of (word ∷ []) = None

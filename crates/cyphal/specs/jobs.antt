@@ -2,6 +2,7 @@
 pub mod Compile
 pub mod Compat
 pub mod Versions
+pub mod Changes
 pub mod Values
 pub mod Run
 pub mod Bound
@@ -24,6 +25,7 @@ use Rattle.cyphal.specs.Job.{Job}
 use Rattle.cyphal.specs.jobs.Compile.{compile_job}
 use Rattle.cyphal.specs.jobs.Compat.{compat_job}
 use Rattle.cyphal.specs.jobs.Versions.{versions_job}
+use Rattle.cyphal.specs.jobs.Changes.{changes_job}
 use Rattle.cyphal.specs.jobs.Values.{values_job}
 use Rattle.cyphal.specs.jobs.Run.{run_job}
 use Rattle.cyphal.specs.jobs.Bound.{bound_job}
@@ -41,6 +43,7 @@ abbrev pub job_of : Command → Job
 job_of (command.Compile root) = compile_job root
 job_of (command.Compat root new old) = compat_job root new old
 job_of (command.Versions root) = versions_job root
+job_of (command.Changes old new) = changes_job old new
 job_of (command.Encode root name) = values_job Encodes root name
 job_of (command.Decode root name) = values_job Decodes root name
 job_of (command.Run form root path) = run_job form root path

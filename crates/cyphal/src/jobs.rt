@@ -11,6 +11,7 @@ ghost use Rattle.cyphal.specs.Words.{asked_by};
 ghost use Rattle.cyphal.specs.jobs.{job_of};
 
 pub mod bound;
+pub mod changes;
 pub mod compat;
 pub mod compile;
 pub mod explain;
@@ -23,11 +24,13 @@ pub mod reach;
 pub mod run;
 pub mod survey;
 pub mod values;
+pub mod verdicts;
 pub mod versions;
 
 use crate::counted::Counted;
 use crate::words::Accepted;
 use bound::bound_plan;
+use changes::tell_changes;
 use compat::compat_types;
 use compile::compile_root;
 use cy_outside::{Sink, Source, Tree};
@@ -80,6 +83,9 @@ pub fn carry_out<T: Tree, L: Source, O: Sink, K: LineSink>(
         }
         Accepted::Versions { root } => {
             Counted::nothing(compare_versions(alloc, root, tree, out))
+        }
+        Accepted::Changes { old, new } => {
+            Counted::nothing(tell_changes(alloc, old, new, tree, out))
         }
         Accepted::Encode { root, name } => {
             Counted::nothing(answer_lines(alloc, Direction::Encode, root, name, tree, input, out))

@@ -31,6 +31,11 @@ pub enum Accepted<'a> {
     Versions {
         root: &'a str,
     },
+    /// Writes what became of the types of an old folder in a new one.
+    Changes {
+        old: &'a str,
+        new: &'a str,
+    },
     /// Writes values of a type of a root as bytes.
     Encode {
         root: &'a str,
@@ -95,10 +100,10 @@ pub enum Accepted<'a> {
 }
 
 /// The command that the words are, so `compile ROOT`, `compat ROOT NEW OLD`, `versions ROOT`,
-/// `encode ROOT TYPE`, `decode ROOT TYPE`, `run ROOT PLAN`, `json ROOT PLAN`, `bound ROOT PLAN`,
-/// `migrate ROOT PLAN`, `explain ROOT PLAN`, `gen NUMBER`, `order MICROS`, `survey BUSES`, `nodes
-/// BUSES`, `monitor NODE`, `allocate NODE` or `fetch NODE SERVER PATH`; none where they aren't
-/// accepted. It wants memory where they are.
+/// `changes OLD NEW`, `encode ROOT TYPE`, `decode ROOT TYPE`, `run ROOT PLAN`, `json ROOT PLAN`,
+/// `bound ROOT PLAN`, `migrate ROOT PLAN`, `explain ROOT PLAN`, `gen NUMBER`, `order MICROS`,
+/// `survey BUSES`, `nodes BUSES`, `monitor NODE`, `allocate NODE` or `fetch NODE SERVER PATH`; none
+/// where they aren't accepted. It wants memory where they are.
 pub fn command_of<'a>(alloc: Global, words: &'a [String]) -> Result<Option<Accepted<'a>>, NoMemory>
     ensures is { let asked = command_of (map string_bytes words.entry.now) in
         IfOk result (λ given. option_map asked_by given ≡ asked) }
@@ -251,23 +256,28 @@ fn of_three<'a>(word: &str, first: &'a str, second: &'a str, third: &'a str) -> 
     }
 }
 
-/// The command of a root and another argument that a word names.
-fn of_two<'a>(word: &str, root: &'a str, argument: &'a str) -> Option<Accepted<'a>>
+/// The command of two arguments that a word names.
+fn of_two<'a>(word: &str, first: &'a str, second: &'a str) -> Option<Accepted<'a>>
     ensures { option_map asked_by result
-        ≡ named_of_two word.now root.entry.now argument.entry.now }
+        ≡ named_of_two word.now first.entry.now second.entry.now }
 {
     if word == "encode" {
         Some(Accepted::Encode {
-            root,
-            name: argument,
+            root: first,
+            name: second,
         })
     } else if word == "decode" {
         Some(Accepted::Decode {
-            root,
-            name: argument,
+            root: first,
+            name: second,
+        })
+    } else if word == "changes" {
+        Some(Accepted::Changes {
+            old: first,
+            new: second,
         })
     } else {
-        of_plan(word, root, argument)
+        of_plan(word, first, second)
     }
 }
 

@@ -27,9 +27,10 @@ use Rattle.node_run.specs.declared.status.Status.{Status}
 use Rattle.node_run.specs.declared.status.Status.TheVariants as status
 use Rattle.cyphal.specs.Expected.{job_asked}
 use Rattle.cyphal.specs.Job.{is_fault}
-use Rattle.cyphal.specs.MayEnd.{of_root, of_plan, of_text, of_types, of_versions, of_log, of_values}
+use Rattle.cyphal.specs.MayEnd.{of_root, of_plan, of_text, of_types, of_verdicts, of_log, of_values}
 use Rattle.cyphal.specs.Words as command
 use Rattle.cyphal.specs.Words.{Command}
+use Rattle.cyphal.specs.jobs.Changes.{TellsChanges, NewIsNotLoaded, ChangesIn}
 use Rattle.cyphal.specs.jobs.Compat.{Compares, CompareIn}
 use Rattle.cyphal.specs.jobs.Compile.{Compiles}
 use Rattle.cyphal.specs.jobs.Versions.{ComparesVersions, VersionsIn}
@@ -91,25 +92,46 @@ compat_among root new old files stat h = elim (cases_Bool (is_fault stat)) [
   | inr e ↦ compared_among root new old files stat (h e).1
 ]
 
-versions_end : (v : Verdict) → of_versions (ended v) ≡ true
-versions_end verdict.Yes = refl
-versions_end (verdict.No path why) = refl
+verdicts_end : (v : Verdict) → of_verdicts (ended v) ≡ true
+verdicts_end verdict.Yes = refl
+verdicts_end (verdict.No path why) = refl
 
-fault_of_versions : (stat : Status) → is_fault stat ≡ true → (of_root stat || of_versions stat) ≡ true
-fault_of_versions status.ReadFault e = refl
-fault_of_versions status.WriteFault e = refl
-fault_of_versions status.NoMemory e = refl
-fault_of_versions other e = absurd (false≢true e)
+fault_of_verdicts : (stat : Status) → is_fault stat ≡ true → (of_root stat || of_verdicts stat) ≡ true
+fault_of_verdicts status.ReadFault e = refl
+fault_of_verdicts status.WriteFault e = refl
+fault_of_verdicts status.NoMemory e = refl
+fault_of_verdicts other e = absurd (false≢true e)
 
-compared_versions : (root : List ℕ) (files : Option Files) (stat : Status) → IsNotLoaded root files stat ⊎ VersionsIn root files stat → (of_root stat || of_versions stat) ≡ true
-compared_versions root files stat (inl h) = of_first (of_root stat) (of_versions stat) (root_among root files stat h)
-compared_versions root files stat (inr c) =
-    of_second (of_root stat) (of_versions stat) (ap of_versions c.compared.ends ∙ versions_end c.compared.first)
+not_loaded_among : (root : List ℕ) (files : Option Files) (stat : Status) → IsNotLoaded root files stat → (of_root stat || of_verdicts stat) ≡ true
+not_loaded_among root files stat h = of_first (of_root stat) (of_verdicts stat) (root_among root files stat h)
 
-pub versions_among : (root : List ℕ) (files : Option Files) (stat : Status) → (is_fault stat ≡ false → ComparesVersions root files stat) → (of_root stat || of_versions stat) ≡ true
+told_among : (first : Verdict) (stat : Status) → stat ≡ ended first → (of_root stat || of_verdicts stat) ≡ true
+told_among first stat e = of_second (of_root stat) (of_verdicts stat) (ap of_verdicts e ∙ verdicts_end first)
+
+compared_versions : (root : List ℕ) (files : Option Files) (stat : Status) → IsNotLoaded root files stat ⊎ VersionsIn root files stat
+    → (of_root stat || of_verdicts stat) ≡ true
+compared_versions root files stat (inl h) = not_loaded_among root files stat h
+compared_versions root files stat (inr c) = told_among c.compared.first stat c.compared.ends
+
+pub versions_among : (root : List ℕ) (files : Option Files) (stat : Status) → (is_fault stat ≡ false → ComparesVersions root files stat)
+    → (of_root stat || of_verdicts stat) ≡ true
 versions_among root files stat h = elim (cases_Bool (is_fault stat)) [
-  | inl e ↦ fault_of_versions stat e
+  | inl e ↦ fault_of_verdicts stat e
   | inr e ↦ compared_versions root files stat (h e).1
+]
+
+told_changes : (old new : List ℕ) (files : Option Files) (stat : Status)
+    → IsNotLoaded old files stat ⊎ (NewIsNotLoaded old new files stat ⊎ ChangesIn old new files stat)
+    → (of_root stat || of_verdicts stat) ≡ true
+told_changes old new files stat (inl h) = not_loaded_among old files stat h
+told_changes old new files stat (inr (inl h)) = not_loaded_among new files stat h.refused
+told_changes old new files stat (inr (inr c)) = told_among c.compared.first stat c.compared.ends
+
+pub changes_among : (old new : List ℕ) (files : Option Files) (stat : Status) → (is_fault stat ≡ false → TellsChanges old new files stat)
+    → (of_root stat || of_verdicts stat) ≡ true
+changes_among old new files stat h = elim (cases_Bool (is_fault stat)) [
+  | inl e ↦ fault_of_verdicts stat e
+  | inr e ↦ told_changes old new files stat (h e).1
 ]
 
 pub bound_among : (plan : Plan) (stat : Status) (before after : Option (List ℕ)) → HasBound plan stat before after → of_text stat ≡ true

@@ -32,7 +32,7 @@ pub newer_ends : (names : Namespace) (new old : List ℕ) (stat : Status) → st
     → (compared names new old ≡ status.Ok) ↔ IsNewer names new old → (stat ≡ status.Ok) ↔ IsNewer names new old
 newer_ends names new old stat e law = (λ ok. law.0 (sym e ∙ ok), λ newer. e ∙ law.1 newer)
 
-ended_usage : (verdict : Verdict) → ended verdict ≡ status.Usage → ⊥
+pub ended_usage : (verdict : Verdict) → ended verdict ≡ status.Usage → ⊥
 ended_usage verdict.Yes e = absurd cc
 ended_usage (verdict.No path why) e = absurd cc
 

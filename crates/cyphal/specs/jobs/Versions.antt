@@ -2,10 +2,8 @@
 use Rattle.std.specs.Prelude.{◌≡◌, ◌⊎◌, ◌↔◌, ℕ, true, false, ◌||◌, List, Option, is_some}
 use Rattle.std.specs.List.{All}
 use Rattle.cy_outside.specs.Files.{Files}
-use Rattle.cy_outside.specs.Written.{behind, Begins}
 use Rattle.dsdl_types.specs.declared.namespace.Namespace.{Namespace}
 use Rattle.compat_check.specs.declared.verdict.Verdict.{Verdict}
-use Rattle.compat_check.specs.declared.verdict.Verdict.TheVariants.{Yes, No}
 use Rattle.type_versions.specs.Lines.{AreVersions, IsNewerPair}
 use Rattle.type_versions.specs.Pairs.{version_pairs}
 use Rattle.node_run.specs.Compared.{ended}
@@ -13,7 +11,8 @@ use Rattle.node_run.specs.Loaded.{is_none, IsLoaded, IsNotLoaded, calls_of}
 use Rattle.node_run.specs.declared.status.Status.{Status}
 use Rattle.node_run.specs.declared.status.Status.TheVariants as status
 use Rattle.cyphal.specs.Job.{Job, Printed, ReportsNothing, print_of, is_fault}
-use Rattle.cyphal.specs.MayEnd.{of_root, of_versions}
+use Rattle.cyphal.specs.MayEnd.{of_root, of_verdicts}
+use Rattle.cyphal.specs.Verdicts.{HasTold}
 
 -- how the comparisons of a namespace's versions end: as that of the first version that isn't newer
 -- than the one before it, and well exactly where each is newer
@@ -36,24 +35,11 @@ abbrev pub ComparesVersions : List ℕ → Option Files → Status → Type 0
 ComparesVersions root files stat = (is_fault stat ≡ false)
     × (IsNotLoaded root files stat ⊎ VersionsIn root files stat)
 
--- the lines of a namespace's versions were written, as far as the status says: all of them where it
--- is that each is newer, and also where it is that one isn't
-abbrev pub HasVersions : Namespace → Status → Option (List ℕ) → Option (List ℕ) → Type 0
-HasVersions names status.Ok before after =
-    (lines : List ℕ) × AreVersions names lines Yes × (after ≡ behind before lines)
-HasVersions names (status.NotNewer path why) before after =
-    (lines : List ℕ) × AreVersions names lines (No path why) × (after ≡ behind before lines)
-HasVersions names status.WriteFault before after =
-    (lines : List ℕ) × (first : Verdict) × AreVersions names lines first
-    × Begins lines before after
-HasVersions names status.NoMemory before after = after ≡ before
-HasVersions names other before after = ⊥
-
 -- the lines of the versions below a root were written, as far as the status says
 pub record HasVersionsAt (root : List ℕ) (files : Option Files) (print : Printed) : Type 0 where
   pub names : Namespace
   pub is : IsLoaded root files names
-  pub written : HasVersions names print.status print.before print.after
+  pub written : HasTold (AreVersions names) print.status print.before print.after
 
 -- no files are needed where the root is `none`
 abbrev pub versions_job : List ℕ → Job
@@ -62,7 +48,7 @@ versions_job root = record {
   takes_input = false;
   serves = false;
   needs = calls_of root;
-  may_end = λ stat. of_root stat || of_versions stat;
+  may_end = λ stat. of_root stat || of_verdicts stat;
   is_told = λ told. is_none root || is_some told.files;
   expects = λ told stat. ComparesVersions root told.files stat;
   did = λ told came.

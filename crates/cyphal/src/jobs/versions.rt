@@ -1,18 +1,19 @@
 //! `versions ROOT`: whether each version of a type below a root is newer than the one before it.
 ghost use Rattle.std.specs.Prelude.{◌≡◌, ◌≢◌, ◌⊎◌, false};
 ghost use Rattle.cy_outside.specs.Outside.{Rose};
-ghost use Rattle.node_run.specs.Compared.{ended};
+ghost use Rattle.type_versions.specs.Lines.{AreVersions};
 ghost use Rattle.node_run.specs.Loaded.{calls_of};
 ghost use Rattle.cyphal.specs.Job.{is_fault, printed, WroteNothing, CallsAtMost};
 ghost use Rattle.cyphal.specs.Cause.{counts, HasCause};
-ghost use Rattle.cyphal.specs.jobs.Versions.{VersionsEnd, ComparesVersions, HasVersions, HasVersionsAt};
+ghost use Rattle.cyphal.specs.Verdicts.{HasTold};
+ghost use Rattle.cyphal.specs.jobs.Versions.{VersionsEnd, ComparesVersions, HasVersionsAt};
 
-use compat_check::Verdict;
-use cy_outside::{Sink, Tree, put_all};
+use crate::jobs::verdicts::write_verdicts;
+use cy_outside::{Sink, Tree};
 use dsdl_types::Namespace;
 use node_run::{Status, load};
 use std::alloc::Global;
-use type_versions::versions_of;
+use type_versions::{Versions, versions_of};
 
 /// Writes whether each version of a type below a root is newer than the one before it.
 pub fn compare_versions<T: Tree, O: Sink>(
@@ -41,26 +42,14 @@ pub fn compare_versions<T: Tree, O: Sink>(
 /// Writes a line for each version of a namespace that has one before it. Where memory is wanting,
 /// nothing is written.
 fn write_versions<O: Sink>(alloc: Global, names: &Namespace, out: &mut O) -> Status
-    ensures written { HasVersions names.now result (O.written out.old) (O.written out.new) }
+    ensures written { HasTold (AreVersions names.now) result
+        (O.written out.old) (O.written out.new) }
     ensures ends { is_fault result ≡ false → VersionsEnd names.now result }
     ensures write { result ≡ Status.WriteFault → Rose (O.faults out.old) (O.faults out.new) }
     ensures unwritten { result ≢ Status.WriteFault → O.faults out.new ≡ O.faults out.old }
 {
-    let Ok(versions) = versions_of(alloc, names) else {
+    let Ok(Versions { lines, first }) = versions_of(alloc, names) else {
         return Status::NoMemory;
     };
-    let Ok(()) = put_all(out, versions.lines.as_slice()) else {
-        return Status::WriteFault;
-    };
-    ended(versions.first)
-}
-
-/// How comparisons end whose first verdict that isn't yes is this.
-fn ended(first: Verdict) -> Status
-    ensures { result ≡ ended first }
-{
-    match first {
-        Verdict::Yes => Status::Ok,
-        Verdict::No { path, why } => Status::NotNewer { path, why },
-    }
+    write_verdicts(lines.as_slice(), first, out)
 }

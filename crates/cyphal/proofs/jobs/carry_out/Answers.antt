@@ -4,7 +4,7 @@ use Rattle.cyphal.specs.jobs.{job_of}
 use Rattle.cyphal.specs.declared.words.Accepted.{Accepted}
 use Rattle.cyphal.proofs.CarriedOut.{for_given, printed_out, read_out}
 use Rattle.cyphal.proofs.TreeCalls.{given_calls, no_calls}
-use Rattle.cyphal.proofs.statuses.Among.{compile_among, compat_among, versions_among, gen_among, log_among}
+use Rattle.cyphal.proofs.statuses.Among.{compile_among, compat_among, versions_among, changes_among, gen_among, log_among}
 use Rattle.cyphal.proofs.jobs.carry_out.Goals as goal
 
 pub returns-in-Compile-clause-done : goal.returns-in-Compile-clause-done
@@ -24,6 +24,12 @@ returns-in-Versions-clause-done g c =
     let done = c.compare_versions.ensures in
     for_given _ _ _ _ _ _ c.in-Versions.is
     (printed_out _ _ c.compare_versions.result _ _ refl c.nothing-in-Versions.result c.nothing-in-Versions.ensures _ _ _ _ refl refl done.answer (versions_among _ _ c.compare_versions.result done.answer) done.cause done.ran (λ d n. (d, n)))
+
+pub returns-in-Changes-clause-done : goal.returns-in-Changes-clause-done
+returns-in-Changes-clause-done g c =
+    let done = c.tell_changes.ensures in
+    for_given _ _ _ _ _ _ c.in-Changes.is
+    (printed_out _ _ c.tell_changes.result _ _ refl c.nothing-in-Changes.result c.nothing-in-Changes.ensures _ _ _ _ refl refl done.answer (changes_among _ _ _ c.tell_changes.result done.answer) done.cause done.ran (λ d n. (d, n)))
 
 pub returns-in-Encode-clause-done : goal.returns-in-Encode-clause-done
 returns-in-Encode-clause-done g c =
@@ -107,6 +113,9 @@ returns-in-Compile-clause-called g c = λ _. given_calls _ _ _ _ _ c.in-Compile.
 pub returns-in-Compat-clause-called : goal.returns-in-Compat-clause-called
 returns-in-Compat-clause-called g c = λ _. given_calls _ _ _ _ _ c.in-Compat.is c.compat_types.ensures.calls
 
+pub returns-in-Changes-clause-called : goal.returns-in-Changes-clause-called
+returns-in-Changes-clause-called g c = λ _. given_calls _ _ _ _ _ c.in-Changes.is c.tell_changes.ensures.calls
+
 pub returns-in-Encode-clause-called : goal.returns-in-Encode-clause-called
 returns-in-Encode-clause-called g c = λ _. given_calls _ _ _ _ _ c.in-Encode.is c.answer_lines.ensures.calls
 
@@ -157,6 +166,9 @@ returns-in-Compile-clause-needed g c = λ _ _. given_calls _ _ _ _ _ c.in-Compil
 
 pub returns-in-Compat-clause-needed : goal.returns-in-Compat-clause-needed
 returns-in-Compat-clause-needed g c = λ _ _. given_calls _ _ _ _ _ c.in-Compat.is c.compat_types.ensures.calls
+
+pub returns-in-Changes-clause-needed : goal.returns-in-Changes-clause-needed
+returns-in-Changes-clause-needed g c = λ _ _. given_calls _ _ _ _ _ c.in-Changes.is c.tell_changes.ensures.calls
 
 pub returns-in-Encode-clause-needed : goal.returns-in-Encode-clause-needed
 returns-in-Encode-clause-needed g c = λ _ _. given_calls _ _ _ _ _ c.in-Encode.is c.answer_lines.ensures.calls

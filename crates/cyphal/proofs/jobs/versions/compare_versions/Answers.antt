@@ -1,7 +1,8 @@
 use Rattle.std.proofs.Common.{inr}
 use Rattle.dsdl_types.specs.declared.namespace.Namespace.{Namespace}
+use Rattle.type_versions.specs.Lines.{AreVersions}
 use Rattle.cyphal.proofs.Causes.{ends_so, no_usage, no_write}
-use Rattle.cyphal.proofs.statuses.Versions.{versions_usage, versions_read}
+use Rattle.cyphal.proofs.statuses.Verdicts.{told_usage, told_read}
 use Rattle.cyphal.proofs.jobs.versions.compare_versions.Goals as goal
 
 pub returns-in-Err-clause-cause : goal.returns-in-Err-clause-cause
@@ -15,9 +16,9 @@ returns-clause-answer g c h =
 
 pub returns-clause-cause : goal.returns-clause-cause
 returns-clause-cause g c =
-    let written = g.O.Sink.written in record {
-      usage = versions_usage c.in-Ok.names c.write_versions.result (written c.args.out.now) (written c.write_versions.new.out) c.write_versions.ensures.written;
-      read = λ e. absurd (versions_read c.in-Ok.names c.write_versions.result (written c.args.out.now) (written c.write_versions.new.out) c.write_versions.ensures.written e);
+    let told = c.write_versions.ensures.written in record {
+      usage = told_usage (AreVersions c.in-Ok.names) c.write_versions.result _ _ told;
+      read = λ e. absurd (told_read (AreVersions c.in-Ok.names) c.write_versions.result _ _ told e);
       write = c.write_versions.ensures.write;
       unwritten = c.write_versions.ensures.unwritten;
       kept = λ e. c.in-Ok.ensures.cause;

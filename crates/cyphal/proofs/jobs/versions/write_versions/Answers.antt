@@ -1,12 +1,13 @@
 use Rattle.std.proofs.Common.{rules}
-use Rattle.cyphal.proofs.statuses.Versions.{versions_end, versions_written}
+use Rattle.type_versions.specs.Lines.{AreVersions}
+use Rattle.cyphal.proofs.statuses.Verdicts.{told_lines, told_ends}
+use Rattle.cyphal.proofs.statuses.Versions.{versions_end}
 use Rattle.cyphal.proofs.jobs.versions.write_versions.Goals as goal
 
 pub returns-clause-written : goal.returns-clause-written
 returns-clause-written g c =
-    let written = g.O.Sink.written in
-    versions_written c.args.names.now _ _ c.ended.result (written c.args.out.now) (written c.put_all.new.out) c.in-Ok.ensures c.ended.ensures (search rules)
+    told_lines (AreVersions c.args.names.now) _ _ _ c.write_verdicts.result _ _ c.in-Ok.ensures (search rules) c.write_verdicts.ensures.told
 
 pub returns-clause-ends : goal.returns-clause-ends
 returns-clause-ends g c h =
-    versions_end c.args.names.now _ _ c.ended.result c.in-Ok.ensures c.ended.ensures
+    versions_end c.args.names.now _ _ c.write_verdicts.result c.in-Ok.ensures (told_ends _ _ c.write_verdicts.result _ _ c.write_verdicts.ensures.told h)
